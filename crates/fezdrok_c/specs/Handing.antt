@@ -13,7 +13,8 @@ pub record HandsOut (status : ℕ) (text : List ℕ) (result : ℕ) (old new : L
 
 -- the text is the line of the fault, or where there is no memory for it, of out of memory
 abbrev pub EndsBy : RunFault → ℕ → List ℕ → List ℕ → ℕ → Type 0
-EndsBy fault result old new size = HandsOut (status_of fault) (fault_line fault) result old new size ⊎ HandsOut (status_of Memory) (fault_line Memory) result old new size
+EndsBy fault result old new size = HandsOut (status_of fault) (fault_line fault) result old new size
+    ⊎ HandsOut (status_of Memory) (fault_line Memory) result old new size
 
 -- the input is judged to have this line as its answer
 pub record HasLine (answers : List ℕ → Type 0) (result : ℕ) (old new : List ℕ) (size : ℕ) : Type 0 where

@@ -24,7 +24,8 @@ pub(crate) fn hand_out(
     output: &mut [u8],
     size: &mut usize,
 ) -> u8
-    ensures line { IfOk judged (λ line. HandsOut 0 (string_bytes line) result output.old output.new size.new) }
+    ensures line { IfOk judged
+        (λ line. HandsOut 0 (string_bytes line) result output.old output.new size.new) }
     ensures fault { IfErr judged (λ fault. EndsBy fault result output.old output.new size.new) }
 {
     match judged {
@@ -43,8 +44,8 @@ fn put_fault(alloc: Global, fault: &RunFault, output: &mut [u8], size: &mut usiz
     }
 }
 
-/// Puts a text to the front of a buffer where it fits, and answers the status; else it answers that the buffer
-/// is too small. Either way `size` is the text's length.
+/// Puts a text to the front of a buffer where it fits, and answers the status; else it answers that
+/// the buffer is too small. Either way `size` is the text's length.
 fn put(status: u8, text: &[u8], output: &mut [u8], size: &mut usize) -> u8
     ensures { HandsOut status text.now result output.old output.new size.new }
 {

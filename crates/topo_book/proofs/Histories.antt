@@ -21,7 +21,8 @@ module _ (price : Pricing) (limits : Limits) where
   last_lawful (entry ∷ entries) p q way = last_lawful entries way.0 q way.3
 
   -- one step more
-  pub steps_on : (entries : List Entry) (p q next : Rows) (entry : Entry) → ReplaysLawfully price limits p entries q → Step price limits q entry.call entry.reply next → IsPicture limits next
+  pub steps_on : (entries : List Entry) (p q next : Rows) (entry : Entry) → ReplaysLawfully price limits p entries q
+      → Step price limits q entry.call entry.reply next → IsPicture limits next
       → ReplaysLawfully price limits p (entries ++ entry ∷ []) next
   steps_on [] p q next entry way step good = (next, way.1, subst (λ (r : Rows). Step price limits r entry.call entry.reply next) way.0 step, (refl, good))
   steps_on (first ∷ entries) p q next entry way step good = (way.0, way.1, way.2, steps_on entries way.0 q next entry way.3 step good)
@@ -31,10 +32,12 @@ module _ (price : Pricing) (start picture : Shown) (history : List Entry) (book 
   book_replays = replays price start.limits history start.rows picture.rows book.replayed
 
   pub book_lawful : IsPicture picture.limits picture.rows
-  book_lawful = subst (λ (limits : Limits). IsPicture limits picture.rows) (sym book.same_limits) (last_lawful price start.limits history start.rows picture.rows book.replayed)
+  book_lawful = subst (λ (limits : Limits). IsPicture limits picture.rows) (sym book.same_limits)
+      (last_lawful price start.limits history start.rows picture.rows book.replayed)
 
   -- a step makes a book of a book
-  pub book_steps : (next : Shown) (entry : Entry) → Step price picture.limits picture.rows entry.call entry.reply next.rows → next.limits ≡ picture.limits → IsPicture next.limits next.rows
+  pub book_steps : (next : Shown) (entry : Entry) → Step price picture.limits picture.rows entry.call entry.reply next.rows → next.limits ≡ picture.limits
+      → IsPicture next.limits next.rows
       → IsBook price start (history ++ entry ∷ []) next
   book_steps next entry step limits good =
       let same = limits ∙ book.same_limits in
@@ -56,11 +59,13 @@ on_err (Ok x) h p = cc
 on_err (Err e) h p = p
 
 -- what was made ready makes a book of a book
-pub book_follows : {F : Type 0} (price : Pricing) (book : BookState F) (next : NextState) → IsBook price book.start book.history book.picture → IsNext next.entry next.picture
+pub book_follows : {F : Type 0} (price : Pricing) (book : BookState F) (next : NextState) → IsBook price book.start book.history book.picture
+    → IsNext next.entry next.picture
     → CanFollow price book next → IsBook price book.start (book.history ++ next.entry ∷ []) (picture_after next.picture book.picture)
 book_follows price book next is_book is_next follows =
     book_steps price book.start book.picture book.history is_book (picture_after next.picture book.picture) next.entry follows.step follows.same_limits
     (lawful_after next.picture is_next.lawful) where
-      lawful_after : (after : Option Shown) → IfSome after (λ p. IsPicture p.limits p.rows) → IsPicture (picture_after after book.picture).limits (picture_after after book.picture).rows
+      lawful_after : (after : Option Shown) → IfSome after (λ p. IsPicture p.limits p.rows)
+          → IsPicture (picture_after after book.picture).limits (picture_after after book.picture).rows
       lawful_after (Some p) good = good
       lawful_after None good = book_lawful price book.start book.picture book.history is_book

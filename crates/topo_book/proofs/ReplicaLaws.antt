@@ -1,5 +1,6 @@
 -- Replicas: what they are when a history grows, when they are carried on, and when they are up to date.
-use Rattle.std.proofs.Common.{◌≡◌, ◌≤◌, ◌+◌, ℕ, Bool, true, false, List, [], ◌∷◌, ◌++◌, length, take, drop, Some, sym, subst, ap, arith, length-append, add-one, ◌∙◌}
+use Rattle.std.proofs.Common.{◌≡◌, ◌≤◌, ◌+◌, ℕ, Bool, true, false, List, [], ◌∷◌, ◌++◌, length}
+use Rattle.std.proofs.Common.{take, drop, Some, sym, subst, ap, arith, length-append, add-one, ◌∙◌}
 use Rattle.std.specs.Prelude.{All, Contains, if◌then◌else◌, slice_get}
 use Rattle.std.specs.Arc.{arc_value}
 use Rattle.std.proofs.lemmas.List.{take-append-le}
@@ -20,7 +21,8 @@ use Rattle.topo_book.proofs.Histories.{book_lawful, book_replays, book_steps}
 use Rattle.topo_book.proofs.Wrong.{legal_at, take_one_more}
 
 -- a list of entries has one replay
-pub one_replay : (price : Pricing) (limits : Limits) (entries : List Entry) (p q r : Rows) → Replays price limits p entries q → Replays price limits p entries r → q ≡ r
+pub one_replay : (price : Pricing) (limits : Limits) (entries : List Entry) (p q r : Rows) → Replays price limits p entries q
+    → Replays price limits p entries r → q ≡ r
 one_replay price limits [] p q r way other = way ∙ sym other
 one_replay price limits (entry ∷ entries) p q r way other =
     let same = one_step price limits p entry.call entry.reply entry.reply way.0 other.0 way.1 other.1 in
@@ -39,14 +41,16 @@ module _ (price : Pricing) (start : Shown) (history : List Entry) where
   replica_lawful entries picture replica = book_lawful price start picture (take entries history) replica.stands
 
   -- a replica stays one when the history grows
-  pub longer : (entry : Entry) (entries : ℕ) (picture : Shown) → IsReplica price start history entries picture → IsReplica price start (history ++ entry ∷ []) entries picture
+  pub longer : (entry : Entry) (entries : ℕ) (picture : Shown) → IsReplica price start history entries picture
+      → IsReplica price start (history ++ entry ∷ []) entries picture
   longer entry entries picture replica = record {
     there = simp length-append (omega (arith, replica.there));
     stands = subst (λ (h : List Entry). IsBook price start h picture) (sym (take-append-le entries history (entry ∷ []) replica.there)) replica.stands;
   }
 
   -- the reply of the entry behind a replica is the one due
-  pub due_at : (now : Shown) → IsBook price start history now → (i : ℕ) (entry : Entry) (picture : Shown) → IsReplica price start history i picture → slice_get history i ≡ Some entry
+  pub due_at : (now : Shown) → IsBook price start history now → (i : ℕ) (entry : Entry) (picture : Shown) → IsReplica price start history i picture
+      → slice_get history i ≡ Some entry
       → IsDue price picture.limits picture.rows entry.call entry.reply
   due_at now book i entry picture replica there =
       let way = legal_at price start.limits history i start.rows picture.rows now.rows entry (book_replays price start now history book)
@@ -54,8 +58,10 @@ module _ (price : Pricing) (start : Shown) (history : List Entry) where
       subst (λ (l : Limits). IsDue price l picture.rows entry.call entry.reply) (sym replica.stands.same_limits) way
 
   -- by that entry it stands after one more
-  pub one_on : (i : ℕ) (entry : Entry) (picture next : Shown) → IsReplica price start history i picture → slice_get history i ≡ Some entry → i + 1 ≤ length history
-      → Step price picture.limits picture.rows entry.call entry.reply next.rows → next.limits ≡ picture.limits → IsPicture next.limits next.rows → IsReplica price start history (i + 1) next
+  pub one_on : (i : ℕ) (entry : Entry) (picture next : Shown) → IsReplica price start history i picture → slice_get history i ≡ Some entry
+      → i + 1 ≤ length history
+      → Step price picture.limits picture.rows entry.call entry.reply next.rows → next.limits ≡ picture.limits → IsPicture next.limits next.rows
+      → IsReplica price start history (i + 1) next
   one_on i entry picture next replica there fits step limits good = record {
     there = fits;
     stands = rw add-one (subst (λ (h : List Entry). IsBook price start h next) (sym (take_one_more history i entry there))
@@ -67,19 +73,24 @@ module _ (price : Pricing) (start : Shown) (history : List Entry) where
   up_to_date now book picture replica =
       let stands = subst (λ (h : List Entry). IsBook price start h picture) (take-length history) replica.stands in
       let limits = stands.same_limits ∙ sym book.same_limits in
-      let rows = one_replay price start.limits history start.rows picture.rows now.rows (book_replays price start picture history stands) (book_replays price start now history book) in
+      let rows = one_replay price start.limits history start.rows picture.rows now.rows (book_replays price start picture history stands)
+      (book_replays price start now history book) in
       same_shown picture now limits rows where
         same_shown : (a b : Shown) → a.limits ≡ b.limits → a.rows ≡ b.rows → a ≡ b
-        same_shown a b l r = ap (λ (x : Limits). (let s : Shown = record { limits = x; rows = a.rows } in s)) l ∙ ap (λ (x : Rows). (let s : Shown = record { limits = b.limits; rows = x } in s)) r
+        same_shown a b l r = ap (λ (x : Limits). (let s : Shown = record { limits = x; rows = a.rows } in s)) l
+            ∙ ap (λ (x : Rows). (let s : Shown = record { limits = b.limits; rows = x } in s)) r
 
   -- ---- Lists of replicas
 
-  pub all_longer : (entry : Entry) (replicas : List Replica) → AreReplicas price start history replicas → AreReplicas price start (history ++ entry ∷ []) replicas
-  all_longer entry = All-weaker (λ (r : Replica). IsReplica price start history r.entries (arc_value r.picture)) (λ (r : Replica). IsReplica price start (history ++ entry ∷ []) r.entries (arc_value r.picture))
+  pub all_longer : (entry : Entry) (replicas : List Replica) → AreReplicas price start history replicas
+      → AreReplicas price start (history ++ entry ∷ []) replicas
+  all_longer entry = All-weaker (λ (r : Replica). IsReplica price start history r.entries (arc_value r.picture))
+      (λ (r : Replica). IsReplica price start (history ++ entry ∷ []) r.entries (arc_value r.picture))
       (λ r. longer entry r.entries (arc_value r.picture))
 
   -- the list after one more is kept, and perhaps the first is dropped
-  pub all_kept : (b : Bool) (replicas : List Replica) (replica : Replica) → AreReplicas price start history replicas → IsReplica price start history replica.entries (arc_value replica.picture)
+  pub all_kept : (b : Bool) (replicas : List Replica) (replica : Replica) → AreReplicas price start history replicas
+      → IsReplica price start history replica.entries (arc_value replica.picture)
       → AreReplicas price start history ((if b then replicas else drop 1 replicas) ++ replica ∷ [])
   all_kept b replicas replica all is = All-push P (if b then replicas else drop 1 replicas) replica (some b) is where
     P : Replica → Type 0
@@ -91,11 +102,13 @@ module _ (price : Pricing) (start : Shown) (history : List Entry) where
 
   -- those that are left when one is taken
   pub all_left : (replicas left : List Replica) → AreReplicas price start history replicas → All (Contains replicas) left → AreReplicas price start history left
-  all_left replicas left all among = λ k d before. All-contains (λ (r : Replica). IsReplica price start history r.entries (arc_value r.picture)) replicas _ all (among k d before)
+  all_left replicas left all among =
+      λ k d before. All-contains (λ (r : Replica). IsReplica price start history r.entries (arc_value r.picture)) replicas _ all (among k d before)
 
 -- ---- Books with the replicas that they keep
 
-module _ {price : Pricing} {start : Shown} {history : List Entry} {picture : Shown} {kept : List Replica} (book : IsBookWith price start history picture kept) where
+module _ {price : Pricing} {start : Shown} {history : List Entry} {picture : Shown} {kept : List Replica}
+    (book : IsBookWith price start history picture kept) where
   -- when some of the replicas are dropped
   pub book_left : (left : List Replica) → All (Contains kept) left → IsBookWith price start history picture left
   book_left left among = record { book = book.book; replicas = all_left price start history kept left book.replicas among }

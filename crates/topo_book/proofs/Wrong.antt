@@ -19,18 +19,24 @@ take_one_more (first ∷ entries) (suc i) entry there = ap (λ es. first ∷ es)
 
 module _ (price : Pricing) (limits : Limits) where
   -- the entries up to place i lead on by the step of entry i
-  pub replays_more : (entries : List Entry) (i : ℕ) (p q next : Rows) (entry : Entry) → Replays price limits p (take i entries) q → slice_get entries i ≡ Some entry
+  pub replays_more : (entries : List Entry) (i : ℕ) (p q next : Rows) (entry : Entry) → Replays price limits p (take i entries) q
+      → slice_get entries i ≡ Some entry
       → Step price limits q entry.call entry.reply next → Replays price limits p (take (i + 1) entries) next
   replays_more entries i p q next entry before there step =
-      rw add-one (subst (λ (es : List Entry). Replays price limits p es next) (sym (take_one_more entries i entry there)) (replays_on price limits (take i entries) p q next entry before step))
+      rw add-one (subst (λ (es : List Entry). Replays price limits p es next) (sym (take_one_more entries i entry there))
+      (replays_on price limits (take i entries) p q next entry before step))
 
   -- in a legal list each entry is a step from where those before it lead
-  pub legal_at : (entries : List Entry) (i : ℕ) (p q r : Rows) (entry : Entry) → Replays price limits p entries r → Replays price limits p (take i entries) q → slice_get entries i ≡ Some entry
+  pub legal_at : (entries : List Entry) (i : ℕ) (p q r : Rows) (entry : Entry) → Replays price limits p entries r → Replays price limits p (take i entries) q
+      → slice_get entries i ≡ Some entry
       → (next : Rows) × Step price limits q entry.call entry.reply next
   legal_at [] i p q r entry way before there = cc
   legal_at (first ∷ entries) zero p q r entry way before there =
-      let same : first ≡ entry = cc in
-      (way.0, subst (λ (e : Entry). Step price limits q e.call e.reply way.0) same (subst (λ (s : Rows). Step price limits s first.call first.reply way.0) (sym before) way.1))
+      let same : first ≡ entry = cc in (
+        way.0,
+        subst (λ (e : Entry). Step price limits q e.call e.reply way.0) same (subst (λ (s : Rows). Step price limits s first.call first.reply way.0)
+            (sym before) way.1),
+      )
   legal_at (first ∷ entries) (suc i) p q r entry way before there =
       let same = one_step price limits p first.call first.reply first.reply way.0 before.0 way.1 before.1 in
       legal_at entries i way.0 q r entry way.2 (subst (λ (s : Rows). Replays price limits s (take i entries) q) (sym same.1) before.2) there

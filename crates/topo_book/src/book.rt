@@ -19,11 +19,11 @@ use topo_price::tariff::{PriceFn, Tariff};
 use topo_route::plan::{Plan, PricedRoute};
 use topo_route::region::Region;
 
-/// A picture that calls change, with the picture that it began with and every answer since. What its
-/// searches and the checks of plans write on is kept from one call to the next, so that a search writes
-/// only what it reaches, and a check copies nothing.
-/// Pictures that took part before are kept as well: brought up to date, one of them is the next picture,
-/// so that a call which others see at once costs its change, and not a copy.
+/// A picture that calls change, with the picture that it began with and every answer since. What
+/// its searches and the checks of plans write on is kept from one call to the next, so that a
+/// search writes only what it reaches, and a check copies nothing. Pictures that took part before
+/// are kept as well: brought up to date, one of them is the next picture, so that a call which
+/// others see at once costs its change, and not a copy.
 pub struct Book<F: PriceFn> {
     tariff: Arc<Tariff<F>>,
     start: Picture,
@@ -35,7 +35,8 @@ pub struct Book<F: PriceFn> {
     search_on_replica: bool,
 }
 
-// Written out, so that it is proved once: a derived one is proved anew in each function that lets such a value go.
+// Written out, so that it is proved once: a derived one is proved anew in each function that lets
+// such a value go.
 impl<F: PriceFn + Drop> Drop for Book<F> {
     fn drop(self) {
         let Book {
@@ -90,11 +91,13 @@ impl<F: PriceFn> Model for Book<F> {
       spare = vec_capacity b.history - vec_len b.history;
     } };
 
-    ghost invariant = { λ b. IsBookWith (prices_of (F.may_return (arc_value b.tariff))) b.start b.history.items (arc_value b.picture) b.replicas };
+    ghost invariant = { λ b. IsBookWith (prices_of (F.may_return (arc_value b.tariff)))
+        b.start b.history.items (arc_value b.picture) b.replicas };
 }
 
 impl<F: PriceFn> Book<F> {
-    ghost use Rattle.std.specs.Prelude.{◌≡◌, ◌≢◌, ◌<◌, true, IfOk, IfSome, OnOk, OnErr, [], ◌∷◌, ◌++◌};
+    ghost use Rattle.std.specs.Prelude.{◌≡◌, ◌≢◌, ◌<◌, true, IfOk, IfSome};
+    ghost use Rattle.std.specs.Prelude.{OnOk, OnErr, [], ◌∷◌, ◌++◌};
     ghost use Rattle.topo_core.specs.History.{Replays, is_accepted};
     ghost use Rattle.topo_core.specs.Steps.{Step};
     ghost use Rattle.topo_core.specs.declared.calls.Call.TheVariants.{Grow, Insert, Delete};
@@ -102,7 +105,8 @@ impl<F: PriceFn> Book<F> {
     ghost use Rattle.topo_core.specs.declared.calls.Reply.TheVariants.{Refused};
     ghost use Rattle.topo_rows.specs.Shown.{IsPicture};
     ghost use Rattle.topo_price.specs.Prices.{prices_of};
-    ghost use Rattle.topo_book.specs.Books.{CanFollow, IsDue, IsReplica, IsSameBook, IsUnchanged, ReplaysLawfully, picture_after};
+    ghost use Rattle.topo_book.specs.Books.{CanFollow, IsDue, IsReplica, IsSameBook};
+    ghost use Rattle.topo_book.specs.Books.{IsUnchanged, ReplaysLawfully, picture_after};
     ghost use Rattle.topo_book.specs.RouteSources.{IsSourceFor};
     ghost use Rattle.topo_book.specs.Sparing.{HaveSpared};
 
@@ -144,8 +148,10 @@ impl<F: PriceFn> Book<F> {
     /// The entries so far, the oldest first. Out of memory is never entered.
     pub fn history(&self) -> &[Entry]
         ensures entries { result.now ≡ self.now.history }
-        ensures legal { Replays (prices_of (F.may_return self.now.tariff)) self.now.start.limits self.now.start.rows self.now.history self.now.picture.rows }
-        ensures lawful { ReplaysLawfully (prices_of (F.may_return self.now.tariff)) self.now.start.limits self.now.start.rows self.now.history self.now.picture.rows }
+        ensures legal { Replays (prices_of (F.may_return self.now.tariff))
+            self.now.start.limits self.now.start.rows self.now.history self.now.picture.rows }
+        ensures lawful { ReplaysLawfully (prices_of (F.may_return self.now.tariff))
+            self.now.start.limits self.now.start.rows self.now.history self.now.picture.rows }
     {
         self.history.as_slice()
     }
@@ -153,26 +159,28 @@ impl<F: PriceFn> Book<F> {
     /// The picture now, the replay of the history.
     pub fn picture(&self) -> &Picture
         ensures picture { result.now ≡ self.now.picture }
-        ensures replay { Replays (prices_of (F.may_return self.now.tariff)) self.now.start.limits self.now.start.rows self.now.history self.now.picture.rows }
+        ensures replay { Replays (prices_of (F.may_return self.now.tariff))
+            self.now.start.limits self.now.start.rows self.now.history self.now.picture.rows }
         ensures lawful { IsPicture self.now.picture.limits self.now.picture.rows }
         ensures same_limits { self.now.picture.limits ≡ self.now.start.limits }
     {
         self.shared_picture()
     }
 
-    /// The same picture, of which a reader may take a share: it stays as it is for as long as the share
-    /// is held, and calls go on with another.
+    /// The same picture, of which a reader may take a share: it stays as it is for as long as the
+    /// share is held, and calls go on with another.
     pub fn shared_picture(&self) -> &Arc<Picture>
         ensures picture { arc_value result.now ≡ self.now.picture }
-        ensures replay { Replays (prices_of (F.may_return self.now.tariff)) self.now.start.limits self.now.start.rows self.now.history self.now.picture.rows }
+        ensures replay { Replays (prices_of (F.may_return self.now.tariff))
+            self.now.start.limits self.now.start.rows self.now.history self.now.picture.rows }
         ensures lawful { IsPicture self.now.picture.limits self.now.picture.rows }
         ensures same_limits { self.now.picture.limits ≡ self.now.start.limits }
     {
         &self.picture
     }
 
-    /// Whether the last calls, so many that `accepted` of them are accepted, all spare a region of the picture
-    /// that came before them. Where there are many of them it says no.
+    /// Whether the last calls, so many that `accepted` of them are accepted, all spare a region of
+    /// the picture that came before them. Where there are many of them it says no.
     pub fn has_spared(&self, before: &Picture, region: &Region, accepted: u64) -> bool
         ensures { result ≡ true → HaveSpared before.now.rows region.now self.now.history accepted }
     {
@@ -190,7 +198,8 @@ impl<F: PriceFn> Book<F> {
     where
         F: Drop,
         ensures entries { result.items ≡ self.history }
-        ensures legal { Replays (prices_of (F.may_return self.tariff)) self.start.limits self.start.rows self.history self.picture.rows }
+        ensures legal { Replays (prices_of (F.may_return self.tariff))
+            self.start.limits self.start.rows self.history self.picture.rows }
     {
         let Book {
             tariff: _tariff,
@@ -204,9 +213,9 @@ impl<F: PriceFn> Book<F> {
         history // the oldest entry first
     }
 
-    /// Inserts an edge of this kind from `u` to `v` along the first of the cheapest routes, or answers
-    /// the first reason why not. Both are entered. Out of memory may stand in place of any answer,
-    /// and leaves history and picture as they were.
+    /// Inserts an edge of this kind from `u` to `v` along the first of the cheapest routes, or
+    /// answers the first reason why not. Both are entered. Out of memory may stand in place of any
+    /// answer, and leaves history and picture as they were.
     pub fn insert(
         &mut self,
         alloc: Global,
@@ -215,8 +224,11 @@ impl<F: PriceFn> Book<F> {
         v: u32,
         kind: u32,
     ) -> Result<Reply, AllocError>
-        ensures step { IfOk result (λ reply. Step (prices_of (F.may_return self.old.tariff)) self.old.picture.limits self.old.picture.rows (Insert u v kind) reply self.new.picture.rows) }
-        ensures entered { IfOk result (λ reply. self.new.history ≡ self.old.history ++ record { caller = caller; call = Insert u v kind; reply = reply } ∷ []) }
+        ensures step { IfOk result
+            (λ reply. Step (prices_of (F.may_return self.old.tariff)) self.old.picture.limits
+            self.old.picture.rows (Insert u v kind) reply self.new.picture.rows) }
+        ensures entered { IfOk result (λ reply. self.new.history ≡ self.old.history
+            ++ record { caller = caller; call = Insert u v kind; reply = reply } ∷ []) }
         ensures no_memory { IfOk result (λ reply. reply ≢ Refused Memory) }
         ensures unchanged { OnErr result (IsUnchanged self.old self.new) }
         ensures same_book { IsSameBook self.old self.new }
@@ -236,8 +248,11 @@ impl<F: PriceFn> Book<F> {
         kind: u32,
         plan: &Plan,
     ) -> Result<Reply, AllocError>
-        ensures step { IfOk result (λ reply. Step (prices_of (F.may_return self.old.tariff)) self.old.picture.limits self.old.picture.rows (Insert u v kind) reply self.new.picture.rows) }
-        ensures entered { IfOk result (λ reply. self.new.history ≡ self.old.history ++ record { caller = caller; call = Insert u v kind; reply = reply } ∷ []) }
+        ensures step { IfOk result
+            (λ reply. Step (prices_of (F.may_return self.old.tariff)) self.old.picture.limits
+            self.old.picture.rows (Insert u v kind) reply self.new.picture.rows) }
+        ensures entered { IfOk result (λ reply. self.new.history ≡ self.old.history
+            ++ record { caller = caller; call = Insert u v kind; reply = reply } ∷ []) }
         ensures no_memory { IfOk result (λ reply. reply ≢ Refused Memory) }
         ensures unchanged { OnErr result (IsUnchanged self.old self.new) }
         ensures same_book { IsSameBook self.old self.new }
@@ -249,8 +264,11 @@ impl<F: PriceFn> Book<F> {
     /// Takes an edge out, or answers why not. Both are entered. Out of memory may stand in place of
     /// any answer, and leaves history and picture as they were.
     pub fn delete(&mut self, alloc: Global, caller: u32, edge: u32) -> Result<Reply, AllocError>
-        ensures step { IfOk result (λ reply. Step (prices_of (F.may_return self.old.tariff)) self.old.picture.limits self.old.picture.rows (Delete edge) reply self.new.picture.rows) }
-        ensures entered { IfOk result (λ reply. self.new.history ≡ self.old.history ++ record { caller = caller; call = Delete edge; reply = reply } ∷ []) }
+        ensures step { IfOk result (λ reply. Step (prices_of (F.may_return self.old.tariff))
+            self.old.picture.limits self.old.picture.rows (Delete edge)
+            reply self.new.picture.rows) }
+        ensures entered { IfOk result (λ reply. self.new.history ≡ self.old.history
+            ++ record { caller = caller; call = Delete edge; reply = reply } ∷ []) }
         ensures no_memory { IfOk result (λ reply. reply ≢ Refused Memory) }
         ensures unchanged { OnErr result (IsUnchanged self.old self.new) }
         ensures same_book { IsSameBook self.old self.new }
@@ -258,9 +276,9 @@ impl<F: PriceFn> Book<F> {
         self.call_in_place(alloc, caller, Call::Delete { edge }, RouteSource::Search)
     }
 
-    /// Puts a new vertex on a new edge of this kind into the corner at `position` of `u`, or answers
-    /// the first reason why not. Both are entered. Out of memory may stand in place of any answer,
-    /// and leaves history and picture as they were.
+    /// Puts a new vertex on a new edge of this kind into the corner at `position` of `u`, or
+    /// answers the first reason why not. Both are entered. Out of memory may stand in place of any
+    /// answer, and leaves history and picture as they were.
     pub fn grow(
         &mut self,
         alloc: Global,
@@ -269,8 +287,11 @@ impl<F: PriceFn> Book<F> {
         position: u32,
         kind: u32,
     ) -> Result<Reply, AllocError>
-        ensures step { IfOk result (λ reply. Step (prices_of (F.may_return self.old.tariff)) self.old.picture.limits self.old.picture.rows (Grow u position kind) reply self.new.picture.rows) }
-        ensures entered { IfOk result (λ reply. self.new.history ≡ self.old.history ++ record { caller = caller; call = Grow u position kind; reply = reply } ∷ []) }
+        ensures step { IfOk result
+            (λ reply. Step (prices_of (F.may_return self.old.tariff)) self.old.picture.limits
+            self.old.picture.rows (Grow u position kind) reply self.new.picture.rows) }
+        ensures entered { IfOk result (λ reply. self.new.history ≡ self.old.history
+            ++ record { caller = caller; call = Grow u position kind; reply = reply } ∷ []) }
         ensures no_memory { IfOk result (λ reply. reply ≢ Refused Memory) }
         ensures unchanged { OnErr result (IsUnchanged self.old self.new) }
         ensures same_book { IsSameBook self.old self.new }
@@ -289,15 +310,16 @@ impl<F: PriceFn> Book<F> {
     pub fn prepare(&mut self, alloc: Global, caller: u32, call: Call) -> Result<Next, AllocError>
         ensures caller { IfOk result (λ n. n.entry.caller ≡ caller) }
         ensures call { IfOk result (λ n. n.entry.call ≡ call) }
-        ensures ready { IfOk result (CanFollow (prices_of (F.may_return self.new.tariff)) self.new) }
+        ensures ready { IfOk result
+            (CanFollow (prices_of (F.may_return self.new.tariff)) self.new) }
         ensures unchanged { IsUnchanged self.old self.new }
         ensures same_book { IsSameBook self.old self.new }
     {
         self.prepare_from(alloc, caller, call, RouteSource::Search)
     }
 
-    /// As `prepare` of an insertion, whatever the plan: its route is taken where the plan passes the
-    /// check on the picture now, which spares the search.
+    /// As `prepare` of an insertion, whatever the plan: its route is taken where the plan passes
+    /// the check on the picture now, which spares the search.
     pub fn prepare_planned(
         &mut self,
         alloc: Global,
@@ -309,7 +331,8 @@ impl<F: PriceFn> Book<F> {
     ) -> Result<Next, AllocError>
         ensures caller { IfOk result (λ n. n.entry.caller ≡ caller) }
         ensures call { IfOk result (λ n. n.entry.call ≡ Insert u v kind) }
-        ensures ready { IfOk result (CanFollow (prices_of (F.may_return self.new.tariff)) self.new) }
+        ensures ready { IfOk result
+            (CanFollow (prices_of (F.may_return self.new.tariff)) self.new) }
         ensures unchanged { IsUnchanged self.old self.new }
         ensures same_book { IsSameBook self.old self.new }
     {
@@ -337,11 +360,13 @@ impl<F: PriceFn> Book<F> {
         }
     }
 
-    /// Carries the entries out on a picture that stands after the first `from` of them, and answers after
-    /// how many it stands then: after all of them, unless it is out of memory.
+    /// Carries the entries out on a picture that stands after the first `from` of them, and answers
+    /// after how many it stands then: after all of them, unless it is out of memory.
     fn replay_missed(&self, alloc: Global, picture: &mut Picture, from: usize) -> usize
-        requires { IsReplica (prices_of (F.may_return self.now.tariff)) self.now.start self.now.history from picture.old }
-        ensures { IsReplica (prices_of (F.may_return self.now.tariff)) self.now.start self.now.history result picture.new }
+        requires { IsReplica (prices_of (F.may_return self.now.tariff))
+            self.now.start self.now.history from picture.old }
+        ensures { IsReplica (prices_of (F.may_return self.now.tariff))
+            self.now.start self.now.history result picture.new }
     {
         let history = self.history();
         for index in from..history.len() {
@@ -355,8 +380,10 @@ impl<F: PriceFn> Book<F> {
     /// Brings a replica up to date, if nobody else holds it. Out of memory, it stands after some
     /// later entry.
     fn bring_up_to_date(&self, alloc: Global, replica: &mut Replica) -> Result<(), AllocError>
-        requires { IsReplica (prices_of (F.may_return self.now.tariff)) self.now.start self.now.history replica.old.entries (arc_value replica.old.picture) }
-        ensures stands { IsReplica (prices_of (F.may_return self.now.tariff)) self.now.start self.now.history replica.new.entries (arc_value replica.new.picture) }
+        requires { IsReplica (prices_of (F.may_return self.now.tariff))
+            self.now.start self.now.history replica.old.entries (arc_value replica.old.picture) }
+        ensures stands { IsReplica (prices_of (F.may_return self.now.tariff))
+            self.now.start self.now.history replica.new.entries (arc_value replica.new.picture) }
         ensures equal { OnOk result (arc_value replica.new.picture ≡ self.now.picture) }
     {
         let Some(picture) = Arc::get_mut(&mut replica.picture) else {
@@ -369,8 +396,8 @@ impl<F: PriceFn> Book<F> {
         Ok(())
     }
 
-    /// How many entries a replica may be behind. To carry an entry out takes about as long as to copy 128
-    /// segments, so from there on a copy takes no longer.
+    /// How many entries a replica may be behind. To carry an entry out takes about as long as to
+    /// copy 128 segments, so from there on a copy takes no longer.
     fn reach(&self) -> usize {
         self.picture.counts().segments as usize / 128 + 16
     }
@@ -383,10 +410,14 @@ impl<F: PriceFn> Book<F> {
         Ok(Arc::new(alloc, self.picture.copy(alloc)?)?)
     }
 
-    /// A replica that nobody else holds, brought up to date; none where none is free. It is kept no longer.
+    /// A replica that nobody else holds, brought up to date; none where none is free. It is kept no
+    /// longer.
     fn take_current_replica(&mut self, alloc: Global) -> Result<Option<Replica>, AllocError>
-        ensures stands { IfOk result (λ found. IfSome found (λ r. IsReplica (prices_of (F.may_return self.new.tariff)) self.new.start self.new.history r.entries (arc_value r.picture))) }
-        ensures equal { IfOk result (λ found. IfSome found (λ r. arc_value r.picture ≡ self.new.picture)) }
+        ensures stands { IfOk result
+            (λ found. IfSome found (λ r. IsReplica (prices_of (F.may_return self.new.tariff))
+            self.new.start self.new.history r.entries (arc_value r.picture))) }
+        ensures equal { IfOk result
+            (λ found. IfSome found (λ r. arc_value r.picture ≡ self.new.picture)) }
         ensures unchanged { IsUnchanged self.old self.new }
         ensures same_book { IsSameBook self.old self.new }
         ensures same_room { self.new.spare ≡ self.old.spare }
@@ -402,8 +433,8 @@ impl<F: PriceFn> Book<F> {
         Ok(Some(replica))
     }
 
-    /// A picture that equals the picture now, and that nobody else holds: a replica that is brought up to
-    /// date, and a copy where none is free.
+    /// A picture that equals the picture now, and that nobody else holds: a replica that is brought
+    /// up to date, and a copy where none is free.
     #[tactic(auto, using(crate::proofs::ReplicaLaws::replica_lawful))]
     fn unshared_picture(&mut self, alloc: Global) -> Result<Arc<Picture>, AllocError>
         ensures equal { IfOk result (λ p. arc_value p ≡ self.new.picture) }
@@ -418,16 +449,18 @@ impl<F: PriceFn> Book<F> {
         }
     }
 
-    /// The reply that is due to a call. Of the two pictures that take turns, searches read one and the same, so
-    /// that the processor's cache holds what they read, and the other is only changed.
+    /// The reply that is due to a call. Of the two pictures that take turns, searches read one and
+    /// the same, so that the processor's cache holds what they read, and the other is only changed.
     fn decide_where_cached(
         &mut self,
         alloc: Global,
         call: Call,
         source: RouteSource<PricedRoute>,
     ) -> Result<Reply, AllocError>
-        requires { IsSourceFor (prices_of (F.may_return self.old.tariff)) self.old.picture.rows call source }
-        ensures due { IfOk result (IsDue (prices_of (F.may_return self.old.tariff)) self.old.picture.limits self.old.picture.rows call) }
+        requires { IsSourceFor (prices_of (F.may_return self.old.tariff))
+            self.old.picture.rows call source }
+        ensures due { IfOk result (IsDue (prices_of (F.may_return self.old.tariff))
+            self.old.picture.limits self.old.picture.rows call) }
         ensures no_memory { IfOk result (λ reply. reply ≢ Refused Memory) }
         ensures unchanged { IsUnchanged self.old self.new }
         ensures same_book { IsSameBook self.old self.new }
@@ -456,10 +489,13 @@ impl<F: PriceFn> Book<F> {
         call: Call,
         source: RouteSource<PricedRoute>,
     ) -> Result<Reply, AllocError>
-        requires stands { IsReplica (prices_of (F.may_return self.old.tariff)) self.old.start self.old.history replica.entries (arc_value replica.picture) }
+        requires stands { IsReplica (prices_of (F.may_return self.old.tariff))
+            self.old.start self.old.history replica.entries (arc_value replica.picture) }
         requires equal { arc_value replica.picture ≡ self.old.picture }
-        requires known { IsSourceFor (prices_of (F.may_return self.old.tariff)) self.old.picture.rows call source }
-        ensures due { IfOk result (IsDue (prices_of (F.may_return self.old.tariff)) self.old.picture.limits self.old.picture.rows call) }
+        requires known { IsSourceFor (prices_of (F.may_return self.old.tariff))
+            self.old.picture.rows call source }
+        ensures due { IfOk result (IsDue (prices_of (F.may_return self.old.tariff))
+            self.old.picture.limits self.old.picture.rows call) }
         ensures no_memory { IfOk result (λ reply. reply ≢ Refused Memory) }
         ensures unchanged { IsUnchanged self.old self.new }
         ensures same_book { IsSameBook self.old self.new }
@@ -480,11 +516,13 @@ impl<F: PriceFn> Book<F> {
     /// Makes an accepted entry ready, on a picture that nobody else holds.
     fn prepare_accepted(&mut self, alloc: Global, entry: Entry) -> Result<Next, AllocError>
         requires accepted { is_accepted entry.reply ≡ true }
-        requires due { IsDue (prices_of (F.may_return self.old.tariff)) self.old.picture.limits self.old.picture.rows entry.call entry.reply }
+        requires due { IsDue (prices_of (F.may_return self.old.tariff))
+            self.old.picture.limits self.old.picture.rows entry.call entry.reply }
         requires no_memory { entry.reply ≢ Refused Memory }
         requires room { 0 < self.old.spare }
         ensures entry { IfOk result (λ n. n.entry ≡ entry) }
-        ensures ready { IfOk result (CanFollow (prices_of (F.may_return self.new.tariff)) self.new) }
+        ensures ready { IfOk result
+            (CanFollow (prices_of (F.may_return self.new.tariff)) self.new) }
         ensures unchanged { IsUnchanged self.old self.new }
         ensures same_book { IsSameBook self.old self.new }
     {
@@ -499,8 +537,8 @@ impl<F: PriceFn> Book<F> {
         Ok(Next::accepted(entry, unshared))
     }
 
-    /// As `prepare`, with what is known of the route of an insertion: of a route that was found nothing is
-    /// searched, and nothing is checked. A refused call takes no other picture.
+    /// As `prepare`, with what is known of the route of an insertion: of a route that was found
+    /// nothing is searched, and nothing is checked. A refused call takes no other picture.
     pub fn prepare_from(
         &mut self,
         alloc: Global,
@@ -508,10 +546,12 @@ impl<F: PriceFn> Book<F> {
         call: Call,
         source: RouteSource<PricedRoute>,
     ) -> Result<Next, AllocError>
-        requires { IsSourceFor (prices_of (F.may_return self.old.tariff)) self.old.picture.rows call source }
+        requires { IsSourceFor (prices_of (F.may_return self.old.tariff))
+            self.old.picture.rows call source }
         ensures caller { IfOk result (λ n. n.entry.caller ≡ caller) }
         ensures call { IfOk result (λ n. n.entry.call ≡ call) }
-        ensures ready { IfOk result (CanFollow (prices_of (F.may_return self.new.tariff)) self.new) }
+        ensures ready { IfOk result
+            (CanFollow (prices_of (F.may_return self.new.tariff)) self.new) }
         ensures unchanged { IsUnchanged self.old self.new }
         ensures same_book { IsSameBook self.old self.new }
     {
@@ -536,9 +576,12 @@ impl<F: PriceFn> Book<F> {
         call: Call,
         source: RouteSource<PricedRoute>,
     ) -> Result<Reply, AllocError>
-        requires { IsSourceFor (prices_of (F.may_return self.old.tariff)) self.old.picture.rows call source }
-        ensures step { IfOk result (λ reply. Step (prices_of (F.may_return self.old.tariff)) self.old.picture.limits self.old.picture.rows call reply self.new.picture.rows) }
-        ensures entered { IfOk result (λ reply. self.new.history ≡ self.old.history ++ record { caller = caller; call = call; reply = reply } ∷ []) }
+        requires { IsSourceFor (prices_of (F.may_return self.old.tariff))
+            self.old.picture.rows call source }
+        ensures step { IfOk result (λ reply. Step (prices_of (F.may_return self.old.tariff))
+            self.old.picture.limits self.old.picture.rows call reply self.new.picture.rows) }
+        ensures entered { IfOk result (λ reply. self.new.history ≡ self.old.history
+            ++ record { caller = caller; call = call; reply = reply } ∷ []) }
         ensures no_memory { IfOk result (λ reply. reply ≢ Refused Memory) }
         ensures unchanged { OnErr result (IsUnchanged self.old self.new) }
         ensures same_book { IsSameBook self.old self.new }
@@ -566,8 +609,8 @@ impl<F: PriceFn> Book<F> {
         Ok(told)
     }
 
-    /// As `call_in_place`, where readers share the picture now: the call is made ready on another, and then
-    /// entered.
+    /// As `call_in_place`, where readers share the picture now: the call is made ready on another,
+    /// and then entered.
     fn call_on_copy(
         &mut self,
         alloc: Global,
@@ -575,9 +618,12 @@ impl<F: PriceFn> Book<F> {
         call: Call,
         source: RouteSource<PricedRoute>,
     ) -> Result<Reply, AllocError>
-        requires { IsSourceFor (prices_of (F.may_return self.old.tariff)) self.old.picture.rows call source }
-        ensures step { IfOk result (λ reply. Step (prices_of (F.may_return self.old.tariff)) self.old.picture.limits self.old.picture.rows call reply self.new.picture.rows) }
-        ensures entered { IfOk result (λ reply. self.new.history ≡ self.old.history ++ record { caller = caller; call = call; reply = reply } ∷ []) }
+        requires { IsSourceFor (prices_of (F.may_return self.old.tariff))
+            self.old.picture.rows call source }
+        ensures step { IfOk result (λ reply. Step (prices_of (F.may_return self.old.tariff))
+            self.old.picture.limits self.old.picture.rows call reply self.new.picture.rows) }
+        ensures entered { IfOk result (λ reply. self.new.history ≡ self.old.history
+            ++ record { caller = caller; call = call; reply = reply } ∷ []) }
         ensures no_memory { IfOk result (λ reply. reply ≢ Refused Memory) }
         ensures unchanged { OnErr result (IsUnchanged self.old self.new) }
         ensures same_book { IsSameBook self.old self.new }

@@ -1,10 +1,11 @@
 //! A picture with its history, for one thread.
 //!
-//! A `Book` holds the picture that it began with, the picture now, the prices and every call that was
-//! answered, refusals too. Each call is a step: it does what the definitions of `topo_core` say and
-//! its entry is the last of the history, or it is out of memory and nothing has changed. So the history
-//! is legal from the start, each picture on the way is lawful, and the picture now is the replay.
-//! `replay` carries a list of entries out again, and names the first whose reply is not the one due.
+//! A `Book` holds the picture that it began with, the picture now, the prices and every call that
+//! was answered, refusals too. Each call is a step: it does what the definitions of `topo_core` say
+//! and its entry is the last of the history, or it is out of memory and nothing has changed. So the
+//! history is legal from the start, each picture on the way is lawful, and the picture now is the
+//! replay. `replay` carries a list of entries out again, and names the first whose reply is not the
+//! one due.
 //!
 //! A caller:
 //!

@@ -11,7 +11,8 @@ pub struct Next {
     picture: Option<Arc<Picture>>,
 }
 
-// Written out, so that it is proved once: a derived one is proved anew in each function that lets such a value go.
+// Written out, so that it is proved once: a derived one is proved anew in each function that lets
+// such a value go.
 impl Drop for Next {
     fn drop(self) {
         let Next { entry, picture } = self;
@@ -35,7 +36,8 @@ impl Model for Next {
 }
 
 impl Next {
-    ghost use Rattle.std.specs.Prelude.{◌≡◌, ◌≢◌, None, Some, false, true, is_some, option_copied, option_map, IfSome};
+    ghost use Rattle.std.specs.Prelude.{◌≡◌, ◌≢◌, None, Some, false, true, is_some};
+    ghost use Rattle.std.specs.Prelude.{option_copied, option_map, IfSome};
     ghost use Rattle.std.specs.Arc.{arc_value};
     ghost use Rattle.topo_core.specs.History.{is_accepted};
     ghost use Rattle.topo_core.specs.declared.calls.Refusal.TheVariants.{Memory};
@@ -95,7 +97,8 @@ impl Next {
     pub fn shared(&self) -> Option<&Arc<Picture>>
         ensures picture { option_map arc_value (option_copied result) ≡ self.now.picture }
         ensures accepted { is_some result ≡ is_accepted self.now.entry.reply }
-        ensures lawful { IfSome result (λ p. IsPicture (arc_value p.now).limits (arc_value p.now).rows) }
+        ensures lawful { IfSome result
+            (λ p. IsPicture (arc_value p.now).limits (arc_value p.now).rows) }
     {
         self.picture.as_ref()
     }

@@ -78,8 +78,11 @@ fn replay_entry<F: PriceFn>(
     scratch: &mut Scratch,
 ) -> Result<bool, AllocError>
     requires { IsPicture picture.old.limits picture.old.rows }
-    ensures due { IfOk result (λ due. MatchBool due (Step (prices_of (F.may_return tariff.now)) picture.old.limits picture.old.rows entry.now.call entry.now.reply picture.new.rows)
-        (IsDue (prices_of (F.may_return tariff.now)) picture.old.limits picture.old.rows entry.now.call entry.now.reply → ⊥)) }
+    ensures due { IfOk result
+        (λ due. MatchBool due (Step (prices_of (F.may_return tariff.now))
+        picture.old.limits picture.old.rows entry.now.call entry.now.reply picture.new.rows)
+        (IsDue (prices_of (F.may_return tariff.now))
+        picture.old.limits picture.old.rows entry.now.call entry.now.reply → ⊥)) }
     ensures same_limits { picture.new.limits ≡ picture.old.limits }
     ensures lawful { IsPicture picture.new.limits picture.new.rows }
 {
@@ -98,8 +101,8 @@ fn replay_entry<F: PriceFn>(
     Ok(true)
 }
 
-/// Carries the entries out on a picture, one after the other. A reply that is not the one due in the picture
-/// at that point ends it.
+/// Carries the entries out on a picture, one after the other. A reply that is not the one due in
+/// the picture at that point ends it.
 fn replay_all<F: PriceFn>(
     alloc: Global,
     picture: &mut Picture,
@@ -108,11 +111,14 @@ fn replay_all<F: PriceFn>(
     scratch: &mut Scratch,
 ) -> Result<(), ReplayFault>
     requires { IsPicture picture.old.limits picture.old.rows }
-    ensures replayed { OnOk result (Replays (prices_of (F.may_return tariff.now)) picture.old.limits picture.old.rows entries.now picture.new.rows) }
+    ensures replayed { OnOk result (Replays (prices_of (F.may_return tariff.now))
+        picture.old.limits picture.old.rows entries.now picture.new.rows) }
     ensures same_limits { picture.new.limits ≡ picture.old.limits }
     ensures lawful { IsPicture picture.new.limits picture.new.rows }
-    ensures first_wrong { IfErr result (IsFaultOf (prices_of (F.may_return tariff.now)) picture.old.limits picture.old.rows entries.now) }
-    ensures illegal { IfErr result (IsIllegalAt (prices_of (F.may_return tariff.now)) picture.old.limits picture.old.rows entries.now) }
+    ensures first_wrong { IfErr result (IsFaultOf (prices_of (F.may_return tariff.now))
+        picture.old.limits picture.old.rows entries.now) }
+    ensures illegal { IfErr result (IsIllegalAt (prices_of (F.may_return tariff.now))
+        picture.old.limits picture.old.rows entries.now) }
 {
     for (index, entry) in entries.iter().enumerate() {
         match replay_entry(alloc, picture, tariff, entry, scratch) {
@@ -124,19 +130,23 @@ fn replay_all<F: PriceFn>(
     Ok(())
 }
 
-/// The picture that the entries lead to from the start, each call carried out again. A reply that is
-/// not the one due in the picture at that point ends it. The start is copied, and stays.
+/// The picture that the entries lead to from the start, each call carried out again. A reply that
+/// is not the one due in the picture at that point ends it. The start is copied, and stays.
 pub fn replay<F: PriceFn>(
     alloc: Global,
     start: &Picture,
     entries: &[Entry],
     tariff: &Tariff<F>,
 ) -> Result<Picture, ReplayFault>
-    ensures replayed { IfOk result (λ p. Replays (prices_of (F.may_return tariff.now)) start.now.limits start.now.rows entries.now p.rows) }
+    ensures replayed { IfOk result (λ p. Replays (prices_of (F.may_return tariff.now))
+        start.now.limits start.now.rows entries.now p.rows) }
     ensures same_limits { IfOk result (λ p. p.limits ≡ start.now.limits) }
     ensures lawful { IfOk result (λ p. IsPicture p.limits p.rows) }
-    ensures first_wrong { IfErr result (IsFaultOf (prices_of (F.may_return tariff.now)) start.now.limits start.now.rows entries.now) }
-    ensures illegal { IfErr result (IsIllegalAt (prices_of (F.may_return tariff.now)) start.now.limits start.now.rows entries.now) }
+    ensures first_wrong { IfErr result
+        (IsFaultOf (prices_of (F.may_return tariff.now))
+        start.now.limits start.now.rows entries.now) }
+    ensures illegal { IfErr result (IsIllegalAt (prices_of (F.may_return tariff.now))
+        start.now.limits start.now.rows entries.now) }
 {
     let Ok(mut picture) = start.copy(alloc) else {
         return Err(ReplayFault::Memory);

@@ -1,7 +1,9 @@
 //! Replicas: pictures after earlier entries of a history, kept to be carried on. A picture
-//! that readers held becomes one when another takes its place, and is free once none of them holds it.
+//! that readers held becomes one when another takes its place, and is free once none of them holds
+//! it.
 
-ghost use Rattle.std.specs.Prelude.{◌≡◌, ◌<◌, ◌++◌, [], ◌∷◌, All, Contains, IfOk, IfSome, drop, if◌then◌else◌, length, nat_lt};
+ghost use Rattle.std.specs.Prelude.{◌≡◌, ◌<◌, ◌++◌, [], ◌∷◌, All, Contains, IfOk};
+ghost use Rattle.std.specs.Prelude.{IfSome, drop, if◌then◌else◌, length, nat_lt};
 
 use std::alloc::{AllocError, Global};
 use std::marker::Model;
@@ -33,7 +35,8 @@ impl Model for Replicas {
 
     ghost view = { λ r. r.kept.items };
 
-    ghost invariant = { λ r. (vec_len r.kept ≤ MAX_REPLICAS) × (MAX_REPLICAS ≤ vec_capacity r.kept) };
+    ghost invariant = { λ r. (vec_len r.kept ≤ MAX_REPLICAS)
+        × (MAX_REPLICAS ≤ vec_capacity r.kept) };
 }
 
 impl Replicas {
@@ -46,9 +49,11 @@ impl Replicas {
         })
     }
 
-    /// Keeps one more. Where as many are kept as may be, the one kept longest goes. It takes no memory.
+    /// Keeps one more. Where as many are kept as may be, the one kept longest goes. It takes no
+    /// memory.
     pub(crate) fn keep(&mut self, replica: Replica)
-        ensures { self.new ≡ (if nat_lt (length self.old) MAX_REPLICAS then self.old else drop 1 self.old) ++ replica ∷ [] }
+        ensures { self.new ≡ (if nat_lt (length self.old)
+            MAX_REPLICAS then self.old else drop 1 self.old) ++ replica ∷ [] }
     {
         if self.kept.len() >= MAX_REPLICAS {
             self.kept.remove(0);
@@ -56,8 +61,8 @@ impl Replicas {
         self.kept.push_reserved(replica);
     }
 
-    /// The one kept last of those that nobody else holds and that stand after at least so many entries.
-    /// It is kept no longer.
+    /// The one kept last of those that nobody else holds and that stand after at least so many
+    /// entries. It is kept no longer.
     pub(crate) fn take_unshared(&mut self, least: usize) -> Option<Replica>
         ensures taken { IfSome result (Contains self.old) }
         ensures rest { All (Contains self.old) self.new }
@@ -69,7 +74,8 @@ impl Replicas {
     }
 }
 
-/// The last place of a replica that nobody else holds and that stands after at least so many entries.
+/// The last place of a replica that nobody else holds and that stands after at least so many
+/// entries.
 fn unshared_place(kept: &[Replica], least: usize) -> Option<usize>
     ensures { IfSome result (λ i. i < length kept.now) }
 {

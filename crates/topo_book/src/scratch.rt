@@ -4,8 +4,8 @@ use std::alloc::{AllocError, Global};
 use topo_dual::NumberLists;
 use topo_route::workspace::Workspace;
 
-/// What searches write on, and the lists in which the check of a plan numbers the darts, kept from one
-/// call to the next. Each call writes what it reads, whatever the one before it left.
+/// What searches write on, and the lists in which the check of a plan numbers the darts, kept from
+/// one call to the next. Each call writes what it reads, whatever the one before it left.
 #[derive(Drop)]
 pub(crate) struct Scratch {
     pub work: Workspace,

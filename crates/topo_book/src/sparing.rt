@@ -20,7 +20,8 @@ fn cross_none(region: &Region, crossed: &[Dart]) -> bool
         .all(|dart| !region.has_edge(dart.edge.number()))
 }
 
-/// Whether a call that was answered so leaves alone what a search saw of a picture that came before.
+/// Whether a call that was answered so leaves alone what a search saw of a picture that came
+/// before.
 #[tactic(auto, using(crate::proofs::Outliving::crosses_none))]
 fn spares(before: &Picture, region: &Region, entry: &Entry) -> bool
     ensures { result ≡ true → Spares before.now.rows region.now entry.now.call entry.now.reply }
@@ -45,8 +46,8 @@ fn is_accepted(reply: &Reply) -> bool
     !matches!(reply, Reply::Refused(_))
 }
 
-/// Whether the last entries, so many that `accepted` of them are accepted, all spare the region. No more than
-/// `most` are looked at.
+/// Whether the last entries, so many that `accepted` of them are accepted, all spare the region. No
+/// more than `most` are looked at.
 #[tactic(auto, using(crate::proofs::Outliving::none_spared, crate::proofs::Outliving::last_spared))]
 pub(crate) fn have_spared(
     before: &Picture,

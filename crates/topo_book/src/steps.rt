@@ -1,6 +1,8 @@
-//! One step of a picture, in two parts: `decide` gives the reply, `apply_entry` then makes its change.
+//! One step of a picture, in two parts: `decide` gives the reply, `apply_entry` then makes its
+//! change.
 
-ghost use Rattle.std.specs.Prelude.{◌≡◌, ◌≢◌, ◌<◌, IfOk, MatchOption, OnErr, OnOk, None, length, true};
+ghost use Rattle.std.specs.Prelude.{◌≡◌, ◌≢◌, ◌<◌, IfOk, MatchOption};
+ghost use Rattle.std.specs.Prelude.{OnErr, OnOk, None, length, true};
 ghost use Rattle.std.specs.Arc.{arc_value};
 ghost use Rattle.topo_core.specs.Routes.{HasNoRoute, IsFirst};
 ghost use Rattle.topo_core.specs.Steps.{Step};
@@ -26,14 +28,14 @@ use topo_route::check::check;
 use topo_route::plan::{Plan, PricedRoute};
 use topo_route::search::first_route;
 
-/// Whether a plan has as many heights as the picture has darts. A plan of an earlier picture mostly has
-/// not, and need not be compared with the picture then.
+/// Whether a plan has as many heights as the picture has darts. A plan of an earlier picture mostly
+/// has not, and need not be compared with the picture then.
 fn has_height_for_each_dart(picture: &Picture, plan: &Plan) -> bool {
     plan.heights.len() == 2 * picture.counts().segments as usize
 }
 
-/// Whether a plan between these ends passes the check on the picture, of which nothing is copied: its
-/// darts are numbered in the lists.
+/// Whether a plan between these ends passes the check on the picture, of which nothing is copied:
+/// its darts are numbered in the lists.
 fn passes<F: PriceFn>(
     picture: &Picture,
     tariff: &Tariff<F>,
@@ -44,7 +46,9 @@ fn passes<F: PriceFn>(
     requires u_there { ends.0 < length picture.now.rows.rotations }
     requires v_there { ends.1 < length picture.now.rows.rotations }
     requires apart { ends.0 ≢ ends.1 }
-    ensures { IfOk result (λ good. good ≡ true → IsFirst (prices_of (F.may_return tariff.now)) picture.now.rows ends.0 ends.1 plan.now.route plan.now.price) }
+    ensures { IfOk result
+        (λ good. good ≡ true → IsFirst (prices_of (F.may_return tariff.now))
+        picture.now.rows ends.0 ends.1 plan.now.route plan.now.price) }
 {
     if !has_height_for_each_dart(picture, plan) {
         return Ok(false);
@@ -66,8 +70,8 @@ fn route_of(alloc: Global, route: &Route, price: u64) -> Result<PricedRoute, All
     })
 }
 
-/// The first route: the one that is known, the plan's where it passes the check, and else the one that a
-/// search finds.
+/// The first route: the one that is known, the plan's where it passes the check, and else the one
+/// that a search finds.
 fn find_first<F: PriceFn>(
     alloc: Global,
     picture: &Picture,
@@ -99,8 +103,8 @@ fn find_first<F: PriceFn>(
     first_route(alloc, &picture.embedded(), tariff, u, v, &mut scratch.work)
 }
 
-/// The reply that is due to an insertion from `u` to `v`, for which what it brings along may spare the
-/// search.
+/// The reply that is due to an insertion from `u` to `v`, for which what it brings along may spare
+/// the search.
 fn decide_insertion<F: PriceFn>(
     alloc: Global,
     picture: &Picture,
@@ -110,8 +114,10 @@ fn decide_insertion<F: PriceFn>(
     source: RouteSource<PricedRoute>,
     scratch: &mut Scratch,
 ) -> Result<Reply, AllocError>
-    requires { IsTrueOf (prices_of (F.may_return tariff.now)) picture.now.rows ends.0 ends.1 source }
-    ensures { IfOk result (IsDue (prices_of (F.may_return tariff.now)) picture.now.limits picture.now.rows (Insert ends.0 ends.1 kind)) }
+    requires { IsTrueOf (prices_of (F.may_return tariff.now))
+        picture.now.rows ends.0 ends.1 source }
+    ensures { IfOk result (IsDue (prices_of (F.may_return tariff.now))
+        picture.now.limits picture.now.rows (Insert ends.0 ends.1 kind)) }
 {
     let (u, v) = ends;
     if let Err(why) = picture.admit(u, v, kind) {
@@ -130,9 +136,8 @@ fn decide_insertion<F: PriceFn>(
     }
 }
 
-/// The reply that is due to a call. An insertion takes a first route that is known, and a plan's route where
-/// the plan passes the check.
-/// The picture is only read.
+/// The reply that is due to a call. An insertion takes a first route that is known, and a plan's
+/// route where the plan passes the check. The picture is only read.
 pub(crate) fn decide<F: PriceFn>(
     alloc: Global,
     picture: &Picture,
@@ -142,7 +147,8 @@ pub(crate) fn decide<F: PriceFn>(
     scratch: &mut Scratch,
 ) -> Result<Reply, AllocError>
     requires { IsSourceFor (prices_of (F.may_return tariff.now)) picture.now.rows call source }
-    ensures due { IfOk result (IsDue (prices_of (F.may_return tariff.now)) picture.now.limits picture.now.rows call) }
+    ensures due { IfOk result
+        (IsDue (prices_of (F.may_return tariff.now)) picture.now.limits picture.now.rows call) }
     ensures no_memory { IfOk result (λ reply. reply ≢ Refused Memory) }
 {
     match call {
@@ -160,8 +166,9 @@ pub(crate) fn decide<F: PriceFn>(
     }
 }
 
-/// Carries out in place what the reply of an entry says: an insertion along the route that it holds,
-/// with no search. A refusal changes nothing. Whatever fails, fails before the picture changes.
+/// Carries out in place what the reply of an entry says: an insertion along the route that it
+/// holds, with no search. A refusal changes nothing. Whatever fails, fails before the picture
+/// changes.
 pub(crate) fn apply_entry<F: PriceFn>(
     alloc: Global,
     picture: &mut Picture,
@@ -169,8 +176,10 @@ pub(crate) fn apply_entry<F: PriceFn>(
     entry: &Entry,
 ) -> Result<(), AllocError>
     requires lawful { IsPicture picture.old.limits picture.old.rows }
-    requires due { IsDue (prices_of (F.may_return tariff.now)) picture.old.limits picture.old.rows entry.now.call entry.now.reply }
-    ensures step { OnOk result (Step (prices_of (F.may_return tariff.now)) picture.old.limits picture.old.rows entry.now.call entry.now.reply picture.new.rows) }
+    requires due { IsDue (prices_of (F.may_return tariff.now))
+        picture.old.limits picture.old.rows entry.now.call entry.now.reply }
+    ensures step { OnOk result (Step (prices_of (F.may_return tariff.now))
+        picture.old.limits picture.old.rows entry.now.call entry.now.reply picture.new.rows) }
     ensures same_limits { picture.new.limits ≡ picture.old.limits }
     ensures lawful { IsPicture picture.new.limits picture.new.rows }
     ensures unchanged { OnErr result (picture.new ≡ picture.old) }
@@ -206,8 +215,11 @@ pub(crate) fn apply_entry_unshared<F: PriceFn>(
     entry: &Entry,
 ) -> Result<(), AllocError>
     requires lawful { IsPicture (arc_value picture.old).limits (arc_value picture.old).rows }
-    requires due { IsDue (prices_of (F.may_return tariff.now)) (arc_value picture.old).limits (arc_value picture.old).rows entry.now.call entry.now.reply }
-    ensures step { OnOk result (Step (prices_of (F.may_return tariff.now)) (arc_value picture.old).limits (arc_value picture.old).rows entry.now.call entry.now.reply (arc_value picture.new).rows) }
+    requires due { IsDue (prices_of (F.may_return tariff.now))
+        (arc_value picture.old).limits (arc_value picture.old).rows entry.now.call entry.now.reply }
+    ensures step { OnOk result
+        (Step (prices_of (F.may_return tariff.now)) (arc_value picture.old).limits
+        (arc_value picture.old).rows entry.now.call entry.now.reply (arc_value picture.new).rows) }
     ensures same_limits { (arc_value picture.new).limits ≡ (arc_value picture.old).limits }
     ensures lawful { IsPicture (arc_value picture.new).limits (arc_value picture.new).rows }
     ensures unchanged { OnErr result (arc_value picture.new ≡ arc_value picture.old) }

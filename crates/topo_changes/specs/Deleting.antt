@@ -1,5 +1,6 @@
 -- What a deletion reads of the rows while it takes an edge out.
-use Rattle.std.specs.Prelude.{◌≡◌, ◌≢◌, ◌≤◌, ℕ, nat_le, ◌==◌, true, false, if◌then◌else◌, not, List, [], filter, find, is_some, unwrap_or, slice_index_or, slice_set}
+use Rattle.std.specs.Prelude.{◌≡◌, ◌≢◌, ◌≤◌, ℕ, nat_le, ◌==◌, true, false, if◌then◌else◌, not, List}
+use Rattle.std.specs.Prelude.{[], filter, find, is_some, unwrap_or, slice_index_or, slice_set}
 use Rattle.std.specs.List.{list_all}
 use Rattle.topo_core.specs.declared.darts.Sign.TheVariants.{LeftToRight}
 use Rattle.topo_core.specs.declared.rows.EdgeRow.{EdgeRow}

@@ -1,6 +1,8 @@
 //! Deletion on plain rows. It takes no memory, so it cannot fail.
 
-ghost use Rattle.std.specs.Prelude.{Some, ◌&&◌, ◌≡◌, ◌≢◌, ◌<◌, ◌≤◌, ◌==◌, ℕ, true, not, filter, find, is_some, length, map, slice_index, slice_index_or, slice_set, [], ◌∷◌};
+ghost use Rattle.std.specs.Prelude.{Some, ◌&&◌, ◌≡◌, ◌≢◌, ◌<◌, ◌≤◌, ◌==◌, ℕ, true};
+ghost use Rattle.std.specs.Prelude.{not, filter, find, is_some, length, map};
+ghost use Rattle.std.specs.Prelude.{slice_index, slice_index_or, slice_set, [], ◌∷◌};
 ghost use Rattle.std.specs.List.{position_or_len};
 ghost use Rattle.topo_core.specs.Changes.{from_least, uncrossed_row, without};
 ghost use Rattle.topo_core.specs.Items.{IsIn, has_id, occurrences};
@@ -9,7 +11,8 @@ ghost use Rattle.topo_core.specs.Picture.{edge_at, edge_row, rotation};
 ghost use Rattle.topo_rows.specs.Ids.{IdsRise};
 ghost use Rattle.topo_changes.specs.Keeping.{rows_of};
 ghost use Rattle.topo_table.specs.Places.{AreBelow, entries};
-ghost use Rattle.topo_changes.specs.Deleting.{IsCrossed, IsRotation, rotation_without, left_by, other_edge};
+ghost use Rattle.topo_changes.specs.Deleting.{IsCrossed, IsRotation};
+ghost use Rattle.topo_changes.specs.Deleting.{rotation_without, left_by, other_edge};
 
 use crate::kept::{Crossing, KeptRows};
 use topo_core::listed::Listed;
@@ -29,7 +32,8 @@ fn take_id(list: &mut Listed<u32>, id: u32)
 fn place_of_least(ids: &[u32]) -> usize
     ensures within { result ≤ length ids.now }
     ensures inside { 0 < length ids.now → result < length ids.now }
-    ensures least { (k : ℕ) → k < length ids.now → slice_index ids.now result ≤ slice_index ids.now k }
+    ensures least { (k : ℕ) → k < length ids.now
+        → slice_index ids.now result ≤ slice_index ids.now k }
     ensures first { (k : ℕ) → k < result → slice_index ids.now result < slice_index ids.now k }
 {
     let mut place = 0;
@@ -61,7 +65,8 @@ fn place_of(ids: &[u32], id: u32) -> usize
     ids.len()
 }
 
-/// Takes an id that stands in a list at most once out of it, in one move, and answers where it stood.
+/// Takes an id that stands in a list at most once out of it, in one move, and answers where it
+/// stood.
 fn take_once(ids: &mut Vec<u32>, id: u32) -> usize
     requires { occurrences id ids.old.items ≤ 1 }
     ensures left { ids.new.items ≡ filter (λ y. not (y == id)) ids.old.items }
@@ -74,8 +79,8 @@ fn take_once(ids: &mut Vec<u32>, id: u32) -> usize
     place
 }
 
-/// Takes an edge out of a rotation. Where that was its least id, the rotation is listed from its least id
-/// again; else it begins as it did.
+/// Takes an edge out of a rotation. Where that was its least id, the rotation is listed from its
+/// least id again; else it begins as it did.
 fn leave_rotation(around: &mut Listed<u32>, e: u32)
     requires { IsRotation e around.old }
     ensures { around.new ≡ rotation_without e around.old }
@@ -131,7 +136,8 @@ fn leave_paths(
     path: &[u32],
 )
     requires edges_rise { IdsRise (map (λ row. row.id) edges.old.items) }
-    requires crossed { (x : ℕ) → IsIn x path.now → IsCrossed (rows_of crossings.now) e edges.old.items x }
+    requires crossed { (x : ℕ) → IsIn x path.now
+        → IsCrossed (rows_of crossings.now) e edges.old.items x }
     ensures { edges.new.items ≡ map (uncrossed_row path.now) edges.old.items }
 {
     for x in path {
@@ -144,7 +150,10 @@ fn delete_edge(rows: &mut KeptRows, hints: &mut IdIndex, e: u32) -> EdgeRow
     requires well_formed { IsWellFormed rows.old }
     requires there { is_some (edge_row rows.old e) ≡ true }
     ensures row { edge_row rows.old e ≡ Some result }
-    ensures rows { rows.new ≡ record rows.old { edges = map (uncrossed_row result.crossings) (filter (λ row. not (row.id == e)) rows.old.edges) } }
+    ensures rows { rows.new ≡ record rows.old {
+      edges =
+          map (uncrossed_row result.crossings) (filter (λ row. not (row.id == e)) rows.old.edges);
+    } }
 {
     let edges = rows.edges.as_vec_mut();
     let place = place_of_edge(edges.as_slice(), hints, e);
@@ -161,7 +170,10 @@ fn leave_ends(rows: &mut KeptRows, row: &EdgeRow)
     requires apart { row.now.a ≢ row.now.b }
     requires rotation_a { IsRotation row.now.id (rotation rows.old row.now.a) }
     requires rotation_b { IsRotation row.now.id (rotation rows.old row.now.b) }
-    ensures { rows.new ≡ record rows.old { rotations = left_by row.now.id row.now.b (left_by row.now.id row.now.a rows.old.rotations) } }
+    ensures { rows.new ≡ record rows.old {
+      rotations =
+          left_by row.now.id row.now.b (left_by row.now.id row.now.a rows.old.rotations);
+    } }
 {
     let rotations = rows.rotations.as_vec_mut();
     leave_vertex(rotations, row.a, row.id);
@@ -170,8 +182,10 @@ fn leave_ends(rows: &mut KeptRows, row: &EdgeRow)
 
 /// Takes out the crossings on a path.
 fn delete_crossings(crossings: &mut Table<Crossing>, path: &[u32])
-    ensures entries { entries crossings.new ≡ filter (λ e. not (has_id path.now e.0)) (entries crossings.old) }
-    ensures below { (limit : ℕ) → AreBelow limit crossings.old.slots → AreBelow limit crossings.new.slots }
+    ensures entries { entries crossings.new
+        ≡ filter (λ e. not (has_id path.now e.0)) (entries crossings.old) }
+    ensures below { (limit : ℕ) → AreBelow limit crossings.old.slots
+        → AreBelow limit crossings.new.slots }
 {
     for x in path {
         crossings.remove(*x);

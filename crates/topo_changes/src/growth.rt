@@ -1,6 +1,7 @@
 //! Growth on plain rows. What can fail comes first, so that a failure leaves the rows as they were.
 
-ghost use Rattle.std.specs.Prelude.{◌≡◌, ◌+◌, ◌<◌, ◌≤◌, ◌^◌, IfOk, OnOk, OnErr, length, slice_index_or, [], ◌∷◌, ◌++◌};
+ghost use Rattle.std.specs.Prelude.{◌≡◌, ◌+◌, ◌<◌, ◌≤◌, ◌^◌, IfOk, OnOk, OnErr};
+ghost use Rattle.std.specs.Prelude.{length, slice_index_or, [], ◌∷◌, ◌++◌};
 ghost use Rattle.topo_core.specs.Picture.{rotation};
 ghost use Rattle.topo_core.specs.Changes.{put_in, with_end, grown};
 
@@ -43,7 +44,8 @@ fn grow_rotations(
 ) -> Result<(), AllocError>
     requires vertex { v < length rotations.old.items }
     requires position { position ≤ length (slice_index_or rotations.old.items v []) }
-    ensures ok { OnOk result (rotations.new.items ≡ with_end rotations.old.items v position e ++ (e ∷ []) ∷ []) }
+    ensures ok { OnOk result
+        (rotations.new.items ≡ with_end rotations.old.items v position e ++ (e ∷ []) ∷ []) }
     ensures err { OnErr result (rotations.new.items ≡ rotations.old.items) }
 {
     rotations.push(one_listed(alloc, e)?)?;
@@ -93,7 +95,8 @@ fn grow_lists(
 ) -> Result<(), AllocError>
     requires vertex { row.a < length rotations.old.items }
     requires position { position ≤ length (slice_index_or rotations.old.items row.a []) }
-    ensures rotations { OnOk result (rotations.new.items ≡ with_end rotations.old.items row.a position row.id ++ (row.id ∷ []) ∷ []) }
+    ensures rotations { OnOk result (rotations.new.items
+        ≡ with_end rotations.old.items row.a position row.id ++ (row.id ∷ []) ∷ []) }
     ensures edges { OnOk result (edges.new.items ≡ edges.old.items ++ row ∷ []) }
     ensures rotations_stay { OnErr result (rotations.new.items ≡ rotations.old.items) }
     ensures edges_stay { OnErr result (edges.new.items ≡ edges.old.items) }

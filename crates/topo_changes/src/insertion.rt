@@ -1,14 +1,17 @@
 //! Insertion on plain rows. What can fail comes before what cannot, and what was changed before a
 //! failure is changed back.
 
-ghost use Rattle.std.specs.Prelude.{◌≡◌, ◌≢◌, ◌+◌, ◌<◌, ◌≤◌, ◌^◌, ℕ, List, true, nat_lt, IfOk, OnOk, OnErr, length, map, filter, take, slice_index_or, [], ◌∷◌, ◌++◌};
+ghost use Rattle.std.specs.Prelude.{◌≡◌, ◌≢◌, ◌+◌, ◌<◌, ◌≤◌, ◌^◌, ℕ, List, true};
+ghost use Rattle.std.specs.Prelude.{nat_lt, IfOk, OnOk, OnErr, length, map};
+ghost use Rattle.std.specs.Prelude.{filter, take, slice_index_or, [], ◌∷◌, ◌++◌};
 ghost use Rattle.std.specs.List.{enumerate_from, list_all};
 ghost use Rattle.topo_core.specs.Changes.{shown, sign_of, with_end};
 ghost use Rattle.topo_core.specs.Insertions.{IsInsertable};
 ghost use Rattle.topo_core.specs.Lawful.{IsWellFormed};
 ghost use Rattle.topo_changes.specs.Keeping.{new_entry};
 ghost use Rattle.topo_table.specs.Places.{AreBelow, entries};
-ghost use Rattle.topo_changes.specs.Inserting.{AreOnPaths, EdgesRise, crossed_by, crossed_path, paths_below, repathed, segment_end};
+ghost use Rattle.topo_changes.specs.Inserting.{AreOnPaths, EdgesRise, crossed_by, crossed_path};
+ghost use Rattle.topo_changes.specs.Inserting.{paths_below, repathed, segment_end};
 
 use crate::growth::put_into;
 use crate::kept::{Crossing, KeptRows};
@@ -65,7 +68,8 @@ fn cross_edge(
     x: u32,
 ) -> Result<(), AllocError>
     requires { EdgesRise edges.old }
-    ensures ok { OnOk result (edges.new ≡ map (repathed e (crossed_path first segment x)) edges.old) }
+    ensures ok { OnOk result
+        (edges.new ≡ map (repathed e (crossed_path first segment x)) edges.old) }
     ensures err { OnErr result (edges.new ≡ edges.old) }
 {
     match edge_place(edges, hints, e) {
@@ -85,8 +89,8 @@ fn uncross_edge(edges: &mut [EdgeRow], hints: &IdIndex, e: u32, first: u32)
     }
 }
 
-/// Puts crossings on the segments of the darts, with ids from `first` on, as far as there is memory,
-/// and answers how many.
+/// Puts crossings on the segments of the darts, with ids from `first` on, as far as there is
+/// memory, and answers how many.
 fn cross_some(edges: &mut [EdgeRow], hints: &IdIndex, darts: &[Dart], first: u32) -> usize
     requires rise { EdgesRise edges.old }
     requires below { paths_below first edges.old ≡ true }
@@ -108,7 +112,8 @@ fn cross_some(edges: &mut [EdgeRow], hints: &IdIndex, darts: &[Dart], first: u32
 fn uncross(edges: &mut [EdgeRow], hints: &IdIndex, darts: &[Dart], first: u32)
     requires rise { EdgesRise edges.old }
     requires ids { first + length darts.now < 2 ^ 32 }
-    ensures { (was : List EdgeRow) → paths_below first was ≡ true → edges.old ≡ map (crossed_by first darts.now) was → edges.new ≡ was }
+    ensures { (was : List EdgeRow) → paths_below first was ≡ true
+        → edges.old ≡ map (crossed_by first darts.now) was → edges.new ≡ was }
 {
     let mut n = darts.len();
     while n > 0 {
@@ -117,7 +122,8 @@ fn uncross(edges: &mut [EdgeRow], hints: &IdIndex, darts: &[Dart], first: u32)
     }
 }
 
-/// Puts crossings on the segments of the darts, with ids from `first` on, or none where memory is short.
+/// Puts crossings on the segments of the darts, with ids from `first` on, or none where memory is
+/// short.
 fn cross(
     edges: &mut [EdgeRow],
     hints: &IdIndex,
@@ -146,8 +152,11 @@ fn join_ends(rotations: &mut [Listed<u32>], row: &EdgeRow, route: &Route) -> Res
     requires apart { row.now.a ≢ row.now.b }
     requires start { route.now.start ≤ length (slice_index_or rotations.old row.now.a []) }
     requires end { route.now.end ≤ length (slice_index_or rotations.old row.now.b []) }
-    requires new { list_all (λ e. nat_lt e row.now.id) (slice_index_or rotations.old row.now.a []) ≡ true }
-    ensures ok { OnOk result (rotations.new ≡ with_end (with_end rotations.old row.now.a route.now.start row.now.id) row.now.b route.now.end row.now.id) }
+    requires new { list_all (λ e. nat_lt e row.now.id)
+        (slice_index_or rotations.old row.now.a []) ≡ true }
+    ensures ok { OnOk result
+        (rotations.new ≡ with_end (with_end rotations.old row.now.a route.now.start row.now.id)
+        row.now.b route.now.end row.now.id) }
     ensures err { OnErr result (rotations.new ≡ rotations.old) }
 {
     put_into(&mut rotations[row.a as usize], route.start, row.id)?;
@@ -180,13 +189,14 @@ fn sign_of(way: Way) -> Sign
     }
 }
 
-/// Puts the crossings of an edge that crosses the darts behind the others, with ids from `first` on. There is
-/// room for them.
+/// Puts the crossings of an edge that crosses the darts behind the others, with ids from `first`
+/// on. There is room for them.
 fn add_crossings(crossings: &mut Table<Crossing>, darts: &[Dart], first: u32, edge: u32)
     requires ids { first + length darts.now < 2 ^ 32 }
     requires room { length darts.now ≤ crossings.old.room }
     requires below { AreBelow first crossings.old.slots }
-    ensures entries { entries crossings.new ≡ entries crossings.old ++ map (new_entry edge) (enumerate_from first darts.now) }
+    ensures entries { entries crossings.new ≡ entries crossings.old
+        ++ map (new_entry edge) (enumerate_from first darts.now) }
     ensures below { AreBelow (first + length darts.now) crossings.new.slots }
 {
     for i in 0..darts.len() {
@@ -221,10 +231,15 @@ fn insert_lists(
     requires there { AreOnPaths edges.old.items route.now.crossed }
     requires crossings_below { AreBelow first crossings.old.slots }
     requires ids { first + length route.now.crossed < 2 ^ 32 }
-    ensures rotations { OnOk result (rotations.new ≡ with_end (with_end rotations.old row.a route.now.start row.id) row.b route.now.end row.id) }
-    ensures edges { OnOk result (edges.new.items ≡ map (crossed_by first route.now.crossed) edges.old.items ++ row ∷ []) }
-    ensures crossings { OnOk result (entries crossings.new ≡ entries crossings.old ++ map (new_entry row.id) (enumerate_from first route.now.crossed)) }
-    ensures crossings_below { OnOk result (AreBelow (first + length route.now.crossed) crossings.new.slots) }
+    ensures rotations { OnOk result (rotations.new
+        ≡ with_end (with_end rotations.old row.a route.now.start row.id)
+        row.b route.now.end row.id) }
+    ensures edges { OnOk result
+        (edges.new.items ≡ map (crossed_by first route.now.crossed) edges.old.items ++ row ∷ []) }
+    ensures crossings { OnOk result (entries crossings.new ≡ entries crossings.old
+        ++ map (new_entry row.id) (enumerate_from first route.now.crossed)) }
+    ensures crossings_below { OnOk result
+        (AreBelow (first + length route.now.crossed) crossings.new.slots) }
     ensures rotations_stay { OnErr result (rotations.new ≡ rotations.old) }
     ensures edges_stay { OnErr result (edges.new.items ≡ edges.old.items) }
     ensures crossings_stay { OnErr result (crossings.new.slots ≡ crossings.old.slots) }

@@ -1,5 +1,5 @@
-//! The rows of a picture as it keeps them: each crossing is found by its id in one look, and goes at its
-//! own cost.
+//! The rows of a picture as it keeps them: each crossing is found by its id in one look, and goes
+//! at its own cost.
 
 ghost use Rattle.std.specs.Prelude.{◌≡◌, ◌==◌, true, IfOk, if◌then◌else◌, length, map};
 ghost use Rattle.topo_core.specs.Items.{rises_below};
@@ -46,7 +46,8 @@ pub struct KeptRows {
     pub(crate) next_crossing: u32,
 }
 
-// Written out, so that it is proved once: a derived one is proved anew in each function that lets such a value go.
+// Written out, so that it is proved once: a derived one is proved anew in each function that lets
+// such a value go.
 impl Drop for KeptRows {
     fn drop(self) {
         let KeptRows {

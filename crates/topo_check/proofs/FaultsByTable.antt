@@ -12,7 +12,8 @@ use Rattle.topo_settings.specs.Settings.{price_table, priced}
 use Rattle.topo_settings.proofs.Pricing.{Allows, back, replays_so, step_so, there}
 
 module _ (a b : Pricing) (allows : Allows a b) (back : Allows b a) where
-  fault_so : (limits : Limits) (start : Rows) (entries : List Entry) (fault : ReplayFault) → IsFaultOf a limits start entries fault → IsFaultOf b limits start entries fault
+  fault_so : (limits : Limits) (start : Rows) (entries : List Entry) (fault : ReplayFault) → IsFaultOf a limits start entries fault
+      → IsFaultOf b limits start entries fault
   fault_so limits start entries (WrongReply i) is = record {
     picture = is.picture;
     before = replays_so a b allows back limits start (take i entries) is.picture is.before;
@@ -22,7 +23,8 @@ module _ (a b : Pricing) (allows : Allows a b) (back : Allows b a) where
   }
   fault_so limits start entries Memory is = is
 
-  illegal_so : (limits : Limits) (start : Rows) (entries : List Entry) (fault : ReplayFault) → IsIllegalAt a limits start entries fault → IsIllegalAt b limits start entries fault
+  illegal_so : (limits : Limits) (start : Rows) (entries : List Entry) (fault : ReplayFault) → IsIllegalAt a limits start entries fault
+      → IsIllegalAt b limits start entries fault
   illegal_so limits start entries (WrongReply i) is = λ legal. is (legal.0, replays_so b a back allows limits start entries legal.0 legal.1)
   illegal_so limits start entries Memory is = is
 
@@ -30,8 +32,10 @@ module _ (a b : Pricing) (allows : Allows a b) (back : Allows b a) where
 module _ (price : Pricing) (prices table : List (Option ℕ)) (is : table ≡ price_table prices)
     (tells : (facts : Facts) (n : ℕ) → price facts n → slice_get table facts.kind ≡ Some (Some n))
     (told : (facts : Facts) (n : ℕ) → slice_get table facts.kind ≡ Some (Some n) → price facts n) where
-  pub fault_by_table : (limits : Limits) (start : Rows) (entries : List Entry) (fault : ReplayFault) → IsFaultOf price limits start entries fault → IsFaultOf (priced prices) limits start entries fault
+  pub fault_by_table : (limits : Limits) (start : Rows) (entries : List Entry) (fault : ReplayFault) → IsFaultOf price limits start entries fault
+      → IsFaultOf (priced prices) limits start entries fault
   fault_by_table = fault_so price (priced prices) (there price prices table is tells told) (back price prices table is tells told)
 
-  pub illegal_by_table : (limits : Limits) (start : Rows) (entries : List Entry) (fault : ReplayFault) → IsIllegalAt price limits start entries fault → IsIllegalAt (priced prices) limits start entries fault
+  pub illegal_by_table : (limits : Limits) (start : Rows) (entries : List Entry) (fault : ReplayFault) → IsIllegalAt price limits start entries fault
+      → IsIllegalAt (priced prices) limits start entries fault
   illegal_by_table = illegal_so price (priced prices) (there price prices table is tells told) (back price prices table is tells told)

@@ -2,7 +2,8 @@
 use Rattle.std.proofs.Common.{◌≡◌, ℕ, List, Option, subst}
 use Rattle.std.specs.Io.KnownBytes.{Appends, Keeps}
 use Rattle.topo_settings.specs.declared.fault.RunFault.{RunFault}
-use Rattle.topo_settings.specs.declared.fault.RunFault.TheVariants.{Memory, Script, BadLimits, Price, Load, NoSeat, Mismatch, WrongReply, WrongPicture, ReadFault, WriteFault}
+use Rattle.topo_settings.specs.declared.fault.RunFault.TheVariants.{Memory, Script, BadLimits, Price, Load, NoSeat, Mismatch}
+use Rattle.topo_settings.specs.declared.fault.RunFault.TheVariants.{WrongReply, WrongPicture, ReadFault, WriteFault}
 use Rattle.topo_settings.specs.Reading.{IsRead}
 use Rattle.topo_settings.specs.Writing.{AppendsPart, IsOfWriting}
 use Rattle.topo_settings.proofs.Faults.{by_writing}
@@ -38,7 +39,12 @@ module _ (old_left new_left old_held new_held : Option (List ℕ)) where
     -- ---- A check
 
     lawful : (line : List ℕ) (told : IsSizeOfBytes bytes line) → IsLawfulInput old_left new_left told.rows
-    lawful line told = record { spelled = record { input = bytes; read = read; spelled = told.spelled }; limits = told.limits; greatest = told.greatest; lawful = told.lawful }
+    lawful line told = record {
+      spelled = record { input = bytes; read = read; spelled = told.spelled };
+      limits = told.limits;
+      greatest = told.greatest;
+      lawful = told.lawful;
+    }
 
     pub checked : (line text : List ℕ) → IsSizeOfBytes bytes line → text ≡ line → Appends old_held new_held text → IsChecked old_left new_left old_held new_held
     checked line text told same written = record {
@@ -54,7 +60,16 @@ module _ (old_left new_left old_held new_held : Option (List ℕ)) where
     check_fails (Script fault) is kept = (record { input = bytes; read = read; first = is }, kept)
     check_fails BadLimits is kept = absurd is
     check_fails (Price fault) is kept = absurd is
-    check_fails (Load fault) is kept = (record { rows = is.rows; spelled = record { input = bytes; read = read; spelled = is.spelled }; limits = is.limits; greatest = is.greatest; first = is.first }, kept)
+    check_fails (Load fault) is kept = (
+      record {
+        rows = is.rows;
+        spelled = record { input = bytes; read = read; spelled = is.spelled };
+        limits = is.limits;
+        greatest = is.greatest;
+        first = is.first;
+      },
+      kept,
+    )
     check_fails NoSeat is kept = absurd is
     check_fails (Mismatch list i) is kept = absurd is
     check_fails (WrongReply i) is kept = absurd is
@@ -62,7 +77,8 @@ module _ (old_left new_left old_held new_held : Option (List ℕ)) where
     check_fails ReadFault is kept = absurd is
     check_fails WriteFault is kept = absurd is
 
-    pub check_unwritten : (fault : RunFault) (line text : List ℕ) → IsSizeOfBytes bytes line → text ≡ line → AppendsPart old_held new_held text → IsOfWriting fault → CheckFailsBy fault old_left new_left old_held new_held
+    pub check_unwritten : (fault : RunFault) (line text : List ℕ) → IsSizeOfBytes bytes line → text ≡ line → AppendsPart old_held new_held text
+        → IsOfWriting fault → CheckFailsBy fault old_left new_left old_held new_held
     check_unwritten fault line text told same written is = by_writing (λ f. CheckFailsBy f old_left new_left old_held new_held) fault is (record {
       rows = told.rows;
       input = lawful line told;

@@ -11,14 +11,16 @@ use Rattle.topo_picture.specs.Totals.{AreCountsOf}
 use Rattle.topo_forms.specs.Reads.{IsFirstFault}
 use Rattle.topo_forms.specs.RowForms.{rows_of}
 use Rattle.topo_settings.specs.declared.fault.RunFault.{RunFault}
-use Rattle.topo_settings.specs.declared.fault.RunFault.TheVariants.{Memory, Script, BadLimits, Price, Load, NoSeat, Mismatch, WrongReply, WrongPicture, ReadFault, WriteFault}
+use Rattle.topo_settings.specs.declared.fault.RunFault.TheVariants.{Memory, Script, BadLimits, Price, Load, NoSeat, Mismatch}
+use Rattle.topo_settings.specs.declared.fault.RunFault.TheVariants.{WrongReply, WrongPicture, ReadFault, WriteFault}
 use Rattle.topo_settings.specs.Limiting.{AreGreatest}
 use Rattle.topo_settings.specs.Reading.{Spells, SpellsNone}
 use Rattle.topo_settings.specs.Writing.{AppendsPart}
 
 -- the line that says how large a picture is, with its line feed
 abbrev pub size_line : Counts → List ℕ
-size_line counts = codes "lawful vertices=" ++ (decimal counts.vertices ++ (codes " crossings=" ++ (decimal counts.crossings ++ (codes " edges=" ++ (decimal counts.edges
+size_line counts =
+    codes "lawful vertices=" ++ (decimal counts.vertices ++ (codes " crossings=" ++ (decimal counts.crossings ++ (codes " edges=" ++ (decimal counts.edges
     ++ (codes " segments=" ++ (decimal counts.segments ++ (codes " faces=" ++ (decimal counts.faces ++ 10 ∷ [])))))))))
 
 -- ---- What a check makes of bytes

@@ -1,7 +1,8 @@
 //! The command `check`.
 
 ghost use Rattle.std.specs.Prelude.{◌≡◌, IfOk, IfErr, string_bytes};
-ghost use Rattle.topo_check.specs.Checks.{CheckFailsBy, IsChecked, IsSizeOfBytes, IsUnlawful, size_line};
+ghost use Rattle.topo_check.specs.Checks.{CheckFailsBy, IsChecked};
+ghost use Rattle.topo_check.specs.Checks.{IsSizeOfBytes, IsUnlawful, size_line};
 ghost use Rattle.topo_settings.specs.Limiting.{AreGreatest};
 
 use std::alloc::{AllocError, Global};
@@ -15,17 +16,19 @@ use topo_settings::reading::read_bytes;
 use topo_settings::writing::write_text;
 
 /// Reads a picture, and writes how large it is where it is a lawful one under the greatest limits.
-/// The reader is read until its end, or until it has given one byte more than a picture may have: in
-/// at most twice as many calls as a picture may have bytes, and two; an interrupted call is one of
-/// them. ReadFault comes where a call fails otherwise or there are too few of them, WriteFault where a
-/// call of the writer fails.
+/// The reader is read until its end, or until it has given one byte more than a picture may have:
+/// in at most twice as many calls as a picture may have bytes, and two; an interrupted call is one
+/// of them. ReadFault comes where a call fails otherwise or there are too few of them, WriteFault
+/// where a call of the writer fails.
 pub fn check_io<R: Read, W: Write>(
     alloc: Global,
     reader: &mut R,
     writer: &mut W,
 ) -> Result<(), RunFault>
-    ensures done { IfOk result (λ _. IsChecked (R.remaining reader.old) (R.remaining reader.new) (W.contents writer.old) (W.contents writer.new)) }
-    ensures fault { IfErr result (λ fault. CheckFailsBy fault (R.remaining reader.old) (R.remaining reader.new) (W.contents writer.old) (W.contents writer.new)) }
+    ensures done { IfOk result (λ _. IsChecked (R.remaining reader.old) (R.remaining reader.new)
+        (W.contents writer.old) (W.contents writer.new)) }
+    ensures fault { IfErr result (λ fault. CheckFailsBy fault (R.remaining reader.old)
+        (R.remaining reader.new) (W.contents writer.old) (W.contents writer.new)) }
 {
     let bytes = read_bytes(alloc, MAX_PICTURE_BYTES as u32, reader)?;
     let line = check_bytes(alloc, bytes.as_slice())?;

@@ -1,10 +1,12 @@
 //! The command `replay`.
 
-ghost use Rattle.std.specs.Prelude.{◌≡◌, ◌≤◌, IfOk, IfErr, IfSome, Some, None, slice_get, string_bytes};
+ghost use Rattle.std.specs.Prelude.{◌≡◌, ◌≤◌, IfOk, IfErr, IfSome, Some};
+ghost use Rattle.std.specs.Prelude.{None, slice_get, string_bytes};
 ghost use Rattle.topo_book.specs.Faults.{IsFaultOf, IsIllegalAt};
 ghost use Rattle.topo_core.specs.History.{Replays};
 ghost use Rattle.topo_price.specs.Prices.{IsPromise, first_bad, prices_of};
-ghost use Rattle.topo_check.specs.Replays.{IsReplayed, IsTrueReport, IsUntrue, ReplayFailsBy, TellsCalls, TellsUntrue, calls_line};
+ghost use Rattle.topo_check.specs.Replays.{IsReplayed, IsTrueReport, IsUntrue, ReplayFailsBy};
+ghost use Rattle.topo_check.specs.Replays.{TellsCalls, TellsUntrue, calls_line};
 ghost use Rattle.topo_settings.specs.Settings.{priced, price_table};
 
 use std::alloc::{AllocError, Global};
@@ -21,28 +23,30 @@ use topo_settings::reading::read_bytes;
 use topo_settings::settings::validate;
 use topo_settings::writing::write_text;
 
-/// Reads a report, carries out its history again from its start, under its limits and at its prices,
-/// and writes how many calls it has, where each reply is the one due and the picture at the end has
-/// the rows of the report's. Who made a call is not judged, and the report's picture is not loaded. The
-/// reader is read until its end, or until it has given one byte more than a report may have: in at
-/// most twice as many calls as a report may have bytes, and two; an interrupted call is one of them.
-/// ReadFault comes where a call fails otherwise or there are too few of them, WriteFault where a call
-/// of the writer fails.
+/// Reads a report, carries out its history again from its start, under its limits and at its
+/// prices, and writes how many calls it has, where each reply is the one due and the picture at the
+/// end has the rows of the report's. Who made a call is not judged, and the report's picture is not
+/// loaded. The reader is read until its end, or until it has given one byte more than a report may
+/// have: in at most twice as many calls as a report may have bytes, and two; an interrupted call is
+/// one of them. ReadFault comes where a call fails otherwise or there are too few of them,
+/// WriteFault where a call of the writer fails.
 pub fn replay_io<R: Read, W: Write>(
     alloc: Global,
     reader: &mut R,
     writer: &mut W,
 ) -> Result<(), RunFault>
-    ensures done { IfOk result (λ _. IsReplayed (R.remaining reader.old) (R.remaining reader.new) (W.contents writer.old) (W.contents writer.new)) }
-    ensures fault { IfErr result (λ fault. ReplayFailsBy fault (R.remaining reader.old) (R.remaining reader.new) (W.contents writer.old) (W.contents writer.new)) }
+    ensures done { IfOk result (λ _. IsReplayed (R.remaining reader.old) (R.remaining reader.new)
+        (W.contents writer.old) (W.contents writer.new)) }
+    ensures fault { IfErr result (λ fault. ReplayFailsBy fault (R.remaining reader.old)
+        (R.remaining reader.new) (W.contents writer.old) (W.contents writer.new)) }
 {
     let bytes = read_bytes(alloc, MAX_PICTURE_BYTES as u32, reader)?;
     let line = replay_bytes(alloc, bytes.as_slice())?;
     write_text(writer, line.as_str())
 }
 
-/// The line that says how many calls the report has that bytes spell, where it is true, or the first
-/// fault.
+/// The line that says how many calls the report has that bytes spell, where it is true, or the
+/// first fault.
 pub fn replay_bytes(alloc: Global, bytes: &[u8]) -> Result<String, RunFault>
     ensures line { IfOk result (λ line. TellsCalls bytes.now (string_bytes line)) }
     ensures fault { IfErr result (TellsUntrue bytes.now) }
@@ -101,9 +105,13 @@ fn replayed_rows(
 ) -> Result<Rows, ReplayFault>
     requires own { table.now ≡ price_table report.now.prices }
     requires good { first_bad (price_table report.now.prices) ≡ None }
-    ensures replayed { IfOk result (λ rows. Replays (priced report.now.prices) start.now.limits start.now.rows report.now.history rows) }
-    ensures first_wrong { IfErr result (IsFaultOf (priced report.now.prices) start.now.limits start.now.rows report.now.history) }
-    ensures illegal { IfErr result (IsIllegalAt (priced report.now.prices) start.now.limits start.now.rows report.now.history) }
+    ensures replayed { IfOk result (λ rows. Replays (priced report.now.prices)
+        start.now.limits start.now.rows report.now.history rows) }
+    ensures first_wrong { IfErr result
+        (IsFaultOf (priced report.now.prices) start.now.limits start.now.rows report.now.history) }
+    ensures illegal { IfErr result
+        (IsIllegalAt (priced report.now.prices)
+        start.now.limits start.now.rows report.now.history) }
 {
     let picture = priced_replay(alloc, report, start, table)?;
     let rows = picture.rows(alloc);
@@ -123,9 +131,13 @@ fn priced_replay(
 ) -> Result<Picture, ReplayFault>
     requires own { table.now ≡ price_table report.now.prices }
     requires good { first_bad (price_table report.now.prices) ≡ None }
-    ensures replayed { IfOk result (λ p. Replays (priced report.now.prices) start.now.limits start.now.rows report.now.history p.rows) }
-    ensures first_wrong { IfErr result (IsFaultOf (priced report.now.prices) start.now.limits start.now.rows report.now.history) }
-    ensures illegal { IfErr result (IsIllegalAt (priced report.now.prices) start.now.limits start.now.rows report.now.history) }
+    ensures replayed { IfOk result (λ p. Replays (priced report.now.prices)
+        start.now.limits start.now.rows report.now.history p.rows) }
+    ensures first_wrong { IfErr result
+        (IsFaultOf (priced report.now.prices) start.now.limits start.now.rows report.now.history) }
+    ensures illegal { IfErr result
+        (IsIllegalAt (priced report.now.prices)
+        start.now.limits start.now.rows report.now.history) }
 {
     asked_replay(
         alloc,
@@ -147,9 +159,13 @@ fn asked_replay<F: PriceFn + Drop>(
 ) -> Result<Picture, ReplayFault>
     requires callable { F.is_callable ask }
     requires promise { IsPromise (F.may_return ask) }
-    ensures replayed { IfOk result (λ p. Replays (prices_of (F.may_return ask)) start.now.limits start.now.rows report.now.history p.rows) }
-    ensures first_wrong { IfErr result (IsFaultOf (prices_of (F.may_return ask)) start.now.limits start.now.rows report.now.history) }
-    ensures illegal { IfErr result (IsIllegalAt (prices_of (F.may_return ask)) start.now.limits start.now.rows report.now.history) }
+    ensures replayed { IfOk result (λ p. Replays (prices_of (F.may_return ask))
+        start.now.limits start.now.rows report.now.history p.rows) }
+    ensures first_wrong { IfErr result
+        (IsFaultOf (prices_of (F.may_return ask))
+        start.now.limits start.now.rows report.now.history) }
+    ensures illegal { IfErr result (IsIllegalAt (prices_of (F.may_return ask))
+        start.now.limits start.now.rows report.now.history) }
 {
     let tariff = Tariff::new(ask);
     replay(alloc, start, report.history.as_slice(), &tariff)

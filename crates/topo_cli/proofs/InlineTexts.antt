@@ -16,4 +16,5 @@ module _ {n : ℕ} where
 
   -- what was empty holds what was written
   pub holds_written : (s t : InlineText n) (text : List ℕ) → IsIntact s → inline_text s ≡ [] → WritesInCalls AppendsIfIntact s text t → inline_text t ≡ text
-  holds_written s t text intact empty wrote = subst (λ l. l ≡ text) (sym (after_calls s wrote.parts t wrote.calls intact).1) (ap (λ l. l ++ concat wrote.parts) empty ∙ wrote.whole)
+  holds_written s t text intact empty wrote =
+      subst (λ l. l ≡ text) (sym (after_calls s wrote.parts t wrote.calls intact).1) (ap (λ l. l ++ concat wrote.parts) empty ∙ wrote.whole)

@@ -75,7 +75,8 @@ pub record IsGivenUp (verb : Verb) (outcome : Outcome) (old_left new_left old_he
 
 abbrev pub CarriesOut : Verb → Outcome → Option (List ℕ) → Option (List ℕ) → Option (List ℕ) → Option (List ℕ) → Option (List ℕ) → Option (List ℕ) → Type 0
 CarriesOut verb outcome old_left new_left old_held new_held old_told new_told =
-    IsCarriedOut verb outcome old_left new_left old_held new_held old_told new_told ⊎ IsGivenUp verb outcome old_left new_left old_held new_held old_told new_told
+    IsCarriedOut verb outcome old_left new_left old_held new_held old_told new_told
+    ⊎ IsGivenUp verb outcome old_left new_left old_held new_held old_told new_told
 
 -- ---- The program
 
@@ -94,6 +95,8 @@ pub record PerformsNone (words : List (List ℕ)) (outcome : Outcome) (old_left 
   pub unconsumed : Keeps old_left new_left
   pub unwritten : Keeps old_held new_held
 
-abbrev pub Performs : List (List ℕ) → Outcome → Option (List ℕ) → Option (List ℕ) → Option (List ℕ) → Option (List ℕ) → Option (List ℕ) → Option (List ℕ) → Type 0
+abbrev pub Performs : List (List ℕ) → Outcome → Option (List ℕ) → Option (List ℕ) → Option (List ℕ) → Option (List ℕ) → Option (List ℕ)
+    → Option (List ℕ) → Type 0
 Performs words outcome old_left new_left old_held new_held old_told new_told =
-    PerformsCommand words outcome old_left new_left old_held new_held old_told new_told ⊎ PerformsNone words outcome old_left new_left old_held new_held old_told new_told
+    PerformsCommand words outcome old_left new_left old_held new_held old_told new_told
+    ⊎ PerformsNone words outcome old_left new_left old_held new_held old_told new_told

@@ -16,10 +16,12 @@ with_command app name = with_subcommand app (new_app name).top
 
 -- the program with its commands
 abbrev pub planar_app : App
-planar_app = with_command (with_command (with_command (with_command (on_top planar_shape (new_app (codes "planar"))) (codes "run")) (codes "replay")) (codes "check")) (codes "serve")
+planar_app = with_command
+    (with_command (with_command (with_command (on_top planar_shape (new_app (codes "planar"))) (codes "run")) (codes "replay")) (codes "check")) (codes "serve")
 
 abbrev pub verb_named : Text → Option Verb
-verb_named name = if bytes_eq name (codes "run") then Some Run else (if bytes_eq name (codes "replay") then Some Replay else (if bytes_eq name (codes "check") then Some Check else (if bytes_eq name (codes "serve") then Some Serve else None)))
+verb_named name = if bytes_eq name (codes "run") then Some Run else (if bytes_eq name (codes "replay") then Some Replay else
+    (if bytes_eq name (codes "check") then Some Check else (if bytes_eq name (codes "serve") then Some Serve else None)))
 
 -- the command that the words name
 abbrev pub asked_verb : List Text → Option Verb

@@ -21,8 +21,10 @@ pub fn answer<R: Threads + Wait + Sync, I: Read, O: Write>(
     reader: &mut I,
     writer: &mut O,
 ) -> Result<(), RunFault>
-    ensures done { IfOk result (λ _. IsAnswered verb (I.remaining reader.old) (I.remaining reader.new) (O.contents writer.old) (O.contents writer.new)) }
-    ensures fault { IfErr result (λ fault. CommandFailsBy verb fault (I.remaining reader.old) (I.remaining reader.new) (O.contents writer.old) (O.contents writer.new)) }
+    ensures done { IfOk result (λ _. IsAnswered verb (I.remaining reader.old)
+        (I.remaining reader.new) (O.contents writer.old) (O.contents writer.new)) }
+    ensures fault { IfErr result (λ fault. CommandFailsBy verb fault (I.remaining reader.old)
+        (I.remaining reader.new) (O.contents writer.old) (O.contents writer.new)) }
 {
     match verb {
         Verb::Run => run_io(rt, alloc, reader, writer, &OpenGate),

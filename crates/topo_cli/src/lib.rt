@@ -1,8 +1,9 @@
-//! The program without its process: what it does with the words of a command line, a reader and two writers.
+//! The program without its process: what it does with the words of a command line, a reader and two
+//! writers.
 //!
-//! `perform` reads the words, carries out the command that they ask for and gives the status that the program
-//! ends with. What is written where is in its contract. `verbs` tells which command the words ask for. `refuse`
-//! is for words that cannot be read at all.
+//! `perform` reads the words, carries out the command that they ask for and gives the status that
+//! the program ends with. What is written where is in its contract. `verbs` tells which command the
+//! words ask for. `refuse` is for words that cannot be read at all.
 #![tactic(auto)]
 
 mod answers;

@@ -2,7 +2,8 @@
 
 ghost use Rattle.std.specs.Io.KnownBytes.{Keeps};
 ghost use Rattle.std.specs.Prelude.{◌≡◌, IfErr, IfOk, codes, map};
-ghost use Rattle.topo_cli.specs.Outcomes.{CarriesOut, IsCommand, IsToldBy, IsUnread, Performs, Refuses, Tells};
+ghost use Rattle.topo_cli.specs.Outcomes.{CarriesOut, IsCommand, IsToldBy};
+ghost use Rattle.topo_cli.specs.Outcomes.{IsUnread, Performs, Refuses, Tells};
 ghost use Rattle.topo_settings.specs.Statuses.{fault_line, status_of};
 
 use crate::Verb;
@@ -29,8 +30,8 @@ const NOT_TEXT: &str = "planar: the words of the command line are not UTF-8\n";
 /// How the program ends.
 #[derive(Clone, Copy, Debug, PartialEq, Eq)]
 pub struct Outcome {
-    /// The exit status: 0 done, 1 a fault other than 8, 2 where the words are refused or ask for help,
-    /// 3 for out of memory.
+    /// The exit status: 0 done, 1 a fault other than 8, 2 where the words are refused or ask for
+    /// help, 3 for out of memory.
     pub status: u8,
     /// Whether standard error took all that it was given; so too where it was given nothing.
     pub is_told: bool,
@@ -54,9 +55,10 @@ enum Unread {
     Memory,
 }
 
-/// Reads the words, of which the first is the program's name, and carries out the command that they ask
-/// for, on the reader and `out`. A fault is one line on `err`. Where `clap` refuses the words, or they ask
-/// for help, its text goes to `err`, and nothing is read. A write to `err` that fails changes no status.
+/// Reads the words, of which the first is the program's name, and carries out the command that they
+/// ask for, on the reader and `out`. A fault is one line on `err`. Where `clap` refuses the words,
+/// or they ask for help, its text goes to `err`, and nothing is read. A write to `err` that fails
+/// changes no status.
 pub fn perform<'a, R: Threads + Wait + Sync, S: AsStr, I: Read, O: Write, E: Write>(
     rt: &R,
     alloc: Global,
@@ -65,7 +67,9 @@ pub fn perform<'a, R: Threads + Wait + Sync, S: AsStr, I: Read, O: Write, E: Wri
     out: &mut O,
     err: &mut E,
 ) -> Outcome
-    ensures { Performs (map S.text words.entry.now) result (I.remaining reader.old) (I.remaining reader.new) (O.contents out.old) (O.contents out.new) (E.contents err.old) (E.contents err.new) }
+    ensures { Performs (map S.text words.entry.now) result (I.remaining reader.old)
+        (I.remaining reader.new) (O.contents out.old) (O.contents out.new) (E.contents err.old)
+        (E.contents err.new) }
 {
     match read_verb(alloc, words) {
         Ok(verb) => carry_out(rt, alloc, verb, reader, out, err),
@@ -113,7 +117,8 @@ fn carry_out<R: Threads + Wait + Sync, I: Read, O: Write, E: Write>(
     out: &mut O,
     err: &mut E,
 ) -> Outcome
-    ensures { CarriesOut verb result (I.remaining reader.old) (I.remaining reader.new) (O.contents out.old) (O.contents out.new) (E.contents err.old) (E.contents err.new) }
+    ensures { CarriesOut verb result (I.remaining reader.old) (I.remaining reader.new)
+        (O.contents out.old) (O.contents out.new) (E.contents err.old) (E.contents err.new) }
 {
     match answer(rt, alloc, verb, reader, out) {
         Ok(()) => Outcome {
@@ -140,7 +145,8 @@ fn turn_down<E: Write>(unread: &Unread, err: &mut E) -> Outcome
 /// Writes a fault, and ends with its status.
 fn end_by<E: Write>(fault: &RunFault, err: &mut E) -> Outcome
     ensures status { result.status ≡ status_of fault.now }
-    ensures line { IsToldBy (fault_line fault.now) result (E.contents err.old) (E.contents err.new) }
+    ensures line { IsToldBy (fault_line fault.now) result (E.contents err.old)
+        (E.contents err.new) }
 {
     Outcome {
         status: fault.status(),

@@ -10,16 +10,18 @@ use std::io;
 use topo_settings::RunFault;
 use topo_settings::writing::write_text;
 
-/// The room for the line of a fault, in bytes. The longest has 149: `planar: 54 BadNumber $`, six indices of 20
-/// digits, each behind a `/`, and the line feed.
+/// The room for the line of a fault, in bytes. The longest has 149: `planar: 54 BadNumber $`, six
+/// indices of 20 digits, each behind a `/`, and the line feed.
 const MAX_FAULT_LINE_BYTES: usize = 160;
 
-/// Writes the line of a fault, and gives whether the writer took it and passed it on. The line is laid out
-/// first, which takes no memory.
+/// Writes the line of a fault, and gives whether the writer took it and passed it on. The line is
+/// laid out first, which takes no memory.
 #[tactic(auto, using(crate::proofs::InlineTexts::holds_written))]
 pub(crate) fn tell_fault<E: io::Write>(fault: &RunFault, err: &mut E) -> bool
-    ensures whole { IsTrue result → Appends (E.contents err.old) (E.contents err.new) (fault_line fault.now) }
-    ensures part { IsFalse result → AppendsPart (E.contents err.old) (E.contents err.new) (fault_line fault.now) }
+    ensures whole { IsTrue result
+        → Appends (E.contents err.old) (E.contents err.new) (fault_line fault.now) }
+    ensures part { IsFalse result
+        → AppendsPart (E.contents err.old) (E.contents err.new) (fault_line fault.now) }
 {
     let mut line: InlineText<MAX_FAULT_LINE_BYTES> = InlineText::new();
     writeln!(line, "planar: {fault}").is_ok() && tell(line.as_str(), err)

@@ -3,7 +3,8 @@
 ghost use Rattle.std.specs.Prelude.{◌≡◌, IfOk, IfErr, Some, codes, map, true, is_some};
 ghost use Rattle.clap.specs.Simple.{on_top};
 ghost use Rattle.clap.specs.Words.{FailsBy, app_of, kind_of, new_app, takes};
-ghost use Rattle.topo_cli.specs.Words.{planar_app, planar_shape, verb_named, asked_verb, with_command, word_faults};
+ghost use Rattle.topo_cli.specs.Words.{planar_app, planar_shape, verb_named};
+ghost use Rattle.topo_cli.specs.Words.{asked_verb, with_command, word_faults};
 
 use crate::Verb;
 use clap::error::ErrorKind;
@@ -124,7 +125,8 @@ fn with_command<'a>(
     about: &'a str,
     long_about: &'a str,
 ) -> Result<Command<'a>, AllocError>
-    ensures { IfOk result (λ command. app_of command ≡ with_command (app_of planar.entry) name.entry.now) }
+    ensures { IfOk result
+        (λ command. app_of command ≡ with_command (app_of planar.entry) name.entry.now) }
 {
     let command = Command::new(alloc, name)
         .about(about)
@@ -167,13 +169,15 @@ fn verb_named(name: &str) -> Option<Verb>
     }
 }
 
-/// The command that the words ask for; the first word is the program's name. Where `clap` refuses the
-/// words, or they ask for help, its answer is the error, whose text is for the user: it has one of the
-/// kinds that clap's own definition gives for the words, or that of out of memory.
+/// The command that the words ask for; the first word is the program's name. Where `clap` refuses
+/// the words, or they ask for help, its answer is the error, whose text is for the user: it has one
+/// of the kinds that clap's own definition gives for the words, or that of out of memory.
 pub fn verb<'a, S: AsStr>(alloc: Global, words: &'a [S]) -> Result<Verb, Error>
     ensures ok { IfOk result (λ v. asked_verb (map S.text words.entry.now) ≡ Some v) }
     ensures kinds { FailsBy (word_faults (map S.text words.entry.now)) result }
-    ensures err { IfErr result (λ e. takes planar_app (map S.text words.entry.now) ≡ true → is_some (asked_verb (map S.text words.entry.now)) ≡ true → kind_of e ≡ ErrorKind.OutOfMemory) }
+    ensures err { IfErr result (λ e. takes planar_app (map S.text words.entry.now) ≡ true
+        → is_some (asked_verb (map S.text words.entry.now)) ≡ true
+        → kind_of e ≡ ErrorKind.OutOfMemory) }
 {
     let mut planar = planar_command(alloc)?;
     let asked = asked_of(&mut planar, words);
@@ -186,7 +190,9 @@ fn asked_of<'a, S: AsStr>(planar: &mut Command<'a>, words: &'a [S]) -> Result<Ve
     requires { app_of planar.old ≡ planar_app }
     ensures ok { IfOk result (λ v. asked_verb (map S.text words.entry.now) ≡ Some v) }
     ensures kinds { FailsBy (word_faults (map S.text words.entry.now)) result }
-    ensures err { IfErr result (λ e. takes planar_app (map S.text words.entry.now) ≡ true → is_some (asked_verb (map S.text words.entry.now)) ≡ true → kind_of e ≡ ErrorKind.OutOfMemory) }
+    ensures err { IfErr result (λ e. takes planar_app (map S.text words.entry.now) ≡ true
+        → is_some (asked_verb (map S.text words.entry.now)) ≡ true
+        → kind_of e ≡ ErrorKind.OutOfMemory) }
 {
     let matches = match planar.try_get_matches_from_mut(words) {
         Ok(matches) => matches,

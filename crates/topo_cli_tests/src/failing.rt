@@ -1,4 +1,5 @@
-//! The commands on readers and writers that are slow, fail, or have no end, and at the greatest length.
+//! The commands on readers and writers that are slow, fail, or have no end, and at the greatest
+//! length.
 
 use crate::streams::{
     BreakingReader, EndlessReader, FailingWriter, FullWriter, NeverReader, SlowReader, SlowWriter,

@@ -11,7 +11,8 @@ use topo_service::Gate;
 /// How often a call of the gate looks for a flag at most.
 const LOOKS: u32 = 10_000_000;
 
-/// Lets the first call of worker 1 pass between the two calls of the gate for the first call of worker 0.
+/// Lets the first call of worker 1 pass between the two calls of the gate for the first call of
+/// worker 0.
 #[derive(Drop)]
 struct Turns {
     has_begun: AtomicBool,
@@ -28,7 +29,8 @@ impl Turns {
         }
     }
 
-    /// Looks for a flag, leaving the processor to others between, and marks the run late where it does not see it.
+    /// Looks for a flag, leaving the processor to others between, and marks the run late where it
+    /// does not see it.
     fn look_for(&self, flag: &AtomicBool) {
         for _ in 0..LOOKS {
             if flag.load(Ordering::SeqCst) {

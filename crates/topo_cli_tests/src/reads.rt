@@ -1,5 +1,5 @@
-//! In how many calls of a reader the commands read a large text: a reader that gives what there is room for is
-//! asked for some kilobytes at a time.
+//! In how many calls of a reader the commands read a large text: a reader that gives what there is
+//! room for is asked for some kilobytes at a time.
 
 use crate::failing::{CROSSED, REPLAYED, REPORT, SCRIPT, SIZE};
 use std::alloc::Global;

@@ -1,5 +1,5 @@
-//! The command `serve` on readers and writers that are slow or break, and on lines that are no text, are too
-//! long, or have no line feed.
+//! The command `serve` on readers and writers that are slow or break, and on lines that are no
+//! text, are too long, or have no line feed.
 
 use crate::failing::SCRIPT;
 use crate::streams::{BreakingReader, FailingWriter, FullWriter, SlowReader, SlowWriter};

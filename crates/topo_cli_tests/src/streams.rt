@@ -169,8 +169,8 @@ impl Write for FullWriter {
     }
 }
 
-/// Takes one byte a turn, each after an interrupted call, and keeps what it was given; what it passed on
-/// is what it held when it was last flushed.
+/// Takes one byte a turn, each after an interrupted call, and keeps what it was given; what it
+/// passed on is what it held when it was last flushed.
 #[derive(Drop)]
 pub(crate) struct SlowWriter {
     was_interrupted: bool,

@@ -1,5 +1,6 @@
 -- What an insertion, a deletion and a growth make of a picture's rows.
-use Rattle.std.specs.Prelude.{◌≡◌, ℕ, zero, suc, ◌+◌, ◌<◌, ◌≤◌, ◌==◌, nat_lt, min, ◌&&◌, not, List, [], ◌∷◌, ◌++◌, map, filter, fold, length, take, drop, slice_index_or, slice_set, insert, is_some, true}
+use Rattle.std.specs.Prelude.{◌≡◌, ℕ, zero, suc, ◌+◌, ◌<◌, ◌≤◌, ◌==◌, nat_lt, min, ◌&&◌, not, List, [], ◌∷◌, ◌++◌}
+use Rattle.std.specs.Prelude.{map, filter, fold, length, take, drop, slice_index_or, slice_set, insert, is_some, true}
 use Rattle.std.specs.List.{enumerate_from, position_or_len}
 use Rattle.topo_core.specs.declared.darts.Dart.{Dart}
 use Rattle.topo_core.specs.declared.darts.Way.{Way}

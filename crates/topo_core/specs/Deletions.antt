@@ -68,24 +68,32 @@ pub record HidesTurns (q : Rows) (e : ℕ) (p : Rows) : Type 0 where
   pub left_edges : (d : Dart) → has_dart (darts p) d ≡ true → d.edge ≢ e
   pub turns : (d : Dart) → has_dart (darts p) d ≡ true → FollowsBut q e (lifted p q d) (lifted p q (turn (system p) d))
   -- where their segments run
-  pub segments : (d : Dart) → has_dart (darts p) d ≡ true → d.way ≡ Forward → RunsOver q d.edge (lifted p q d) (crossings_between q e d.edge d.seg) (lifted p q (dart_twin d))
-  pub between : (d : Dart) (i : ℕ) → has_dart (darts p) d ≡ true → IsIn i (crossings_between q e d.edge d.seg) → (x : CrossRow) × (x.id ≡ i) × IsCrossingOf q e d.edge x
+  pub segments : (d : Dart) → has_dart (darts p) d ≡ true → d.way ≡ Forward
+      → RunsOver q d.edge (lifted p q d) (crossings_between q e d.edge d.seg) (lifted p q (dart_twin d))
+  pub between : (d : Dart) (i : ℕ) → has_dart (darts p) d ≡ true → IsIn i (crossings_between q e d.edge d.seg) → (x : CrossRow) × (x.id ≡ i)
+      × IsCrossingOf q e d.edge x
   pub on_segment : (c : ℕ) (x : CrossRow) → IsCrossingOf q e c x → (s : ℕ) × (s < segment_count (edge_at p c)) × IsIn x.id (crossings_between q e c s)
   pub one_segment : (c s t i : ℕ) → is_some (edge_row p c) ≡ true → IsIn i (crossings_between q e c s) → IsIn i (crossings_between q e c t) → s ≡ t
   -- the darts of crossed edges at the crossings of e
   pub other_edge : (c : ℕ) (x : CrossRow) → IsCrossingOf q e c x → (c ≢ e) × (is_some (edge_row p c) ≡ true)
-  pub crossed_there : (c : ℕ) (x : CrossRow) → IsCrossingOf q e c x → (has_dart (darts q) (ahead q c x.id) ≡ true) × (has_dart (darts q) (behind q c x.id) ≡ true)
-  pub gone_points : (c : ℕ) (x : CrossRow) (d : Dart) → IsCrossingOf q e c x → has_dart (darts p) d ≡ true → (lifted p q d ≢ ahead q c x.id) × (lifted p q d ≢ behind q c x.id)
+  pub crossed_there : (c : ℕ) (x : CrossRow) → IsCrossingOf q e c x → (has_dart (darts q) (ahead q c x.id) ≡ true)
+      × (has_dart (darts q) (behind q c x.id) ≡ true)
+  pub gone_points : (c : ℕ) (x : CrossRow) (d : Dart) → IsCrossingOf q e c x → has_dart (darts p) d ≡ true → (lifted p q d ≢ ahead q c x.id)
+      × (lifted p q d ≢ behind q c x.id)
   pub ahead_apart : (b c : ℕ) (x y : CrossRow) → IsCrossingOf q e b x → IsCrossingOf q e c y → ahead q b x.id ≡ ahead q c y.id → x.id ≡ y.id
   pub behind_apart : (b c : ℕ) (x y : CrossRow) → IsCrossingOf q e b x → IsCrossingOf q e c y → behind q b x.id ≡ behind q c y.id → x.id ≡ y.id
-  pub round_ahead : (c : ℕ) (x : CrossRow) → IsCrossingOf q e c x → (turn (system q) (ahead q c x.id) ≡ right_dart q e x) × (turn (system q) (right_dart q e x) ≡ behind q c x.id)
-  pub round_behind : (c : ℕ) (x : CrossRow) → IsCrossingOf q e c x → (turn (system q) (behind q c x.id) ≡ left_dart q e x) × (turn (system q) (left_dart q e x) ≡ ahead q c x.id)
+  pub round_ahead : (c : ℕ) (x : CrossRow) → IsCrossingOf q e c x → (turn (system q) (ahead q c x.id) ≡ right_dart q e x)
+      × (turn (system q) (right_dart q e x) ≡ behind q c x.id)
+  pub round_behind : (c : ℕ) (x : CrossRow) → IsCrossingOf q e c x → (turn (system q) (behind q c x.id) ≡ left_dart q e x)
+      × (turn (system q) (left_dart q e x) ≡ ahead q c x.id)
   -- the darts of e
   pub edge_there : (i : ℕ) (way : Way) → i ≤ length (edge_at q e).crossings → has_dart (darts q) (record { edge = e; seg = i; way = way }) ≡ true
   pub edge_crossing : (i n : ℕ) → slice_get (edge_at q e).crossings i ≡ Some n → (c : ℕ) × (x : CrossRow) × (x.id ≡ n) × IsCrossingOf q e c x
       × (ahead q e n ≡ record { edge = e; seg = i + 1; way = Forward }) × (behind q e n ≡ record { edge = e; seg = i; way = Back })
-  pub first_end : let d : Dart = record { edge = e; seg = 0; way = Forward } in (turn (system q) d ≡ d) ⊎ ((c : Dart) × (has_dart (darts p) c ≡ true) × (turn (system q) d ≡ lifted p q c))
-  pub last_end : let d : Dart = record { edge = e; seg = length (edge_at q e).crossings; way = Back } in (turn (system q) d ≡ d) ⊎ ((c : Dart) × (has_dart (darts p) c ≡ true) × (turn (system q) d ≡ lifted p q c))
+  pub first_end : let d : Dart = record { edge = e; seg = 0; way = Forward } in (turn (system q) d ≡ d)
+      ⊎ ((c : Dart) × (has_dart (darts p) c ≡ true) × (turn (system q) d ≡ lifted p q c))
+  pub last_end : let d : Dart = record { edge = e; seg = length (edge_at q e).crossings; way = Back } in (turn (system q) d ≡ d)
+      ⊎ ((c : Dart) × (has_dart (darts p) c ≡ true) × (turn (system q) d ≡ lifted p q c))
   -- there are no others
   pub no_others : (d : Dart) → has_dart (darts q) d ≡ true → ((d.edge ≡ e) × (d.seg ≤ length (edge_at q e).crossings))
       ⊎ (((c : Dart) × (has_dart (darts p) c ≡ true) × (d ≡ lifted p q c))

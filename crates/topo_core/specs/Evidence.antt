@@ -109,7 +109,8 @@ pub record BipyramidEvidence : Type 0 where
   -- the cheapest edge of the triangle is crossed
   pub first_by_price : IsFirst (by_kind (1 ∷ 5 ∷ 2 ∷ 9 ∷ [])) bipyramid 3 4 (route 2 (back 1 0 ∷ []) 2) 2
   -- no route costs less than the height of the corner where it starts: 2 at the third corner of 3
-  pub certificate : IsCertificate (by_kind (1 ∷ 5 ∷ 2 ∷ 9 ∷ [])) bipyramid 4 (by_place bipyramid (0 ∷ 3 ∷ 0 ∷ 2 ∷ 0 ∷ 3 ∷ 3 ∷ 3 ∷ 3 ∷ 2 ∷ 2 ∷ 3 ∷ 0 ∷ 0 ∷ 0 ∷ 0 ∷ 0 ∷ 0 ∷ []))
+  pub certificate : IsCertificate (by_kind (1 ∷ 5 ∷ 2 ∷ 9 ∷ [])) bipyramid 4
+      (by_place bipyramid (0 ∷ 3 ∷ 0 ∷ 2 ∷ 0 ∷ 3 ∷ 3 ∷ 3 ∷ 3 ∷ 2 ∷ 2 ∷ 3 ∷ 0 ∷ 0 ∷ 0 ∷ 0 ∷ 0 ∷ 0 ∷ []))
   -- where all three cost the same, the first start position decides
   pub first_of_ties : IsFirst (by_kind (4 ∷ 4 ∷ 4 ∷ 4 ∷ [])) bipyramid 3 4 (route 0 (back 2 0 ∷ []) 1) 4
   -- where the cheapest has no price, the next is crossed; where none of the three has one, there is no route

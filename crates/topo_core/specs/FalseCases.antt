@@ -71,9 +71,11 @@ pub record FaultyRowsEvidence : Type 0 where
   -- a crossing that one of its edges has not, that one has twice, and that a third edge has too
   pub off_path : has_good_crossings (with_crossings (paths (0 ∷ []) []) (crossing 0 0 1 LeftToRight ∷ []) 1) ≡ false
   pub twice_on_path : has_good_crossings (with_crossings (paths (0 ∷ 0 ∷ []) (0 ∷ [])) (crossing 0 0 1 LeftToRight ∷ []) 1) ≡ false
-  pub on_third : has_good_crossings (with_crossings (edge 0 0 1 0 (0 ∷ []) ∷ edge 1 2 3 0 (0 ∷ []) ∷ edge 2 0 2 0 (0 ∷ []) ∷ []) (crossing 0 0 1 LeftToRight ∷ []) 1) ≡ false
+  pub on_third : has_good_crossings
+      (with_crossings (edge 0 0 1 0 (0 ∷ []) ∷ edge 1 2 3 0 (0 ∷ []) ∷ edge 2 0 2 0 (0 ∷ []) ∷ []) (crossing 0 0 1 LeftToRight ∷ []) 1) ≡ false
   -- ids of crossings that fall, and that reach the counter
-  pub crossings_fall : has_good_crossings (with_crossings (paths (0 ∷ 1 ∷ []) (0 ∷ 1 ∷ [])) (crossing 1 0 1 LeftToRight ∷ crossing 0 0 1 LeftToRight ∷ []) 2) ≡ false
+  pub crossings_fall : has_good_crossings
+      (with_crossings (paths (0 ∷ 1 ∷ []) (0 ∷ 1 ∷ [])) (crossing 1 0 1 LeftToRight ∷ crossing 0 0 1 LeftToRight ∷ []) 2) ≡ false
   pub crossings_reach : has_good_crossings (with_crossings (paths (0 ∷ []) (0 ∷ [])) (crossing 0 0 1 LeftToRight ∷ []) 0) ≡ false
   pub crossed : has_good_crossings (with_crossings (paths (0 ∷ []) (0 ∷ [])) (crossing 0 0 1 LeftToRight ∷ []) 1) ≡ true
   -- an edge that is not there, that is twice in a list, and that is in the list of a vertex which it does not end at

@@ -37,7 +37,8 @@ pub record IsInsertable (rows : Rows) (u v kind : ℕ) (r : Route) : Type 0 wher
 
 -- a route that meets no face twice crosses no segment twice
 abbrev pub SimpleRoutesAreInsertable : Type 0
-SimpleRoutesAreInsertable = (rows : Rows) (u v kind : ℕ) (r : Route) → IsWellFormed rows → u < length rows.rotations → v < length rows.rotations → u ≢ v → kind < 64
+SimpleRoutesAreInsertable = (rows : Rows) (u v kind : ℕ) (r : Route) → IsWellFormed rows → u < length rows.rotations → v < length rows.rotations
+    → u ≢ v → kind < 64
     → IsSimpleRoute rows u v r → IsInsertable rows u v kind r
 
 -- the picture that shows the new edge is well formed
@@ -49,7 +50,8 @@ InsertionKeepsForm = (rows : Rows) (u v kind : ℕ) (r : Route) → IsWellFormed
 -- the dart of q on edge e that starts at the same point as the dart of segment i and this way, where the edge has this path before
 abbrev pub lifted_on : Rows → ℕ → List ℕ → ℕ → Way → Dart
 lifted_on q e path i Forward = cond (i == 0) (record { edge = e; seg = 0; way = Forward }) (ahead q e (slice_index_or path (i - 1) 0))
-lifted_on q e path i Back = cond (i == length path) (record { edge = e; seg = length (edge_at q e).crossings; way = Back }) (behind q e (slice_index_or path i 0))
+lifted_on q e path i Back =
+    cond (i == length path) (record { edge = e; seg = length (edge_at q e).crossings; way = Back }) (behind q e (slice_index_or path i 0))
 
 -- the dart of q on the same edge that starts at the same point as a dart of p, where q has more crossings on its edges
 abbrev pub lifted : Rows → Rows → Dart → Dart
@@ -79,20 +81,26 @@ pub record ShowsTurns (p : Rows) (f u v : ℕ) (r : Route) (q : Rows) : Type 0 w
   pub lifts_apart : (c d : Dart) → has_dart (darts p) c ≡ true → has_dart (darts p) d ≡ true → lifted p q c ≡ lifted p q d → c ≡ d
   pub old_edges : (d : Dart) → has_dart (darts p) d ≡ true → d.edge ≢ f
   pub turns : (d : Dart) → has_dart (darts p) d ≡ true → FollowsBut q f (lifted p q d) (lifted p q (turn (system p) d))
-  pub uncrossed : (d : Dart) → has_dart (darts p) d ≡ true → AllByRecursion (λ c. same_segment c d ≡ false) r.crossed → lifted p q (dart_twin d) ≡ dart_twin (lifted p q d)
+  pub uncrossed : (d : Dart) → has_dart (darts p) d ≡ true → AllByRecursion (λ c. same_segment c d ≡ false) r.crossed
+      → lifted p q (dart_twin d) ≡ dart_twin (lifted p q d)
   -- the darts of crossed edges at the new crossings
-  pub crossed_there : (x : ℕ) (d : Dart) → IsIn (x, d) (numbered p r) → (has_dart (darts q) (onward q x d) ≡ true) × (has_dart (darts q) (backward q x d) ≡ true)
+  pub crossed_there : (x : ℕ) (d : Dart) → IsIn (x, d) (numbered p r) → (has_dart (darts q) (onward q x d) ≡ true)
+      × (has_dart (darts q) (backward q x d) ≡ true)
   pub before_crossing : (x : ℕ) (d : Dart) → IsIn (x, d) (numbered p r) → dart_twin (lifted p q d) ≡ backward q x d
   pub after_crossing : (x : ℕ) (d : Dart) → IsIn (x, d) (numbered p r) → lifted p q (dart_twin d) ≡ dart_twin (onward q x d)
-  pub new_points : (x : ℕ) (d c : Dart) → IsIn (x, d) (numbered p r) → has_dart (darts p) c ≡ true → (lifted p q c ≢ onward q x d) × (lifted p q c ≢ backward q x d)
+  pub new_points : (x : ℕ) (d c : Dart) → IsIn (x, d) (numbered p r) → has_dart (darts p) c ≡ true → (lifted p q c ≢ onward q x d)
+      × (lifted p q c ≢ backward q x d)
   pub onward_apart : (x y : ℕ) (c d : Dart) → IsIn (x, c) (numbered p r) → IsIn (y, d) (numbered p r) → onward q x c ≡ onward q y d → x ≡ y
   pub backward_apart : (x y : ℕ) (c d : Dart) → IsIn (x, c) (numbered p r) → IsIn (y, d) (numbered p r) → backward q x c ≡ backward q y d → x ≡ y
   pub not_both : (x y : ℕ) (c d : Dart) → IsIn (x, c) (numbered p r) → IsIn (y, d) (numbered p r) → onward q x c ≢ backward q y d
   -- the new edge: at crossing x it comes in behind and goes out ahead
-  pub newcomer : (x : ℕ) (d : Dart) → IsIn (x, d) (numbered p r) → (ahead q f x ≡ record { edge = f; seg = x - p.next_crossing + 1; way = Forward }) × (behind q f x ≡ record { edge = f; seg = x - p.next_crossing; way = Back })
+  pub newcomer : (x : ℕ) (d : Dart) → IsIn (x, d) (numbered p r) → (ahead q f x ≡ record { edge = f; seg = x - p.next_crossing + 1; way = Forward })
+      × (behind q f x ≡ record { edge = f; seg = x - p.next_crossing; way = Back })
   pub newcomer_there : (i : ℕ) (way : Way) → i ≤ length r.crossed → has_dart (darts q) (record { edge = f; seg = i; way = way }) ≡ true
-  pub round_ahead : (x : ℕ) (d : Dart) → IsIn (x, d) (numbered p r) → (turn (system q) (onward q x d) ≡ ahead q f x) × (turn (system q) (ahead q f x) ≡ backward q x d)
-  pub round_behind : (x : ℕ) (d : Dart) → IsIn (x, d) (numbered p r) → (turn (system q) (backward q x d) ≡ behind q f x) × (turn (system q) (behind q f x) ≡ onward q x d)
+  pub round_ahead : (x : ℕ) (d : Dart) → IsIn (x, d) (numbered p r) → (turn (system q) (onward q x d) ≡ ahead q f x)
+      × (turn (system q) (ahead q f x) ≡ backward q x d)
+  pub round_behind : (x : ℕ) (d : Dart) → IsIn (x, d) (numbered p r) → (turn (system q) (backward q x d) ≡ behind q f x)
+      × (turn (system q) (behind q f x) ≡ onward q x d)
   pub starts : (c : Dart) → corner p u r.start ≡ Some c → turn (system q) (record { edge = f; seg = 0; way = Forward }) ≡ lifted p q c
   pub ends : (c : Dart) → corner p v r.end ≡ Some c → turn (system q) (record { edge = f; seg = length r.crossed; way = Back }) ≡ lifted p q c
   -- there are no others
@@ -102,4 +110,5 @@ pub record ShowsTurns (p : Rows) (f u v : ℕ) (r : Route) (q : Rows) : Type 0 w
 
 -- an insertion changes the turn along its route and nowhere else
 abbrev pub InsertionShowsTurns : Type 0
-InsertionShowsTurns = (rows : Rows) (u v kind : ℕ) (r : Route) → IsWellFormed rows → IsInsertable rows u v kind r → ShowsTurns rows rows.next_edge u v r (shown rows u v kind r)
+InsertionShowsTurns = (rows : Rows) (u v kind : ℕ) (r : Route) → IsWellFormed rows → IsInsertable rows u v kind r
+    → ShowsTurns rows rows.next_edge u v r (shown rows u v kind r)

@@ -17,15 +17,18 @@ use Rattle.topo_core.specs.Changes.{grown}
 
 -- a growth in a corner of a vertex makes a connected embedding of a connected embedding
 abbrev pub GrowthKeepsEmbedding : Type 0
-GrowthKeepsEmbedding = (rows : Rows) → IsEmbedding rows → (u p kind : ℕ) → u < length rows.rotations → p < length (rotation rows u) → kind < 64 → IsEmbedding (grown rows u p kind)
+GrowthKeepsEmbedding = (rows : Rows) → IsEmbedding rows → (u p kind : ℕ) → u < length rows.rotations → p < length (rotation rows u) → kind < 64
+    → IsEmbedding (grown rows u p kind)
 
 -- a growth makes no face and takes none away
 abbrev pub GrowthKeepsFaces : Type 0
-GrowthKeepsFaces = (rows : Rows) → IsWellFormed rows → (u p kind : ℕ) → u < length rows.rotations → p < length (rotation rows u) → kind < 64 → face_count (grown rows u p kind) ≡ face_count rows
+GrowthKeepsFaces = (rows : Rows) → IsWellFormed rows → (u p kind : ℕ) → u < length rows.rotations → p < length (rotation rows u) → kind < 64
+    → face_count (grown rows u p kind) ≡ face_count rows
 
 -- so it keeps genus zero
 abbrev pub GrowthKeepsGenus : Type 0
-GrowthKeepsGenus = (rows : Rows) → IsWellFormed rows → HasGenusZero rows → (u p kind : ℕ) → u < length rows.rotations → p < length (rotation rows u) → kind < 64 → HasGenusZero (grown rows u p kind)
+GrowthKeepsGenus = (rows : Rows) → IsWellFormed rows → HasGenusZero rows → (u p kind : ℕ) → u < length rows.rotations → p < length (rotation rows u) → kind < 64
+    → HasGenusZero (grown rows u p kind)
 
 -- ---- Darts and turns
 
@@ -61,7 +64,8 @@ pub record NumbersStandForDarts (rows : Rows) : Type 0 where
   pub dart_of_number : (i : ℕ) → i < length (darts rows) → (d : Dart) × (slice_get (darts rows) i ≡ Some d)
   pub number_of_dart : (i : ℕ) (d : Dart) → slice_get (darts rows) i ≡ Some d → index_of rows d ≡ i
   pub dart_of_its_number : (d : Dart) → has_dart (darts rows) d ≡ true → slice_get (darts rows) (index_of rows d) ≡ Some d
-  pub twins : (d : Dart) → has_dart (darts rows) d ≡ true → (has_dart (darts rows) (dart_twin d) ≡ true) × (index_of rows (dart_twin d) ≡ twin (index_of rows d))
+  pub twins : (d : Dart) → has_dart (darts rows) d ≡ true → (has_dart (darts rows) (dart_twin d) ≡ true)
+      × (index_of rows (dart_twin d) ≡ twin (index_of rows d))
   pub forward_even : (d : Dart) → has_dart (darts rows) d ≡ true → d.way ≡ Forward → index_of rows d % 2 ≡ 0
   pub turns : (d : Dart) → has_dart (darts rows) d ≡ true → slice_index (turn_images rows) (index_of rows d) ≡ index_of rows (turn (system rows) d)
 
@@ -82,7 +86,8 @@ NumbersKeepOrder = (rows : Rows) → IsWellFormed rows → (c d : Dart) → has_
 
 -- the rotation system is connected just when no point is bare and the numbers are connected
 abbrev pub NumbersKeepConnection : Type 0
-NumbersKeepConnection = (rows : Rows) → IsWellFormed rows → (Connected (system rows) ↔ ((list_any (λ around. length around == 0) (system rows) ≡ false) × IsConnected (turn_images rows)))
+NumbersKeepConnection = (rows : Rows) → IsWellFormed rows
+    → (Connected (system rows) ↔ ((list_any (λ around. length around == 0) (system rows) ≡ false) × IsConnected (turn_images rows)))
 
 -- two darts have one face on their left just when their numbers lie on one cycle of the face map
 abbrev pub NumbersKeepFaces : Type 0

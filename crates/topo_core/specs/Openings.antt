@@ -46,7 +46,8 @@ pub record Opens (rows : Rows) (e : ℕ) : Type 0 where
       → IsUnchord (opened_turn rows e i) (opened_turn rows e (i + 1)) (length (darts rows)) (index_of rows (record { edge = e; seg = i; way = Forward }))
   -- a dart that is out turns to itself, and any other as in the opened system
   pub out_alone : (i : ℕ) (d : Dart) → has_dart (darts rows) d ≡ true → is_opened e i d ≡ true → opened_turn rows e i (index_of rows d) ≡ index_of rows d
-  pub left_turns : (i : ℕ) (d : Dart) → has_dart (darts rows) d ≡ true → is_opened e i d ≡ false → opened_turn rows e i (index_of rows d) ≡ index_of rows (turn (opened rows e i) d)
+  pub left_turns : (i : ℕ) (d : Dart) → has_dart (darts rows) d ≡ true → is_opened e i d ≡ false
+      → opened_turn rows e i (index_of rows d) ≡ index_of rows (turn (opened rows e i) d)
 
 -- taking out the segments of an edge one after the other takes out one chord after the other
 abbrev pub OpeningUnchords : Type 0
@@ -82,7 +83,8 @@ pub record Bares (rows : Rows) (e i : ℕ) : Type 0 where
   pub others : ((v : ℕ) → v < length rows.rotations → rotation rows v ≢ []) → ((v : ℕ) → v < length rows.rotations → rotation rows v ≢ e ∷ [])
       → list_any (λ around. length around == 0) (opened rows e i) ≡ false
   -- nor one at which the dart of e is left
-  pub kept : ((v : ℕ) → v < length rows.rotations → rotation rows v ≢ []) → ((v : ℕ) → v < length rows.rotations → rotation rows v ≡ e ∷ [] → is_opened e i (end_dart rows v e) ≡ false)
+  pub kept : ((v : ℕ) → v < length rows.rotations → rotation rows v ≢ [])
+      → ((v : ℕ) → v < length rows.rotations → rotation rows v ≡ e ∷ [] → is_opened e i (end_dart rows v e) ≡ false)
       → list_any (λ around. length around == 0) (opened rows e i) ≡ false
   -- a vertex with no edge but e becomes bare with its dart
   pub alone : (v : ℕ) → v < length rows.rotations → rotation rows v ≡ e ∷ [] → is_opened e i (end_dart rows v e) ≡ true

@@ -1,5 +1,6 @@
 -- The rotation system of a picture's rows.
-use Rattle.std.specs.Prelude.{◌≡◌, ◌<◌, ℕ, ◌+◌, ◌==◌, cond, List, [], ◌∷◌, ◌++◌, map, flat_map, find, length, slice_get, slice_index_or, Option, Some, unwrap_or}
+use Rattle.std.specs.Prelude.{◌≡◌, ◌<◌, ℕ, ◌+◌, ◌==◌, cond, List, [], ◌∷◌, ◌++◌, map, flat_map}
+use Rattle.std.specs.Prelude.{find, length, slice_get, slice_index_or, Option, Some, unwrap_or}
 use Rattle.std.specs.List.{range_with_len, position_or_len}
 use Rattle.topo_core.specs.declared.darts.Dart.{Dart}
 use Rattle.topo_core.specs.declared.darts.Way.{Way}

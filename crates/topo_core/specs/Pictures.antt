@@ -34,7 +34,8 @@ seed = record {
 abbrev pub bipyramid : Rows
 bipyramid = record {
   rotations = (0 ∷ 3 ∷ 2 ∷ 6 ∷ []) ∷ (0 ∷ 7 ∷ 1 ∷ 4 ∷ []) ∷ (1 ∷ 8 ∷ 2 ∷ 5 ∷ []) ∷ (3 ∷ 4 ∷ 5 ∷ []) ∷ (6 ∷ 8 ∷ 7 ∷ []) ∷ [];
-  edges = edge 0 0 1 1 [] ∷ edge 1 1 2 2 [] ∷ edge 2 2 0 3 [] ∷ edge 3 3 0 0 [] ∷ edge 4 3 1 0 [] ∷ edge 5 3 2 0 [] ∷ edge 6 4 0 0 [] ∷ edge 7 4 1 0 [] ∷ edge 8 4 2 0 [] ∷ [];
+  edges = edge 0 0 1 1 [] ∷ edge 1 1 2 2 [] ∷ edge 2 2 0 3 [] ∷ edge 3 3 0 0 [] ∷ edge 4 3 1 0 [] ∷ edge 5 3 2 0 [] ∷ edge 6 4 0 0 [] ∷ edge 7 4 1 0 []
+      ∷ edge 8 4 2 0 [] ∷ [];
   crossings = [];
   next_edge = 9;
   next_crossing = 0;
@@ -44,7 +45,8 @@ bipyramid = record {
 abbrev pub joined_apexes : Sign → Rows
 joined_apexes sign = record {
   rotations = (0 ∷ 3 ∷ 2 ∷ 6 ∷ []) ∷ (0 ∷ 7 ∷ 1 ∷ 4 ∷ []) ∷ (1 ∷ 8 ∷ 2 ∷ 5 ∷ []) ∷ (3 ∷ 4 ∷ 9 ∷ 5 ∷ []) ∷ (6 ∷ 8 ∷ 9 ∷ 7 ∷ []) ∷ [];
-  edges = edge 0 0 1 1 [] ∷ edge 1 1 2 2 (0 ∷ []) ∷ edge 2 2 0 3 [] ∷ edge 3 3 0 0 [] ∷ edge 4 3 1 0 [] ∷ edge 5 3 2 0 [] ∷ edge 6 4 0 0 [] ∷ edge 7 4 1 0 [] ∷ edge 8 4 2 0 [] ∷ edge 9 3 4 0 (0 ∷ []) ∷ [];
+  edges = edge 0 0 1 1 [] ∷ edge 1 1 2 2 (0 ∷ []) ∷ edge 2 2 0 3 [] ∷ edge 3 3 0 0 [] ∷ edge 4 3 1 0 [] ∷ edge 5 3 2 0 [] ∷ edge 6 4 0 0 [] ∷ edge 7 4 1 0 []
+      ∷ edge 8 4 2 0 [] ∷ edge 9 3 4 0 (0 ∷ []) ∷ [];
   crossings = crossing 0 1 9 sign ∷ [];
   next_edge = 10;
   next_crossing = 1;
@@ -64,7 +66,8 @@ hexagon = record {
 abbrev pub crossed_hexagon : Rows
 crossed_hexagon = record {
   rotations = (0 ∷ 5 ∷ 6 ∷ []) ∷ (0 ∷ 1 ∷ 7 ∷ []) ∷ (1 ∷ 2 ∷ 8 ∷ []) ∷ (2 ∷ 6 ∷ 3 ∷ []) ∷ (3 ∷ 4 ∷ 7 ∷ []) ∷ (4 ∷ 8 ∷ 5 ∷ []) ∷ [];
-  edges = edge 0 0 1 0 [] ∷ edge 1 1 2 0 [] ∷ edge 2 2 3 0 [] ∷ edge 3 3 4 0 (0 ∷ []) ∷ edge 4 4 5 0 [] ∷ edge 5 5 0 0 [] ∷ edge 6 0 3 0 [] ∷ edge 7 1 4 0 [] ∷ edge 8 2 5 0 (0 ∷ []) ∷ [];
+  edges = edge 0 0 1 0 [] ∷ edge 1 1 2 0 [] ∷ edge 2 2 3 0 [] ∷ edge 3 3 4 0 (0 ∷ []) ∷ edge 4 4 5 0 [] ∷ edge 5 5 0 0 [] ∷ edge 6 0 3 0 [] ∷ edge 7 1 4 0 []
+      ∷ edge 8 2 5 0 (0 ∷ []) ∷ [];
   crossings = crossing 0 3 8 RightToLeft ∷ [];
   next_edge = 9;
   next_crossing = 1;
@@ -84,7 +87,8 @@ barrier = record {
 abbrev pub passed_barrier : Rows
 passed_barrier = record {
   rotations = (0 ∷ 1 ∷ 4 ∷ []) ∷ (0 ∷ 5 ∷ 2 ∷ []) ∷ (1 ∷ 2 ∷ 3 ∷ []) ∷ (3 ∷ []) ∷ (4 ∷ 6 ∷ []) ∷ (5 ∷ 6 ∷ []) ∷ [];
-  edges = edge 0 0 1 0 (1 ∷ 0 ∷ 2 ∷ []) ∷ edge 1 0 2 1 [] ∷ edge 2 1 2 1 [] ∷ edge 3 2 3 1 (0 ∷ []) ∷ edge 4 0 4 1 [] ∷ edge 5 1 5 1 [] ∷ edge 6 4 5 0 (1 ∷ 2 ∷ []) ∷ [];
+  edges = edge 0 0 1 0 (1 ∷ 0 ∷ 2 ∷ []) ∷ edge 1 0 2 1 [] ∷ edge 2 1 2 1 [] ∷ edge 3 2 3 1 (0 ∷ []) ∷ edge 4 0 4 1 [] ∷ edge 5 1 5 1 []
+      ∷ edge 6 4 5 0 (1 ∷ 2 ∷ []) ∷ [];
   crossings = crossing 0 0 3 LeftToRight ∷ crossing 1 0 6 LeftToRight ∷ crossing 2 0 6 RightToLeft ∷ [];
   next_edge = 7;
   next_crossing = 3;

@@ -65,7 +65,8 @@ HasOneCost price = (rows : Rows) → KeepsPromise price → (ds : List Dart) (m 
 
 -- between two visits of one face a walk can be cut short, so a least route meets no face twice
 abbrev pub LeastIsSimple : Pricing → Type 0
-LeastIsSimple price = (rows : Rows) → KeepsPromise price → IsWellFormed rows → (u v : ℕ) (r : Route) (n : ℕ) → IsLeast price rows u v r n → IsSimpleRoute rows u v r
+LeastIsSimple price = (rows : Rows) → KeepsPromise price → IsWellFormed rows → (u v : ℕ) (r : Route) (n : ℕ) → IsLeast price rows u v r n
+    → IsSimpleRoute rows u v r
 
 -- every edge has a price
 abbrev pub IsPriced : Pricing → Rows → Type 0

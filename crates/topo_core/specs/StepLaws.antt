@@ -16,12 +16,14 @@ FirstIsOne price = (rows : Rows) (u v : ℕ) (r s : Route) (m n : ℕ) → IsFir
 
 -- a picture and a call have one reply, and one picture after it
 abbrev pub StepsAreDetermined : Pricing → Type 0
-StepsAreDetermined price = (limits : Limits) (p : Rows) (call : Call) (reply other : Reply) (q r : Rows) → Step price limits p call reply q → Step price limits p call other r
+StepsAreDetermined price = (limits : Limits) (p : Rows) (call : Call) (reply other : Reply) (q r : Rows) → Step price limits p call reply q
+    → Step price limits p call other r
     → (reply ≡ other) × (q ≡ r)
 
 -- a replay goes on by a step
 abbrev pub ReplaysGoOn : Pricing → Type 0
-ReplaysGoOn price = (limits : Limits) (entries : List Entry) (p q next : Rows) (entry : Entry) → Replays price limits p entries q → Step price limits q entry.call entry.reply next
+ReplaysGoOn price = (limits : Limits) (entries : List Entry) (p q next : Rows) (entry : Entry) → Replays price limits p entries q
+    → Step price limits q entry.call entry.reply next
     → Replays price limits p (entries ++ entry ∷ []) next
 
 -- the accepted entries of a history lead to the same picture
@@ -30,4 +32,5 @@ VersionsReplay price = (limits : Limits) (entries : List Entry) (p q : Rows) →
 
 -- the versions of a history with one entry more are those before, and the entry where it was accepted
 abbrev pub VersionsGoOn : Type 0
-VersionsGoOn = (entries : List Entry) (entry : Entry) → versions (entries ++ entry ∷ []) ≡ (if is_accepted entry.reply then versions entries ++ entry ∷ [] else versions entries)
+VersionsGoOn = (entries : List Entry) (entry : Entry)
+    → versions (entries ++ entry ∷ []) ≡ (if is_accepted entry.reply then versions entries ++ entry ∷ [] else versions entries)

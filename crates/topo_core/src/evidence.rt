@@ -2,7 +2,10 @@
 //! the evidence.
 
 ghost use Rattle.std.specs.Prelude.{◌≡◌};
-ghost use Rattle.topo_core.specs.Evidence.{BarrierEvidence, BipyramidEvidence, CrossEvidence, HexagonCallsEvidence, HexagonEvidence, HistoryEvidence, JoinedApexesEvidence, RefusalEvidence, SeedEvidence, UnlawfulEvidence};
+ghost use Rattle.topo_core.specs.Evidence.{BarrierEvidence, BipyramidEvidence, CrossEvidence};
+ghost use Rattle.topo_core.specs.Evidence.{HexagonCallsEvidence, HexagonEvidence};
+ghost use Rattle.topo_core.specs.Evidence.{HistoryEvidence, JoinedApexesEvidence};
+ghost use Rattle.topo_core.specs.Evidence.{RefusalEvidence, SeedEvidence, UnlawfulEvidence};
 
 use crate::limits::Limits;
 
@@ -11,7 +14,8 @@ pub fn seed()
     ensures { SeedEvidence }
 {}
 
-/// The order of refusals, under the greatest limits and where the limits leave no room for a vertex.
+/// The order of refusals, under the greatest limits and where the limits leave no room for a
+/// vertex.
 pub fn refusals(wide: Limits, narrow: Limits)
     requires wide { wide.edges ≡ 65536 }
     requires narrow { narrow.vertices ≡ 2 }
@@ -50,8 +54,8 @@ pub fn unlawful()
     ensures { UnlawfulEvidence }
 {}
 
-/// A history of two callers: its replay, its versions, receipts that agree and that do not, and the lists
-/// of commands of which it is a run.
+/// A history of two callers: its replay, its versions, receipts that agree and that do not, and the
+/// lists of commands of which it is a run.
 pub fn history(wide: Limits)
     requires vertices { wide.vertices ≡ 65536 }
     requires edges { wide.edges ≡ 65536 }

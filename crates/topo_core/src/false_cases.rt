@@ -1,7 +1,8 @@
-//! Where the definitions say no, computed on small pictures. The functions do nothing: their contracts
-//! are the evidence.
+//! Where the definitions say no, computed on small pictures. The functions do nothing: their
+//! contracts are the evidence.
 
-ghost use Rattle.topo_core.specs.FalseCases.{FaultyRowsEvidence, NoCertificateEvidence, NotFirstEvidence, TwoPartsEvidence};
+ghost use Rattle.topo_core.specs.FalseCases.{FaultyRowsEvidence, NoCertificateEvidence};
+ghost use Rattle.topo_core.specs.FalseCases.{NotFirstEvidence, TwoPartsEvidence};
 
 /// Two parts, each with an edge: no point is bare, but the picture is not connected.
 pub fn two_parts()
@@ -13,13 +14,14 @@ pub fn faulty_rows()
     ensures { FaultyRowsEvidence }
 {}
 
-/// Routes that lead from vertex to vertex and are not the first, by their cost or by their place among
-/// those that cost the same.
+/// Routes that lead from vertex to vertex and are not the first, by their cost or by their place
+/// among those that cost the same.
 pub fn not_first()
     ensures { NotFirstEvidence }
 {}
 
-/// Heights that are no certificate, a route that meets a face twice, and prices that keep no promise.
+/// Heights that are no certificate, a route that meets a face twice, and prices that keep no
+/// promise.
 pub fn no_certificate()
     ensures { NoCertificateEvidence }
 {}

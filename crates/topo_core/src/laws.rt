@@ -1,9 +1,15 @@
 //! Laws of the definitions. The functions do nothing: their contracts are the laws.
 
-ghost use Rattle.topo_core.specs.Deletions.{DeletionKeepsForm, DeletionShowsTurns, InsertionIsUndone};
-ghost use Rattle.topo_core.specs.Insertions.{InsertionKeepsForm, InsertionShowsTurns, SimpleRoutesAreInsertable};
-ghost use Rattle.topo_core.specs.Openings.{OpeningBares, OpeningUnchords, OpeningsKeepConnection, OpeningsKeepFaces};
-ghost use Rattle.topo_core.specs.Laws.{DartOrderIsTotal, DartsAreNumbered, DartsStandOnce, GrowthKeepsEmbedding, GrowthKeepsFaces, GrowthKeepsGenus, NumbersKeepConnection, NumbersKeepFaces, NumbersKeepOrder, TurnIsAPermutation};
+ghost use Rattle.topo_core.specs.Deletions.{DeletionKeepsForm, DeletionShowsTurns};
+ghost use Rattle.topo_core.specs.Deletions.{InsertionIsUndone};
+ghost use Rattle.topo_core.specs.Insertions.{InsertionKeepsForm, InsertionShowsTurns};
+ghost use Rattle.topo_core.specs.Insertions.{SimpleRoutesAreInsertable};
+ghost use Rattle.topo_core.specs.Openings.{OpeningBares, OpeningUnchords};
+ghost use Rattle.topo_core.specs.Openings.{OpeningsKeepConnection, OpeningsKeepFaces};
+ghost use Rattle.topo_core.specs.Laws.{DartOrderIsTotal, DartsAreNumbered, DartsStandOnce};
+ghost use Rattle.topo_core.specs.Laws.{GrowthKeepsEmbedding, GrowthKeepsFaces};
+ghost use Rattle.topo_core.specs.Laws.{GrowthKeepsGenus, NumbersKeepConnection};
+ghost use Rattle.topo_core.specs.Laws.{NumbersKeepFaces, NumbersKeepOrder, TurnIsAPermutation};
 
 /// A growth in a corner of a vertex makes a connected embedding of a connected embedding.
 pub fn growth_keeps_embedding()
@@ -46,7 +52,8 @@ pub fn numbers_keep_order()
     ensures { NumbersKeepOrder }
 {}
 
-/// A rotation system is connected just when no point is bare and the numbers of its darts are connected.
+/// A rotation system is connected just when no point is bare and the numbers of its darts are
+/// connected.
 pub fn numbers_keep_connection()
     ensures { NumbersKeepConnection }
 {}
@@ -56,13 +63,15 @@ pub fn numbers_keep_faces()
     ensures { NumbersKeepFaces }
 {}
 
-/// The picture that shows a new edge along a route whose corners and crossed darts are there is well formed.
+/// The picture that shows a new edge along a route whose corners and crossed darts are there is
+/// well formed.
 pub fn insertion_keeps_form()
     ensures { InsertionKeepsForm }
 {}
 
-/// An insertion keeps how the darts turn but along its route: each old dart is followed as before, straight or after the new edge,
-/// and each new crossing has the crossed edge and the new one in turn.
+/// An insertion keeps how the darts turn but along its route: each old dart is followed as before,
+/// straight or after the new edge, and each new crossing has the crossed edge and the new one in
+/// turn.
 pub fn insertion_shows_turns()
     ensures { InsertionShowsTurns }
 {}
@@ -72,38 +81,44 @@ pub fn deletion_keeps_form()
     ensures { DeletionKeepsForm }
 {}
 
-/// A deletion changes the rotation along the edge only: a dart before the edge is followed by the one
-/// after it. At each crossing of the edge the two segments of the other edge become one.
+/// A deletion changes the rotation along the edge only: a dart before the edge is followed by the
+/// one after it. At each crossing of the edge the two segments of the other edge become one.
 pub fn deletion_shows_turns()
     ensures { DeletionShowsTurns }
 {}
 
-/// A deletion undoes an insertion: without the edge that was just shown the picture is as before, but for the ids that were given.
+/// A deletion undoes an insertion: without the edge that was just shown the picture is as before,
+/// but for the ids that were given.
 pub fn insertion_is_undone()
     ensures { InsertionIsUndone }
 {}
 
-/// An edge can be shown along a route that meets no face twice: such a route crosses no segment twice.
+/// An edge can be shown along a route that meets no face twice: such a route crosses no segment
+/// twice.
 pub fn simple_routes_are_insertable()
     ensures { SimpleRoutesAreInsertable }
 {}
 
-/// Opening an edge takes out one segment after the other: on the numbers of the darts each is one chord less.
+/// Opening an edge takes out one segment after the other: on the numbers of the darts each is one
+/// chord less.
 pub fn opening_unchords()
     ensures { OpeningUnchords }
 {}
 
-/// Two darts that are left have one face of the opened system on their left just when their numbers lie on one cycle of the face map.
+/// Two darts that are left have one face of the opened system on their left just when their numbers
+/// lie on one cycle of the face map.
 pub fn openings_keep_faces()
     ensures { OpeningsKeepFaces }
 {}
 
-/// The darts of an opened system are those that are not out, and two of them are joined just when their numbers are.
+/// The darts of an opened system are those that are not out, and two of them are joined just when
+/// their numbers are.
 pub fn openings_keep_connection()
     ensures { OpeningsKeepConnection }
 {}
 
-/// An opened edge leaves no crossing bare, and a vertex just where it is the only edge there and its dart at the vertex is out.
+/// An opened edge leaves no crossing bare, and a vertex just where it is the only edge there and
+/// its dart at the vertex is out.
 pub fn opening_bares()
     ensures { OpeningBares }
 {}

@@ -1,6 +1,8 @@
 //! Laws of routes, prices and certificates. The functions do nothing: their contracts are the laws.
 
-ghost use Rattle.topo_core.specs.RouteLaws.{CertificateBounds, CornersAreDarts, CostsAtLeastLength, FirstByHeightsIsFirst, HasOneCost, LeastIsSimple, RoutesExist};
+ghost use Rattle.topo_core.specs.RouteLaws.{CertificateBounds, CornersAreDarts};
+ghost use Rattle.topo_core.specs.RouteLaws.{CostsAtLeastLength, FirstByHeightsIsFirst};
+ghost use Rattle.topo_core.specs.RouteLaws.{HasOneCost, LeastIsSimple, RoutesExist};
 
 use crate::prices::Prices;
 
@@ -34,8 +36,8 @@ pub fn least_is_simple<P: Prices>()
     ensures { LeastIsSimple P.price }
 {}
 
-/// Where every edge of a connected picture has a price, a route with a cost leads from any vertex to any
-/// other: an insertion between two of its vertices is never refused for want of a route.
+/// Where every edge of a connected picture has a price, a route with a cost leads from any vertex
+/// to any other: an insertion between two of its vertices is never refused for want of a route.
 pub fn routes_exist<P: Prices>()
     ensures { RoutesExist P.price }
 {}

@@ -24,8 +24,9 @@ pub struct CrossRow {
     pub sign: Sign,
 }
 
-/// A picture: for each vertex the clockwise list of the ids of its edges, the edges and the crossings
-/// in rising order of their ids, and the ids to be given next. `Lawful` says which rows are pictures.
+/// A picture: for each vertex the clockwise list of the ids of its edges, the edges and the
+/// crossings in rising order of their ids, and the ids to be given next. `Lawful` says which rows
+/// are pictures.
 #[derive(Drop, Debug)]
 pub struct Rows {
     pub rotations: Listed<Listed<u32>>,
@@ -78,7 +79,8 @@ impl Rows {
     ghost use Rattle.std.specs.Prelude.{◌≡◌, length, option_copied};
     ghost use Rattle.topo_core.specs.Picture.{edge_row, edge_at, segment_count, rotation};
 
-    /// The row of an edge. It looks at one row after another, so it takes time by the number of edges.
+    /// The row of an edge. It looks at one row after another, so it takes time by the number of
+    /// edges.
     pub fn edge(&self, id: u32) -> Option<&EdgeRow>
         ensures { option_copied result ≡ edge_row self.now id }
     {

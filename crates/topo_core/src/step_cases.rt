@@ -1,12 +1,13 @@
-//! Steps, replays, versions and runs, computed where they are and where they are not. The functions do
-//! nothing: their contracts are the evidence.
+//! Steps, replays, versions and runs, computed where they are and where they are not. The functions
+//! do nothing: their contracts are the evidence.
 
 ghost use Rattle.std.specs.Prelude.{◌≡◌};
 ghost use Rattle.topo_core.specs.StepCases.{NoHistoryEvidence, NoStepEvidence, StepEvidence};
 
 use crate::limits::Limits;
 
-/// A deletion, a cut, and each refusal for want of an edge, a route, a vertex, an edge id or a crossing id.
+/// A deletion, a cut, and each refusal for want of an edge, a route, a vertex, an edge id or a
+/// crossing id.
 pub fn steps(wide: Limits, narrow: Limits, single: Limits)
     requires edges { wide.edges ≡ 65536 }
     requires narrow { narrow.vertices ≡ 2 }
@@ -24,7 +25,8 @@ pub fn no_steps(wide: Limits)
     ensures { NoStepEvidence wide }
 {}
 
-/// Lists of entries that are no history of their picture, no version of it, and no run of the lists.
+/// Lists of entries that are no history of their picture, no version of it, and no run of the
+/// lists.
 pub fn no_histories(wide: Limits)
     requires vertices { wide.vertices ≡ 65536 }
     requires edges { wide.edges ≡ 65536 }

@@ -1,6 +1,7 @@
 //! Laws of steps and replays. The functions do nothing: their contracts are the laws.
 
-ghost use Rattle.topo_core.specs.StepLaws.{FirstIsOne, ReplaysGoOn, StepsAreDetermined, VersionsGoOn, VersionsReplay};
+ghost use Rattle.topo_core.specs.StepLaws.{FirstIsOne, ReplaysGoOn, StepsAreDetermined};
+ghost use Rattle.topo_core.specs.StepLaws.{VersionsGoOn, VersionsReplay};
 
 use crate::prices::Prices;
 

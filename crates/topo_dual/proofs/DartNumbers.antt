@@ -49,7 +49,8 @@ module _ (rows : Rows) (lawful : Lawful rows) where
     first_in : has_dart (darts rows) (first_of e) ≡ true
     first_in =
         let b = begins_at 0 rows.edges place row at in
-        let got : slice_get (darts rows) (b.before + 0) ≡ Some (first_of row.id) = b.listed 0 (omega (arith, inside)) ∙ forward_get row.id 0 (segment_count row) 0 (omega (arith, inside)) in
+        let got : slice_get (darts rows) (b.before + 0) ≡ Some (first_of row.id) = b.listed 0 (omega (arith, inside))
+        ∙ forward_get row.id 0 (segment_count row) 0 (omega (arith, inside)) in
         subst (λ n. has_dart (darts rows) (first_of n) ≡ true) named (has_at (darts rows) (b.before + 0) (first_of row.id) got)
 
     abbrev begin : ℕ
@@ -60,7 +61,9 @@ module _ (rows : Rows) (lawful : Lawful rows) where
 
     forward : (k : ℕ) → index_of rows (record { edge = e; seg = seg; way = Forward }) ≡ k → IsBehind rows k (record { edge = e; seg = seg; way = Forward })
     forward k is =
-        let number : index_of rows (record { edge = e; seg = seg; way = Forward }) ≡ begin + 2 * seg = subst (λ n. index_of rows (record { edge = n; seg = seg; way = Forward }) ≡ begin + 2 * seg) named (number_forward rows paths place row at seg inside) in
+        let number : index_of rows (record { edge = e; seg = seg; way = Forward }) ≡ begin + 2 * seg =
+        subst (λ n. index_of rows (record { edge = n; seg = seg; way = Forward }) ≡ begin + 2 * seg) named
+        (number_forward rows paths place row at seg inside) in
         let first = first_number in record {
           first_there = first_in;
           behind = omega (arith, is, number, first);
@@ -69,14 +72,16 @@ module _ (rows : Rows) (lawful : Lawful rows) where
 
     back : (k : ℕ) → index_of rows (record { edge = e; seg = seg; way = Back }) ≡ k → IsBehind rows k (record { edge = e; seg = seg; way = Back })
     back k is =
-        let number : index_of rows (record { edge = e; seg = seg; way = Back }) ≡ begin + 2 * seg + 1 = subst (λ n. index_of rows (record { edge = n; seg = seg; way = Back }) ≡ begin + 2 * seg + 1) named (number_back rows paths place row at seg inside) in
+        let number : index_of rows (record { edge = e; seg = seg; way = Back }) ≡ begin + 2 * seg + 1 =
+        subst (λ n. index_of rows (record { edge = n; seg = seg; way = Back }) ≡ begin + 2 * seg + 1) named (number_back rows paths place row at seg inside) in
         let first = first_number in record {
           first_there = first_in;
           behind = omega (arith, is, number, first);
           again = λ made even odd. odd seg (omega (arith, is, number, first));
         }
 
-  on_row : (e seg : ℕ) (way : Way) (k : ℕ) (row : EdgeRow) → edge_row rows e ≡ Some row → seg < segment_count row → index_of rows (record { edge = e; seg = seg; way = way }) ≡ k → IsBehind rows k (record { edge = e; seg = seg; way = way })
+  on_row : (e seg : ℕ) (way : Way) (k : ℕ) (row : EdgeRow) → edge_row rows e ≡ Some row → seg < segment_count row
+      → index_of rows (record { edge = e; seg = seg; way = way }) ≡ k → IsBehind rows k (record { edge = e; seg = seg; way = way })
   on_row e seg Forward k row there inside is = forward e seg row there inside k is
   on_row e seg Back k row there inside is = back e seg row there inside k is
 
@@ -109,7 +114,8 @@ module _ (rows : Rows) (lawful : Lawful rows) where
       first_before = let b = (behind_first k below).behind in omega (arith, b, first_is)
 
       -- so a dart that is as far behind is the dart of the number
-      pub made_again : (made : Dart) → ((s : ℕ) → k - first ≡ 2 * s → made ≡ record { edge = edge; seg = s; way = Forward }) → ((s : ℕ) → k - first ≡ 2 * s + 1 → made ≡ record { edge = edge; seg = s; way = Back }) → made ≡ dart_named (canonical rows) k
+      pub made_again : (made : Dart) → ((s : ℕ) → k - first ≡ 2 * s → made ≡ record { edge = edge; seg = s; way = Forward })
+          → ((s : ℕ) → k - first ≡ 2 * s + 1 → made ≡ record { edge = edge; seg = s; way = Back }) → made ≡ dart_named (canonical rows) k
       made_again made even odd =
           (behind_first k below).again made
           (λ s h. even s (omega (arith, h, first_is)) ∙ ap (λ e. record { edge = e; seg = s; way = Forward }) same)

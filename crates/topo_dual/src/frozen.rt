@@ -20,10 +20,12 @@ pub struct Frozen {
     embedded: Embedded,
     lists: NumberLists,
     ghost lawful: { ∥ Lawful embedded.rows ∥₁ },
-    ghost told: { ∥ HasFaces (canonical embedded.rows) (slice_index lists.faces.items) lists.bound ∥₁ },
+    ghost told: { ∥ HasFaces (canonical embedded.rows)
+        (slice_index lists.faces.items) lists.bound ∥₁ },
 }
 
-// Written out, so that it is proved once: a derived one is proved anew in each function that lets such a value go.
+// Written out, so that it is proved once: a derived one is proved anew in each function that lets
+// such a value go.
 impl Drop for Frozen {
     fn drop(self) {
         let Frozen { embedded, lists } = self;
@@ -37,9 +39,16 @@ impl Model for Frozen {
 
     ghost Value = { LawfulRows };
 
-    ghost view = { λ f. record { rows = f.embedded.rows; lawful = f.lawful; faces = f.lists.faces.items; bound = f.lists.bound; told = f.told } };
+    ghost view = { λ f. record {
+      rows = f.embedded.rows;
+      lawful = f.lawful;
+      faces = f.lists.faces.items;
+      bound = f.lists.bound;
+      told = f.told;
+    } };
 
-    ghost invariant = { λ f. AreListsOf f.embedded f.lists.halves.items f.lists.numbers.items f.lists.nexts.items f.lists.faces.items f.lists.bound };
+    ghost invariant = { λ f. AreListsOf f.embedded f.lists.halves.items f.lists.numbers.items
+        f.lists.nexts.items f.lists.faces.items f.lists.bound };
 }
 
 impl Frozen {

@@ -9,9 +9,9 @@ use std::alloc::{AllocError, Global};
 use topo_embedded::Embedded;
 use topo_map::Half;
 
-/// For each dart in canonical order its half, for each half the number of its dart, and for each dart the
-/// number of the next one along its face and the label of that face. The lists are written anew for each
-/// picture, and their memory serves for the next one.
+/// For each dart in canonical order its half, for each half the number of its dart, and for each
+/// dart the number of the next one along its face and the label of that face. The lists are written
+/// anew for each picture, and their memory serves for the next one.
 pub struct NumberLists {
     pub(crate) halves: Vec<u32>,
     pub(crate) numbers: Vec<u32>,
@@ -21,7 +21,8 @@ pub struct NumberLists {
     pub(crate) bound: u32,
 }
 
-// Written out, so that it is proved once: a derived one is proved anew in each function that lets such a value go.
+// Written out, so that it is proved once: a derived one is proved anew in each function that lets
+// such a value go.
 impl Drop for NumberLists {
     fn drop(self) {
         let NumberLists {
@@ -54,7 +55,8 @@ impl NumberLists {
     pub(crate) fn fill(&mut self, embedded: &Embedded) -> Result<(), AllocError>
         requires lawful { Lawful embedded.now.rows }
         requires vertices { length embedded.now.rows.rotations < 2 ^ 32 }
-        ensures { OnOk result (AreListsOf embedded.now self.new.halves.items self.new.numbers.items self.new.nexts.items self.new.faces.items self.new.bound) }
+        ensures { OnOk result (AreListsOf embedded.now self.new.halves.items self.new.numbers.items
+            self.new.nexts.items self.new.faces.items self.new.bound) }
     {
         embedded.fill_halves(&mut self.halves)?;
         let halves = self.halves.as_slice();
@@ -103,9 +105,11 @@ impl NumberLists {
 /// Writes for each half its place among the halves.
 fn write_numbers(numbers: &mut [u32], halves: &[u32])
     requires apart { AreApart halves.now }
-    requires within { (i : ℕ) → i < length halves.now → slice_index halves.now i < length numbers.old }
+    requires within { (i : ℕ) → i < length halves.now
+        → slice_index halves.now i < length numbers.old }
     requires few { length halves.now < 2 ^ 32 }
-    ensures { (i : ℕ) → i < length halves.now → slice_index numbers.new (slice_index halves.now i) ≡ i }
+    ensures { (i : ℕ) → i < length halves.now
+        → slice_index numbers.new (slice_index halves.now i) ≡ i }
 {
     for number in 0..halves.len() {
         numbers[halves[number] as usize] = number as u32;
@@ -117,7 +121,8 @@ fn write_nexts(nexts: &mut [u32], embedded: &Embedded, halves: &[u32], numbers: 
     requires lawful { Lawful embedded.now.rows }
     requires named { AreNumbersOf embedded.now halves.now numbers.now }
     requires as_many { length nexts.old ≡ length halves.now }
-    ensures { (k : ℕ) → k < length halves.now → slice_index nexts.new k ≡ next_name (canonical embedded.now.rows) k }
+    ensures { (k : ℕ) → k < length halves.now
+        → slice_index nexts.new k ≡ next_name (canonical embedded.now.rows) k }
 {
     for dart in 0..halves.len() {
         let next = embedded.face_next(Half::numbered(halves[dart]));

@@ -15,17 +15,19 @@ use topo_route::dual::Dual;
 use topo_route::face_graph::FaceGraph;
 
 /// Lawful rows with their embedding, and with the lists that number their darts, all borrowed.
-/// Contracts see the rows. The darts are numbered in canonical order: 2i and 2i + 1 are the two of one
-/// segment. The next dart along a face is one read, and the label of the face another. A number is turned
-/// into its half in one read, and a half into its number in another; what else is asked is answered by the
-/// embedding. No question takes memory. Where a dart lies on its edge is told by how far its number is behind
-/// that of the first dart of the edge; `tail` alone looks along the path.
+/// Contracts see the rows. The darts are numbered in canonical order: 2i and 2i + 1 are the two of
+/// one segment. The next dart along a face is one read, and the label of the face another. A number
+/// is turned into its half in one read, and a half into its number in another; what else is asked
+/// is answered by the embedding. No question takes memory. Where a dart lies on its edge is told by
+/// how far its number is behind that of the first dart of the edge; `tail` alone looks along the
+/// path.
 #[derive(Drop)]
 pub struct Numbered<'a> {
     pub(crate) embedded: &'a Embedded,
     pub(crate) lists: &'a NumberLists,
     ghost lawful: { ∥ Lawful embedded.now.rows ∥₁ },
-    ghost told: { ∥ HasFaces (canonical embedded.now.rows) (slice_index lists.now.faces.items) lists.now.bound ∥₁ },
+    ghost told: { ∥ HasFaces (canonical embedded.now.rows) (slice_index lists.now.faces.items)
+        lists.now.bound ∥₁ },
 }
 
 impl<'a> Model for Numbered<'a> {
@@ -33,9 +35,17 @@ impl<'a> Model for Numbered<'a> {
 
     ghost Value = { LawfulRows };
 
-    ghost view = { λ d. record { rows = d.embedded.now.rows; lawful = d.lawful; faces = d.lists.now.faces.items; bound = d.lists.now.bound; told = d.told } };
+    ghost view = { λ d. record {
+      rows = d.embedded.now.rows;
+      lawful = d.lawful;
+      faces = d.lists.now.faces.items;
+      bound = d.lists.now.bound;
+      told = d.told;
+    } };
 
-    ghost invariant = { λ d. AreListsOf d.embedded.now d.lists.now.halves.items d.lists.now.numbers.items d.lists.now.nexts.items d.lists.now.faces.items d.lists.now.bound };
+    ghost invariant = { λ d. AreListsOf d.embedded.now d.lists.now.halves.items
+        d.lists.now.numbers.items d.lists.now.nexts.items d.lists.now.faces.items
+        d.lists.now.bound };
 }
 
 impl<'a> Numbered<'a> {
@@ -46,8 +56,8 @@ impl<'a> Numbered<'a> {
     ghost use Rattle.topo_core.specs.declared.darts.Dart.{Dart};
     ghost use Rattle.topo_core.specs.declared.darts.Way.TheVariants.{Forward};
 
-    /// These rows with their embedding, and with lists that are written for them. Nothing of the rows is
-    /// copied.
+    /// These rows with their embedding, and with lists that are written for them. Nothing of the
+    /// rows is copied.
     pub fn new(embedded: &'a Embedded, lists: &'a mut NumberLists) -> Result<Self, AllocError>
         requires lawful { Lawful embedded.now.rows }
         requires vertices { length embedded.now.rows.rotations < 2 ^ 32 }
@@ -60,7 +70,8 @@ impl<'a> Numbered<'a> {
 
     /// The number of the first dart of an edge.
     fn first_on(&self, edge: EdgeId) -> u32
-        requires { has_dart (darts self.now.rows) (record { edge = edge; seg = 0; way = Forward }) ≡ true }
+        requires { has_dart (darts self.now.rows)
+            (record { edge = edge; seg = 0; way = Forward }) ≡ true }
         ensures { result ≡ index_of self.now.rows (record { edge = edge; seg = 0; way = Forward }) }
     {
         let first = Dart {
@@ -82,8 +93,10 @@ ghost use Rattle.topo_core.specs.declared.darts.Way.TheVariants.{Forward, Back};
 
 /// The dart of an edge that comes so many darts behind its first.
 fn dart_behind(edge: EdgeId, along: u32) -> Dart
-    ensures forward { (s : ℕ) → along ≡ 2 * s → result ≡ record { edge = edge; seg = s; way = Forward } }
-    ensures back { (s : ℕ) → along ≡ 2 * s + 1 → result ≡ record { edge = edge; seg = s; way = Back } }
+    ensures forward { (s : ℕ) → along ≡ 2 * s
+        → result ≡ record { edge = edge; seg = s; way = Forward } }
+    ensures back { (s : ℕ) → along ≡ 2 * s + 1
+        → result ≡ record { edge = edge; seg = s; way = Back } }
 {
     let seg = along / 2;
     if along % 2 == 0 {

@@ -130,7 +130,8 @@ pub record AreChordsAddedFrom (before now : Rotation) (cs : List Crossed) (n to 
   pub within : n ≤ length cs
   pub many : length line ≡ length cs + 1
   pub new_chords : List NewChord
-  pub along : (rows : Rows) (name : ℕ → ℕ) (e z x : ℕ) → end ≡ name e → AreAlong name z (subdivisions_of rows (drop n cs)) e (record { from = z; to = to; half = x } ∷ new_chords)
+  pub along : (rows : Rows) (name : ℕ → ℕ) (e z x : ℕ) → end ≡ name e
+      → AreAlong name z (subdivisions_of rows (drop n cs)) e (record { from = z; to = to; half = x } ∷ new_chords)
   pub run : IsRun half_limit (turning_of before) (chords_of new_chords) (turning_of now)
   pub whole : IsEmbedding now
   pub halves : drop (n + 1) line ≡ halves_of new_chords

@@ -15,7 +15,8 @@ use Rattle.topo_route.specs.Names.{HasFaces, Named, dart_named}
 use Rattle.topo_route.specs.Numbers.{dart_of, next_of}
 use Rattle.topo_route.proofs.names.Numbers.{dart_of_number, face_of_numbers, next_permutes, number_below, numbers_of_face}
 
-one_face : (rows : Rows) → Lawful rows → (c d : Dart) → has_dart (darts rows) c ≡ true → has_dart (darts rows) d ≡ true → ∥ SameFace (system rows) c d ∥₁ → SameFace (system rows) c d
+one_face : (rows : Rows) → Lawful rows → (c d : Dart) → has_dart (darts rows) c ≡ true → has_dart (darts rows) d ≡ true → ∥ SameFace (system rows) c d ∥₁
+    → SameFace (system rows) c d
 one_face rows lawful c d hc hd merely =
     let n : ℕ = length (darts rows) in
     let i : ℕ = index_of rows c in
@@ -25,7 +26,8 @@ one_face rows lawful c d hc hd merely =
     let ec : dart_of rows i ≡ c = dart_of_number rows lawful c hc in
     let ed : dart_of rows j ≡ d = dart_of_number rows lawful d hd in
     let met : is_met (next_of rows) n i j ≡ true = ∥∥₁_elim merely (Bool-set (is_met (next_of rows) n i j) true)
-    (λ same. SameCycle-is_met (next_of rows) n (next_permutes rows lawful) i j li (numbers_of_face rows lawful i d li (subst (λ (x : Dart). SameFace (system rows) x d) (sym ec) same))) in
+    (λ same. SameCycle-is_met (next_of rows) n (next_permutes rows lawful) i j li
+    (numbers_of_face rows lawful i d li (subst (λ (x : Dart). SameFace (system rows) x d) (sym ec) same))) in
     subst (λ (x : Dart). SameFace (system rows) x d) ec
     (subst (λ (y : Dart). SameFace (system rows) (dart_of rows i) y) ed (face_of_numbers rows lawful i j li lj (is_met-SameCycle (next_of rows) n i j met)))
 

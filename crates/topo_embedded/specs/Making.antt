@@ -15,4 +15,5 @@ pub record IsPathOf (halves : List ℕ) (begin many : ℕ) (path : List ℕ) : T
 -- the paths of the edges before k, which begin as said
 pub record ArePathsOf (edges : List EdgeRow) (begins halves : List ℕ) (k : ℕ) (paths : List (List ℕ)) : Type 0 where
   pub as_many : length paths ≡ k
-  pub each : (i : ℕ) (row : EdgeRow) → i < k → slice_get edges i ≡ Some row → IsPathOf halves (slice_index begins i) (segment_count row) (slice_index_or paths i [])
+  pub each : (i : ℕ) (row : EdgeRow) → i < k → slice_get edges i ≡ Some row
+      → IsPathOf halves (slice_index begins i) (segment_count row) (slice_index_or paths i [])

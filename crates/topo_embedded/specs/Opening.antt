@@ -31,7 +31,8 @@ pub record IsSetOut (rows : Rows) (others : List (List ℕ)) (e : ℕ) (path : L
   pub whole : IsEmbedding r
   pub as_many : length others ≡ length rows.edges
   pub own : path ≡ path_of (record { rows = rows; paths = paths }) e
-  pub same : (c : ℕ) → is_some (edge_row rows c) ≡ true → c ≢ e → path_of (record { rows = rows; paths = others }) c ≡ path_of (record { rows = rows; paths = paths }) c
+  pub same : (c : ℕ) → is_some (edge_row rows c) ≡ true → c ≢ e
+      → path_of (record { rows = rows; paths = others }) c ≡ path_of (record { rows = rows; paths = paths }) c
 
 -- the first i segments of e are out, and the midpoints are at the places of those with a crossing behind them
 pub record IsOpenTo (p : RowsWithPaths) (e : ℕ) (r : Rotation) (i : ℕ) (now : Rotation) (path : List ℕ) : Type 0 where
@@ -50,11 +51,13 @@ mids_of path = take (length path - 1) path
 
 -- the lists with this half out of that of edge c
 abbrev pub without_half : Rows → ℕ → ℕ → List (List ℕ) → List (List ℕ)
-without_half rows c h paths = slice_set paths (position_or_len (λ row. row.id == c) rows.edges) (filter (λ x. not (x == h)) (path_of (record { rows = rows; paths = paths }) c))
+without_half rows c h paths =
+    slice_set paths (position_or_len (λ row. row.id == c) rows.edges) (filter (λ x. not (x == h)) (path_of (record { rows = rows; paths = paths }) c))
 
 -- e is out, and these are the halves at the midpoints that it left
 pub record LeavesMids (p : RowsWithPaths) (e : ℕ) (r : Rotation) (mids : List ℕ) (now : Rotation) : Type 0 where
-  pub run : IsRun half_limit (turning_of r) (unchords_of (λ j. half_at p (index_of p.rows (forward e j))) (length (edge_at p.rows e).crossings + 1)) (turning_of now)
+  pub run : IsRun half_limit (turning_of r) (unchords_of (λ j. half_at p (index_of p.rows (forward e j))) (length (edge_at p.rows e).crossings + 1))
+      (turning_of now)
   pub whole : IsEmbedding now
   pub keeps : KeepsLabels (is_live now) (edge_of r) (edge_of now)
   pub as_many : length mids ≡ length (edge_at p.rows e).crossings
@@ -73,4 +76,5 @@ pub record IsSmoothedTo (p : RowsWithPaths) (e : ℕ) (r opened : Rotation) (mid
   pub whole : IsEmbedding now
   pub keeps : KeepsLabels (is_live now) (edge_of r) (edge_of now)
   pub as_many : length paths ≡ length p.rows.edges
-  pub lists : (c : ℕ) → is_some (edge_row p.rows c) ≡ true → c ≢ e → path_of (record { rows = p.rows; paths = paths }) c ≡ spared (has_id (take i mids)) (path_of p c)
+  pub lists : (c : ℕ) → is_some (edge_row p.rows c) ≡ true → c ≢ e
+      → path_of (record { rows = p.rows; paths = paths }) c ≡ spared (has_id (take i mids)) (path_of p c)

@@ -1,5 +1,5 @@
-//! Deletion from rows with their embedding. It takes no memory: the path of the edge is used again, for
-//! the points of degree two at its crossings until they are smoothed.
+//! Deletion from rows with their embedding. It takes no memory: the path of the edge is used again,
+//! for the points of degree two at its crossings until they are smoothed.
 
 ghost use Rattle.std.specs.Prelude.{◌≡◌, ◌≢◌, ℕ, true, is_some, length, slice_index_or};
 ghost use Rattle.topo_core.specs.Changes.{without};
@@ -9,7 +9,8 @@ ghost use Rattle.topo_core.specs.Rotations.{twin};
 ghost use Rattle.topo_map.specs.Rotation.{edge_of, is_live, turn};
 ghost use Rattle.topo_changes.proofs.deleting.DeletedMids.{across};
 ghost use Rattle.topo_embedded.specs.Halves.{ShowsRows, path_of};
-ghost use Rattle.topo_embedded.specs.Opening.{IsOpenTo, IsOpened, IsSetOut, IsSmoothedTo, leads_in, mids_of, without_half};
+ghost use Rattle.topo_embedded.specs.Opening.{IsOpenTo, IsOpened, IsSetOut, IsSmoothedTo};
+ghost use Rattle.topo_embedded.specs.Opening.{leads_in, mids_of, without_half};
 ghost use Rattle.topo_embedded.specs.Parts.{Agree};
 
 use crate::parts::Parts;
@@ -39,8 +40,8 @@ fn leads_along(
     paths[place].contains(half)
 }
 
-/// Of the halves that lead over a crossing from the segment before and the one behind, the one that leads
-/// along its edge.
+/// Of the halves that lead over a crossing from the segment before and the one behind, the one that
+/// leads along its edge.
 fn midpoint(
     rows: &KeptRows,
     paths: &[Path],
@@ -53,8 +54,10 @@ fn midpoint(
     requires many { length paths.now ≡ length rows.now.edges }
     requires live { is_live segments.now (twin before) ≡ true }
     requires live_behind { is_live segments.now behind ≡ true }
-    requires there { is_some (edge_row rows.now (edge_of segments.now (turn segments.now (twin before)))) ≡ true }
-    ensures { result ≡ across (leads_in rows.now paths.now (edge_of segments.now)) (turn segments.now) (twin before) behind }
+    requires there { is_some
+        (edge_row rows.now (edge_of segments.now (turn segments.now (twin before)))) ≡ true }
+    ensures { result ≡ across (leads_in rows.now paths.now (edge_of segments.now))
+        (turn segments.now) (twin before) behind }
 {
     let over = segments.turn(before.twin());
     if leads_along(rows, paths, segments, hints, over) {
@@ -73,7 +76,9 @@ fn open_path(
     path: &mut Path,
 )
     requires { (e : ℕ) × IsSetOut rows.now paths.now e path.old segments.old }
-    ensures { (e : ℕ) (o : IsSetOut rows.now paths.now e path.old segments.old) → IsOpenTo (record { rows = rows.now; paths = o.paths }) e segments.old (length path.old) segments.new path.new }
+    ensures { (e : ℕ) (o : IsSetOut rows.now paths.now e path.old segments.old)
+        → IsOpenTo (record { rows = rows.now; paths = o.paths }) e segments.old (length path.old)
+        segments.new path.new }
 {
     let last = path.len() - 1;
     for i in 0..last {
@@ -97,15 +102,17 @@ fn leave_path(
     requires many { length paths.old.items ≡ length rows.now.edges }
     requires live { is_live segments.now half ≡ true }
     requires there { is_some (edge_row rows.now (edge_of segments.now half)) ≡ true }
-    requires later { slice_index_or (path_of (record { rows = rows.now; paths = paths.old.items }) (edge_of segments.now half)) 0 0 ≢ half }
-    ensures { paths.new.items ≡ without_half rows.now (edge_of segments.now half) half paths.old.items }
+    requires later { slice_index_or (path_of (record { rows = rows.now; paths = paths.old.items })
+        (edge_of segments.now half)) 0 0 ≢ half }
+    ensures { paths.new.items
+        ≡ without_half rows.now (edge_of segments.now half) half paths.old.items }
 {
     let place = place_of_edge(rows.edges(), hints, segments.edge(half));
     paths[place].remove(half);
 }
 
-/// Smooths the midpoints that an edge has left, one after another, and takes each out of the path of its
-/// edge.
+/// Smooths the midpoints that an edge has left, one after another, and takes each out of the path
+/// of its edge.
 fn smooth_path(
     rows: &KeptRows,
     paths: &mut Vec<Path>,
@@ -114,7 +121,9 @@ fn smooth_path(
     path: &Path,
 )
     requires { (e : ℕ) × IsOpened rows.now paths.old.items e (mids_of path.now) segments.old }
-    ensures { (e : ℕ) (o : IsOpened rows.now paths.old.items e (mids_of path.now) segments.old) → IsSmoothedTo (record { rows = rows.now; paths = o.set_out.paths }) e o.before segments.old (mids_of path.now) (length (mids_of path.now)) segments.new paths.new.items }
+    ensures { (e : ℕ) (o : IsOpened rows.now paths.old.items e (mids_of path.now) segments.old)
+        → IsSmoothedTo (record { rows = rows.now; paths = o.set_out.paths }) e o.before segments.old
+        (mids_of path.now) (length (mids_of path.now)) segments.new paths.new.items }
 {
     let crossings = path.len() - 1;
     for i in 0..crossings {
@@ -135,7 +144,8 @@ fn delete_lists(
     requires lawful { Lawful rows.now }
     requires there { is_some (edge_row rows.now edge) ≡ true }
     requires shows { ShowsRows (record { rows = rows.now; paths = paths.old.items }) segments.old }
-    ensures { ShowsRows (record { rows = without rows.now edge; paths = paths.new.items }) segments.new }
+    ensures { ShowsRows (record { rows = without rows.now edge; paths = paths.new.items })
+        segments.new }
 {
     segments.laws();
     let place = place_of_edge(rows.edges(), hints, edge);

@@ -1,10 +1,12 @@
 //! Rows with their embedding.
 
 ghost use Rattle.std.specs.List.{position_or_len};
-ghost use Rattle.std.specs.Prelude.{◌≡◌, ◌==◌, ◌↔◌, ◌*◌, ◌<◌, ◌≤◌, ◌^◌, true, IfOk, IsTrue, is_some, length, option_map, sum_by};
+ghost use Rattle.std.specs.Prelude.{◌≡◌, ◌==◌, ◌↔◌, ◌*◌, ◌<◌, ◌≤◌, ◌^◌, true, IfOk};
+ghost use Rattle.std.specs.Prelude.{IsTrue, is_some, length, option_map, sum_by};
 ghost use Rattle.topo_core.specs.declared.darts.Dart.{Dart};
 ghost use Rattle.topo_core.specs.Lawful.{IsWellFormed};
-ghost use Rattle.topo_core.specs.Picture.{corner, darts, edge_at, edge_row, end_dart, segment_count, system};
+ghost use Rattle.topo_core.specs.Picture.{corner, darts, edge_at, edge_row};
+ghost use Rattle.topo_core.specs.Picture.{end_dart, segment_count, system};
 ghost use Rattle.topo_core.specs.Routes.{AreFactsOf};
 ghost use Rattle.topo_core.specs.Systems.{SameFace, face_step, has_dart};
 ghost use Rattle.topo_embedded.specs.Halves.{IsHalf, ShowsRows, half_in};
@@ -32,13 +34,14 @@ use topo_map::{Embedding, Half};
 use topo_rows::by_id::place_of_edge;
 use topo_rows::{IdIndex, Turns};
 
-/// Well-formed rows with their embedding. Contracts see the rows, and for each edge, by its place among
-/// the edges, the half that leads along it on each of its segments.
+/// Well-formed rows with their embedding. Contracts see the rows, and for each edge, by its place
+/// among the edges, the half that leads along it on each of its segments.
 pub struct Embedded {
     parts: Parts,
 }
 
-// Written out, so that it is proved once: a derived one is proved anew in each function that lets such a value go.
+// Written out, so that it is proved once: a derived one is proved anew in each function that lets
+// such a value go.
 impl Drop for Embedded {
     fn drop(self) {
         let Embedded { parts } = self;
@@ -59,7 +62,8 @@ impl Model for Embedded {
 }
 
 impl Embedded {
-    /// The embedding of well-formed rows, few enough for numbers of 32 bits, whose darts turn as said.
+    /// The embedding of well-formed rows, few enough for numbers of 32 bits, whose darts turn as
+    /// said.
     pub fn of(alloc: Global, rows: Rows, turns: Turns) -> Result<Self, AllocError>
         requires well_formed { IsWellFormed rows }
         requires few { 2 * sum_by segment_count rows.edges < 2 ^ 32 }
@@ -143,7 +147,8 @@ impl Embedded {
     /// The half of the next dart along the face on the left.
     pub fn face_next(&self, half: Half) -> Half
         requires { IsHalf self.now half }
-        ensures { (d : Dart) → has_dart (darts self.now.rows) d ≡ true → half_in self.now d ≡ half → result ≡ half_in self.now (face_step (system self.now.rows) d) }
+        ensures { (d : Dart) → has_dart (darts self.now.rows) d ≡ true → half_in self.now d ≡ half
+            → result ≡ half_in self.now (face_step (system self.now.rows) d) }
     {
         self.parts.segments.face_next(half)
     }
@@ -152,7 +157,9 @@ impl Embedded {
     pub fn same_face(&self, half: Half, other: Half) -> bool
         requires half_there { IsHalf self.now half }
         requires other_there { IsHalf self.now other }
-        ensures { (c d : Dart) → has_dart (darts self.now.rows) c ≡ true → has_dart (darts self.now.rows) d ≡ true → half_in self.now c ≡ half → half_in self.now d ≡ other
+        ensures { (c d : Dart) → has_dart (darts self.now.rows) c ≡ true
+            → has_dart (darts self.now.rows) d ≡ true → half_in self.now c ≡ half
+            → half_in self.now d ≡ other
             → IsTrue result ↔ SameFace (system self.now.rows) c d }
     {
         self.parts.segments.same_face(half, other)
@@ -169,7 +176,8 @@ impl Embedded {
     /// The id of the edge of a half.
     pub fn edge(&self, half: Half) -> u32
         requires { IsHalf self.now half }
-        ensures { (d : Dart) → has_dart (darts self.now.rows) d ≡ true → half_in self.now d ≡ half → result ≡ d.edge }
+        ensures { (d : Dart) → has_dart (darts self.now.rows) d ≡ true → half_in self.now d ≡ half
+            → result ≡ d.edge }
     {
         self.parts.segments.edge(half)
     }
@@ -177,7 +185,8 @@ impl Embedded {
     /// The facts of the edge of a half.
     pub fn facts(&self, half: Half) -> Facts
         requires { IsHalf self.now half }
-        ensures { (d : Dart) → has_dart (darts self.now.rows) d ≡ true → half_in self.now d ≡ half → AreFactsOf (edge_at self.now.rows d.edge) result }
+        ensures { (d : Dart) → has_dart (darts self.now.rows) d ≡ true → half_in self.now d ≡ half
+            → AreFactsOf (edge_at self.now.rows d.edge) result }
     {
         let edges = self.parts.rows.edges();
         let place = place_of_edge(edges, &self.parts.index, self.parts.segments.edge(half));
@@ -190,7 +199,8 @@ impl Embedded {
     /// The dart of a half. It looks along the path of the edge.
     pub fn dart_of(&self, half: Half) -> Dart
         requires { IsHalf self.now half }
-        ensures { (d : Dart) → has_dart (darts self.now.rows) d ≡ true → half_in self.now d ≡ half → result ≡ d }
+        ensures { (d : Dart) → has_dart (darts self.now.rows) d ≡ true
+            → half_in self.now d ≡ half → result ≡ d }
     {
         let label = self.parts.segments.edge(half);
         let place = place_of_edge(self.parts.rows.edges(), &self.parts.index, label);
@@ -211,7 +221,8 @@ impl Embedded {
         led(self.parts.paths.as_slice()[place].at(seg), way)
     }
 
-    /// The half that names the corner at a position of a vertex; none where there is no such corner.
+    /// The half that names the corner at a position of a vertex; none where there is no such
+    /// corner.
     pub fn corner(&self, v: u32, position: u32) -> Option<Half>
         ensures { result ≡ option_map (half_in self.now) (corner self.now.rows v position) }
     {
@@ -227,9 +238,9 @@ impl Embedded {
 impl Embedded {
     ghost use Rattle.topo_changes.specs.Cuts.{IsFirstCut};
 
-    /// The first segment of an edge that has one face on both sides when those before it are out, if one
-    /// has. Lawful rows fall apart without these segments, and stay connected where there is none. It takes
-    /// no memory.
+    /// The first segment of an edge that has one face on both sides when those before it are out,
+    /// if one has. Lawful rows fall apart without these segments, and stay connected where there is
+    /// none. It takes no memory.
     pub fn first_cut(&self, edge: u32) -> Option<u32>
         requires { is_some (edge_row self.now.rows edge) ≡ true }
         ensures { IsFirstCut self.now.rows edge result }
@@ -248,8 +259,8 @@ impl Embedded {
     ghost use Rattle.topo_core.specs.Changes.{grown};
     ghost use Rattle.topo_core.specs.Picture.{rotation};
 
-    /// Puts a new vertex on a new edge of the given kind into the corner at a position of `u`. An error
-    /// is out of memory, and then all is as before.
+    /// Puts a new vertex on a new edge of the given kind into the corner at a position of `u`. An
+    /// error is out of memory, and then all is as before.
     pub fn grow(
         &mut self,
         alloc: Global,
@@ -304,8 +315,8 @@ impl Embedded {
         Crossed::new(*dart, place, near)
     }
 
-    /// Draws a new edge of the given kind along a route that meets no face twice, from the first of the ends
-    /// to the second. An error is out of memory, and then all is as before.
+    /// Draws a new edge of the given kind along a route that meets no face twice, from the first of
+    /// the ends to the second. An error is out of memory, and then all is as before.
     pub fn insert(
         &mut self,
         alloc: Global,
@@ -317,7 +328,8 @@ impl Embedded {
         requires simple { IsSimpleRoute self.old.rows ends.0 ends.1 route.now }
         requires edges { self.old.rows.next_edge + 1 < 2 ^ 32 }
         requires crossing_ids { self.old.rows.next_crossing + length route.now.crossed < 2 ^ 32 }
-        ensures ok { OnOk result (self.new.rows ≡ shown self.old.rows ends.0 ends.1 kind route.now) }
+        ensures ok { OnOk result
+            (self.new.rows ≡ shown self.old.rows ends.0 ends.1 kind route.now) }
         ensures err { OnErr result (self.new ≡ self.old) }
     {
         let Some(start) = self.corner(ends.0, route.start) else {

@@ -1,4 +1,5 @@
-//! Growth of rows with their embedding. What can fail comes first, so that a failure leaves them as they were.
+//! Growth of rows with their embedding. What can fail comes first, so that a failure leaves them as
+//! they were.
 
 ghost use Rattle.std.specs.Prelude.{◌≡◌, ◌+◌, ◌<◌, ◌^◌, Some, OnOk, OnErr, length};
 ghost use Rattle.topo_core.specs.Changes.{grown};
@@ -15,8 +16,8 @@ use topo_changes::growth::grow_rows;
 use topo_map::Half;
 
 impl Parts {
-    /// Puts a new vertex on a new edge into a corner of the rows, and its segment before the half of that
-    /// corner, or leaves all as it was.
+    /// Puts a new vertex on a new edge into a corner of the rows, and its segment before the half
+    /// of that corner, or leaves all as it was.
     pub(crate) fn grow(
         &mut self,
         alloc: Global,
@@ -32,7 +33,8 @@ impl Parts {
         requires vertices { length self.old.rows.rotations < 2 ^ 32 }
         requires edges { self.old.rows.next_edge + 1 < 2 ^ 32 }
         requires shows { Agree self.old }
-        requires named { (c : Dart) → corner self.old.rows u position ≡ Some c → named ≡ half_in (with_paths self.old) c }
+        requires named { (c : Dart) → corner self.old.rows u position ≡ Some c
+            → named ≡ half_in (with_paths self.old) c }
         ensures ok { OnOk result (self.new.rows ≡ grown self.old.rows u position kind) }
         ensures err { OnErr result (self.new.rows ≡ self.old.rows) }
         ensures err_paths { OnErr result (self.new.paths ≡ self.old.paths) }

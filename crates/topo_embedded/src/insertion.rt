@@ -1,13 +1,16 @@
-//! Insertion of an edge into rows with their embedding. What can fail comes first, so that a failure leaves
-//! them as they were.
+//! Insertion of an edge into rows with their embedding. What can fail comes first, so that a
+//! failure leaves them as they were.
 
-ghost use Rattle.std.specs.Prelude.{◌≡◌, ◌+◌, ◌*◌, ◌≤◌, ◌<◌, ◌^◌, IfOk, OnErr, OnOk, length, map, true};
+ghost use Rattle.std.specs.Prelude.{◌≡◌, ◌+◌, ◌*◌, ◌≤◌, ◌<◌, ◌^◌, IfOk};
+ghost use Rattle.std.specs.Prelude.{OnErr, OnOk, length, map, true};
 ghost use Rattle.std.specs.List.{All};
 ghost use Rattle.std.specs.Vec.{vec_capacity, vec_len};
 ghost use Rattle.topo_core.specs.Changes.{shown};
 ghost use Rattle.topo_core.specs.Rotations.{twin};
 ghost use Rattle.topo_map.specs.Rotation.{is_live};
-ghost use Rattle.topo_embedded.specs.Crossing.{AreChordsAdded, AreSplit, IsMarked, IsReady, IsReadyFor, IsRouted, subdivisions_of, subdivided_half, crossed_darts};
+ghost use Rattle.topo_embedded.specs.Crossing.{AreChordsAdded, AreSplit, IsMarked, IsReady};
+ghost use Rattle.topo_embedded.specs.Crossing.{IsReadyFor, IsRouted, subdivisions_of};
+ghost use Rattle.topo_embedded.specs.Crossing.{subdivided_half, crossed_darts};
 ghost use Rattle.topo_embedded.specs.Halves.{RowsWithPaths};
 ghost use Rattle.topo_embedded.specs.Inserting.{put_halves};
 ghost use Rattle.topo_embedded.specs.Padding.{ArePadded, ArePlaced};
@@ -55,8 +58,8 @@ fn subdivided(crossed: &[Crossed], half: Half) -> Half
     half
 }
 
-/// Draws the segments of the new edge between the crossings and its ends, the last one first, and writes down
-/// their halves.
+/// Draws the segments of the new edge between the crossings and its ends, the last one first, and
+/// writes down their halves.
 fn add_chords(
     segments: &mut Embedding,
     crossed: &[Crossed],
@@ -67,7 +70,8 @@ fn add_chords(
 )
     requires start { is_live segments.old start ≡ true }
     requires end { is_live segments.old end ≡ true }
-    requires alive { All (λ c. (is_live segments.old (twin c.near) ≡ true) × (is_live segments.old c.beyond ≡ true)) crossed.now }
+    requires alive { All (λ c. (is_live segments.old (twin c.near) ≡ true)
+        × (is_live segments.old c.beyond ≡ true)) crossed.now }
     requires room { length crossed.now + 1 ≤ segments.old.room }
     requires line { length line.old ≡ length crossed.now + 1 }
     ensures { AreChordsAdded segments.old segments.new crossed.now start end edge line.new }
@@ -84,8 +88,8 @@ fn add_chords(
     line.set(0, segments.chord(start, to, edge));
 }
 
-/// The memory that an insertion takes: room for segments, and for halves in the paths of the crossed edges,
-/// and a path for the new edge.
+/// The memory that an insertion takes: room for segments, and for halves in the paths of the
+/// crossed edges, and a path for the new edge.
 fn make_room(
     alloc: Global,
     paths: &mut Vec<Path>,
@@ -97,7 +101,8 @@ fn make_room(
     ensures slots { segments.new.slots ≡ segments.old.slots }
     ensures room { OnOk result (2 * length crossed.now + 1 ≤ segments.new.room) }
     ensures line { IfOk result (λ line. length line ≡ length crossed.now + 1) }
-    ensures padded { OnOk result (ArePadded (λ hs. hs) paths.old.items crossed.now paths.new.items) }
+    ensures padded { OnOk result
+        (ArePadded (λ hs. hs) paths.old.items crossed.now paths.new.items) }
     ensures capacity { OnOk result (vec_len paths.new < vec_capacity paths.new) }
     ensures err { OnErr result (paths.new.items ≡ paths.old.items) }
 {
@@ -128,7 +133,8 @@ fn add_route(
     ensures darts { crossed_darts crossed.new ≡ crossed_darts crossed.old }
     ensures marked { All (IsMarked p) crossed.new }
     ensures paths { paths.new ≡ map (put_halves (subdivisions_of p.rows crossed.new)) p.paths }
-    ensures routed { IsRouted p segments.old segments.new crossed.new corners.0 corners.1 edge line.new }
+    ensures routed { IsRouted p segments.old segments.new crossed.new corners.0
+        corners.1 edge line.new }
 {
     segments.laws();
     split_crossed(paths, segments, crossed);
@@ -138,8 +144,8 @@ fn add_route(
 }
 
 impl Parts {
-    /// Puts a new edge along a route, between the corners that the halves name, into the rows and the
-    /// embedding, or leaves all as it was.
+    /// Puts a new edge along a route, between the corners that the halves name, into the rows and
+    /// the embedding, or leaves all as it was.
     pub(crate) fn insert(
         &mut self,
         alloc: Global,
@@ -149,10 +155,12 @@ impl Parts {
         kind: u32,
         route: &Route,
     ) -> Result<(), AllocError>
-        requires ready { IsReadyFor (with_paths self.old) self.old.segments crossed.old ends.0 ends.1 kind route.now corners.0 corners.1 }
+        requires ready { IsReadyFor (with_paths self.old)
+            self.old.segments crossed.old ends.0 ends.1 kind route.now corners.0 corners.1 }
         requires edges { self.old.rows.next_edge + 1 < 2 ^ 32 }
         requires crossing_ids { self.old.rows.next_crossing + length route.now.crossed < 2 ^ 32 }
-        ensures ok { OnOk result (self.new.rows ≡ shown self.old.rows ends.0 ends.1 kind route.now) }
+        ensures ok { OnOk result
+            (self.new.rows ≡ shown self.old.rows ends.0 ends.1 kind route.now) }
         ensures err { OnErr result (self.new.rows ≡ self.old.rows) }
         ensures err_paths { OnErr result (self.new.paths ≡ self.old.paths) }
         ensures shows { Agree self.new }
@@ -175,10 +183,12 @@ impl Parts {
     ) -> Result<(), AllocError>
         ghost p: { RowsWithPaths }
         requires was { p ≡ with_paths self.old }
-        requires ready { IsReadyFor p self.old.segments crossed.old ends.0 ends.1 kind route.now corners.0 corners.1 }
+        requires ready { IsReadyFor p self.old.segments crossed.old ends.0 ends.1 kind route.now
+            corners.0 corners.1 }
         requires edges { self.old.rows.next_edge + 1 < 2 ^ 32 }
         requires crossing_ids { self.old.rows.next_crossing + length route.now.crossed < 2 ^ 32 }
-        ensures ok { OnOk result (self.new.rows ≡ shown self.old.rows ends.0 ends.1 kind route.now) }
+        ensures ok { OnOk result
+            (self.new.rows ≡ shown self.old.rows ends.0 ends.1 kind route.now) }
         ensures err { OnErr result (self.new.rows ≡ self.old.rows) }
         ensures err_paths { OnErr result (self.new.paths ≡ self.old.paths) }
         ensures shows { Agree self.new }

@@ -1,10 +1,10 @@
-//! A picture's rows with their embedding: for each edge the halves along its path, and these halves as
-//! segments in a slab, with their turn.
+//! A picture's rows with their embedding: for each edge the halves along its path, and these halves
+//! as segments in a slab, with their turn.
 //!
-//! A half on each segment of an edge leads along the edge, and is in a list of the edge at the place
-//! of that segment. So the half of a dart is found at once, and the next dart along a face in one read.
-//! The rows tell what is shown. That the halves turn as the rows say is one renumbering of darts
-//! (`ShowsRows`), which the edits of the embedding keep.
+//! A half on each segment of an edge leads along the edge, and is in a list of the edge at the
+//! place of that segment. So the half of a dart is found at once, and the next dart along a face in
+//! one read. The rows tell what is shown. That the halves turn as the rows say is one renumbering
+//! of darts (`ShowsRows`), which the edits of the embedding keep.
 #![tactic(auto)]
 
 mod copies;

@@ -1,7 +1,8 @@
 //! Paths with room for more: a half is put at the end of each path ahead of time, and one that
 //! goes in at another place takes its room.
 
-ghost use Rattle.std.specs.Prelude.{◌≡◌, ◌≤◌, ℕ, List, [], ◌∷◌, ◌++◌, OnErr, OnOk, drop, length, take};
+ghost use Rattle.std.specs.Prelude.{◌≡◌, ◌≤◌, ℕ, List, [], ◌∷◌, ◌++◌};
+ghost use Rattle.std.specs.Prelude.{OnErr, OnOk, drop, length, take};
 ghost use Rattle.topo_embedded.specs.Inserting.{piece};
 ghost use Rattle.topo_embedded.specs.Padding.{AreOff, ArePadded, ArePlaced, IsOn, shifted};
 
@@ -10,8 +11,8 @@ use std::alloc::{AllocError, Global};
 use topo_core::darts::Dart;
 use topo_map::Half;
 
-/// A dart that a new edge crosses: the place of its edge among the edges, its half, and the half that goes
-/// on behind the crossing.
+/// A dart that a new edge crosses: the place of its edge among the edges, its half, and the half
+/// that goes on behind the crossing.
 #[derive(Clone, Copy)]
 pub(crate) struct Crossed {
     pub(crate) dart: Dart,
@@ -37,8 +38,8 @@ impl Crossed {
     }
 }
 
-/// Puts one more half at the end of the list of each crossed dart, as far as there is memory, and answers
-/// for how many.
+/// Puts one more half at the end of the list of each crossed dart, as far as there is memory, and
+/// answers for how many.
 fn pad_some(alloc: Global, paths: &mut [Path], crossed: &[Crossed]) -> usize
     requires { ArePlaced (length paths.old) crossed.now }
     ensures within { result ≤ length crossed.now }
@@ -56,7 +57,8 @@ fn pad_some(alloc: Global, paths: &mut [Path], crossed: &[Crossed]) -> usize
 /// Takes the halves out again that were put at the ends.
 pub(crate) fn unpad(paths: &mut [Path], crossed: &[Crossed])
     requires { ArePlaced (length paths.old) crossed.now }
-    ensures { (was : List (List ℕ)) → ArePadded (λ hs. hs) was crossed.now paths.old → paths.new ≡ was }
+    ensures { (was : List (List ℕ)) → ArePadded (λ hs. hs) was crossed.now paths.old
+        → paths.new ≡ was }
 {
     let mut n = crossed.len();
     while n > 0 {
@@ -79,7 +81,8 @@ pub(crate) fn pad(alloc: Global, paths: &mut [Path], crossed: &[Crossed]) -> Res
     Ok(())
 }
 
-/// Puts a half at a place of a list. What was from there on moves up by one, and the last half goes.
+/// Puts a half at a place of a list. What was from there on moves up by one, and the last half
+/// goes.
 fn shift_in(path: &mut Path, at: usize, half: Half)
     ensures { path.new ≡ take at path.old ++ shifted half (drop at path.old) }
 {
@@ -91,10 +94,12 @@ fn shift_in(path: &mut Path, at: usize, half: Half)
     }
 }
 
-/// Puts the half that goes on beyond a half of the list next to it, on the side where it leads. The last half
-/// of the list goes.
+/// Puts the half that goes on beyond a half of the list next to it, on the side where it leads. The
+/// last half of the list goes.
 pub(crate) fn put_beside(path: &mut Path, near: Half, beyond: Half)
-    ensures { (xs ys : List ℕ) (h last : ℕ) → path.old ≡ xs ++ h ∷ (ys ++ last ∷ []) → AreOff near xs → IsOn near h → path.new ≡ xs ++ (piece (record { dart = 0; near = near; beyond = beyond }) h ++ ys) }
+    ensures { (xs ys : List ℕ) (h last : ℕ) → path.old ≡ xs ++ h ∷ (ys ++ last ∷ [])
+        → AreOff near xs → IsOn near h
+        → path.new ≡ xs ++ (piece (record { dart = 0; near = near; beyond = beyond }) h ++ ys) }
 {
     let at = path.place_of(near);
     if at < path.len() {

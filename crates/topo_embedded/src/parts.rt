@@ -6,8 +6,8 @@ use topo_core::listed::Listed;
 use topo_map::Embedding;
 use topo_rows::IdIndex;
 
-/// The parts of an embedding (`Embedded`), whether or not they agree. A method that changes them says what has to
-/// agree before, and that it agrees after.
+/// The parts of an embedding (`Embedded`), whether or not they agree. A method that changes them
+/// says what has to agree before, and that it agrees after.
 #[derive(Drop)]
 pub(crate) struct Parts {
     pub(crate) rows: KeptRows,

@@ -1,6 +1,7 @@
 //! The path of an edge: the halves along it.
 
-ghost use Rattle.std.specs.Prelude.{◌≡◌, ◌≢◌, ◌==◌, ◌<◌, ◌++◌, ◌∷◌, ℕ, List, [], IfOk, OnErr, OnOk, filter, length, not, slice_index_or, slice_set};
+ghost use Rattle.std.specs.Prelude.{◌≡◌, ◌≢◌, ◌==◌, ◌<◌, ◌++◌, ◌∷◌, ℕ, List, [], IfOk, OnErr};
+ghost use Rattle.std.specs.Prelude.{OnOk, filter, length, not, slice_index_or, slice_set};
 ghost use Rattle.std.specs.List.{position_or_len};
 ghost use Rattle.topo_core.specs.Items.{has_id};
 ghost use Rattle.topo_embedded.specs.Halves.{on_segment};
@@ -9,21 +10,23 @@ use std::alloc::{AllocError, Global};
 use std::marker::Model;
 use topo_map::Half;
 
-/// The first half, and the others where there are some. They lie behind one word, so that this takes two.
+/// The first half, and the others where there are some. They lie behind one word, so that this
+/// takes two.
 #[derive(Drop)]
 enum Line {
     One(Half),
     More(Half, Box<Vec<Half>>),
 }
 
-/// The halves along an edge, one on each of its segments. The first is kept beside the others, so that the
-/// path of an edge without crossings takes no memory of its own, and the half at its end is read at once.
-/// Contracts see the list of all.
+/// The halves along an edge, one on each of its segments. The first is kept beside the others, so
+/// that the path of an edge without crossings takes no memory of its own, and the half at its end
+/// is read at once. Contracts see the list of all.
 pub(crate) struct Path {
     line: Line,
 }
 
-// Written out, so that it is proved once: a derived one is proved anew in each function that lets such a value go.
+// Written out, so that it is proved once: a derived one is proved anew in each function that lets
+// such a value go.
 impl Drop for Path {
     fn drop(self) {
         let Path { line } = self;
@@ -130,7 +133,8 @@ impl Path {
         along == half || along == half.twin()
     }
 
-    /// The place of the first segment that a half is on; the number of segments where there is none.
+    /// The place of the first segment that a half is on; the number of segments where there is
+    /// none.
     pub(crate) fn place_of(&self, half: Half) -> usize
         ensures { result ≡ position_or_len (on_segment half) self.now }
     {

@@ -54,10 +54,10 @@ pub(crate) fn end_of(row: &EdgeRow, v: u32) -> (usize, Way)
     }
 }
 
-/// Lawful rows with their embedding: what a search walks on that hands out no heights. Darts go by the
-/// numbers of their halves. The next dart along a face takes one read, the twin none, the label of a
-/// face one, and no question takes memory. Where a dart lies on its edge is found by a look along the path of the edge, which a
-/// search asks only of darts that it may cross.
+/// Lawful rows with their embedding: what a search walks on that hands out no heights. Darts go by
+/// the numbers of their halves. The next dart along a face takes one read, the twin none, the label
+/// of a face one, and no question takes memory. Where a dart lies on its edge is found by a look
+/// along the path of the edge, which a search asks only of darts that it may cross.
 #[derive(Drop)]
 pub struct EmbeddedRows<'a> {
     embedded: &'a Embedded,
@@ -76,9 +76,18 @@ impl<'a> Model for EmbeddedRows<'a> {
 
     ghost Value = { FaceGraphRows };
 
-    ghost view = { λ d. record { embedded = d.embedded.now; size = d.size; faces = d.segments.now.labels; bound = d.labels; named = d.named; lawful = d.lawful; told = d.told } };
+    ghost view = { λ d. record {
+      embedded = d.embedded.now;
+      size = d.size;
+      faces = d.segments.now.labels;
+      bound = d.labels;
+      named = d.named;
+      lawful = d.lawful;
+      told = d.told;
+    } };
 
-    ghost invariant = { λ d. (length (darts d.embedded.now.rows) < 2 ^ 32) × (length d.embedded.now.rows.rotations < 2 ^ 32) × AreLive d.embedded.now d.segments.now };
+    ghost invariant = { λ d. (length (darts d.embedded.now.rows) < 2 ^ 32)
+        × (length d.embedded.now.rows.rotations < 2 ^ 32) × AreLive d.embedded.now d.segments.now };
 }
 
 impl<'a> EmbeddedRows<'a> {

@@ -88,8 +88,8 @@ impl Command {
     }
 }
 
-/// What a command printed: what was written where it came to its end, and else the fault, before which
-/// nothing is to be written.
+/// What a command printed: what was written where it came to its end, and else the fault, before
+/// which nothing is to be written.
 fn told<E: Display + Drop>(
     alloc: Global,
     ended: Result<(), E>,

@@ -1,7 +1,8 @@
 //! Carries out the rows of tables: each row has a command, what it reads and what it is to print.
 //!
-//! The words on standard input name the tables, which lie beside the scripts, reports and pictures that
-//! they speak of. A line is printed for each table, and one for each row that prints something else.
+//! The words on standard input name the tables, which lie beside the scripts, reports and pictures
+//! that they speak of. A line is printed for each table, and one for each row that prints something
+//! else.
 #![tactic(auto)]
 
 use anyhow::Result;

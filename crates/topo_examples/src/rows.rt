@@ -1,9 +1,9 @@
 //! Tables, their rows, and what became of them.
 //!
-//! A row is `COMMAND | READ | OLD | NEW | .. | WANTED`: the command reads a text, with each NEW in place
-//! of the OLD before it, and is to print what is wanted. Where READ or WANTED ends in `.json` or `.lines` it
-//! is the file of that name, and else the text of one line. `cut COMMAND` stands for the command on each proper
-//! prefix of the line that is read.
+//! A row is `COMMAND | READ | OLD | NEW | .. | WANTED`: the command reads a text, with each NEW in
+//! place of the OLD before it, and is to print what is wanted. Where READ or WANTED ends in `.json`
+//! or `.lines` it is the file of that name, and else the text of one line. `cut COMMAND` stands for
+//! the command on each proper prefix of the line that is read.
 
 use crate::commands::Command;
 use crate::texts::{bytes_of, changed};
@@ -58,7 +58,8 @@ fn is_right<R: Print + Files + AllocGlobal + Threads + Wait + Sync>(
     }
 }
 
-/// What a command prints on these bytes, or on the first of their prefixes, that is not what is due.
+/// What a command prints on these bytes, or on the first of their prefixes, that is not what is
+/// due.
 fn other<R: Threads + Wait + Sync>(
     rt: &R,
     alloc: Global,

@@ -23,7 +23,8 @@ pub without_ones-other : (xs : List (Option ℕ)) (p : Option ℕ) → is_one p 
 without_ones-other [] p e = rw e
 without_ones-other (x ∷ xs) p e = rw (all_ones-other xs p e, and_false (is_one x), without_ones-other xs p e)
 
-pub one_more_kept : (xs : List (Option ℕ)) (i kept : ℕ) (d : Option ℕ) → i < length xs → is_one (get_or xs i d) ≡ true → take kept xs ≡ without_ones (take i xs) → take kept xs ≡ without_ones (take (i + 1) xs)
+pub one_more_kept : (xs : List (Option ℕ)) (i kept : ℕ) (d : Option ℕ) → i < length xs → is_one (get_or xs i d) ≡ true → take kept xs ≡ without_ones (take i xs)
+    → take kept xs ≡ without_ones (take (i + 1) xs)
 one_more_kept xs i kept d h one e = e ∙ sym (ap without_ones (take_more xs i d h) ∙ without_ones-one (take i xs) (get_or xs i d) one)
 
 pub all_kept : (xs : List (Option ℕ)) (i : ℕ) (d : Option ℕ) → i < length xs → is_one (get_or xs i d) ≡ false → take (i + 1) xs ≡ without_ones (take (i + 1) xs)

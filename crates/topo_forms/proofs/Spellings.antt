@@ -1,12 +1,14 @@
 -- What tokens spell, a token at a time.
-use Rattle.std.proofs.Common.{◌≡◌, ℕ, ◌+◌, ◌-◌, ◌<◌, ◌≤◌, List, [], ◌∷◌, ◌++◌, length, Option, Some, None, Ok, ◌^◌, ◌==◌, slice_index, false, IfSome, IsUtf8, option_and_then, refl, ap, ◌∙◌, arith, append_assoc, subst, lt-ltb, sym}
+use Rattle.std.proofs.Common.{◌≡◌, ℕ, ◌+◌, ◌-◌, ◌<◌, ◌≤◌, List, [], ◌∷◌, ◌++◌, length, Option, Some, None, Ok, ◌^◌, ◌==◌, slice_index}
+use Rattle.std.proofs.Common.{false, IfSome, IsUtf8, option_and_then, refl, ap, ◌∙◌, arith, append_assoc, subst, lt-ltb, sym}
 use Rattle.std.specs.Option.{SomeIff}
 use Rattle.fast_float.specs.Text.{minus, Parts, scan, digits_of, IsInteger}
 use Rattle.json.specs.Token.{Token}
 use Rattle.json.specs.Lex.{tokens}
 use Rattle.json.specs.Json as json
 use Rattle.json.specs.Json.{parse_map, after_end_array, read_key, items, members, value, value_with}
-use Rattle.json.proofs.Grammar.{left, value_is, value-begin_array, value-begin_object, skip_value-shorter, read_key-shorter, items_end, items_more, members_end, members_more}
+use Rattle.json.proofs.Grammar.{left, value_is, value-begin_array, value-begin_object, skip_value-shorter}
+use Rattle.json.proofs.Grammar.{read_key-shorter, items_end, items_more, members_end, members_more}
 use Rattle.serde_json.specs.Data.{Data, unsigned, number, string, array, object, Items, item, no_items, Members, no_members, put}
 use Rattle.serde_json.specs.Read.{of_json, of_members, number_of, number_from, max_depth, read}
 use Rattle.topo_forms.specs.declared.path.Path.{Path}
@@ -53,7 +55,8 @@ word_tokens form word text a ts rest e is read = record {
 }
 
 -- what nests no deeper than this nests no deeper than more
-pub deeper : {A : Type 0} (inner outer : ℕ) (form : Path → Data → Read A) (ts : List Token) (a : A) (rest : List Token) → inner ≤ outer → Spells inner form ts a rest → Spells outer form ts a rest
+pub deeper : {A : Type 0} (inner outer : ℕ) (form : Path → Data → Read A) (ts : List Token) (a : A) (rest : List Token) → inner ≤ outer
+    → Spells inner form ts a rest → Spells outer form ts a rest
 deeper inner outer form ts a rest within s = record {
   written = s.written;
   spelled = s.spelled;
@@ -64,7 +67,8 @@ deeper inner outer form ts a rest within s = record {
 
 -- ---- Arrays
 
-pub tokens-shorter : {A : Type 0} (nesting : ℕ) (form : Path → Data → Read A) (ts : List Token) (a : A) (rest : List Token) → Spells nesting form ts a rest → length rest < length ts
+pub tokens-shorter : {A : Type 0} (nesting : ℕ) (form : Path → Data → Read A) (ts : List Token) (a : A) (rest : List Token) → Spells nesting form ts a rest
+    → length rest < length ts
 tokens-shorter nesting form ts a rest s = skip_value-shorter nesting ts rest (ap left (s.begins nesting (omega arith)))
 
 module _ {A : Type 0} (nesting : ℕ) (form : Path → Data → Read A) where
@@ -77,22 +81,27 @@ module _ {A : Type 0} (nesting : ℕ) (form : Path → Data → Read A) where
     reads = λ path i. refl;
   }
 
-  pub item_then : (ts mid rest : List Token) (x : A) (xs : List A) → after_end_array ts ≡ None → Spells nesting form ts x mid → SpellsItems nesting form mid xs rest → SpellsItems nesting form ts (x ∷ xs) rest
+  pub item_then : (ts mid rest : List Token) (x : A) (xs : List A) → after_end_array ts ≡ None → Spells nesting form ts x mid
+      → SpellsItems nesting form mid xs rest → SpellsItems nesting form ts (x ∷ xs) rest
   item_then ts mid rest x xs going s more =
       let less = tokens-shorter nesting form ts x mid s in record {
         written = json.item s.written more.written;
         spelled = item s.spelled more.spelled;
-        begins = λ depth n d le. items_more (value depth) n ts mid s.written (omega arith) going (s.begins depth d) ∙ ap (parse_map (json.item s.written)) (more.begins depth (n - 1) d (omega arith));
+        begins = λ depth n d le. items_more (value depth) n ts mid s.written (omega arith) going (s.begins depth d)
+            ∙ ap (parse_map (json.item s.written)) (more.begins depth (n - 1) d (omega arith));
         means = rw (s.means, more.means);
-        reads = λ path i. went (form (element_of path i) s.spelled) (λ (y : A). and_then (items_from form path (i + 1) more.spelled) (λ ys. Ok (y ∷ ys))) x (s.reads (element_of path i)) ∙ went _ (λ (ys : List A). Ok (x ∷ ys)) xs (more.reads path (i + 1));
+        reads = λ path i. went (form (element_of path i) s.spelled) (λ (y : A). and_then (items_from form path (i + 1) more.spelled)
+            (λ ys. Ok (y ∷ ys))) x (s.reads (element_of path i)) ∙ went _ (λ (ys : List A). Ok (x ∷ ys)) xs (more.reads path (i + 1));
       }
 
-  pub array_tokens : (ts mid rest : List Token) (xs : List A) → ts ≡ Token.begin_array ∷ mid → SpellsItems nesting form mid xs rest → Spells (nesting + 1) (list_form form) ts xs rest
+  pub array_tokens : (ts mid rest : List Token) (xs : List A) → ts ≡ Token.begin_array ∷ mid → SpellsItems nesting form mid xs rest
+      → Spells (nesting + 1) (list_form form) ts xs rest
   unfolding list_form and_then
   array_tokens ts mid rest xs e more = record {
     written = json.array more.written;
     spelled = array more.spelled;
-    begins = λ depth le. ap (value depth) e ∙ value-begin_array depth mid (omega arith) ∙ ap (parse_map json.array) (more.begins (depth - 1) (length mid) (omega arith) (omega arith));
+    begins = λ depth le. ap (value depth) e ∙ value-begin_array depth mid (omega arith)
+        ∙ ap (parse_map json.array) (more.begins (depth - 1) (length mid) (omega arith) (omega arith));
     means = rw more.means;
     reads = λ path. more.reads path 0;
   }
@@ -103,15 +112,18 @@ module _ {A : Type 0} (nesting : ℕ) (form : Path → Data → Read A) where
   list_tokens ts mid rest (Some xs) e found = array_tokens ts mid rest xs e found
 
   -- one more item was found at the front of what is left
-  pub item_found : (first now mid : List Token) (found more : List A) (x : A) → after_end_array now ≡ None → Spells nesting form now x mid → more ≡ found ++ x ∷ []
+  pub item_found : (first now mid : List Token) (found more : List A) (x : A) → after_end_array now ≡ None → Spells nesting form now x mid
+      → more ≡ found ++ x ∷ []
       → ((xs : List A) (rest : List Token) → SpellsItems nesting form now xs rest → SpellsItems nesting form first (found ++ xs) rest)
       → ((xs : List A) (rest : List Token) → SpellsItems nesting form mid xs rest → SpellsItems nesting form first (more ++ xs) rest)
   item_found first now mid found more x going s pushed so_far xs rest left_over =
-      subst (λ ys. SpellsItems nesting form first ys rest) (sym (append_assoc found (x ∷ []) xs) ∙ ap (λ ys. ys ++ xs) (sym pushed)) (so_far (x ∷ xs) rest (item_then now mid rest x xs going s left_over))
+      subst (λ ys. SpellsItems nesting form first ys rest) (sym (append_assoc found (x ∷ []) xs) ∙ ap (λ ys. ys ++ xs) (sym pushed))
+      (so_far (x ∷ xs) rest (item_then now mid rest x xs going s left_over))
 
 -- ---- Arrays of a few elements
 
-not_closed : (a : json.Parse json.Items) (o : json.Parse json.Members) (ts : List Token) (p : json.Json × List Token) → value_with a o ts ≡ Some p → after_end_array ts ≡ None
+not_closed : (a : json.Parse json.Items) (o : json.Parse json.Members) (ts : List Token) (p : json.Json × List Token) → value_with a o ts ≡ Some p
+    → after_end_array ts ≡ None
 not_closed a o [] p e = refl
 not_closed a o (Token.begin_object ∷ ts) p e = refl
 not_closed a o (Token.end_object ∷ ts) p e = refl
@@ -131,34 +143,43 @@ few_done nesting ts rest e = record {
   means = refl;
 }
 
-one_more : (nesting : ℕ) (ts mid rest : List Token) (written : json.Json) (d : Data) (ds : Items) → ((depth : ℕ) → nesting ≤ depth → value depth ts ≡ Some (written, mid)) → of_json written ≡ Some d
+one_more : (nesting : ℕ) (ts mid rest : List Token) (written : json.Json) (d : Data) (ds : Items)
+    → ((depth : ℕ) → nesting ≤ depth → value depth ts ≡ Some (written, mid)) → of_json written ≡ Some d
     → GoesOn nesting mid ds rest → GoesOn nesting ts (item d ds) rest
 one_more nesting ts mid rest written d ds begins means more =
     let least = begins nesting (omega arith) in
     let less = skip_value-shorter nesting ts mid (ap left least) in
     let going = not_closed _ _ ts (written, mid) (sym (value_is nesting ts) ∙ least) in record {
       written = json.item written more.written;
-      begins = λ depth n d le. items_more (value depth) n ts mid written (omega arith) going (begins depth d) ∙ ap (parse_map (json.item written)) (more.begins depth (n - 1) d (omega arith));
+      begins = λ depth n d le. items_more (value depth) n ts mid written (omega arith) going (begins depth d)
+          ∙ ap (parse_map (json.item written)) (more.begins depth (n - 1) d (omega arith));
       means = rw (means, more.means);
     }
 
 pub element_then : {A : Type 0} (inner nesting : ℕ) (form : Path → Data → Read A) (ts : List Token) (a : A) (mid rest : List Token) (ds : Items)
     → (s : Spells inner form ts a mid) → inner ≤ nesting → GoesOn nesting mid ds rest → GoesOn nesting ts (item s.spelled ds) rest
-element_then inner nesting form ts a mid rest ds s within more = one_more nesting ts mid rest s.written s.spelled ds (λ depth le. s.begins depth (omega arith)) s.means more
+element_then inner nesting form ts a mid rest ds s within more =
+    one_more nesting ts mid rest s.written s.spelled ds (λ depth le. s.begins depth (omega arith)) s.means more
 
-pub text_then : (nesting : ℕ) (text : List ℕ) (ts mid rest : List Token) (ds : Items) → ts ≡ Token.string text ∷ mid → GoesOn nesting mid ds rest → GoesOn nesting ts (item (string text) ds) rest
-text_then nesting text ts mid rest ds e more = one_more nesting ts mid rest (json.string text) (string text) ds (λ depth le. ap (value depth) e ∙ value_is depth (Token.string text ∷ mid)) refl more
+pub text_then : (nesting : ℕ) (text : List ℕ) (ts mid rest : List Token) (ds : Items) → ts ≡ Token.string text ∷ mid → GoesOn nesting mid ds rest
+    → GoesOn nesting ts (item (string text) ds) rest
+text_then nesting text ts mid rest ds e more =
+    one_more nesting ts mid rest (json.string text) (string text) ds (λ depth le. ap (value depth) e ∙ value_is depth (Token.string text ∷ mid)) refl more
 
-pub number_then : (nesting n : ℕ) (ts mid rest : List Token) (ds : Items) → SpellsNumber ts n mid → GoesOn nesting mid ds rest → GoesOn nesting ts (item (number (unsigned n)) ds) rest
+pub number_then : (nesting n : ℕ) (ts mid rest : List Token) (ds : Items) → SpellsNumber ts n mid → GoesOn nesting mid ds rest
+    → GoesOn nesting ts (item (number (unsigned n)) ds) rest
 number_then nesting n ts mid rest ds s more =
-    one_more nesting ts mid rest (json.number s.0) (number (unsigned n)) ds (λ depth le. ap (value depth) s.1 ∙ value_is depth (Token.number s.0 ∷ mid)) (rw s.2) more
+    one_more nesting ts mid rest (json.number s.0)
+    (number (unsigned n)) ds (λ depth le. ap (value depth) s.1 ∙ value_is depth (Token.number s.0 ∷ mid)) (rw s.2) more
 
-pub few_tokens : {A : Type 0} (nesting : ℕ) (form : Path → Data → Read A) (ts mid rest : List Token) (a : A) (ds : Items) → ts ≡ Token.begin_array ∷ mid → GoesOn nesting mid ds rest
+pub few_tokens : {A : Type 0} (nesting : ℕ) (form : Path → Data → Read A) (ts mid rest : List Token) (a : A) (ds : Items) → ts ≡ Token.begin_array ∷ mid
+    → GoesOn nesting mid ds rest
     → ((path : Path) → form path (array ds) ≡ Ok a) → Spells (nesting + 1) form ts a rest
 few_tokens nesting form ts mid rest a ds e more read = record {
   written = json.array more.written;
   spelled = array ds;
-  begins = λ depth le. ap (value depth) e ∙ value-begin_array depth mid (omega arith) ∙ ap (parse_map json.array) (more.begins (depth - 1) (length mid) (omega arith) (omega arith));
+  begins = λ depth le. ap (value depth) e ∙ value-begin_array depth mid (omega arith)
+      ∙ ap (parse_map json.array) (more.begins (depth - 1) (length mid) (omega arith) (omega arith));
   means = rw more.means;
   reads = read;
 }
@@ -178,30 +199,37 @@ members_done nesting ts rest old e = record {
   means = refl;
 }
 
-pub member_then : {A : Type 0} (inner nesting : ℕ) (form : Path → Data → Read A) (name : List ℕ) (ts : List Token) (a : A) (mid rest : List Token) (old ms : Members)
-    → (m : SpellsMember inner form name ts a mid) → inner ≤ nesting → MembersTo nesting mid (put name m.2.spelled old) ms rest → MembersTo nesting ts old ms rest
+pub member_then : {A : Type 0} (inner nesting : ℕ) (form : Path → Data → Read A) (name : List ℕ) (ts : List Token) (a : A) (mid rest : List Token)
+    (old ms : Members)
+    → (m : SpellsMember inner form name ts a mid) → inner ≤ nesting → MembersTo nesting mid (put name m.2.spelled old) ms rest
+    → MembersTo nesting ts old ms rest
 member_then inner nesting form name ts a mid rest old ms m within more =
     let less = read_key-shorter ts (Some name) m.0 m.1 in
     let lesser = tokens-shorter inner form m.0 a mid m.2 in record {
       written = json.member name m.2.written more.written;
-      begins = λ depth n d le. members_more (value depth) n name ts m.0 mid m.2.written (omega arith) m.1 (m.2.begins depth (omega arith)) ∙ ap (parse_map (json.member name m.2.written)) (more.begins depth (n - 1) d (omega arith));
+      begins = λ depth n d le. members_more (value depth) n name ts m.0 mid m.2.written (omega arith) m.1 (m.2.begins depth (omega arith))
+          ∙ ap (parse_map (json.member name m.2.written)) (more.begins depth (n - 1) d (omega arith));
       means = rw m.2.means more.means;
     }
 
-pub object_tokens : {A : Type 0} (nesting : ℕ) (form : Path → Data → Read A) (ts mid rest : List Token) (a : A) (ms : Members) → ts ≡ Token.begin_object ∷ mid → MembersTo nesting mid no_members ms rest
+pub object_tokens : {A : Type 0} (nesting : ℕ) (form : Path → Data → Read A) (ts mid rest : List Token) (a : A) (ms : Members) → ts ≡ Token.begin_object ∷ mid
+    → MembersTo nesting mid no_members ms rest
     → ((path : Path) → form path (object ms) ≡ Ok a) → Spells (nesting + 1) form ts a rest
 object_tokens nesting form ts mid rest a ms e more read = record {
   written = json.object more.written;
   spelled = object ms;
-  begins = λ depth le. ap (value depth) e ∙ value-begin_object depth mid (omega arith) ∙ ap (parse_map json.object) (more.begins (depth - 1) (length mid) (omega arith) (omega arith));
+  begins = λ depth le. ap (value depth) e ∙ value-begin_object depth mid (omega arith)
+      ∙ ap (parse_map json.object) (more.begins (depth - 1) (length mid) (omega arith) (omega arith));
   means = rw more.means;
   reads = read;
 }
 
 -- ---- Texts
 
-read_as : (bytes : List ℕ) (ts : List Token) (written : json.Json) (d : Data) → ts ≡ tokens bytes → value max_depth ts ≡ Some (written, []) → of_json written ≡ Some d → read bytes ≡ Some d
-read_as bytes ts written d same begins means = ap (λ us. option_and_then of_json (option_and_then (λ p. json.if_last p.0 p.1) (value max_depth us))) (sym same) ∙ rw begins means
+read_as : (bytes : List ℕ) (ts : List Token) (written : json.Json) (d : Data) → ts ≡ tokens bytes → value max_depth ts ≡ Some (written, [])
+    → of_json written ≡ Some d → read bytes ≡ Some d
+read_as bytes ts written d same begins means = ap (λ us. option_and_then of_json (option_and_then (λ p. json.if_last p.0 p.1) (value max_depth us))) (sym same)
+    ∙ rw begins means
 
 pub text_tokens : {A : Type 0} (nesting : ℕ) (form : Path → Data → Read A) (limit : ℕ) (bytes : List ℕ) (ts : List Token) (a : A) (rest : List Token)
     → length bytes ≤ limit → IsUtf8 bytes → ts ≡ tokens bytes → Spells nesting form ts a rest → rest ≡ [] → SpellsText nesting form limit bytes a

@@ -35,7 +35,8 @@ told found (BadShape path) h = sym h
 told found BadVersion h = sym h
 told found (BadNumber path) h = sym h
 
-pub stops_at : {A B : Type 0} (found : Read A) (next : A → Read B) (e : ScriptFault) (r : Read B) → r ≡ Err e → IsFirstFault found e → Gives r (and_then found next)
+pub stops_at : {A B : Type 0} (found : Read A) (next : A → Read B) (e : ScriptFault) (r : Read B) → r ≡ Err e → IsFirstFault found e
+    → Gives r (and_then found next)
 stops_at found next e r is h = subst (λ q. Gives q (and_then found next)) (sym is) (stopped found next e h)
 
 pub gives_same : {A : Type 0} (r found : Read A) → r ≡ found → Gives r found
@@ -58,7 +59,8 @@ went_three (Ok x) (Ok y) (Err e) next = refl
 went_three (Ok x) (Err e) c next = refl
 went_three (Err e) b c next = refl
 
-pub went2 : {A B D : Type 0} (a : Read A) (b : Read B) (next : A → B → Read D) (x : A) (y : B) → both a b ≡ Ok (x, y) → (a >>= λ x. b >>= λ y. next x y) ≡ next x y
+pub went2 : {A B D : Type 0} (a : Read A) (b : Read B) (next : A → B → Read D) (x : A) (y : B) → both a b ≡ Ok (x, y)
+    → (a >>= λ x. b >>= λ y. next x y) ≡ next x y
 went2 a b next x y e = sym (went_both a b next) ∙ went (both a b) (λ p. next p.0 p.1) (x, y) e
 
 pub went3 : {A B C D : Type 0} (a : Read A) (b : Read B) (c : Read C) (next : A → B → C → Read D) (x : A) (y : B) (z : C) → all_three a b c ≡ Ok (x, y, z)
@@ -69,7 +71,8 @@ pub gives_past2 : {A B D : Type 0} (a : Read A) (b : Read B) (next : A → B →
     → Gives r (a >>= λ x. b >>= λ y. next x y)
 gives_past2 a b next x y r e h = subst (Gives r) (sym (went2 a b next x y e)) h
 
-pub gives_past3 : {A B C D : Type 0} (a : Read A) (b : Read B) (c : Read C) (next : A → B → C → Read D) (x : A) (y : B) (z : C) (r : Read D) → all_three a b c ≡ Ok (x, y, z)
+pub gives_past3 : {A B C D : Type 0} (a : Read A) (b : Read B) (c : Read C) (next : A → B → C → Read D) (x : A) (y : B) (z : C) (r : Read D)
+    → all_three a b c ≡ Ok (x, y, z)
     → Gives r (next x y z) → Gives r (a >>= λ x. b >>= λ y. c >>= λ z. next x y z)
 gives_past3 a b c next x y z r e h = subst (Gives r) (sym (went3 a b c next x y z e)) h
 
@@ -77,6 +80,7 @@ pub stops_at2 : {A B D : Type 0} (a : Read A) (b : Read B) (next : A → B → R
     → Gives r (a >>= λ x. b >>= λ y. next x y)
 stops_at2 a b next e r is h = subst (Gives r) (went_both a b next) (stops_at (both a b) (λ p. next p.0 p.1) e r is h)
 
-pub stops_at3 : {A B C D : Type 0} (a : Read A) (b : Read B) (c : Read C) (next : A → B → C → Read D) (e : ScriptFault) (r : Read D) → r ≡ Err e → IsFirstFault (all_three a b c) e
+pub stops_at3 : {A B C D : Type 0} (a : Read A) (b : Read B) (c : Read C) (next : A → B → C → Read D) (e : ScriptFault) (r : Read D) → r ≡ Err e
+    → IsFirstFault (all_three a b c) e
     → Gives r (a >>= λ x. b >>= λ y. c >>= λ z. next x y z)
 stops_at3 a b c next e r is h = subst (Gives r) (went_three a b c next) (stops_at (all_three a b c) (λ p. next p.0 p.1 p.2) e r is h)

@@ -14,7 +14,8 @@ use Rattle.topo_forms.proofs.Lookups.{element_read}
 use Rattle.topo_forms.proofs.Spellings.{few_done, element_then, text_then, few_tokens}
 use Rattle.topo_forms.proofs.Steps.{went}
 
-pub grow_tokens : (u position kind : ℕ) (ts r1 r2 r3 rest : List Token) → Spells 0 number_form ts u r1 → Spells 0 number_form r1 position r2 → Spells 0 number_form r2 kind r3
+pub grow_tokens : (u position kind : ℕ) (ts r1 r2 r3 rest : List Token) → Spells 0 number_form ts u r1 → Spells 0 number_form r1 position r2
+    → Spells 0 number_form r2 kind r3
     → after_end_array r3 ≡ Some rest → SpellsCall (codes "grow") ts (Grow u position kind) rest
 unfolding call_form grow_form
 grow_tokens u position kind ts r1 r2 r3 rest first second third close =
@@ -31,7 +32,8 @@ grow_tokens u position kind ts r1 r2 r3 rest first second third close =
       refl,
     )
 
-pub insert_tokens : (u v kind : ℕ) (ts r1 r2 r3 rest : List Token) → Spells 0 number_form ts u r1 → Spells 0 number_form r1 v r2 → Spells 0 number_form r2 kind r3
+pub insert_tokens : (u v kind : ℕ) (ts r1 r2 r3 rest : List Token) → Spells 0 number_form ts u r1 → Spells 0 number_form r1 v r2
+    → Spells 0 number_form r2 kind r3
     → after_end_array r3 ≡ Some rest → SpellsCall (codes "insert") ts (Insert u v kind) rest
 unfolding call_form insert_form
 insert_tokens u v kind ts r1 r2 r3 rest first second third close =
@@ -48,7 +50,8 @@ insert_tokens u v kind ts r1 r2 r3 rest first second third close =
       refl,
     )
 
-pub delete_tokens : (edge : ℕ) (ts r1 rest : List Token) → Spells 0 number_form ts edge r1 → after_end_array r1 ≡ Some rest → SpellsCall (codes "delete") ts (Delete edge) rest
+pub delete_tokens : (edge : ℕ) (ts r1 rest : List Token) → Spells 0 number_form ts edge r1 → after_end_array r1 ≡ Some rest
+    → SpellsCall (codes "delete") ts (Delete edge) rest
 unfolding call_form delete_form
 delete_tokens edge ts r1 rest first close =
     let ds = item (string (codes "delete")) (item first.spelled no_items) in (
@@ -58,16 +61,19 @@ delete_tokens edge ts r1 rest first close =
       refl,
     )
 
-pub call_tokens : (word : List ℕ) (o : Option Call) (ts r0 r1 rest : List Token) → ts ≡ begin_array ∷ r0 → r0 ≡ text_token word ∷ r1 → IfSome o (λ call. SpellsCall word r1 call rest)
+pub call_tokens : (word : List ℕ) (o : Option Call) (ts r0 r1 rest : List Token) → ts ≡ begin_array ∷ r0 → r0 ≡ text_token word ∷ r1
+    → IfSome o (λ call. SpellsCall word r1 call rest)
     → IfSome o (λ call. Spells 1 call_form ts call rest)
 call_tokens word None ts r0 r1 rest e second s = tt
 call_tokens word (Some call) ts r0 r1 rest e second s = few_tokens 0 call_form ts r0 rest call s.0 e (subst (λ us. GoesOn 0 us s.0 rest) (sym second) s.1) s.2
 
-pub plain_tokens : (word : List ℕ) (call : Call) (ts rest : List Token) → SpellsCall word ts call rest → Spells 1 command_form (begin_array ∷ text_token word ∷ ts) (Plain call) rest
+pub plain_tokens : (word : List ℕ) (call : Call) (ts rest : List Token) → SpellsCall word ts call rest
+    → Spells 1 command_form (begin_array ∷ text_token word ∷ ts) (Plain call) rest
 unfolding command_form plain_form
 plain_tokens word call ts rest s = few_tokens 0 command_form _ (text_token word ∷ ts) rest (Plain call) s.0 refl s.1 (λ path. rw s.3 (went _ _ call (s.2 path)))
 
-pub planned_tokens : (u v kind : ℕ) (ts r1 r2 r3 rest : List Token) → Spells 0 number_form ts u r1 → Spells 0 number_form r1 v r2 → Spells 0 number_form r2 kind r3
+pub planned_tokens : (u v kind : ℕ) (ts r1 r2 r3 rest : List Token) → Spells 0 number_form ts u r1 → Spells 0 number_form r1 v r2
+    → Spells 0 number_form r2 kind r3
     → after_end_array r3 ≡ Some rest → Spells 1 command_form (begin_array ∷ text_token (codes "planned") ∷ ts) (Planned u v kind) rest
 unfolding command_form planned_form
 planned_tokens u v kind ts r1 r2 r3 rest first second third close =

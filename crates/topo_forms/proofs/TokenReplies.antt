@@ -9,19 +9,22 @@ use Rattle.topo_core.specs.declared.calls.Refusal.{Refusal}
 use Rattle.topo_core.specs.declared.calls.Refusal.TheVariants.{Cut}
 use Rattle.topo_core.specs.declared.calls.Reply.TheVariants.{Grown, Inserted, Deleted, Refused}
 use Rattle.topo_core.specs.declared.routes.Inserted.{Inserted as InsertedEdge}
-use Rattle.topo_forms.specs.declared.path.Key.TheVariants.{Call, Caller, Crossed, Deleted as DeletedKey, Edge, End, Price, Refused as RefusedKey, Reply as ReplyKey, Start, Vertex}
+use Rattle.topo_forms.specs.declared.path.Key.TheVariants.{Call, Caller, Crossed, Deleted as DeletedKey, Edge, End, Price}
+use Rattle.topo_forms.specs.declared.path.Key.TheVariants.{Refused as RefusedKey, Reply as ReplyKey, Start, Vertex}
 use Rattle.topo_forms.specs.declared.path.Path.{Path}
 use Rattle.topo_forms.specs.CallForms.{call_form}
 use Rattle.topo_forms.specs.Paths.{key_name}
 use Rattle.topo_forms.specs.Reads.{number_form, long_form, list_form, has_keys, and_then}
-use Rattle.topo_forms.specs.ReplyForms.{way_form, dart_form, refusal_form, cut_form, reply_form, deleted_form, refused_form, grown_form, inserted_form, entry_form}
+use Rattle.topo_forms.specs.ReplyForms.{way_form, dart_form, refusal_form, cut_form, reply_form}
+use Rattle.topo_forms.specs.ReplyForms.{deleted_form, refused_form, grown_form, inserted_form, entry_form}
 use Rattle.topo_forms.specs.Tokens.{Spells, SpellsMember, SpellsNumber}
 use Rattle.topo_forms.specs.TokenParts.{SpellsRefusal}
 use Rattle.topo_forms.proofs.Lookups.{element_read, member_read}
 use Rattle.topo_forms.proofs.Spellings.{few_done, element_then, text_then, number_then, few_tokens, members_done, member_then, object_tokens}
 use Rattle.topo_forms.proofs.Steps.{went}
 
-pub dart_tokens : (x : Dart) (ts r0 r1 r2 r3 rest : List Token) → ts ≡ begin_array ∷ r0 → Spells 0 number_form r0 x.edge r1 → Spells 0 number_form r1 x.seg r2 → Spells 0 way_form r2 x.way r3
+pub dart_tokens : (x : Dart) (ts r0 r1 r2 r3 rest : List Token) → ts ≡ begin_array ∷ r0 → Spells 0 number_form r0 x.edge r1 → Spells 0 number_form r1 x.seg r2
+    → Spells 0 way_form r2 x.way r3
     → after_end_array r3 ≡ Some rest → Spells 1 dart_form ts x rest
 unfolding dart_form
 dart_tokens x ts r0 r1 r2 r3 rest e edge seg way close =
@@ -38,23 +41,29 @@ dart_tokens x ts r0 r1 r2 r3 rest e edge seg way close =
 
 -- ---- Refusals
 
-pub plain_tokens : (n : ℕ) (name text : List ℕ) (why : Refusal) (ts rest : List Token) → ((path : Path) → refusal_form path (array (item (number (unsigned n)) (item (string text) no_items))) ≡ Ok why)
+pub plain_tokens : (n : ℕ) (name text : List ℕ) (why : Refusal) (ts rest : List Token)
+    → ((path : Path) → refusal_form path (array (item (number (unsigned n)) (item (string text) no_items))) ≡ Ok why)
     → name ≡ text → after_end_array ts ≡ Some rest → SpellsRefusal n name ts why rest
-plain_tokens n name text why ts rest read same close = (no_items, few_done 0 ts rest close, λ path. ap (λ s. refusal_form path (array (item (number (unsigned n)) (item (string s) no_items)))) same ∙ read path)
+plain_tokens n name text why ts rest read same close =
+    (no_items, few_done 0 ts rest close, λ path. ap (λ s. refusal_form path (array (item (number (unsigned n)) (item (string s) no_items)))) same ∙ read path)
 
-pub cut_tokens : (segment : ℕ) (ts mid rest : List Token) → Spells 0 number_form ts segment mid → after_end_array mid ≡ Some rest → SpellsRefusal 6 (codes "Cut") ts (Cut segment) rest
+pub cut_tokens : (segment : ℕ) (ts mid rest : List Token) → Spells 0 number_form ts segment mid → after_end_array mid ≡ Some rest
+    → SpellsRefusal 6 (codes "Cut") ts (Cut segment) rest
 unfolding refusal_form cut_form
 cut_tokens segment ts mid rest s close = (
   item s.spelled no_items,
   element_then 0 0 number_form ts segment mid rest no_items s (omega arith) (few_done 0 mid rest close),
-  λ path. went _ _ segment (element_read number_form path 2 (array (item (number (unsigned 6)) (item (string (codes "Cut")) (item s.spelled no_items)))) s.spelled segment refl s.reads),
+  λ path. went _ _ segment (element_read number_form path 2 (array (item (number (unsigned 6)) (item (string (codes "Cut")) (item s.spelled no_items))))
+      s.spelled segment refl s.reads),
 )
 
-pub refusal_tokens : (n : ℕ) (name : List ℕ) (o : Option Refusal) (ts r0 r1 r2 rest : List Token) → ts ≡ begin_array ∷ r0 → SpellsNumber r0 n r1 → r1 ≡ text_token name ∷ r2
+pub refusal_tokens : (n : ℕ) (name : List ℕ) (o : Option Refusal) (ts r0 r1 r2 rest : List Token) → ts ≡ begin_array ∷ r0 → SpellsNumber r0 n r1
+    → r1 ≡ text_token name ∷ r2
     → IfSome o (λ why. SpellsRefusal n name r2 why rest) → IfSome o (λ why. Spells 1 refusal_form ts why rest)
 refusal_tokens n name None ts r0 r1 r2 rest e first second s = tt
 refusal_tokens n name (Some why) ts r0 r1 r2 rest e first second s =
-    few_tokens 0 refusal_form ts r0 rest why (item (number (unsigned n)) (item (string name) s.0)) e (number_then 0 n r0 r1 rest _ first (text_then 0 name r1 r2 rest s.0 second s.1)) s.2
+    few_tokens 0 refusal_form ts r0 rest why (item (number (unsigned n)) (item (string name) s.0)) e
+    (number_then 0 n r0 r1 rest _ first (text_then 0 name r1 r2 rest s.0 second s.1)) s.2
 
 -- ---- Replies
 
@@ -62,7 +71,8 @@ deleted_keys : (path : Path) (edge : Data) → has_keys path (DeletedKey ∷ [])
 unfolding has_keys and_then
 deleted_keys path edge = refl
 
-pub deleted_tokens : (edge : ℕ) (ts r1 rest : List Token) → Spells 0 number_form ts edge r1 → read_key r1 ≡ Some (None, rest) → Spells 3 reply_form (begin_object ∷ key (codes "deleted") ∷ ts) (Deleted edge) rest
+pub deleted_tokens : (edge : ℕ) (ts r1 rest : List Token) → Spells 0 number_form ts edge r1 → read_key r1 ≡ Some (None, rest)
+    → Spells 3 reply_form (begin_object ∷ key (codes "deleted") ∷ ts) (Deleted edge) rest
 unfolding reply_form deleted_form
 deleted_tokens edge ts r1 rest s close =
     let ms = member (codes "deleted") s.spelled no_members in
@@ -74,7 +84,8 @@ refused_keys : (path : Path) (why : Data) → has_keys path (RefusedKey ∷ []) 
 unfolding has_keys and_then
 refused_keys path why = refl
 
-pub refused_tokens : (why : Refusal) (ts r1 rest : List Token) → Spells 1 refusal_form ts why r1 → read_key r1 ≡ Some (None, rest) → Spells 3 reply_form (begin_object ∷ key (codes "refused") ∷ ts) (Refused why) rest
+pub refused_tokens : (why : Refusal) (ts r1 rest : List Token) → Spells 1 refusal_form ts why r1 → read_key r1 ≡ Some (None, rest)
+    → Spells 3 reply_form (begin_object ∷ key (codes "refused") ∷ ts) (Refused why) rest
 unfolding reply_form refused_form
 refused_tokens why ts r1 rest s close =
     let ms = member (codes "refused") s.spelled no_members in
@@ -82,11 +93,13 @@ refused_tokens why ts r1 rest s close =
     (member_then 1 2 refusal_form (codes "refused") _ why r1 rest no_members ms (ts, refl, s) (omega arith) (members_done 2 r1 rest ms close))
     (λ path. went _ _ tt (refused_keys path s.spelled) ∙ went _ _ why (member_read refusal_form path RefusedKey (object ms) _ why refl s.reads))
 
-grown_keys : (path : Path) (edge vertex : Data) → has_keys path (Edge ∷ Vertex ∷ []) [] (object (member (codes "edge") edge (member (codes "vertex") vertex no_members))) ≡ Ok tt
+grown_keys : (path : Path) (edge vertex : Data)
+    → has_keys path (Edge ∷ Vertex ∷ []) [] (object (member (codes "edge") edge (member (codes "vertex") vertex no_members))) ≡ Ok tt
 unfolding has_keys and_then
 grown_keys path edge vertex = refl
 
-pub grown_tokens : (vertex edge : ℕ) (ts r1 r2 rest : List Token) → Spells 0 number_form ts edge r1 → SpellsMember 0 number_form (key_name Vertex) r1 vertex r2 → read_key r2 ≡ Some (None, rest)
+pub grown_tokens : (vertex edge : ℕ) (ts r1 r2 rest : List Token) → Spells 0 number_form ts edge r1 → SpellsMember 0 number_form (key_name Vertex) r1 vertex r2
+    → read_key r2 ≡ Some (None, rest)
     → Spells 3 reply_form (begin_object ∷ key (codes "edge") ∷ ts) (Grown vertex edge) rest
 unfolding reply_form grown_form
 grown_tokens vertex edge ts r1 r2 rest s v close =
@@ -100,14 +113,18 @@ grown_tokens vertex edge ts r1 r2 rest s v close =
     ∙ went _ _ vertex (member_read number_form path Vertex (object ms) _ vertex refl v.2.reads))
 
 abbrev inserted_members : Data → Data → Data → Data → Data → Members
-inserted_members crossed edge end price start = member (codes "crossed") crossed (member (codes "edge") edge (member (codes "end") end (member (codes "price") price (member (codes "start") start no_members))))
+inserted_members crossed edge end price start = member (codes "crossed") crossed
+    (member (codes "edge") edge (member (codes "end") end (member (codes "price") price (member (codes "start") start no_members))))
 
-inserted_keys : (path : Path) (crossed edge end price start : Data) → has_keys path (Crossed ∷ Edge ∷ End ∷ Price ∷ Start ∷ []) [] (object (inserted_members crossed edge end price start)) ≡ Ok tt
+inserted_keys : (path : Path) (crossed edge end price start : Data)
+    → has_keys path (Crossed ∷ Edge ∷ End ∷ Price ∷ Start ∷ []) [] (object (inserted_members crossed edge end price start)) ≡ Ok tt
 unfolding has_keys and_then
 inserted_keys path crossed edge end price start = refl
 
-pub inserted_tokens : (x : InsertedEdge) (ts r1 r2 r3 r4 r5 rest : List Token) → Spells 2 (list_form dart_form) ts x.route.crossed r1 → SpellsMember 0 number_form (key_name Edge) r1 x.id r2
-    → SpellsMember 0 number_form (key_name End) r2 x.route.end r3 → SpellsMember 0 long_form (key_name Price) r3 x.price r4 → SpellsMember 0 number_form (key_name Start) r4 x.route.start r5
+pub inserted_tokens : (x : InsertedEdge) (ts r1 r2 r3 r4 r5 rest : List Token) → Spells 2 (list_form dart_form) ts x.route.crossed r1
+    → SpellsMember 0 number_form (key_name Edge) r1 x.id r2
+    → SpellsMember 0 number_form (key_name End) r2 x.route.end r3 → SpellsMember 0 long_form (key_name Price) r3 x.price r4
+    → SpellsMember 0 number_form (key_name Start) r4 x.route.start r5
     → read_key r5 ≡ Some (None, rest) → Spells 3 reply_form (begin_object ∷ key (codes "crossed") ∷ ts) (Inserted x) rest
 unfolding reply_form inserted_form
 inserted_tokens x ts r1 r2 r3 r4 r5 rest crossed edge end price start close =
@@ -135,7 +152,8 @@ entry_keys : (path : Path) (call caller reply : Data) → has_keys path (Call �
 unfolding has_keys and_then
 entry_keys path call caller reply = refl
 
-pub entry_tokens : (x : Entry) (ts r0 r1 r2 r3 rest : List Token) → ts ≡ begin_object ∷ r0 → SpellsMember 1 call_form (key_name Call) r0 x.call r1 → SpellsMember 0 number_form (key_name Caller) r1 x.caller r2
+pub entry_tokens : (x : Entry) (ts r0 r1 r2 r3 rest : List Token) → ts ≡ begin_object ∷ r0 → SpellsMember 1 call_form (key_name Call) r0 x.call r1
+    → SpellsMember 0 number_form (key_name Caller) r1 x.caller r2
     → SpellsMember 3 reply_form (key_name ReplyKey) r2 x.reply r3 → read_key r3 ≡ Some (None, rest) → Spells 4 entry_form ts x rest
 unfolding entry_form
 entry_tokens x ts r0 r1 r2 r3 rest e call caller reply close =

@@ -1,5 +1,6 @@
 -- Tokens that spell limits, prices and reports.
-use Rattle.std.proofs.Common.{◌≡◌, ℕ, suc, ◌+◌, ◌<◌, ◌≤◌, ◌^◌, ◌||◌, Bool, true, false, List, [], ◌∷◌, length, codes, Option, Some, None, IfSome, Ok, Err, refl, sym, ap, subst, ◌∙◌, arith, le-leb}
+use Rattle.std.proofs.Common.{◌≡◌, ℕ, suc, ◌+◌, ◌<◌, ◌≤◌, ◌^◌, ◌||◌, Bool, true, false, List, [], ◌∷◌, length}
+use Rattle.std.proofs.Common.{codes, Option, Some, None, IfSome, Ok, Err, refl, sym, ap, subst, ◌∙◌, arith, le-leb}
 use Rattle.std.specs.Option.{is_none, option_and, option_zip}
 use Rattle.std.specs.List.{list_any}
 use Rattle.json.specs.Token.{Token, begin_object}
@@ -31,12 +32,15 @@ use Rattle.topo_forms.proofs.Steps.{went}
 abbrev limits_members : Data → Data → Data → Members
 limits_members crossings edges vertices = member (codes "crossings") crossings (member (codes "edges") edges (member (codes "vertices") vertices no_members))
 
-limits_keys : (path : Path) (crossings edges vertices : Data) → has_keys path (Crossings ∷ Edges ∷ Vertices ∷ []) [] (object (limits_members crossings edges vertices)) ≡ Ok tt
+limits_keys : (path : Path) (crossings edges vertices : Data)
+    → has_keys path (Crossings ∷ Edges ∷ Vertices ∷ []) [] (object (limits_members crossings edges vertices)) ≡ Ok tt
 unfolding has_keys and_then
 limits_keys path crossings edges vertices = refl
 
-pub limits_tokens : (x : LimitRows) (ts r0 r1 r2 r3 rest : List Token) → ts ≡ begin_object ∷ r0 → SpellsMember 0 number_form (key_name Crossings) r0 x.crossings r1
-    → SpellsMember 0 number_form (key_name Edges) r1 x.edges r2 → SpellsMember 0 number_form (key_name Vertices) r2 x.vertices r3 → read_key r3 ≡ Some (None, rest) → Spells 1 limits_form ts x rest
+pub limits_tokens : (x : LimitRows) (ts r0 r1 r2 r3 rest : List Token) → ts ≡ begin_object ∷ r0
+    → SpellsMember 0 number_form (key_name Crossings) r0 x.crossings r1
+    → SpellsMember 0 number_form (key_name Edges) r1 x.edges r2 → SpellsMember 0 number_form (key_name Vertices) r2 x.vertices r3
+    → read_key r3 ≡ Some (None, rest) → Spells 1 limits_form ts x rest
 unfolding limits_form
 limits_tokens x ts r0 r1 r2 r3 rest e crossings edges vertices close =
     let ms = limits_members crossings.2.spelled edges.2.spelled vertices.2.spelled in
@@ -89,7 +93,8 @@ first_read {A = A} form path i d ds xs e =
     let more = gone (items_from form path (i + 1) ds) (λ (ys : List A). Ok (one.0 ∷ ys)) xs one.2 in
     (one.0, more.0, one.1, more.1, ap found more.2)
 
-pub counted : {A : Type 0} (form : Path → Data → Read A) (path : Path) (i : ℕ) (ds : Items) (xs : List A) → items_from form path i ds ≡ Ok xs → items_len ds ≡ length xs
+pub counted : {A : Type 0} (form : Path → Data → Read A) (path : Path) (i : ℕ) (ds : Items) (xs : List A) → items_from form path i ds ≡ Ok xs
+    → items_len ds ≡ length xs
 counted form path i no_items xs e = ap (λ r. length (found r)) e
 counted form path i (item d ds) xs e = let s = first_read form path i d ds xs e in ap suc (counted form path (i + 1) ds s.1 s.3) ∙ ap length s.4
 
@@ -107,20 +112,24 @@ neither : (a b : Bool) → (a || b) ≡ false → (a ≡ false) × (b ≡ false)
 neither true b e = absurd cc
 neither false b e = (refl, e)
 
-no_nulls : (path : Path) (i : ℕ) (ds : Items) (ps : List (Option ℕ)) → items_from (price_form true) path i ds ≡ Ok ps → list_any is_none ps ≡ false → items_from (price_form false) path i ds ≡ Ok ps
+no_nulls : (path : Path) (i : ℕ) (ds : Items) (ps : List (Option ℕ)) → items_from (price_form true) path i ds ≡ Ok ps → list_any is_none ps ≡ false
+    → items_from (price_form false) path i ds ≡ Ok ps
 no_nulls path i no_items ps e none = e
 no_nulls path i (item d ds) ps e none =
     let s = first_read (price_form true) path i d ds ps e in
     let both = neither (is_none s.0) (list_any is_none s.1) (ap (list_any is_none) s.4 ∙ none) in
-    went (price_form false (element_of path i) d) (λ (p : Option ℕ). and_then (items_from (price_form false) path (i + 1) ds) (λ qs. Ok (p ∷ qs))) s.0 (no_null (element_of path i) d s.0 s.2 both.0)
+    went (price_form false (element_of path i) d) (λ (p : Option ℕ). and_then (items_from (price_form false) path (i + 1) ds) (λ qs. Ok (p ∷ qs))) s.0
+    (no_null (element_of path i) d s.0 s.2 both.0)
     ∙ went _ (λ (qs : List (Option ℕ)). Ok (s.0 ∷ qs)) s.1 (no_nulls path (i + 1) ds s.1 s.3 both.1) ∙ ap (λ qs. Ok qs) s.4
 
-either_way : (nulls : Bool) (path : Path) (ds : Items) (ps : List (Option ℕ)) → items_from (price_form true) path 0 ds ≡ Ok ps → (nulls ≡ false → list_any is_none ps ≡ false)
+either_way : (nulls : Bool) (path : Path) (ds : Items) (ps : List (Option ℕ)) → items_from (price_form true) path 0 ds ≡ Ok ps
+    → (nulls ≡ false → list_any is_none ps ≡ false)
     → items_from (price_form nulls) path 0 ds ≡ Ok ps
 either_way true path ds ps e none = e
 either_way false path ds ps e none = no_nulls path 0 ds ps e (none refl)
 
-pub prices_read : (nulls : Bool) (path : Path) (d : Data) (ps kept : List (Option ℕ)) → list_form (price_form true) path d ≡ Ok ps → length ps ≤ 64 → (nulls ≡ false → list_any is_none ps ≡ false)
+pub prices_read : (nulls : Bool) (path : Path) (d : Data) (ps kept : List (Option ℕ)) → list_form (price_form true) path d ≡ Ok ps → length ps ≤ 64
+    → (nulls ≡ false → list_any is_none ps ≡ false)
     → kept ≡ without_ones ps → prices_form nulls path d ≡ Ok kept
 unfolding list_form prices_form and_then
 prices_read nulls path null ps kept e short none is = absurd cc
@@ -140,30 +149,40 @@ report_members history limits picture prices start version =
     (member (codes "prices") prices (member (codes "start") start (member (codes "version") version no_members)))))
 
 report_keys : (history limits picture prices start version : Data)
-    → has_keys whole (History ∷ Limits ∷ Picture ∷ Prices ∷ Start ∷ Version ∷ []) [] (object (report_members history limits picture prices start version)) ≡ Ok tt
+    → has_keys whole (History ∷ Limits ∷ Picture ∷ Prices ∷ Start ∷ Version ∷ []) []
+    (object (report_members history limits picture prices start version)) ≡ Ok tt
 unfolding has_keys and_then
 report_keys history limits picture prices start version = refl
 
-version_read : (n : ℕ) (nulls : Bool) (history limits picture prices start version : Data) → ((path : Path) → number_form path version ≡ Ok n) → nulls_of n ≡ Ok nulls
+version_read : (n : ℕ) (nulls : Bool) (history limits picture prices start version : Data) → ((path : Path) → number_form path version ≡ Ok n)
+    → nulls_of n ≡ Ok nulls
     → nulls_in (object (report_members history limits picture prices start version)) ≡ Ok nulls
 unfolding nulls_in
 version_read n nulls history limits picture prices start version read of =
-    went _ _ tt refl ∙ went _ _ n (member_read number_form whole Version (object (report_members history limits picture prices start version)) version n refl read) ∙ of
+    went _ _ tt refl ∙ went _ _ n
+    (member_read number_form whole Version (object (report_members history limits picture prices start version)) version n refl read) ∙ of
 
 -- the prices, the start and the version of a report, closed and kept
-pub ending_tokens : {U : Type 0} (ps : List (Option ℕ)) (start : Rows) (n : ℕ) (ts end rest : List Token) (closed : Option U) (kept : Option (List (Option ℕ))) (both_there : Option (List (Option ℕ)))
-    (r : Option (List (Option ℕ) × Rows)) → SpellsThree 1 4 0 (list_form (price_form true)) rows_form number_form (key_name Prices) (key_name Start) (key_name Version) ts ps start n end
-    → IfSome closed (λ _. read_key end ≡ Some (None, rest)) → IfSome kept (ArePricesOf n ps) → both_there ≡ option_and closed kept → r ≡ option_zip both_there (Some start)
+pub ending_tokens : {U : Type 0} (ps : List (Option ℕ)) (start : Rows) (n : ℕ) (ts end rest : List Token) (closed : Option U) (kept : Option (List (Option ℕ)))
+    (both_there : Option (List (Option ℕ)))
+    (r : Option (List (Option ℕ) × Rows)) → SpellsThree 1 4 0 (list_form (price_form true)) rows_form number_form (key_name Prices) (key_name Start)
+    (key_name Version) ts ps start n end
+    → IfSome closed (λ _. read_key end ≡ Some (None, rest)) → IfSome kept (ArePricesOf n ps) → both_there ≡ option_and closed kept
+    → r ≡ option_zip both_there (Some start)
     → IfSome r (λ found. SpellsEnding ts found.0 found.1 rest)
-ending_tokens ps start n ts end rest None kept both_there r members close are there is = let none : r ≡ None = is ∙ ap (λ o. option_zip o (Some start)) there in rw none tt
-ending_tokens ps start n ts end rest (Some u) None both_there r members close are there is = let none : r ≡ None = is ∙ ap (λ o. option_zip o (Some start)) there in rw none tt
+ending_tokens ps start n ts end rest None kept both_there r members close are there is = let none : r ≡ None = is
+    ∙ ap (λ o. option_zip o (Some start)) there in rw none tt
+ending_tokens ps start n ts end rest (Some u) None both_there r members close are there is = let none : r ≡ None = is
+    ∙ ap (λ o. option_zip o (Some start)) there in rw none tt
 ending_tokens ps start n ts end rest (Some u) (Some kept) both_there r members close are there is =
     let found : r ≡ Some (kept, start) = is ∙ ap (λ o. option_zip o (Some start)) there in
     rw found (record { prices = ps; version = n; end = end; members = members; closed = close; are_kept = are })
 
 pub report_tokens : (x : Report) (ps : List (Option ℕ)) (n : ℕ) (ts r0 r1 r2 r3 r4 r5 r6 rest : List Token) → ts ≡ begin_object ∷ r0
-    → SpellsMember 5 (list_form entry_form) (key_name History) r0 x.history r1 → SpellsMember 1 limits_form (key_name Limits) r1 x.limits r2 → SpellsMember 4 rows_form (key_name Picture) r2 x.picture r3
-    → SpellsMember 1 (list_form (price_form true)) (key_name Prices) r3 ps r4 → SpellsMember 4 rows_form (key_name Start) r4 x.start r5 → SpellsMember 0 number_form (key_name Version) r5 n r6
+    → SpellsMember 5 (list_form entry_form) (key_name History) r0 x.history r1 → SpellsMember 1 limits_form (key_name Limits) r1 x.limits r2
+    → SpellsMember 4 rows_form (key_name Picture) r2 x.picture r3
+    → SpellsMember 1 (list_form (price_form true)) (key_name Prices) r3 ps r4 → SpellsMember 4 rows_form (key_name Start) r4 x.start r5
+    → SpellsMember 0 number_form (key_name Version) r5 n r6
     → read_key r6 ≡ Some (None, rest) → ArePricesOf n ps x.prices → Spells 6 (λ path. report_form) ts x rest
 unfolding report_form
 report_tokens x ps n ts r0 r1 r2 r3 r4 r5 r6 rest e history limits picture prices start version close kept =
@@ -182,7 +201,8 @@ report_tokens x ps n ts r0 r1 r2 r3 r4 r5 r6 rest e history limits picture price
     ∙ went _ _ x.history (member_read (list_form entry_form) whole History (object ms) _ x.history refl history.2.reads)
     ∙ went _ _ x.limits (member_read limits_form whole Limits (object ms) _ x.limits refl limits.2.reads)
     ∙ went _ _ x.picture (member_read rows_form whole Picture (object ms) _ x.picture refl picture.2.reads)
-    ∙ went _ _ x.prices (member_read form whole Prices (object ms) _ x.prices refl (λ p. prices_read kept.0 p prices.2.spelled ps x.prices (prices.2.reads p) kept.2 kept.3 kept.4))
+    ∙ went _ _ x.prices (member_read form whole Prices (object ms) _ x.prices refl
+    (λ p. prices_read kept.0 p prices.2.spelled ps x.prices (prices.2.reads p) kept.2 kept.3 kept.4))
     ∙ went _ _ x.start (member_read rows_form whole Start (object ms) _ x.start refl start.2.reads))
 
 -- a head, and the ending that is zipped to it
@@ -194,13 +214,16 @@ pub zip_starts : {A B : Type 0} (o : Option A) (b : B) (p : A × B) (P : A → T
 zip_starts None b p P e h = absurd cc
 zip_starts (Some a) b p P e h = let same : (a, b) ≡ p = cc in (subst (λ q. P q.0) same h, ap (λ q. q.1) same)
 
-pub report_zipped : (head : List Entry × LimitRows × Rows) (ending : Option (List (Option ℕ) × Rows)) (p : (List Entry × LimitRows × Rows) × (List (Option ℕ) × Rows)) (ts r0 r1 rest : List Token) → ts ≡ begin_object ∷ r0
+pub report_zipped : (head : List Entry × LimitRows × Rows) (ending : Option (List (Option ℕ) × Rows))
+    (p : (List Entry × LimitRows × Rows) × (List (Option ℕ) × Rows)) (ts r0 r1 rest : List Token) → ts ≡ begin_object ∷ r0
     → SpellsThree 5 1 4 (list_form entry_form) limits_form rows_form (key_name History) (key_name Limits) (key_name Picture) r0 head.0 head.1 head.2 r1
     → IfSome ending (λ found. SpellsEnding r1 found.0 found.1 rest) → Some p ≡ option_zip (Some head) ending
     → Spells 6 (λ path. report_form) ts (record { limits = p.0.1; prices = p.1.0; start = p.1.1; history = p.0.0; picture = p.0.2 }) rest
 report_zipped head ending p ts r0 r1 rest e members ends zipped =
     let z = zip_ends head ending p (λ found. SpellsEnding r1 found.0 found.1 rest) zipped ends in
     let end = z.1 in
-    let first = subst (λ h. SpellsThree 5 1 4 (list_form entry_form) limits_form rows_form (key_name History) (key_name Limits) (key_name Picture) r0 h.0 h.1 h.2 r1) z.0 members in
-    report_tokens (record { limits = p.0.1; prices = p.1.0; start = p.1.1; history = p.0.0; picture = p.0.2 }) end.prices end.version ts _ _ _ _ _ _ _ rest e first.two.first first.two.second first.third
+    let first = subst (λ h. SpellsThree 5 1 4 (list_form entry_form) limits_form rows_form (key_name History) (key_name Limits)
+    (key_name Picture) r0 h.0 h.1 h.2 r1) z.0 members in
+    report_tokens (record { limits = p.0.1; prices = p.1.0; start = p.1.1; history = p.0.0; picture = p.0.2 })
+    end.prices end.version ts _ _ _ _ _ _ _ rest e first.two.first first.two.second first.third
     end.members.two.first end.members.two.second end.members.third end.closed end.are_kept

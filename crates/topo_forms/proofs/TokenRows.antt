@@ -6,7 +6,8 @@ use Rattle.serde_json.specs.Data.{Data, object, Members, no_members, member}
 use Rattle.topo_core.specs.declared.rows.CrossRow.{CrossRow}
 use Rattle.topo_core.specs.declared.rows.EdgeRow.{EdgeRow}
 use Rattle.topo_core.specs.declared.rows.Rows.{Rows}
-use Rattle.topo_forms.specs.declared.path.Key.TheVariants.{A, B, Crossed, Crossings, Edges, Id, Kind, Newcomer, NextCrossing, NextEdge, Rotations, Sign as SignKey}
+use Rattle.topo_forms.specs.declared.path.Key.TheVariants.{A, B, Crossed, Crossings, Edges, Id, Kind, Newcomer}
+use Rattle.topo_forms.specs.declared.path.Key.TheVariants.{NextCrossing, NextEdge, Rotations, Sign as SignKey}
 use Rattle.topo_forms.specs.declared.path.Path.{Path}
 use Rattle.topo_forms.specs.Paths.{key_name}
 use Rattle.topo_forms.specs.Reads.{number_form, list_form, has_keys, and_then}
@@ -19,9 +20,11 @@ use Rattle.topo_forms.proofs.Steps.{went}
 -- ---- Crossings
 
 abbrev crossing_members : Data → Data → Data → Data → Members
-crossing_members crossed id newcomer sign = member (codes "crossed") crossed (member (codes "id") id (member (codes "newcomer") newcomer (member (codes "sign") sign no_members)))
+crossing_members crossed id newcomer sign =
+    member (codes "crossed") crossed (member (codes "id") id (member (codes "newcomer") newcomer (member (codes "sign") sign no_members)))
 
-crossing_keys : (path : Path) (crossed id newcomer sign : Data) → has_keys path (Crossed ∷ Id ∷ Newcomer ∷ SignKey ∷ []) [] (object (crossing_members crossed id newcomer sign)) ≡ Ok tt
+crossing_keys : (path : Path) (crossed id newcomer sign : Data)
+    → has_keys path (Crossed ∷ Id ∷ Newcomer ∷ SignKey ∷ []) [] (object (crossing_members crossed id newcomer sign)) ≡ Ok tt
 unfolding has_keys and_then
 crossing_keys path crossed id newcomer sign = refl
 
@@ -48,9 +51,11 @@ crossing_tokens x ts r0 r1 r2 r3 r4 rest e crossed id newcomer sign close =
 -- ---- Edges
 
 abbrev edge_members : Data → Data → Data → Data → Data → Members
-edge_members a b crossings id kind = member (codes "a") a (member (codes "b") b (member (codes "crossings") crossings (member (codes "id") id (member (codes "kind") kind no_members))))
+edge_members a b crossings id kind =
+    member (codes "a") a (member (codes "b") b (member (codes "crossings") crossings (member (codes "id") id (member (codes "kind") kind no_members))))
 
-edge_keys : (path : Path) (a b crossings id kind : Data) → has_keys path (A ∷ B ∷ Crossings ∷ Id ∷ Kind ∷ []) [] (object (edge_members a b crossings id kind)) ≡ Ok tt
+edge_keys : (path : Path) (a b crossings id kind : Data)
+    → has_keys path (A ∷ B ∷ Crossings ∷ Id ∷ Kind ∷ []) [] (object (edge_members a b crossings id kind)) ≡ Ok tt
 unfolding has_keys and_then
 edge_keys path a b crossings id kind = refl
 
@@ -80,10 +85,12 @@ edge_tokens x ts r0 r1 r2 r3 r4 r5 rest e a b crossings id kind close =
 
 abbrev rows_members : Data → Data → Data → Data → Data → Members
 rows_members crossings edges next_crossing next_edge rotations =
-    member (codes "crossings") crossings (member (codes "edges") edges (member (codes "next_crossing") next_crossing (member (codes "next_edge") next_edge (member (codes "rotations") rotations no_members))))
+    member (codes "crossings") crossings (member (codes "edges") edges
+    (member (codes "next_crossing") next_crossing (member (codes "next_edge") next_edge (member (codes "rotations") rotations no_members))))
 
 rows_keys : (path : Path) (crossings edges next_crossing next_edge rotations : Data)
-    → has_keys path (Crossings ∷ Edges ∷ NextCrossing ∷ NextEdge ∷ Rotations ∷ []) [] (object (rows_members crossings edges next_crossing next_edge rotations)) ≡ Ok tt
+    → has_keys path (Crossings ∷ Edges ∷ NextCrossing ∷ NextEdge ∷ Rotations ∷ []) []
+    (object (rows_members crossings edges next_crossing next_edge rotations)) ≡ Ok tt
 unfolding has_keys and_then
 rows_keys path crossings edges next_crossing next_edge rotations = refl
 

@@ -33,7 +33,8 @@ abbrev pub AreRead : {A : Type 0} → (Path → Data → Read A) → A → Optio
 AreRead form default None a = default ≡ a
 AreRead form default (Some d) a = (path : Path) → form path d ≡ Ok a
 
-pub optional_read : {A : Type 0} (form : Path → Data → Read A) (default : A) (path : Path) (k : Key) (d : Data) (o : Option Data) (a : A) → get (key_name k) d ≡ o → AreRead form default o a
+pub optional_read : {A : Type 0} (form : Path → Data → Read A) (default : A) (path : Path) (k : Key) (d : Data) (o : Option Data) (a : A)
+    → get (key_name k) d ≡ o → AreRead form default o a
     → member_or default form path k d ≡ Ok a
 unfolding member_or
 optional_read form default path k d None a there read = rw there (ap (λ x. Ok x) read)
@@ -53,7 +54,8 @@ module _ {A : Type 0} (nesting : ℕ) (form : Path → Data → Read A) (name : 
   or_default default None m = refl
   or_default default (Some a) m = m.2.reads
 
-pub prices_or_none : (n : ℕ) (ts mid : List Token) (o : Option (List (Option ℕ))) (m : SpellsOptional 1 (list_form (price_form true)) (key_name Prices) ts o mid) (kept : List (Option ℕ))
+pub prices_or_none : (n : ℕ) (ts mid : List Token) (o : Option (List (Option ℕ)))
+    (m : SpellsOptional 1 (list_form (price_form true)) (key_name Prices) ts o mid) (kept : List (Option ℕ))
     → (h : ArePricesOf n (unwrap_or o []) kept) → AreRead (prices_form h.0) [] (data_of 1 (list_form (price_form true)) (key_name Prices) ts mid o m) kept
 prices_or_none n ts mid None m kept h = sym h.4
 prices_or_none n ts mid (Some ps) m kept h = λ path. prices_read h.0 path m.2.spelled ps kept (m.2.reads path) h.2 h.3 h.4
@@ -61,7 +63,8 @@ prices_or_none n ts mid (Some ps) m kept h = λ path. prices_read h.0 path m.2.s
 -- ---- Scripts
 
 abbrev script_members : Option Data → Option Data → Option Data → Data → Data → Members
-script_members l p s v w = put (codes "workers") w (put (codes "version") v (optional (codes "start") s (optional (codes "prices") p (optional (codes "limits") l no_members))))
+script_members l p s v w =
+    put (codes "workers") w (put (codes "version") v (optional (codes "start") s (optional (codes "prices") p (optional (codes "limits") l no_members))))
 
 abbrev script_object : Option Data → Option Data → Option Data → Data → Data → Data
 script_object l p s v w = object (script_members l p s v w)
@@ -94,12 +97,15 @@ all_found (Some l) None (Some s) v w = record { limits = refl; prices = refl; st
 all_found (Some l) (Some p) None v w = record { limits = refl; prices = refl; start = refl; version = refl; workers = refl }
 all_found (Some l) (Some p) (Some s) v w = record { limits = refl; prices = refl; start = refl; version = refl; workers = refl }
 
-pub version_read : (n : ℕ) (nulls : Bool) (ms : Members) (v : Data) → get (key_name Version) (object ms) ≡ Some v → ((path : Path) → number_form path v ≡ Ok n) → nulls_of n ≡ Ok nulls → nulls_in (object ms) ≡ Ok nulls
+pub version_read : (n : ℕ) (nulls : Bool) (ms : Members) (v : Data) → get (key_name Version) (object ms) ≡ Some v → ((path : Path) → number_form path v ≡ Ok n)
+    → nulls_of n ≡ Ok nulls → nulls_in (object ms) ≡ Ok nulls
 unfolding nulls_in
 version_read n nulls ms v there read of = went _ _ tt refl ∙ went _ _ n (member_read number_form whole Version (object ms) v n there read) ∙ of
 
-script_read : (x : Script) (n : ℕ) (l p s : Option Data) (v w : Data) (nulls : Bool) → nulls_of n ≡ Ok nulls → AreRead limits_form greatest_limits l x.limits → AreRead (prices_form nulls) [] p x.prices
-    → AreRead start_form None s x.start → ((path : Path) → number_form path v ≡ Ok n) → ((path : Path) → workers_form path w ≡ Ok x.workers) → script_form (script_object l p s v w) ≡ Ok x
+script_read : (x : Script) (n : ℕ) (l p s : Option Data) (v w : Data) (nulls : Bool) → nulls_of n ≡ Ok nulls → AreRead limits_form greatest_limits l x.limits
+    → AreRead (prices_form nulls) [] p x.prices
+    → AreRead start_form None s x.start → ((path : Path) → number_form path v ≡ Ok n) → ((path : Path) → workers_form path w ≡ Ok x.workers)
+    → script_form (script_object l p s v w) ≡ Ok x
 unfolding script_form
 script_read x n l p s v w nulls of limits prices start version workers =
     let d = script_object l p s v w in
@@ -111,8 +117,10 @@ script_read x n l p s v w nulls of limits prices start version workers =
     ∙ went _ _ x.start (optional_read start_form None whole Start d s x.start there.start start)
     ∙ went _ _ x.workers (member_read workers_form whole Workers d w x.workers there.workers workers)
 
-pub script_tokens : (x : Script) (l : Option LimitRows) (p : Option (List (Option ℕ))) (s : Option (Option Rows)) (n : ℕ) (ts r0 r1 r2 r3 r4 r5 rest : List Token) → ts ≡ begin_object ∷ r0
-    → SpellsOptional 1 limits_form (key_name Limits) r0 l r1 → SpellsOptional 1 (list_form (price_form true)) (key_name Prices) r1 p r2 → SpellsOptional 4 start_form (key_name Start) r2 s r3
+pub script_tokens : (x : Script) (l : Option LimitRows) (p : Option (List (Option ℕ))) (s : Option (Option Rows)) (n : ℕ)
+    (ts r0 r1 r2 r3 r4 r5 rest : List Token) → ts ≡ begin_object ∷ r0
+    → SpellsOptional 1 limits_form (key_name Limits) r0 l r1 → SpellsOptional 1 (list_form (price_form true)) (key_name Prices) r1 p r2
+    → SpellsOptional 4 start_form (key_name Start) r2 s r3
     → SpellsMember 0 number_form (key_name Version) r3 n r4 → SpellsMember 3 workers_form (key_name Workers) r4 x.workers r5 → read_key r5 ≡ Some (None, rest)
     → x.limits ≡ unwrap_or l greatest_limits → ArePricesOf n (unwrap_or p []) x.prices → x.start ≡ unwrap_or s None → Spells 5 (λ path. script_form) ts x rest
 script_tokens x l p s n ts r0 r1 r2 r3 r4 r5 rest e limits prices start version workers close same kept begun =
@@ -134,29 +142,40 @@ script_tokens x l p s n ts r0 r1 r2 r3 r4 r5 rest e limits prices start version 
 
 -- ---- Parts that are zipped
 
-pub lists_tokens : {U : Type 0} (ts mid : List Token) (n : ℕ) (version : SpellsMember 0 number_form (key_name Version) ts n mid) (end rest : List Token) (workers : Option (List (List Command))) (closed : Option U)
+pub lists_tokens : {U : Type 0} (ts mid : List Token) (n : ℕ) (version : SpellsMember 0 number_form (key_name Version) ts n mid) (end rest : List Token)
+    (workers : Option (List (List Command))) (closed : Option U)
     (both_there : Option ℕ) (r : Option (ℕ × List (List Command))) → IfSome workers (λ ws. SpellsMember 3 workers_form (key_name Workers) mid ws end)
-    → IfSome closed (λ _. read_key end ≡ Some (None, rest)) → both_there ≡ option_and closed (Some n) → r ≡ option_zip both_there workers → IfSome r (λ found. SpellsLists ts found.0 found.1 rest)
-lists_tokens ts mid n version end rest workers None both_there r lists close there is = let none : r ≡ None = is ∙ ap (λ o. option_zip o workers) there in rw none tt
-lists_tokens ts mid n version end rest None (Some u) both_there r lists close there is = let none : r ≡ None = is ∙ ap (λ o. option_zip o None) there in rw none tt
+    → IfSome closed (λ _. read_key end ≡ Some (None, rest)) → both_there ≡ option_and closed (Some n) → r ≡ option_zip both_there workers
+    → IfSome r (λ found. SpellsLists ts found.0 found.1 rest)
+lists_tokens ts mid n version end rest workers None both_there r lists close there is = let none : r ≡ None = is
+    ∙ ap (λ o. option_zip o workers) there in rw none tt
+lists_tokens ts mid n version end rest None (Some u) both_there r lists close there is = let none : r ≡ None = is
+    ∙ ap (λ o. option_zip o None) there in rw none tt
 lists_tokens ts mid n version end rest (Some ws) (Some u) both_there r lists close there is =
     let found : r ≡ Some (n, ws) = is ∙ ap (λ o. option_zip o (Some ws)) there in
     rw found (record { mid = _; end = end; first = version; second = lists; closed = close })
 
 pub script_zipped : (front : Option LimitRows × Option (List (Option ℕ)) × Option (Option Rows)) (ending : Option (ℕ × List (List Command)))
-    (p : (Option LimitRows × Option (List (Option ℕ)) × Option (Option Rows)) × (ℕ × List (List Command))) (none : List (Option ℕ)) (given : List (Option ℕ)) (kept : Option (List (Option ℕ)))
-    (q : List (Option ℕ) × (Option (Option Rows) × List (List Command))) (limits : LimitRows) (start : Option Rows) (ts r0 r1 rest : List Token) → ts ≡ begin_object ∷ r0
-    → SpellsOptionals 1 1 4 limits_form (list_form (price_form true)) start_form (key_name Limits) (key_name Prices) (key_name Start) r0 front.0 front.1 front.2 r1
-    → IfSome ending (λ found. SpellsLists r1 found.0 found.1 rest) → Some p ≡ option_zip (Some front) ending → none ≡ [] → given ≡ unwrap_or p.0.1 none → IfSome kept (ArePricesOf p.1.0 given)
+    (p : (Option LimitRows × Option (List (Option ℕ)) × Option (Option Rows)) × (ℕ × List (List Command))) (none : List (Option ℕ)) (given : List (Option ℕ))
+    (kept : Option (List (Option ℕ)))
+    (q : List (Option ℕ) × (Option (Option Rows) × List (List Command))) (limits : LimitRows) (start : Option Rows) (ts r0 r1 rest : List Token)
+    → ts ≡ begin_object ∷ r0
+    → SpellsOptionals 1 1 4 limits_form (list_form (price_form true)) start_form (key_name Limits) (key_name Prices)
+    (key_name Start) r0 front.0 front.1 front.2 r1
+    → IfSome ending (λ found. SpellsLists r1 found.0 found.1 rest) → Some p ≡ option_zip (Some front) ending → none ≡ [] → given ≡ unwrap_or p.0.1 none
+    → IfSome kept (ArePricesOf p.1.0 given)
     → Some q ≡ option_zip kept (Some (p.0.2, p.1.1)) → limits ≡ unwrap_or p.0.0 greatest_limits → start ≡ unwrap_or q.1.0 None
     → Spells 5 (λ path. script_form) ts (record { limits = limits; prices = q.0; start = start; workers = q.1.1 }) rest
 script_zipped front ending p none given kept q limits start ts r0 r1 rest e members ends zipped empty given_is is_kept zipped_kept limits_is start_is =
     let z = zip_ends front ending p (λ found. SpellsLists r1 found.0 found.1 rest) zipped ends in
     let lists = z.1 in
-    let first = subst (λ f. SpellsOptionals 1 1 4 limits_form (list_form (price_form true)) start_form (key_name Limits) (key_name Prices) (key_name Start) r0 f.0 f.1 f.2 r1) z.0 members in
+    let first = subst (λ f. SpellsOptionals 1 1 4 limits_form (list_form (price_form true)) start_form (key_name Limits) (key_name Prices)
+    (key_name Start) r0 f.0 f.1 f.2 r1) z.0 members in
     let w = zip_starts kept (p.0.2, p.1.1) q (ArePricesOf p.1.0 given) zipped_kept is_kept in
     let prices : ArePricesOf p.1.0 (unwrap_or p.0.1 []) q.0 = subst (λ ps. ArePricesOf p.1.0 ps q.0) (given_is ∙ ap (unwrap_or p.0.1) empty) w.0 in
     let workers : p.1.1 ≡ q.1.1 = ap (λ r. r.1) w.1 in
     let begun : p.0.2 ≡ q.1.0 = ap (λ r. r.0) w.1 in
-    script_tokens (record { limits = limits; prices = q.0; start = start; workers = q.1.1 }) p.0.0 p.0.1 p.0.2 p.1.0 ts _ _ _ _ _ _ rest e first.first first.second first.third lists.first
-    (subst (λ ws. SpellsMember 3 workers_form (key_name Workers) lists.mid ws lists.end) workers lists.second) lists.closed limits_is prices (start_is ∙ ap (λ o. unwrap_or o None) (sym begun))
+    script_tokens (record { limits = limits; prices = q.0; start = start; workers = q.1.1 })
+    p.0.0 p.0.1 p.0.2 p.1.0 ts _ _ _ _ _ _ rest e first.first first.second first.third lists.first
+    (subst (λ ws. SpellsMember 3 workers_form (key_name Workers) lists.mid ws lists.end) workers lists.second) lists.closed limits_is prices
+    (start_is ∙ ap (λ o. unwrap_or o None) (sym begun))

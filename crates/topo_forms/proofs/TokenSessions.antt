@@ -59,7 +59,8 @@ all_found (Some l) None (Some s) v = record { limits = refl; prices = refl; star
 all_found (Some l) (Some p) None v = record { limits = refl; prices = refl; start = refl; version = refl }
 all_found (Some l) (Some p) (Some s) v = record { limits = refl; prices = refl; start = refl; version = refl }
 
-opening_read : (x : Opening) (n : ℕ) (l p s : Option Data) (v : Data) (nulls : Bool) → nulls_of n ≡ Ok nulls → AreRead limits_form greatest_limits l x.limits → AreRead (prices_form nulls) [] p x.prices
+opening_read : (x : Opening) (n : ℕ) (l p s : Option Data) (v : Data) (nulls : Bool) → nulls_of n ≡ Ok nulls → AreRead limits_form greatest_limits l x.limits
+    → AreRead (prices_form nulls) [] p x.prices
     → AreRead start_form None s x.start → ((path : Path) → number_form path v ≡ Ok n) → opening_form (opening_object l p s v) ≡ Ok x
 unfolding opening_form
 opening_read x n l p s v nulls of limits prices start version =
@@ -71,8 +72,10 @@ opening_read x n l p s v nulls of limits prices start version =
     ∙ went _ _ x.prices (optional_read (prices_form nulls) [] whole Prices d p x.prices there.prices prices)
     ∙ went _ _ x.start (optional_read start_form None whole Start d s x.start there.start start)
 
-opening_tokens : (x : Opening) (l : Option LimitRows) (p : Option (List (Option ℕ))) (s : Option (Option Rows)) (n : ℕ) (ts r0 r1 r2 r3 r4 rest : List Token) → ts ≡ begin_object ∷ r0
-    → SpellsOptional 1 limits_form (key_name Limits) r0 l r1 → SpellsOptional 1 (list_form (price_form true)) (key_name Prices) r1 p r2 → SpellsOptional 4 start_form (key_name Start) r2 s r3
+opening_tokens : (x : Opening) (l : Option LimitRows) (p : Option (List (Option ℕ))) (s : Option (Option Rows)) (n : ℕ) (ts r0 r1 r2 r3 r4 rest : List Token)
+    → ts ≡ begin_object ∷ r0
+    → SpellsOptional 1 limits_form (key_name Limits) r0 l r1 → SpellsOptional 1 (list_form (price_form true)) (key_name Prices) r1 p r2
+    → SpellsOptional 4 start_form (key_name Start) r2 s r3
     → SpellsMember 0 number_form (key_name Version) r3 n r4 → read_key r4 ≡ Some (None, rest)
     → x.limits ≡ unwrap_or l greatest_limits → ArePricesOf n (unwrap_or p []) x.prices → x.start ≡ unwrap_or s None → Spells 5 (λ path. opening_form) ts x rest
 opening_tokens x l p s n ts r0 r1 r2 r3 r4 rest e limits prices start version close same kept begun =
@@ -93,26 +96,32 @@ opening_tokens x l p s n ts r0 r1 r2 r3 r4 rest e limits prices start version cl
 
 -- ---- Parts that are zipped
 
-pub version_tokens : {U : Type 0} (ts mid : List Token) (n : ℕ) (version : SpellsMember 0 number_form (key_name Version) ts n mid) (rest : List Token) (closed : Option U) (r : Option ℕ)
+pub version_tokens : {U : Type 0} (ts mid : List Token) (n : ℕ) (version : SpellsMember 0 number_form (key_name Version) ts n mid) (rest : List Token)
+    (closed : Option U) (r : Option ℕ)
     → IfSome closed (λ _. read_key mid ≡ Some (None, rest)) → r ≡ option_and closed (Some n) → IfSome r (λ found. SpellsVersion ts found rest)
 version_tokens ts mid n version rest None r close is = rw is tt
 version_tokens ts mid n version rest (Some u) r close is = rw is (record { end = mid; member = version; closed = close })
 
 pub opening_zipped : (front : Option LimitRows × Option (List (Option ℕ)) × Option (Option Rows)) (ending : Option ℕ)
-    (p : (Option LimitRows × Option (List (Option ℕ)) × Option (Option Rows)) × ℕ) (none : List (Option ℕ)) (given : List (Option ℕ)) (kept : Option (List (Option ℕ)))
+    (p : (Option LimitRows × Option (List (Option ℕ)) × Option (Option Rows)) × ℕ) (none : List (Option ℕ)) (given : List (Option ℕ))
+    (kept : Option (List (Option ℕ)))
     (q : List (Option ℕ) × Option (Option Rows)) (limits : LimitRows) (start : Option Rows) (ts r0 r1 rest : List Token) → ts ≡ begin_object ∷ r0
-    → SpellsOptionals 1 1 4 limits_form (list_form (price_form true)) start_form (key_name Limits) (key_name Prices) (key_name Start) r0 front.0 front.1 front.2 r1
-    → IfSome ending (λ found. SpellsVersion r1 found rest) → Some p ≡ option_zip (Some front) ending → none ≡ [] → given ≡ unwrap_or p.0.1 none → IfSome kept (ArePricesOf p.1 given)
+    → SpellsOptionals 1 1 4 limits_form (list_form (price_form true)) start_form (key_name Limits) (key_name Prices)
+    (key_name Start) r0 front.0 front.1 front.2 r1
+    → IfSome ending (λ found. SpellsVersion r1 found rest) → Some p ≡ option_zip (Some front) ending → none ≡ [] → given ≡ unwrap_or p.0.1 none
+    → IfSome kept (ArePricesOf p.1 given)
     → Some q ≡ option_zip kept (Some p.0.2) → limits ≡ unwrap_or p.0.0 greatest_limits → start ≡ unwrap_or q.1 None
     → Spells 5 (λ path. opening_form) ts (record { limits = limits; prices = q.0; start = start }) rest
 opening_zipped front ending p none given kept q limits start ts r0 r1 rest e members ends zipped empty given_is is_kept zipped_kept limits_is start_is =
     let z = zip_ends front ending p (λ found. SpellsVersion r1 found rest) zipped ends in
     let version = z.1 in
-    let first = subst (λ f. SpellsOptionals 1 1 4 limits_form (list_form (price_form true)) start_form (key_name Limits) (key_name Prices) (key_name Start) r0 f.0 f.1 f.2 r1) z.0 members in
+    let first = subst (λ f. SpellsOptionals 1 1 4 limits_form (list_form (price_form true)) start_form (key_name Limits) (key_name Prices)
+    (key_name Start) r0 f.0 f.1 f.2 r1) z.0 members in
     let w = zip_starts kept p.0.2 q (ArePricesOf p.1 given) zipped_kept is_kept in
     let prices : ArePricesOf p.1 (unwrap_or p.0.1 []) q.0 = subst (λ ps. ArePricesOf p.1 ps q.0) (given_is ∙ ap (unwrap_or p.0.1) empty) w.0 in
     let begun : p.0.2 ≡ q.1 = w.1 in
-    opening_tokens (record { limits = limits; prices = q.0; start = start }) p.0.0 p.0.1 p.0.2 p.1 ts _ _ _ _ _ rest e first.first first.second first.third version.member
+    opening_tokens (record { limits = limits; prices = q.0; start = start })
+    p.0.0 p.0.1 p.0.2 p.1 ts _ _ _ _ _ rest e first.first first.second first.third version.member
     version.closed limits_is prices (start_is ∙ ap (λ o. unwrap_or o None) (sym begun))
 
 -- ---- Requests
@@ -133,11 +142,13 @@ carry_read path d command e =
     rw (no_text (codes "counts") path d command e, no_text (codes "picture") path d command e, no_text (codes "report") path d command e)
     (went (command_form path d) (λ (found : Command). Ok (Carry found)) command e)
 
-found_then : (found : Read Data) (command : Command) → (found >>= λ d. command_form whole d) ≡ Ok command → (found >>= λ d. request_form whole d) ≡ Ok (Carry command)
+found_then : (found : Read Data) (command : Command) → (found >>= λ d. command_form whole d) ≡ Ok command
+    → (found >>= λ d. request_form whole d) ≡ Ok (Carry command)
 unfolding and_then
 found_then (Ok d) command e = carry_read whole d command e
 found_then (Err fault) command e = absurd cc
 
-pub request_tokens : (line : List ℕ) (command : Command) → ((path : Path) → (value_of 65536 line >>= command_form path) ≡ Ok command) → request_of line ≡ Ok (Carry command)
+pub request_tokens : (line : List ℕ) (command : Command) → ((path : Path) → (value_of 65536 line >>= command_form path) ≡ Ok command)
+    → request_of line ≡ Ok (Carry command)
 unfolding request_of
 request_tokens line command e = found_then (value_of 65536 line) command (e whole)

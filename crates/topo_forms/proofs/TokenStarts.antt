@@ -47,7 +47,8 @@ seed_tokens text ts rest e is = deeper 0 4 start_form ts None rest (omega arith)
 
 -- ---- Lists of commands
 
-workers_read : (path : Path) (d : Data) (ws : List (List Command)) → list_form (list_form command_form) path d ≡ Ok ws → 0 < length ws → length ws ≤ 16 → workers_form path d ≡ Ok ws
+workers_read : (path : Path) (d : Data) (ws : List (List Command)) → list_form (list_form command_form) path d ≡ Ok ws → 0 < length ws → length ws ≤ 16
+    → workers_form path d ≡ Ok ws
 unfolding list_form workers_form and_then
 workers_read path null ws e some few = absurd cc
 workers_read path (boolean b) ws e some few = absurd cc
@@ -60,7 +61,8 @@ workers_read path (array ds) ws e some few =
     rw (lt-ltb 0 (items_len ds) more, le-leb (items_len ds) 16 less) e
 workers_read path (object ms) ws e some few = absurd cc
 
-pub workers_tokens : (ws : List (List Command)) (ts rest : List Token) → SpellsMember 3 (list_form (list_form command_form)) (key_name Workers) ts ws rest → 0 < length ws → length ws ≤ 16
+pub workers_tokens : (ws : List (List Command)) (ts rest : List Token) → SpellsMember 3 (list_form (list_form command_form)) (key_name Workers) ts ws rest
+    → 0 < length ws → length ws ≤ 16
     → SpellsMember 3 workers_form (key_name Workers) ts ws rest
 workers_tokens ws ts rest m some few = (
   m.0,

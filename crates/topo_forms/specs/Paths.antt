@@ -1,7 +1,9 @@
 -- Places in a text, and the names of keys.
 use Rattle.std.specs.Prelude.{ℕ, List, [], ◌++◌, codes, decimal, Option, Some, None, is_none, if◌then◌else◌}
 use Rattle.topo_forms.specs.declared.path.Key.{Key}
-use Rattle.topo_forms.specs.declared.path.Key.TheVariants.{A, B, Call, Caller, Crossed, Crossings, Deleted, Edge, Edges, End, History, Id, Kind, Limits, Newcomer, NextCrossing, NextEdge, Picture, Price, Prices, Refused, Reply, Rotations, Sign, Start, Version, Vertex, Vertices, Workers}
+use Rattle.topo_forms.specs.declared.path.Key.TheVariants.{A, B, Call, Caller, Crossed, Crossings, Deleted, Edge, Edges, End, History}
+use Rattle.topo_forms.specs.declared.path.Key.TheVariants.{Id, Kind, Limits, Newcomer, NextCrossing, NextEdge, Picture, Price, Prices}
+use Rattle.topo_forms.specs.declared.path.Key.TheVariants.{Refused, Reply, Rotations, Sign, Start, Version, Vertex, Vertices, Workers}
 use Rattle.topo_forms.specs.declared.path.Step.{Step}
 use Rattle.topo_forms.specs.declared.path.Step.TheVariants.{Member, Element}
 use Rattle.topo_forms.specs.declared.path.Path.{Path}

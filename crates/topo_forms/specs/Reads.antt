@@ -1,5 +1,6 @@
 -- What a value is read as, or its first fault. The tests stand in the order in which faults are told.
-use Rattle.std.specs.Prelude.{◌≡◌, ℕ, ◌+◌, ◌^◌, nat_lt, Bool, true, false, not, ◌&&◌, ◌||◌, if◌then◌else◌, List, [], ◌∷◌, length, bytes_eq, Option, Some, None, is_some, option_map, unwrap_or, Result, Ok, Err, ⊤}
+use Rattle.std.specs.Prelude.{◌≡◌, ℕ, ◌+◌, ◌^◌, nat_lt, Bool, true, false, not, ◌&&◌, ◌||◌, if◌then◌else◌, List, [], ◌∷◌}
+use Rattle.std.specs.Prelude.{length, bytes_eq, Option, Some, None, is_some, option_map, unwrap_or, Result, Ok, Err, ⊤}
 use Rattle.std.specs.Str.{is_utf8}
 use Rattle.std.specs.List.{list_any}
 use Rattle.serde_json.specs.Data.{Data, Items, no_items, item, Members, no_members, member}
@@ -143,7 +144,8 @@ member_form form path key d = do
 abbrev pub two_members : {A B : Type 0} → (Path → Data → Read A) → (Path → Data → Read B) → Path → Key → Key → Data → Read (A × B)
 two_members a b path first second d = both (member_form a path first d) (member_form b path second d)
 
-abbrev pub three_members : {A B C : Type 0} → (Path → Data → Read A) → (Path → Data → Read B) → (Path → Data → Read C) → Path → Key → Key → Key → Data → Read (A × B × C)
+abbrev pub three_members : {A B C : Type 0} → (Path → Data → Read A) → (Path → Data → Read B) → (Path → Data → Read C) → Path → Key → Key → Key → Data
+    → Read (A × B × C)
 three_members a b c path first second third d = all_three (member_form a path first d) (member_form b path second d) (member_form c path third d)
 
 -- a member that may be missing

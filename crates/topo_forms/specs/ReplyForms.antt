@@ -10,7 +10,8 @@ use Rattle.topo_core.specs.declared.calls.Reply.{Reply}
 use Rattle.topo_core.specs.declared.calls.Reply.TheVariants.{Grown, Inserted, Deleted, Refused}
 use Rattle.topo_core.specs.declared.calls.Refusal.{Refusal}
 use Rattle.topo_core.specs.declared.calls.Refusal.TheVariants.{NoVertex, SameEnds, NoPosition, NoEdge, BadKind, Cut, Full, NoRoute}
-use Rattle.topo_forms.specs.declared.path.Key.TheVariants.{Call, Caller, Crossed, Deleted as DeletedKey, Edge, End, Price, Refused as RefusedKey, Reply as ReplyKey, Start, Vertex}
+use Rattle.topo_forms.specs.declared.path.Key.TheVariants.{Call, Caller, Crossed, Deleted as DeletedKey, Edge, End, Price}
+use Rattle.topo_forms.specs.declared.path.Key.TheVariants.{Refused as RefusedKey, Reply as ReplyKey, Start, Vertex}
 use Rattle.topo_forms.specs.declared.path.Path.{Path}
 use Rattle.topo_forms.specs.declared.fault.ScriptFault.TheVariants.{BadShape}
 use Rattle.topo_forms.specs.Reads.{Read, ◌>>=◌, passes, number_form, long_form, is_text, element_count, list_form, element, has_key, has_keys, member_form}

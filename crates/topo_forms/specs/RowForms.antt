@@ -6,7 +6,8 @@ use Rattle.topo_core.specs.declared.darts.Sign.TheVariants.{LeftToRight, RightTo
 use Rattle.topo_core.specs.declared.rows.Rows.{Rows}
 use Rattle.topo_core.specs.declared.rows.EdgeRow.{EdgeRow}
 use Rattle.topo_core.specs.declared.rows.CrossRow.{CrossRow}
-use Rattle.topo_forms.specs.declared.path.Key.TheVariants.{A, B, Crossed, Crossings, Edges, Id, Kind, Newcomer, NextCrossing, NextEdge, Rotations, Sign as SignKey}
+use Rattle.topo_forms.specs.declared.path.Key.TheVariants.{A, B, Crossed, Crossings, Edges, Id, Kind, Newcomer}
+use Rattle.topo_forms.specs.declared.path.Key.TheVariants.{NextCrossing, NextEdge, Rotations, Sign as SignKey}
 use Rattle.topo_forms.specs.declared.path.Path.{Path}
 use Rattle.topo_forms.specs.declared.fault.ScriptFault.TheVariants.{BadShape}
 use Rattle.topo_forms.specs.Paths.{whole}

@@ -22,22 +22,26 @@ use Rattle.topo_forms.specs.Tokens.{GoesOn, SpellsMember, SpellsThree}
 
 -- behind this word, the tokens go on to the end of a call, which is no planned insertion
 abbrev pub SpellsCall : List ℕ → List Token → Call → List Token → Type 0
-SpellsCall word ts call rest = (ds : Items) × GoesOn 0 (text_token word ∷ ts) ds rest × ((path : Path) → call_form path (array ds) ≡ Ok call) × (begins (codes "planned") 4 (array ds) ≡ false)
+SpellsCall word ts call rest = (ds : Items) × GoesOn 0 (text_token word ∷ ts) ds rest × ((path : Path) → call_form path (array ds) ≡ Ok call)
+    × (begins (codes "planned") 4 (array ds) ≡ false)
 
 -- behind this number and this name, the tokens go on to the end of a refusal
 abbrev pub SpellsRefusal : ℕ → List ℕ → List Token → Refusal → List Token → Type 0
-SpellsRefusal n name ts why rest = (ds : Items) × GoesOn 0 ts ds rest × ((path : Path) → refusal_form path (array (item (number (unsigned n)) (item (string name) ds))) ≡ Ok why)
+SpellsRefusal n name ts why rest = (ds : Items) × GoesOn 0 ts ds rest
+    × ((path : Path) → refusal_form path (array (item (number (unsigned n)) (item (string name) ds))) ≡ Ok why)
 
 -- at most 64 prices, with a null only where the version lets it be, and those kept of them
 abbrev pub ArePricesOf : ℕ → List (Option ℕ) → List (Option ℕ) → Type 0
-ArePricesOf version prices kept = (nulls : Bool) × (nulls_of version ≡ Ok nulls) × (length prices ≤ 64) × (nulls ≡ false → list_any is_none prices ≡ false) × (kept ≡ without_ones prices)
+ArePricesOf version prices kept = (nulls : Bool) × (nulls_of version ≡ Ok nulls) × (length prices ≤ 64) × (nulls ≡ false → list_any is_none prices ≡ false)
+    × (kept ≡ without_ones prices)
 
 -- behind the picture of a report, the tokens go on with its prices, its start and its version to its end
 pub record SpellsEnding (ts : List Token) (kept : List (Option ℕ)) (start : Rows) (rest : List Token) : Type 0 where
   pub prices : List (Option ℕ)
   pub version : ℕ
   pub end : List Token
-  pub members : SpellsThree 1 4 0 (list_form (price_form true)) rows_form number_form (key_name Prices) (key_name Start) (key_name Version) ts prices start version end
+  pub members : SpellsThree 1 4 0 (list_form (price_form true)) rows_form number_form (key_name Prices) (key_name Start)
+      (key_name Version) ts prices start version end
   pub closed : read_key end ≡ Some (None, rest)
   pub are_kept : ArePricesOf version prices kept
 

@@ -51,12 +51,14 @@ abbrev pub SpellsNumber : List Token → ℕ → List Token → Type 0
 SpellsNumber ts n rest = (s : List ℕ) × (ts ≡ number s ∷ rest) × (number_of s ≡ Some (unsigned n))
 
 -- The tokens begin with these two members, and with these three.
-pub record SpellsTwo {A B : Type 0} (na nb : ℕ) (form_a : Path → Data → Read A) (form_b : Path → Data → Read B) (name_a name_b : List ℕ) (ts : List Token) (a : A) (b : B) (rest : List Token) : Type 0 where
+pub record SpellsTwo {A B : Type 0} (na nb : ℕ) (form_a : Path → Data → Read A) (form_b : Path → Data → Read B) (name_a name_b : List ℕ) (ts : List Token)
+    (a : A) (b : B) (rest : List Token) : Type 0 where
   pub mid : List Token
   pub first : SpellsMember na form_a name_a ts a mid
   pub second : SpellsMember nb form_b name_b mid b rest
 
-pub record SpellsThree {A B C : Type 0} (na nb nc : ℕ) (form_a : Path → Data → Read A) (form_b : Path → Data → Read B) (form_c : Path → Data → Read C) (name_a name_b name_c : List ℕ) (ts : List Token) (a : A) (b : B) (c : C) (rest : List Token) : Type 0 where
+pub record SpellsThree {A B C : Type 0} (na nb nc : ℕ) (form_a : Path → Data → Read A) (form_b : Path → Data → Read B) (form_c : Path → Data → Read C)
+    (name_a name_b name_c : List ℕ) (ts : List Token) (a : A) (b : B) (c : C) (rest : List Token) : Type 0 where
   pub mid : List Token
   pub two : SpellsTwo na nb form_a form_b name_a name_b ts a b mid
   pub third : SpellsMember nc form_c name_c mid c rest
@@ -72,7 +74,8 @@ pub record SpellsNumbers (ts : List Token) (a b c : ℕ) (rest : List Token) : T
   pub closed : after_end_array three ≡ Some rest
 
 -- The tokens begin with three members that may be missing.
-pub record SpellsOptionals {A B C : Type 0} (na nb nc : ℕ) (form_a : Path → Data → Read A) (form_b : Path → Data → Read B) (form_c : Path → Data → Read C) (name_a name_b name_c : List ℕ) (ts : List Token) (a : Option A) (b : Option B) (c : Option C) (rest : List Token) : Type 0 where
+pub record SpellsOptionals {A B C : Type 0} (na nb nc : ℕ) (form_a : Path → Data → Read A) (form_b : Path → Data → Read B) (form_c : Path → Data → Read C)
+    (name_a name_b name_c : List ℕ) (ts : List Token) (a : Option A) (b : Option B) (c : Option C) (rest : List Token) : Type 0 where
   pub one : List Token
   pub two : List Token
   pub first : SpellsOptional na form_a name_a ts a one

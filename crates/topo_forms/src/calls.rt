@@ -3,7 +3,8 @@
 ghost use Rattle.std.specs.Prelude.{◌≡◌};
 ghost use Rattle.serde_json.specs.View.{view};
 ghost use Rattle.topo_forms.specs.Reads.{Gives};
-ghost use Rattle.topo_forms.specs.CallForms.{begins, call_form, grow_form, insert_form, delete_form, command_form, planned_form, plain_form};
+ghost use Rattle.topo_forms.specs.CallForms.{begins, call_form, grow_form, insert_form};
+ghost use Rattle.topo_forms.specs.CallForms.{delete_form, command_form, planned_form, plain_form};
 
 use crate::fault::ScriptFault;
 use crate::form::{Form, element_count, is_text, read_element, read_elements};

@@ -7,7 +7,8 @@ use crate::path::Path;
 use std::fmt;
 use thiserror::Error;
 
-/// The first fault of a text, or out of memory. It is printed as its number, its name and its place.
+/// The first fault of a text, or out of memory. It is printed as its number, its name and its
+/// place.
 #[derive(Clone, Copy, Debug, PartialEq, Eq, Error)]
 pub enum ScriptFault {
     /// A growth of memory was refused.

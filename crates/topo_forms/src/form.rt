@@ -3,7 +3,11 @@
 ghost use Rattle.std.specs.Prelude.{◌≡◌, ◌+◌, ◌==◌};
 ghost use Rattle.topo_forms.specs.declared.fault.ScriptFault.TheVariants.{BadShape};
 ghost use Rattle.serde_json.specs.View.{view, items_view, members_view};
-ghost use Rattle.topo_forms.specs.Reads.{Gives, passes, read_map, number_below, number_form, is_text, element_count, items_from, list_form, element, has_key, is_known, all_known, all_there, has_keys, member_form, member_or, two_members, three_members, three_elements, value_of};
+ghost use Rattle.topo_forms.specs.Reads.{Gives, passes, read_map, number_below, number_form};
+ghost use Rattle.topo_forms.specs.Reads.{is_text, element_count, items_from, list_form};
+ghost use Rattle.topo_forms.specs.Reads.{element, has_key, is_known, all_known, all_there};
+ghost use Rattle.topo_forms.specs.Reads.{has_keys, member_form, member_or, two_members};
+ghost use Rattle.topo_forms.specs.Reads.{three_members, three_elements, value_of};
 
 use crate::fault::ScriptFault;
 use crate::path::{Key, Path};
@@ -12,8 +16,8 @@ use std::alloc::Global;
 use topo_core::ids::{EdgeId, VertexId};
 use topo_core::listed::Listed;
 
-/// A type that can be read from a JSON value. Its `form` says what a value is read as, or which fault
-/// is its first.
+/// A type that can be read from a JSON value. Its `form` says what a value is read as, or which
+/// fault is its first.
 pub trait Form: Drop {
     ghost use Rattle.serde_json.specs.Data.{Data};
     ghost use Rattle.topo_forms.specs.declared.path.Path.{Path};
@@ -141,7 +145,8 @@ pub fn read_three<A: Form, B: Form, C: Form>(
     third: Key,
     value: &Value,
 ) -> Result<(A, B, C), ScriptFault>
-    ensures { Gives result (three_members A.form B.form C.form path first second third (view value.now)) }
+    ensures { Gives result
+        (three_members A.form B.form C.form path first second third (view value.now)) }
 {
     let (a, b) = read_two(alloc, path, first, second, value)?;
     let c = read_member(alloc, path, third, value)?;

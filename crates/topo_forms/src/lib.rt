@@ -1,7 +1,8 @@
 //! The JSON forms of the project, read: scripts, pictures, reports, and the lines of a session.
 //!
-//! `read_script`, `read_rows`, `read_report`, `read_opening` and `read_request` give what the definitions of
-//! `specs/` give on the value of a text: the form, or its first fault with its path. `docs/FORMATS.md` has the forms in words.
+//! `read_script`, `read_rows`, `read_report`, `read_opening` and `read_request` give what the
+//! definitions of `specs/` give on the value of a text: the form, or its first fault with its path.
+//! `docs/FORMATS.md` has the forms in words.
 #![tactic(auto)]
 
 mod calls;

@@ -87,8 +87,8 @@ pub enum Step {
 }
 
 /// A place in a text: the steps that lead there from the whole. It is printed as `$` and then, for
-/// each step, `/` and the key or the index. No form nests deeper than six steps, and a path holds no
-/// more.
+/// each step, `/` and the key or the index. No form nests deeper than six steps, and a path holds
+/// no more.
 #[derive(Clone, Copy, Debug, PartialEq, Eq)]
 pub struct Path {
     pub first: Option<Step>,
@@ -197,7 +197,8 @@ fn write_three<W: fmt::Write>(
     c: &Option<Step>,
     f: &mut fmt::Formatter<W>,
 ) -> fmt::Result
-    ensures { DisplaysOnOk W.write_str_gives f.old result (Some (three_text a.now b.now c.now)) f.new }
+    ensures { DisplaysOnOk W.write_str_gives f.old result
+        (Some (three_text a.now b.now c.now)) f.new }
 {
     write_step(a, f)?;
     write_step(b, f)?;

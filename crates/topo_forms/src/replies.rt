@@ -3,7 +3,10 @@
 ghost use Rattle.std.specs.Prelude.{◌≡◌, option_map};
 ghost use Rattle.serde_json.specs.View.{view};
 ghost use Rattle.topo_forms.specs.Reads.{Gives, long_form};
-ghost use Rattle.topo_forms.specs.ReplyForms.{is_number, is_pair, way_form, dart_form, refusal_form, cut_form, plain_refusal, deleted_form, refused_form, grown_form, inserted_form, reply_form, entry_form};
+ghost use Rattle.topo_forms.specs.ReplyForms.{is_number, is_pair, way_form, dart_form};
+ghost use Rattle.topo_forms.specs.ReplyForms.{refusal_form, cut_form, plain_refusal};
+ghost use Rattle.topo_forms.specs.ReplyForms.{deleted_form, refused_form, grown_form};
+ghost use Rattle.topo_forms.specs.ReplyForms.{inserted_form, reply_form, entry_form};
 
 use crate::fault::ScriptFault;
 use crate::form::{

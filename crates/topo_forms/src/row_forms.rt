@@ -2,7 +2,8 @@
 
 ghost use Rattle.std.specs.Prelude.{◌≡◌};
 ghost use Rattle.topo_forms.specs.Reads.{Gives};
-ghost use Rattle.topo_forms.specs.RowForms.{sign_form, edge_form, crossing_form, rows_form, rows_of};
+ghost use Rattle.topo_forms.specs.RowForms.{sign_form, edge_form};
+ghost use Rattle.topo_forms.specs.RowForms.{crossing_form, rows_form, rows_of};
 
 use crate::fault::ScriptFault;
 use crate::form::{Form, check_keys, is_text, parse, read_three, read_two};

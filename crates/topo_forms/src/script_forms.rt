@@ -4,11 +4,14 @@ ghost use Rattle.std.specs.Prelude.{◌≡◌, ◌&&◌, [], nat_lt, nat_le, is_
 ghost use Rattle.serde_json.specs.View.{view};
 ghost use Rattle.serde_json.specs.Find.{as_object};
 ghost use Rattle.topo_forms.specs.declared.fault.ScriptFault.TheVariants.{BadShape};
-ghost use Rattle.topo_forms.specs.Reads.{Gives, passes, both, element_count, member_form, member_or};
+ghost use Rattle.topo_forms.specs.Reads.{Gives, passes, both, element_count};
+ghost use Rattle.topo_forms.specs.Reads.{member_form, member_or};
 ghost use Rattle.topo_forms.specs.RowForms.{rows_form};
 ghost use Rattle.topo_forms.specs.Paths.{whole};
 ghost use Rattle.topo_forms.specs.declared.path.Key.TheVariants.{Prices, Start, Workers};
-ghost use Rattle.topo_forms.specs.Scripts.{limits_form, nulls_of, nulls_in, prices_form, picture_form, start_form, workers_form, script_form, script_of, report_form, report_of};
+ghost use Rattle.topo_forms.specs.Scripts.{limits_form, nulls_of, nulls_in, prices_form};
+ghost use Rattle.topo_forms.specs.Scripts.{picture_form, start_form, workers_form};
+ghost use Rattle.topo_forms.specs.Scripts.{script_form, script_of, report_form, report_of};
 
 use crate::fault::ScriptFault;
 use crate::form::{
@@ -146,7 +149,8 @@ impl Form for Option<Rows> {
 
 /// Tests that there are 1 to 16 lists of commands.
 fn check_workers(path: Path, value: &Value) -> Result<(), ScriptFault>
-    ensures { result ≡ passes (BadShape path) (nat_lt 0 (element_count (view value.now)) && nat_le (element_count (view value.now)) 16) }
+    ensures { result ≡ passes (BadShape path)
+        (nat_lt 0 (element_count (view value.now)) && nat_le (element_count (view value.now)) 16) }
 {
     let count = element_count(value);
     if 0 < count && count <= MAX_WORKERS {
@@ -228,7 +232,8 @@ fn prices_and_start(
     nulls: bool,
     value: &Value,
 ) -> Result<(Listed<Option<u32>>, Rows), ScriptFault>
-    ensures { Gives result (both (member_form (prices_form nulls) whole Prices (view value.now)) (member_form rows_form whole Start (view value.now))) }
+    ensures { Gives result (both (member_form (prices_form nulls) whole Prices (view value.now))
+        (member_form rows_form whole Start (view value.now))) }
 {
     let prices = read_price_member(alloc, nulls, value)?;
     let start = read_member(alloc, Path::WHOLE, Key::Start, value)?;

@@ -12,8 +12,9 @@ pub struct LimitRows {
     pub crossings: u32,
 }
 
-/// What a run is asked to do. The prices are those of kind 0, 1, ..; a kind past the end has price 1,
-/// and a price may be none, so that nothing crosses edges of this kind. No start is the first picture.
+/// What a run is asked to do. The prices are those of kind 0, 1, ..; a kind past the end has price
+/// 1, and a price may be none, so that nothing crosses edges of this kind. No start is the first
+/// picture.
 #[derive(Drop, Debug)]
 pub struct Script {
     pub limits: LimitRows,

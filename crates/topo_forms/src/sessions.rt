@@ -3,7 +3,8 @@
 ghost use Rattle.std.specs.Prelude.{◌≡◌};
 ghost use Rattle.serde_json.specs.View.{view};
 ghost use Rattle.topo_forms.specs.Reads.{Gives};
-ghost use Rattle.topo_forms.specs.Sessions.{carry_form, opening_form, opening_of, request_form, request_of};
+ghost use Rattle.topo_forms.specs.Sessions.{carry_form, opening_form, opening_of};
+ghost use Rattle.topo_forms.specs.Sessions.{request_form, request_of};
 
 use crate::fault::ScriptFault;
 use crate::form::{Form, check_keys, is_text, parse, read_member_or};
@@ -18,8 +19,8 @@ use topo_core::calls::Command;
 use topo_core::listed::Listed;
 use topo_core::rows::Rows;
 
-/// The greatest number of bytes that a line of a session may have, but the first, which may have as many
-/// as a picture.
+/// The greatest number of bytes that a line of a session may have, but the first, which may have as
+/// many as a picture.
 pub const MAX_LINE_BYTES: usize = 65_536;
 
 /// What a session begins with: a script without its lists. No start is the first picture.

@@ -2,9 +2,11 @@
 
 ghost use Rattle.std.specs.Prelude.{◌≡◌, ◌∷◌, IfSome, Ok, codes};
 ghost use Rattle.json.specs.Token.{begin_object, key};
-ghost use Rattle.serde_json.specs.Data.{array, item, no_items, number as number_data, string as string_data, unsigned};
+ghost use Rattle.serde_json.specs.Data.{array, item, no_items, number as number_data};
+ghost use Rattle.serde_json.specs.Data.{string as string_data, unsigned};
 ghost use Rattle.topo_forms.specs.declared.path.Path.{Path};
-ghost use Rattle.topo_forms.specs.ReplyForms.{way_form, dart_form, refusal_form, reply_form, entry_form};
+ghost use Rattle.topo_forms.specs.ReplyForms.{way_form, dart_form, refusal_form};
+ghost use Rattle.topo_forms.specs.ReplyForms.{reply_form, entry_form};
 ghost use Rattle.topo_forms.specs.Tokens.{Spells};
 ghost use Rattle.topo_forms.specs.TokenParts.{SpellsRefusal};
 
@@ -56,7 +58,10 @@ impl FromTokens for Dart {
 /// A refusal without a segment, and its name.
 #[tactic(auto, unfolding(crate::specs::ReplyForms::refusal_form, crate::specs::ReplyForms::plain_refusal))]
 fn refusal_of(number: u64) -> Option<(&'static str, Refusal)>
-    ensures { IfSome result (λ named. (path : Path) → refusal_form path (array (item (number_data (unsigned number)) (item (string_data named.0.now) no_items))) ≡ Ok named.1) }
+    ensures { IfSome result
+        (λ named. (path : Path)
+        → refusal_form path (array (item (number_data (unsigned number))
+        (item (string_data named.0.now) no_items))) ≡ Ok named.1) }
 {
     match number {
         1 => Some(("NoVertex", Refusal::NoVertex)),
@@ -117,7 +122,8 @@ impl FromTokens for Refusal {
 
 /// What follows the key of a deletion.
 fn token_deleted(alloc: Global, reader: &mut Reader<'_>) -> Option<Reply>
-    ensures { IfSome result (λ reply. Spells 3 reply_form (begin_object ∷ key (codes "deleted") ∷ reader.old) reply reader.new) }
+    ensures { IfSome result (λ reply. Spells 3 reply_form
+        (begin_object ∷ key (codes "deleted") ∷ reader.old) reply reader.new) }
 {
     let edge = EdgeId::from_tokens(alloc, reader)?;
     end_object(reader)?;
@@ -126,7 +132,8 @@ fn token_deleted(alloc: Global, reader: &mut Reader<'_>) -> Option<Reply>
 
 /// What follows the key of a refusal.
 fn token_refused(alloc: Global, reader: &mut Reader<'_>) -> Option<Reply>
-    ensures { IfSome result (λ reply. Spells 3 reply_form (begin_object ∷ key (codes "refused") ∷ reader.old) reply reader.new) }
+    ensures { IfSome result (λ reply. Spells 3 reply_form
+        (begin_object ∷ key (codes "refused") ∷ reader.old) reply reader.new) }
 {
     let why = Refusal::from_tokens(alloc, reader)?;
     end_object(reader)?;
@@ -135,7 +142,8 @@ fn token_refused(alloc: Global, reader: &mut Reader<'_>) -> Option<Reply>
 
 /// What follows the first key of a growth.
 fn token_grown(alloc: Global, reader: &mut Reader<'_>) -> Option<Reply>
-    ensures { IfSome result (λ reply. Spells 3 reply_form (begin_object ∷ key (codes "edge") ∷ reader.old) reply reader.new) }
+    ensures { IfSome result (λ reply. Spells 3 reply_form
+        (begin_object ∷ key (codes "edge") ∷ reader.old) reply reader.new) }
 {
     let edge = EdgeId::from_tokens(alloc, reader)?;
     let vertex = next_member(alloc, Key::Vertex, reader)?;
@@ -145,7 +153,8 @@ fn token_grown(alloc: Global, reader: &mut Reader<'_>) -> Option<Reply>
 
 /// What follows the first key of an insertion.
 fn token_inserted(alloc: Global, reader: &mut Reader<'_>) -> Option<Reply>
-    ensures { IfSome result (λ reply. Spells 3 reply_form (begin_object ∷ key (codes "crossed") ∷ reader.old) reply reader.new) }
+    ensures { IfSome result (λ reply. Spells 3 reply_form
+        (begin_object ∷ key (codes "crossed") ∷ reader.old) reply reader.new) }
 {
     let crossed = Listed::from_tokens(alloc, reader)?;
     let (id, end) = next_two(alloc, Key::Edge, Key::End, reader)?;
@@ -161,7 +170,8 @@ fn token_inserted(alloc: Global, reader: &mut Reader<'_>) -> Option<Reply>
 
 /// What follows the first key of a reply.
 fn reply_after(alloc: Global, name: &str, reader: &mut Reader<'_>) -> Option<Reply>
-    ensures { IfSome result (λ reply. Spells 3 reply_form (begin_object ∷ key name.now ∷ reader.old) reply reader.new) }
+    ensures { IfSome result
+        (λ reply. Spells 3 reply_form (begin_object ∷ key name.now ∷ reader.old) reply reader.new) }
 {
     if name == "deleted" {
         token_deleted(alloc, reader)

@@ -70,7 +70,8 @@ impl FromTokens for CrossRow {
 
 /// What follows the brace that opens rows.
 pub fn token_members(alloc: Global, reader: &mut Reader<'_>) -> Option<Rows>
-    ensures { IfSome result (λ rows. Spells 4 rows_form (begin_object ∷ reader.old) rows reader.new) }
+    ensures { IfSome result
+        (λ rows. Spells 4 rows_form (begin_object ∷ reader.old) rows reader.new) }
 {
     let (crossings, edges) = next_two(alloc, Key::Crossings, Key::Edges, reader)?;
     let (next_crossing, next_edge, rotations) = next_three(

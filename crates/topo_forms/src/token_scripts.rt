@@ -27,7 +27,8 @@ use topo_core::rows::Rows;
 
 /// What follows the word of a planned insertion.
 fn token_planned(alloc: Global, reader: &mut Reader<'_>) -> Option<Command>
-    ensures { IfSome result (λ command. Spells 1 command_form (begin_array ∷ string (codes "planned") ∷ reader.old) command reader.new) }
+    ensures { IfSome result (λ command. Spells 1 command_form
+        (begin_array ∷ string (codes "planned") ∷ reader.old) command reader.new) }
 {
     let (u, v, kind) = last_numbers(alloc, reader)?;
     Some(Command::Planned { u, v, kind })
@@ -35,7 +36,8 @@ fn token_planned(alloc: Global, reader: &mut Reader<'_>) -> Option<Command>
 
 /// What follows the word of a call.
 fn token_plain(alloc: Global, word: &str, reader: &mut Reader<'_>) -> Option<Command>
-    ensures { IfSome result (λ command. Spells 1 command_form (begin_array ∷ string word.now ∷ reader.old) command reader.new) }
+    ensures { IfSome result (λ command. Spells 1 command_form
+        (begin_array ∷ string word.now ∷ reader.old) command reader.new) }
 {
     let call = call_after(alloc, word, reader)?;
     Some(Command::Plain(call))
@@ -43,7 +45,8 @@ fn token_plain(alloc: Global, word: &str, reader: &mut Reader<'_>) -> Option<Com
 
 /// What follows the word of a command.
 fn token_command(alloc: Global, word: &str, reader: &mut Reader<'_>) -> Option<Command>
-    ensures { IfSome result (λ command. Spells 1 command_form (begin_array ∷ string word.now ∷ reader.old) command reader.new) }
+    ensures { IfSome result (λ command. Spells 1 command_form
+        (begin_array ∷ string word.now ∷ reader.old) command reader.new) }
 {
     if word == "planned" {
         token_planned(alloc, reader)
@@ -88,7 +91,8 @@ fn optional_member<'a, T: FromTokens>(
     name: &'a str,
     reader: &mut Reader<'a>,
 ) -> Option<(Option<T>, &'a str)>
-    ensures { IfSome result (λ r. SpellsOptional T.nesting T.form (key_name wanted) (key name.now ∷ reader.old) r.0 (key r.1.now ∷ reader.new)) }
+    ensures { IfSome result (λ r. SpellsOptional T.nesting T.form (key_name wanted)
+        (key name.now ∷ reader.old) r.0 (key r.1.now ∷ reader.new)) }
 {
     if name != wanted.name() {
         return Some((None, name));
@@ -98,8 +102,8 @@ fn optional_member<'a, T: FromTokens>(
     Some((Some(found), next))
 }
 
-/// Three members behind this key, where it and those that follow are the keys that are asked for, and the
-/// key that comes next.
+/// Three members behind this key, where it and those that follow are the keys that are asked for,
+/// and the key that comes next.
 pub(crate) fn optional_members<'a, A: FromTokens, B: FromTokens, C: FromTokens>(
     alloc: Global,
     first: Key,
@@ -108,7 +112,9 @@ pub(crate) fn optional_members<'a, A: FromTokens, B: FromTokens, C: FromTokens>(
     name: &'a str,
     reader: &mut Reader<'a>,
 ) -> Option<((Option<A>, Option<B>, Option<C>), &'a str)>
-    ensures { IfSome result (λ r. SpellsOptionals A.nesting B.nesting C.nesting A.form B.form C.form (key_name first) (key_name second) (key_name third) (key name.now ∷ reader.old) r.0.0 r.0.1 r.0.2 (key r.1.now ∷ reader.new)) }
+    ensures { IfSome result (λ r. SpellsOptionals A.nesting B.nesting C.nesting A.form B.form C.form
+        (key_name first) (key_name second) (key_name third)
+        (key name.now ∷ reader.old) r.0.0 r.0.1 r.0.2 (key r.1.now ∷ reader.new)) }
 {
     let Some((a, name)) = optional_member(alloc, first, name, reader) else {
         return None;
@@ -124,7 +130,8 @@ pub(crate) fn optional_members<'a, A: FromTokens, B: FromTokens, C: FromTokens>(
 
 /// One to sixteen lists of commands.
 fn token_workers(alloc: Global, reader: &mut Reader<'_>) -> Option<Listed<Listed<Command>>>
-    ensures { IfSome result (λ workers. SpellsMember 3 workers_form (key_name Workers) reader.old workers reader.new) }
+    ensures { IfSome result
+        (λ workers. SpellsMember 3 workers_form (key_name Workers) reader.old workers reader.new) }
 {
     let workers: Listed<Listed<Command>> = next_member(alloc, Key::Workers, reader)?;
     let count = workers.len();
@@ -141,7 +148,8 @@ fn token_ending(
     name: &str,
     reader: &mut Reader<'_>,
 ) -> Option<(u32, Listed<Listed<Command>>)>
-    ensures { IfSome result (λ found. SpellsLists (key name.now ∷ reader.old) found.0 found.1 reader.new) }
+    ensures { IfSome result
+        (λ found. SpellsLists (key name.now ∷ reader.old) found.0 found.1 reader.new) }
 {
     if name != Key::Version.name() {
         return None;

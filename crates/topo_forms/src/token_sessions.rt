@@ -17,7 +17,8 @@ use topo_core::listed::Listed;
 
 /// What follows the members of an opening that may be missing: its version.
 fn token_version(alloc: Global, name: &str, reader: &mut Reader<'_>) -> Option<u32>
-    ensures { IfSome result (λ version. SpellsVersion (key name.now ∷ reader.old) version reader.new) }
+    ensures { IfSome result
+        (λ version. SpellsVersion (key name.now ∷ reader.old) version reader.new) }
 {
     if name != Key::Version.name() {
         return None;

@@ -8,7 +8,8 @@ ghost use Rattle.serde_json.specs.Data.{unsigned};
 ghost use Rattle.serde_json.specs.Read.{number_of};
 ghost use Rattle.topo_forms.specs.Paths.{key_name};
 ghost use Rattle.topo_forms.specs.Reads.{number_form, long_form, list_form};
-ghost use Rattle.topo_forms.specs.Tokens.{Spells, SpellsItems, SpellsMember, SpellsNumber, SpellsNumbers, SpellsText, SpellsThree, SpellsTwo};
+ghost use Rattle.topo_forms.specs.Tokens.{Spells, SpellsItems, SpellsMember, SpellsNumber};
+ghost use Rattle.topo_forms.specs.Tokens.{SpellsNumbers, SpellsText, SpellsThree, SpellsTwo};
 
 use crate::path::Key;
 use fast_float::Numeral;
@@ -17,9 +18,9 @@ use std::alloc::Global;
 use topo_core::ids::{EdgeId, VertexId};
 use topo_core::listed::Listed;
 
-/// A type whose form can be read from tokens, as our own writer writes them: the keys of an object in
-/// order, and numbers as digits. Nothing is read from other tokens, though they may spell the form too.
-/// Its `nesting` says how deep the arrays and objects of the form nest at most.
+/// A type whose form can be read from tokens, as our own writer writes them: the keys of an object
+/// in order, and numbers as digits. Nothing is read from other tokens, though they may spell the
+/// form too. Its `nesting` says how deep the arrays and objects of the form nest at most.
 pub trait FromTokens: Drop {
     ghost use Rattle.std.specs.Prelude.{ℕ};
     ghost use Rattle.serde_json.specs.Data.{Data};
@@ -192,7 +193,8 @@ fn take_key(key: Key, reader: &mut Reader<'_>) -> Option<()>
 
 /// What the next member spells, which has this key.
 pub fn next_member<T: FromTokens>(alloc: Global, key: Key, reader: &mut Reader<'_>) -> Option<T>
-    ensures { IfSome result (λ a. SpellsMember T.nesting T.form (key_name key) reader.old a reader.new) }
+    ensures { IfSome result
+        (λ a. SpellsMember T.nesting T.form (key_name key) reader.old a reader.new) }
 {
     take_key(key, reader)?;
     T::from_tokens(alloc, reader)
@@ -205,7 +207,8 @@ pub fn next_two<A: FromTokens, B: FromTokens>(
     second: Key,
     reader: &mut Reader<'_>,
 ) -> Option<(A, B)>
-    ensures { IfSome result (λ found. SpellsTwo A.nesting B.nesting A.form B.form (key_name first) (key_name second) reader.old found.0 found.1 reader.new) }
+    ensures { IfSome result (λ found. SpellsTwo A.nesting B.nesting A.form B.form (key_name first)
+        (key_name second) reader.old found.0 found.1 reader.new) }
 {
     let a = next_member(alloc, first, reader)?;
     let b = next_member(alloc, second, reader)?;
@@ -220,7 +223,9 @@ pub fn next_three<A: FromTokens, B: FromTokens, C: FromTokens>(
     third: Key,
     reader: &mut Reader<'_>,
 ) -> Option<(A, B, C)>
-    ensures { IfSome result (λ found. SpellsThree A.nesting B.nesting C.nesting A.form B.form C.form (key_name first) (key_name second) (key_name third) reader.old found.0 found.1 found.2 reader.new) }
+    ensures { IfSome result (λ found. SpellsThree A.nesting B.nesting C.nesting A.form B.form C.form
+        (key_name first) (key_name second)
+        (key_name third) reader.old found.0 found.1 found.2 reader.new) }
 {
     let (a, b) = next_two(alloc, first, second, reader)?;
     let c = next_member(alloc, third, reader)?;

@@ -44,7 +44,8 @@ pub record IsStep (s s1 : Slab Segment) (i j : ℕ) : Type 0 where
   pub faces : face_in s1 ≡ face_in s
   pub exchange : IsExchange (face_next (next_in s)) (face_next (next_in s1)) i j
 
-pub part_labels : {s s1 : Slab Segment} (s2 : Slab Segment) {i j : ℕ} (y : ℕ) {label : ℕ} → IsStep s s1 i j → IsLabelled s label → face_in s i ≡ face_in s j → holds s y ≡ true
+pub part_labels : {s s1 : Slab Segment} (s2 : Slab Segment) {i j : ℕ} (y : ℕ) {label : ℕ} → IsStep s s1 i j → IsLabelled s label → face_in s i ≡ face_in s j
+    → holds s y ≡ true
     → SameCycle (face_next (next_in s1)) i y ⊎ SameCycle (face_next (next_in s1)) j y → IsPainted s1 s2 y label → IsLabelled s2 (label + 1)
 part_labels {s} {s1} s2 {i} {j} y {label} w was same hy side p =
     let l : ℕ → ℕ = face_in s in
@@ -70,7 +71,8 @@ part_labels {s} {s1} s2 {i} {j} y {label} w was same hy side p =
 
 -- ---- A step between two faces
 
-pub join_labels : {s s1 s2 : Slab Segment} {i j : ℕ} (y z : ℕ) {unused : ℕ} → IsKept s → IsStep s1 s2 i j → IsLabelled s unused → holds s y ≡ true → holds s z ≡ true
+pub join_labels : {s s1 s2 : Slab Segment} {i j : ℕ} (y z : ℕ) {unused : ℕ} → IsKept s → IsStep s1 s2 i j → IsLabelled s unused → holds s y ≡ true
+    → holds s z ≡ true
     → AreEnds (face_next (next_in s)) i j y z → face_in s y ≢ face_in s z → IsPainted s s1 y (face_in s z) → IsLabelled s2 unused
 join_labels {s} {s2} {i} {j} y z {unused} k w was hy hz side apart p =
     let l : ℕ → ℕ = face_in s in
@@ -84,8 +86,11 @@ join_labels {s} {s2} {i} {j} y z {unused} k w was hy hz side apart p =
     let m : ℕ → ℕ = painted (face_next f) n y (l z) l in
     let coarse : IsCoarse (holds s) (face_next f) m i j = share_painted y z here was.labels hy hz side in
     let two : SameCycle (face_next f) i j → ⊥ = λ v. apart (elim side [
-      | inl u ↦ was.labels.same_label y z hy hz (SameCycle-trans (face_next f) y i z u.0 (SameCycle-trans (face_next f) i j z v (SameCycle-sym (face_next f) n hf z j (k.within z hz) u.1)))
-      | inr u ↦ was.labels.same_label y z hy hz (SameCycle-trans (face_next f) y j z u.0 (SameCycle-trans (face_next f) j i z (SameCycle-sym (face_next f) n hf i j (k.within i hi) v) (SameCycle-sym (face_next f) n hf z i (k.within z hz) u.1)))
+      | inl u ↦ was.labels.same_label y z hy hz
+          (SameCycle-trans (face_next f) y i z u.0 (SameCycle-trans (face_next f) i j z v (SameCycle-sym (face_next f) n hf z j (k.within z hz) u.1)))
+      | inr u ↦ was.labels.same_label y z hy hz (SameCycle-trans (face_next f) y j z u.0
+          (SameCycle-trans (face_next f) j i z (SameCycle-sym (face_next f) n hf i j (k.within i hi) v)
+          (SameCycle-sym (face_next f) n hf z i (k.within z hz) u.1)))
     ]) in
     let x : IsExchange (face_next f) (face_next g) i j = subst (λ (h : ℕ → ℕ). IsExchange (face_next h) (face_next g) i j) p.next w.exchange in
     let done : LabelsFaces (holds s) g m = joined f g here x coarse two in
@@ -120,7 +125,8 @@ put_step {s} {x = x} {c = c} on t e = record {
   second = live_twin s x (twin x) refl on.live;
   live = t.live;
   faces = e;
-  exchange = subst (λ (g : ℕ → ℕ). IsExchange (face_next (next_in s)) (face_next g) (twin (before_in s c)) (twin x)) (sym t.next) (put_exchange (next_in s) (before_in s) x c (lone s x c on.kept on.alone on.different));
+  exchange = subst (λ (g : ℕ → ℕ). IsExchange (face_next (next_in s)) (face_next g) (twin (before_in s c)) (twin x)) (sym t.next)
+      (put_exchange (next_in s) (before_in s) x c (lone s x c on.kept on.alone on.different));
 }
 
 -- from the half before c along the face comes c, and from the twin of what stands alone that itself
@@ -139,7 +145,8 @@ put_parts {s} {s1} s2 {x} {c} {label} on was same t e p =
     let w : IsStep s s1 i j = put_step on t e in
     let f : ℕ → ℕ = face_next (next_in s) in
     let g : ℕ → ℕ = face_next (next_in s1) in
-    let equal : face_in s i ≡ face_in s j = was.labels.same_label i c w.first on.live_corner (step f i c (onto s c on.kept)) ∙ sym same ∙ sym (was.labels.same_label j x w.second on.live (step f j x (self s x ∙ on.alone))) in
+    let equal : face_in s i ≡ face_in s j = was.labels.same_label i c w.first on.live_corner (step f i c (onto s c on.kept)) ∙ sym same
+    ∙ sym (was.labels.same_label j x w.second on.live (step f j x (self s x ∙ on.alone))) in
     elim p [
       | inl v ↦ part_labels s2 x w was equal on.live (inl (step g i x (w.exchange.at_first ∙ self s x ∙ on.alone))) v
       | inr v ↦ part_labels s2 c w was equal on.live_corner (inr (step g j c (w.exchange.at_second ∙ onto s c on.kept))) v
@@ -169,7 +176,8 @@ put_joins {s} {s1} {s2} {x} {c} {unused} on a apart p t e = elim p [
     f = face_next (next_in s)
 
     c_i : SameCycle f c i
-    c_i = SameCycle-sym f half_limit (faces_permuted s on.kept) i c (on.kept.within i (live_twin s (before_in s c) i refl (live_before s c on.kept on.live_corner))) (step f i c (onto s c on.kept))
+    c_i = SameCycle-sym f half_limit (faces_permuted s on.kept) i c
+        (on.kept.within i (live_twin s (before_in s c) i refl (live_before s c on.kept on.live_corner))) (step f i c (onto s c on.kept))
 
     x_j : SameCycle f x j
     x_j = SameCycle-sym f half_limit (faces_permuted s on.kept) j x (on.kept.within j (live_twin s x j refl on.live)) (step f j x (self s x ∙ on.alone))
@@ -194,7 +202,8 @@ without_step s s1 x k hx t e = record {
   second = live_twin s x (twin x) refl hx;
   live = t.live;
   faces = e;
-  exchange = subst (λ (g : ℕ → ℕ). IsExchange (face_next (next_in s)) (face_next g) (twin (before_in s x)) (twin x)) (sym t.next) (without_exchange (next_in s) (before_in s) x k.inverse);
+  exchange = subst (λ (g : ℕ → ℕ). IsExchange (face_next (next_in s)) (face_next g) (twin (before_in s x)) (twin x)) (sym t.next)
+      (without_exchange (next_in s) (before_in s) x k.inverse);
 }
 
 -- a half that is taken out, its twin, and the half that it turns to
@@ -204,7 +213,8 @@ pub record IsDetachable (s : Slab Segment) (x y on : ℕ) : Type 0 where
   pub other : y ≡ twin x
   pub onward : on ≡ next_in s x
 
-pub without_parts : {s s1 : Slab Segment} (s2 : Slab Segment) {x y on label : ℕ} → IsDetachable s x y on → IsLabelled s label → face_in s x ≡ face_in s y → IsTurned s s1 (without (next_in s) x) → face_in s1 ≡ face_in s
+pub without_parts : {s s1 : Slab Segment} (s2 : Slab Segment) {x y on label : ℕ} → IsDetachable s x y on → IsLabelled s label → face_in s x ≡ face_in s y
+    → IsTurned s s1 (without (next_in s) x) → face_in s1 ≡ face_in s
     → IsPainted s1 s2 x label ⊎ IsPainted s1 s2 on label → IsLabelled s2 (label + 1)
 without_parts {s} {s1} s2 {x} {y} {on} {label} d was same t e p =
     let ho : holds s on ≡ true = ap (holds s) d.onward ∙ live_next s x d.kept d.live in

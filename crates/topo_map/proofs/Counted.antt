@@ -6,7 +6,9 @@ use Rattle.topo_perm.specs.Joins.{AddsSegment, IsConnectedAmong}
 use Rattle.topo_perm.specs.Live.{IsSlab, live_cycle_count}
 use Rattle.topo_perm.specs.LiveEdits.{GrowsSlab, ShrinksSlab}
 use Rattle.topo_perm.proofs.edits.Connecting.{hang_connects, chord_connects, split_connects, unchord_connects, smooth_connects}
-use Rattle.topo_perm.proofs.edits.SlabEdits.{hang_keeps_slab, hang_live_points, hang_live_faces, chord_keeps_slab, chord_live_points, chord_live_faces, split_keeps_slab, split_live_points, split_live_faces, unchord_keeps_slab, unchord_live_points, unchord_live_faces, smooth_keeps_slab, smooth_live_points, smooth_live_faces}
+use Rattle.topo_perm.proofs.edits.SlabEdits.{hang_keeps_slab, hang_live_points, hang_live_faces, chord_keeps_slab, chord_live_points}
+use Rattle.topo_perm.proofs.edits.SlabEdits.{chord_live_faces, split_keeps_slab, split_live_points, split_live_faces, unchord_keeps_slab}
+use Rattle.topo_perm.proofs.edits.SlabEdits.{unchord_live_points, unchord_live_faces, smooth_keeps_slab, smooth_live_points, smooth_live_faces}
 use Rattle.topo_map.specs.Rotation.{IsWhole, half_limit}
 
 -- so many points and faces more
@@ -20,7 +22,8 @@ pub record Fewer (live live' : ℕ → Bool) (f g : ℕ → ℕ) (p q : ℕ) : T
   pub faces : live_cycle_count live' (face_next g) half_limit + q ≡ live_cycle_count live (face_next f) half_limit
   pub connected : IsConnectedAmong live f half_limit → IsConnectedAmong live' g half_limit
 
-pub hang_more : (live live' : ℕ → Bool) (f g : ℕ → ℕ) (c x : ℕ) → IsWhole live f → AddsSegment live live' half_limit x → live c ≡ true → IsAllowedHang f g half_limit c x → More live live' f g 1 0
+pub hang_more : (live live' : ℕ → Bool) (f g : ℕ → ℕ) (c x : ℕ) → IsWhole live f → AddsSegment live live' half_limit x → live c ≡ true
+    → IsAllowedHang f g half_limit c x → More live live' f g 1 0
 hang_more live live' f g c x w t alive k =
     let s : IsSlab live' g half_limit = hang_keeps_slab live live' f g half_limit c x w.slab t alive k in
     let e : GrowsSlab live live' f g half_limit x = record { before = w.slab; after = s; within = k.turns.within; adds = t } in
@@ -30,7 +33,8 @@ hang_more live live' f g c x w t alive k =
       connected = hang_connects f g live live' half_limit c x k t alive;
     }
 
-pub chord_more : {live live' : ℕ → Bool} {f g : ℕ → ℕ} {c d x : ℕ} → IsWhole live f → AddsSegment live live' half_limit x → live c ≡ true → live d ≡ true → IsAllowedChord f g half_limit c d x → More live live' f g 0 1
+pub chord_more : {live live' : ℕ → Bool} {f g : ℕ → ℕ} {c d x : ℕ} → IsWhole live f → AddsSegment live live' half_limit x → live c ≡ true → live d ≡ true
+    → IsAllowedChord f g half_limit c d x → More live live' f g 0 1
 chord_more {live} {live'} {f} {g} {c} {d} {x} w t alive alive_d k =
     let s : IsSlab live' g half_limit = chord_keeps_slab live live' f g half_limit c d x w.slab t alive alive_d k in
     let e : GrowsSlab live live' f g half_limit x = record { before = w.slab; after = s; within = k.turns.within; adds = t } in
@@ -40,7 +44,8 @@ chord_more {live} {live'} {f} {g} {c} {d} {x} w t alive alive_d k =
       connected = chord_connects f g live live' half_limit c d x k t alive;
     }
 
-pub split_more : (live live' : ℕ → Bool) (f g : ℕ → ℕ) (h x : ℕ) → IsWhole live f → AddsSegment live live' half_limit x → live h ≡ true → IsAllowedSplit f g half_limit h x → More live live' f g 1 0
+pub split_more : (live live' : ℕ → Bool) (f g : ℕ → ℕ) (h x : ℕ) → IsWhole live f → AddsSegment live live' half_limit x → live h ≡ true
+    → IsAllowedSplit f g half_limit h x → More live live' f g 1 0
 split_more live live' f g h x w t alive k =
     let s : IsSlab live' g half_limit = split_keeps_slab live live' f g half_limit h x w.slab t alive k in
     let e : GrowsSlab live live' f g half_limit x = record { before = w.slab; after = s; within = k.turns.within; adds = t } in
@@ -50,7 +55,8 @@ split_more live live' f g h x w t alive k =
       connected = split_connects f g live live' half_limit h x k t alive;
     }
 
-pub unchord_fewer : (live live' : ℕ → Bool) (f g : ℕ → ℕ) (h : ℕ) → IsWhole live f → AddsSegment live' live half_limit h → IsAllowedUnchord f g half_limit h → Fewer live live' f g 0 1
+pub unchord_fewer : (live live' : ℕ → Bool) (f g : ℕ → ℕ) (h : ℕ) → IsWhole live f → AddsSegment live' live half_limit h → IsAllowedUnchord f g half_limit h
+    → Fewer live live' f g 0 1
 unchord_fewer live live' f g h w t k =
     let s : IsSlab live' g half_limit = unchord_keeps_slab live live' f g half_limit h w.slab t k in
     let e : ShrinksSlab live live' f g half_limit h = record { before = w.slab; after = s; within = k.turns.within; takes = t } in
@@ -60,7 +66,8 @@ unchord_fewer live live' f g h w t k =
       connected = unchord_connects f g live live' half_limit h k t;
     }
 
-pub smooth_fewer : (live live' : ℕ → Bool) (f g : ℕ → ℕ) (x : ℕ) → IsWhole live f → AddsSegment live' live half_limit x → IsAllowedSmooth f g half_limit x → Fewer live live' f g 1 0
+pub smooth_fewer : (live live' : ℕ → Bool) (f g : ℕ → ℕ) (x : ℕ) → IsWhole live f → AddsSegment live' live half_limit x → IsAllowedSmooth f g half_limit x
+    → Fewer live live' f g 1 0
 smooth_fewer live live' f g x w t k =
     let s : IsSlab live' g half_limit = smooth_keeps_slab live live' f g half_limit x w.slab t k in
     let e : ShrinksSlab live live' f g half_limit x = record { before = w.slab; after = s; within = k.turns.within; takes = t } in

@@ -16,18 +16,23 @@ comes old new x g = record { within = g.within; adds = g.live; permutation = g.e
 pub goes : (old new : Rotation) (x : ℕ) → IsEmbedding old → is_live old x ≡ true → Shrinks old new x → Goes half_limit (turning_of old) x (turning_of new)
 goes old new x whole alive s = record { there = live_half old x whole alive; takes = s.live; permutation = s.embedding.slab.permutation }
 
-pub hang_step : (old new : Rotation) (c x : ℕ) → IsEmbedding old → is_live old c ≡ true → IsHang (turn old) (turn new) half_limit c x → Grows old new x → IsStep half_limit (turning_of old) (Hang c x) (turning_of new)
+pub hang_step : (old new : Rotation) (c x : ℕ) → IsEmbedding old → is_live old c ≡ true → IsHang (turn old) (turn new) half_limit c x → Grows old new x
+    → IsStep half_limit (turning_of old) (Hang c x) (turning_of new)
 hang_step old new c x whole alive edit g = (comes old new x g, live_half old c whole alive, edit)
 
-pub chord_step : (old new : Rotation) (c d x : ℕ) → IsEmbedding old → is_live old c ≡ true → is_live old d ≡ true → IsChord (turn old) (turn new) half_limit c d x → Grows old new x
+pub chord_step : (old new : Rotation) (c d x : ℕ) → IsEmbedding old → is_live old c ≡ true → is_live old d ≡ true
+    → IsChord (turn old) (turn new) half_limit c d x → Grows old new x
     → IsStep half_limit (turning_of old) (Chord c d x) (turning_of new)
 chord_step old new c d x whole alive alive_end edit g = (comes old new x g, (live_half old c whole alive, live_half old d whole alive_end), edit)
 
-pub split_step : (old new : Rotation) (h x : ℕ) → IsEmbedding old → is_live old h ≡ true → IsSplit (turn old) (turn new) half_limit h x → Grows old new x → IsStep half_limit (turning_of old) (Split h x) (turning_of new)
+pub split_step : (old new : Rotation) (h x : ℕ) → IsEmbedding old → is_live old h ≡ true → IsSplit (turn old) (turn new) half_limit h x → Grows old new x
+    → IsStep half_limit (turning_of old) (Split h x) (turning_of new)
 split_step old new h x whole alive edit g = (comes old new x g, live_half old h whole alive, edit)
 
-pub unchord_step : (old new : Rotation) (h : ℕ) → IsEmbedding old → is_live old h ≡ true → IsUnchord (turn old) (turn new) half_limit h → Shrinks old new h → IsStep half_limit (turning_of old) (Unchord h) (turning_of new)
+pub unchord_step : (old new : Rotation) (h : ℕ) → IsEmbedding old → is_live old h ≡ true → IsUnchord (turn old) (turn new) half_limit h → Shrinks old new h
+    → IsStep half_limit (turning_of old) (Unchord h) (turning_of new)
 unchord_step old new h whole alive edit s = (goes old new h whole alive s, edit)
 
-pub smooth_step : (old new : Rotation) (x : ℕ) → IsEmbedding old → is_live old x ≡ true → turn old x ≢ twin x → IsSmooth (turn old) (turn new) half_limit x → Shrinks old new x → IsStep half_limit (turning_of old) (Smooth x) (turning_of new)
+pub smooth_step : (old new : Rotation) (x : ℕ) → IsEmbedding old → is_live old x ≡ true → turn old x ≢ twin x → IsSmooth (turn old) (turn new) half_limit x
+    → Shrinks old new x → IsStep half_limit (turning_of old) (Smooth x) (turning_of new)
 smooth_step old new x whole alive two edit s = (goes old new x whole alive s, two, edit)

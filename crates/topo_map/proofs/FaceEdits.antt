@@ -69,7 +69,9 @@ hung_labels {s} {s1} {s2} c {x} {label} {unused} st hc t f el e w =
     let k : IsKept s2 = done.added.sound in
     let ll : label < unused = subst (λ (v : ℕ). v < unused) (sym el) (w.below c hc) in
     record {
-      labels = hang_labels (holds s) (holds s2) (next_in s) (next_in s2) (face_in s) (face_in s2) half_limit c x (adds_below s s2 x st.sound k done.added.grows.live) hc done.allowed w.labels new.others (new.here ∙ el) (new.here_twin ∙ el);
+      labels = hang_labels (holds s) (holds s2) (next_in s) (next_in s2) (face_in s)
+          (face_in s2) half_limit c x (adds_below s s2 x st.sound k done.added.grows.live) hc done.allowed w.labels new.others (new.here ∙ el)
+          (new.here_twin ∙ el);
       below = new_below s unused k done.added.grows.live w.below new ll ll;
     }
 
@@ -81,8 +83,10 @@ split_labelled {s} {s'} {l} {h} {x} t {left} {right} {unused} k hh et done f el 
     let ht : holds s (twin h) ≡ true = live_twin s h (twin h) refl hh in
     let er' : right ≡ face_in s (twin h) = er ∙ ap (face_in s) et in
     record {
-      labels = split_labels (holds s) (holds s') (next_in s) (next_in s') (face_in s) (face_in s') half_limit h x (adds_below s s' x k k' done.added.grows.live) hh ht done.allowed w.labels new.others (new.here ∙ el) (new.here_twin ∙ er');
-      below = new_below s unused k' done.added.grows.live w.below new (subst (λ (v : ℕ). v < unused) (sym el) (w.below h hh)) (subst (λ (v : ℕ). v < unused) (sym er') (w.below (twin h) ht));
+      labels = split_labels (holds s) (holds s') (next_in s) (next_in s') (face_in s) (face_in s') half_limit h x (adds_below s s' x k k' done.added.grows.live)
+          hh ht done.allowed w.labels new.others (new.here ∙ el) (new.here_twin ∙ er');
+      below = new_below s unused k' done.added.grows.live w.below new (subst (λ (v : ℕ). v < unused) (sym el) (w.below h hh))
+          (subst (λ (v : ℕ). v < unused) (sym er') (w.below (twin h) ht));
     }
 
 pub smooth_labelled : (s s' : Slab Segment) (l : ℕ → ℕ) (x unused : ℕ) → IsKept s → IsSmoothed s s' x → l ≡ face_in s → KeepsLabels (holds s') l (face_in s')
@@ -92,9 +96,11 @@ smooth_labelled s s' l x unused k done e kept w =
     let t : AddsSegment (holds s') (holds s) half_limit x = done.taken.shrinks.live in
     let same : (b : ℕ) → holds s' b ≡ true → face_in s' b ≡ face_in s b = λ b h. kept b h ∙ ap (λ (m : ℕ → ℕ). m b) e in
     record {
-      labels = smooth_labels (holds s) (holds s') (next_in s) (next_in s') (face_in s) (face_in s') half_limit x (adds_below s' s x k' k t) done.allowed w.labels same;
+      labels = smooth_labels (holds s) (holds s') (next_in s) (next_in s') (face_in s)
+          (face_in s') half_limit x (adds_below s' s x k' k t) done.allowed w.labels same;
       below = λ b h.
-          let was : holds s b ≡ true = t.others b (k'.within b h) (λ z. false≢true (sym t.new ∙ ap (holds s') (sym z) ∙ h)) (λ z. false≢true (sym t.new_twin ∙ ap (holds s') (sym z) ∙ h)) ∙ h in
+          let was : holds s b ≡ true = t.others b (k'.within b h) (λ z. false≢true (sym t.new ∙ ap (holds s') (sym z) ∙ h))
+          (λ z. false≢true (sym t.new_twin ∙ ap (holds s') (sym z) ∙ h)) ∙ h in
           subst (λ (v : ℕ). v < unused) (sym (same b h)) (w.below b was);
     }
 
@@ -114,11 +120,13 @@ unhung_labels {s} {s1} {s2} {s3} {h} t {unused} hh et u v e r kept w =
     let g : ℕ → ℕ = face_next (next_in s2) in
     let fixed : next_in s1 h ≡ h = self_alone s s1 h u in
     let two : SameCycle f i j = record { steps = 2; leads = ap f (onto s1 t u.kept) ∙ ap (next_in s1) ej ∙ fixed ∙ sym ej } in
-    let coarse : IsCoarse (holds s1) g (face_in s1) i j = parted (next_in s2) (scene s1 i j u.kept x.first x.second) x.exchange w.labels (w.labels.same_label i j x.first x.second two) in
+    let coarse : IsCoarse (holds s1) g (face_in s1) i j =
+    parted (next_in s2) (scene s1 i j u.kept x.first x.second) x.exchange w.labels (w.labels.same_label i j x.first x.second two) in
     let hg : IsPermutation g half_limit = faces_permuted s2 v.kept in
     let isolated : IsIsolated (next_in s2) t = grind (arith, without_alone, unchord_alone) in
     let was : (b : ℕ) → holds s3 b ≡ true → holds s1 b ≡ true = λ b hb.
-    ap (λ (p : ℕ → Bool). p b) (sym v.live) ∙ r.live.others b (r.kept.within b hb) (λ z. false≢true (sym r.live.new ∙ ap (holds s3) (sym z) ∙ hb)) (λ z. false≢true (sym r.live.new_twin ∙ ap (holds s3) (sym z) ∙ hb)) ∙ hb in
+    ap (λ (p : ℕ → Bool). p b) (sym v.live) ∙ r.live.others b (r.kept.within b hb) (λ z. false≢true (sym r.live.new ∙ ap (holds s3) (sym z) ∙ hb))
+    (λ z. false≢true (sym r.live.new_twin ∙ ap (holds s3) (sym z) ∙ hb)) ∙ hb in
     -- nothing that is left lies with the ends of what goes
     let beyond : (b : ℕ) → holds s3 b ≡ true → SameCycle g j b → ⊥ = λ b hb m. elim (isolated_face (next_in s2) t b isolated m) [
       | inl z ↦ false≢true (sym r.live.new ∙ ap (holds s3) (sym (z ∙ ej)) ∙ hb)
@@ -127,14 +135,16 @@ unhung_labels {s} {s1} {s2} {s3} {h} t {unused} hh et u v e r kept w =
     let same : (b : ℕ) → holds s3 b ≡ true → face_in s3 b ≡ face_in s1 b = λ b hb. kept b hb ∙ ap (λ (m : ℕ → ℕ). m b) e in
     record {
       labels = record {
-        same_face = λ b c hb hc q. subst (λ (k : ℕ → ℕ). SameCycle (face_next k) b c) (sym r.next) (elim (coarse.same_face b c (was b hb) (was c hc) (sym (same b hb) ∙ q ∙ same c hc)) [
-          | inl m ↦ m
-          | inr m ↦ elim m [
-            | inl z ↦ absurd (beyond c hc z.1)
-            | inr z ↦ absurd (beyond b hb (SameCycle-sym g half_limit hg b j (r.kept.within b hb) z.0))
-          ]
-        ]);
-        same_label = λ b c hb hc m. same b hb ∙ coarse.same_label b c (was b hb) (was c hc) (subst (λ (k : ℕ → ℕ). SameCycle (face_next k) b c) r.next m) ∙ sym (same c hc);
+        same_face = λ b c hb hc q. subst (λ (k : ℕ → ℕ). SameCycle (face_next k) b c) (sym r.next)
+            (elim (coarse.same_face b c (was b hb) (was c hc) (sym (same b hb) ∙ q ∙ same c hc)) [
+              | inl m ↦ m
+              | inr m ↦ elim m [
+                | inl z ↦ absurd (beyond c hc z.1)
+                | inr z ↦ absurd (beyond b hb (SameCycle-sym g half_limit hg b j (r.kept.within b hb) z.0))
+              ]
+            ]);
+        same_label = λ b c hb hc m. same b hb ∙ coarse.same_label b c (was b hb) (was c hc) (subst (λ (k : ℕ → ℕ). SameCycle (face_next k) b c) r.next m)
+            ∙ sym (same c hc);
       };
       below = λ b hb. subst (λ (q : ℕ). q < unused) (sym (same b hb)) (w.below b (was b hb));
     }

@@ -1,5 +1,6 @@
 -- Slabs that are built from a list of turns.
-use Rattle.std.proofs.Common.{◌≡◌, ◌≢◌, ℕ, zero, suc, ◌+◌, ◌/◌, ◌%◌, ◌<◌, Bool, true, false, inl, inr, refl, sym, ◌∙◌, ap, subst, arith, List, [], ◌∷◌, ◌++◌, length, Option, None, is_some, slice_index_or}
+use Rattle.std.proofs.Common.{◌≡◌, ◌≢◌, ℕ, zero, suc, ◌+◌, ◌/◌, ◌%◌, ◌<◌, Bool, true, false, inl, inr, refl, sym, ◌∙◌}
+use Rattle.std.proofs.Common.{ap, subst, arith, List, [], ◌∷◌, ◌++◌, length, Option, None, is_some, slice_index_or}
 use Rattle.std.proofs.lemmas.Bool.{cases_Bool, cases_eq}
 use Rattle.slab.specs.Slab.{Slab}
 use Rattle.topo_core.specs.Cycles.{map_of, IsPermutation}
@@ -50,9 +51,11 @@ still s k = record {
 }
 
 one_more : (s s' : Slab Segment) (x : ℕ) → IsKept s → IsInserted s s' x → live_segments (holds s') half_limit ≡ live_segments (holds s) half_limit + 1
-one_more s s' x k i = segments_grow (holds s) (holds s') (λ a. a) (λ a. a) half_limit x (record { before = still s k; after = still s' i.kept; within = i.within; adds = i.live })
+one_more s s' x k i =
+    segments_grow (holds s) (holds s') (λ a. a) (λ a. a) half_limit x (record { before = still s k; after = still s' i.kept; within = i.within; adds = i.live })
 
-pub alone_more : (s s' : Slab Segment) (hs new : List ℕ) (x y : ℕ) → AreAlone s hs → IsInserted s s' x → y ≡ twin x → new ≡ (hs ++ x ∷ []) ++ y ∷ [] → AreAlone s' new
+pub alone_more : (s s' : Slab Segment) (hs new : List ℕ) (x y : ℕ) → AreAlone s hs → IsInserted s s' x → y ≡ twin x → new ≡ (hs ++ x ∷ []) ++ y ∷ []
+    → AreAlone s' new
 alone_more s s' hs new x y k i ey en = record {
   kept = i.kept;
   listed = listed_more new y (one_more s s' x k.kept i) k.kept.within i.kept.within k.listed i.live ey en;
@@ -63,7 +66,9 @@ alone_more s s' hs new x y k i ey en = record {
 half-apart : (live : ℕ → Bool) (hs : List ℕ) (a b : ℕ) → IsListed live hs → a < length hs → b < length hs → a ≢ b → map_of hs a ≢ map_of hs b
 half-apart live hs a b k la lb ne e = ne (sym (k.returns a la) ∙ ap k.place e ∙ k.returns b lb)
 
-pub joined_more : {s s' : Slab Segment} {hs ts : List ℕ} {k : ℕ} (from to : ℕ) → IsPermutation (map_of ts) (length ts) → length hs ≡ length ts → k < length ts → from ≡ map_of hs k → to ≡ map_of hs (map_of ts k) → AreJoinedBelow s hs ts k → Rewires s s' (written (next_in s) from to) (written (before_in s) to from) → AreJoinedBelow s' hs ts (k + 1)
+pub joined_more : {s s' : Slab Segment} {hs ts : List ℕ} {k : ℕ} (from to : ℕ) → IsPermutation (map_of ts) (length ts) → length hs ≡ length ts → k < length ts
+    → from ≡ map_of hs k → to ≡ map_of hs (map_of ts k) → AreJoinedBelow s hs ts k → Rewires s s' (written (next_in s) from to) (written (before_in s) to from)
+    → AreJoinedBelow s' hs ts (k + 1)
 joined_more {s} {hs} {ts} {k} from to p el lk ef et j r =
     let small : (a : ℕ) → a < length ts → a < length hs = λ a l. subst (λ (n : ℕ). a < n) (sym el) l in
     record {
@@ -82,11 +87,13 @@ joined_more {s} {hs} {ts} {k} from to p el lk ef et j r =
             let la : a < k = omega arith in
             let lt : a < length ts = omega arith in
             written-else (before_in s) to from (map_of hs (map_of ts a))
-            (λ w. half-apart (holds s) hs (map_of ts a) (map_of ts k) j.listed (small (map_of ts a) (p.within a lt)) (small (map_of ts k) (p.within k lk)) (λ v. ne (p.apart a k lt lk v)) (w ∙ et)) ∙ j.before a la
+            (λ w. half-apart (holds s) hs (map_of ts a) (map_of ts k) j.listed (small (map_of ts a) (p.within a lt)) (small (map_of ts k) (p.within k lk))
+            (λ v. ne (p.apart a k lt lk v)) (w ∙ et)) ∙ j.before a la
       ];
     }
 
-joined_back : (s : Slab Segment) (hs ts : List ℕ) → IsPermutation (map_of ts) (length ts) → length hs ≡ length ts → AreJoinedBelow s hs ts (length ts) → (y : ℕ) → before_in s (next_in s y) ≡ y
+joined_back : (s : Slab Segment) (hs ts : List ℕ) → IsPermutation (map_of ts) (length ts) → length hs ≡ length ts → AreJoinedBelow s hs ts (length ts) → (y : ℕ)
+    → before_in s (next_in s y) ≡ y
 joined_back s hs ts p el j y = elim (cases_Bool (holds s y)) [
   | inr f ↦ ap (before_in s) (free_turn nexts s y f) ∙ free_turn befores s y f
   | inl t ↦
@@ -96,7 +103,8 @@ joined_back s hs ts p el j y = elim (cases_Bool (holds s y)) [
       ap (λ (v : ℕ). before_in s (next_in s v)) (sym e) ∙ ap (before_in s) (j.next a la) ∙ j.before a la ∙ e
 ]
 
-joined_onward : (s : Slab Segment) (hs ts : List ℕ) → IsPermutation (map_of ts) (length ts) → length hs ≡ length ts → AreJoinedBelow s hs ts (length ts) → (y : ℕ) → next_in s (before_in s y) ≡ y
+joined_onward : (s : Slab Segment) (hs ts : List ℕ) → IsPermutation (map_of ts) (length ts) → length hs ≡ length ts → AreJoinedBelow s hs ts (length ts)
+    → (y : ℕ) → next_in s (before_in s y) ≡ y
 joined_onward s hs ts p el j y = elim (cases_Bool (holds s y)) [
   | inr f ↦ ap (next_in s) (free_turn befores s y f) ∙ free_turn nexts s y f
   | inl t ↦
@@ -107,7 +115,8 @@ joined_onward s hs ts p el j y = elim (cases_Bool (holds s y)) [
       ap (λ (v : ℕ). next_in s (before_in s v)) (sym e) ∙ ap (next_in s) (j.before q.place q.within) ∙ j.next q.place q.within ∙ e
 ]
 
-pub joined_all : (s : Slab Segment) (hs ts : List ℕ) (k : ℕ) → IsPermutation (map_of ts) (length ts) → length hs ≡ length ts → k ≡ length ts → AreJoinedBelow s hs ts k → IsJoined s hs ts
+pub joined_all : (s : Slab Segment) (hs ts : List ℕ) (k : ℕ) → IsPermutation (map_of ts) (length ts) → length hs ≡ length ts → k ≡ length ts
+    → AreJoinedBelow s hs ts k → IsJoined s hs ts
 joined_all s hs ts k p el ek j =
     let w : AreJoinedBelow s hs ts (length ts) = subst (λ (n : ℕ). AreJoinedBelow s hs ts n) ek j in
     record {
@@ -119,7 +128,8 @@ joined_all s hs ts k p el ek j =
       next = w.next;
     }
 
-renumbered : (s : Slab Segment) (hs ts : List ℕ) → IsPermutation (map_of ts) (length ts) → length hs ≡ length ts → (j : IsJoined s hs ts) → RenumbersTurn (map_of hs) j.listed.place (map_of ts) (next_in s) (length ts) (holds s) half_limit
+renumbered : (s : Slab Segment) (hs ts : List ℕ) → IsPermutation (map_of ts) (length ts) → length hs ≡ length ts → (j : IsJoined s hs ts)
+    → RenumbersTurn (map_of hs) j.listed.place (map_of ts) (next_in s) (length ts) (holds s) half_limit
 renumbered s hs ts p el j =
     let small : (a : ℕ) → a < length ts → a < length hs = λ a l. subst (λ (n : ℕ). a < n) (sym el) l in
     let w : IsWhole (holds s) (next_in s) = whole s j.kept in
@@ -131,7 +141,8 @@ renumbered s hs ts p el j =
     }
 
 -- what is built shows the list
-pub made_from : (s : Slab Segment) (hs ts : List ℕ) → IsPermutation (map_of ts) (length ts) → length hs ≡ length ts → IsJoined s hs ts → IsMadeFrom ts hs (view_of s)
+pub made_from : (s : Slab Segment) (hs ts : List ℕ) → IsPermutation (map_of ts) (length ts) → length hs ≡ length ts → IsJoined s hs ts
+    → IsMadeFrom ts hs (view_of s)
 made_from s hs ts p el j =
     let h : ℕ → ℕ = map_of hs in
     let b : ℕ → ℕ = j.listed.place in
@@ -166,5 +177,6 @@ seed_made s s' x e i =
     made_from s' hs ts p refl (record {
       kept = k.kept;
       listed = k.listed;
-      next = λ a l. ap (λ (f : ℕ → ℕ). f (map_of hs a)) i.next ∙ free_turn nexts s (map_of hs a) (none-live s e (map_of hs a)) ∙ ap (map_of hs) (sym (two_places a l));
+      next = λ a l. ap (λ (f : ℕ → ℕ). f (map_of hs a)) i.next ∙ free_turn nexts s (map_of hs a) (none-live s e (map_of hs a))
+          ∙ ap (map_of hs) (sym (two_places a l));
     })

@@ -37,7 +37,8 @@ live_next s a k h = elim (cases_Bool (holds s (next_in s a))) [
 inverse-at : (f b f' b' : ℕ → ℕ) → f ≡ f' → b ≡ b' → AreInverse f' b' → AreInverse f b
 inverse-at f b f' b' e d k = subst (λ (g : ℕ → ℕ). AreInverse g b) (sym e) (subst (λ (g : ℕ → ℕ). AreInverse f' g) (sym d) k)
 
-turned_to : {s s1 s2 : Slab Segment} (f : ℕ → ℕ) {f' b' : ℕ → ℕ} {f1 b1 f2 b2 : ℕ → ℕ} → IsKept s → Rewires s s1 f1 b1 → Rewires s1 s2 f2 b2 → f2 ≡ f' → b2 ≡ b' → f' ≡ f → AreInverse f' b' → IsTurned s s2 f
+turned_to : {s s1 s2 : Slab Segment} (f : ℕ → ℕ) {f' b' : ℕ → ℕ} {f1 b1 f2 b2 : ℕ → ℕ} → IsKept s → Rewires s s1 f1 b1 → Rewires s1 s2 f2 b2 → f2 ≡ f' → b2 ≡ b'
+    → f' ≡ f → AreInverse f' b' → IsTurned s s2 f
 turned_to f k r1 r2 ef eb e i = grind (arith, inverse-at)
 
 pub put_turned : {s s1 s2 : Slab Segment} (p x c : ℕ) → IsKept s → p ≡ before_in s c → c ≢ x → next_in s x ≡ x

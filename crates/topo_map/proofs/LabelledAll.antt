@@ -52,7 +52,8 @@ given_now s l k y label kept w ey hy zero =
     record {
       some = omega arith;
       few = omega arith;
-      below = λ a ta. (let la : l a < label = w.below a ta in painted_below f n y label l a (label + 1) (let z : label < label + 1 = omega arith in z) (let z : l a < label + 1 = omega arith in z));
+      below = λ a ta. (let la : l a < label = w.below a ta in
+          painted_below f n y label l a (label + 1) (let z : label < label + 1 = omega arith in z) (let z : l a < label + 1 = omega arith in z));
       same_face = λ a b ta tb ne d. elim (lies f n y label l a hf ly) [
         | Within m u ↦ elim (lies f n y label l b hf ly) [
           | Within v q ↦ SameCycle-trans f a y b (turn_round y a hy m) v
@@ -82,7 +83,8 @@ step_over s s1 k y unused w ey ne = record {
   partly = given_already (holds s) (face_next (next_in s)) (face_in s1) k y unused w.partly ey (λ h. ne (painted_live s s1 (face_in s1) y w.same h));
 }
 
-pub step_painted : {s s1 : Slab Segment} (s2 : Slab Segment) {k : ℕ} (y : ℕ) {label : ℕ} → IsKept s → IsPartlyLabelled s s1 k label → y ≡ k → holds s1 y ≡ true → face_in s1 y ≡ 0
+pub step_painted : {s s1 : Slab Segment} (s2 : Slab Segment) {k : ℕ} (y : ℕ) {label : ℕ} → IsKept s → IsPartlyLabelled s s1 k label → y ≡ k → holds s1 y ≡ true
+    → face_in s1 y ≡ 0
     → IsPainted s1 s2 y label → IsPartlyLabelled s s2 (k + 1) (label + 1)
 step_painted {s} {s1} s2 {k} y {label} kept w ey hy zero p =
     let l : ℕ → ℕ = face_in s1 in

@@ -1,5 +1,6 @@
 -- Lists of all halves, with twins side by side.
-use Rattle.std.proofs.Common.{◌≡◌, ◌≢◌, ℕ, zero, suc, ◌+◌, ◌*◌, ◌/◌, ◌%◌, ◌<◌, ◌==◌, Bool, true, false, cond, ◌⊎◌, inl, inr, refl, sym, ◌∙◌, ap, subst, arith, List, [], ◌∷◌, ◌++◌, length}
+use Rattle.std.proofs.Common.{◌≡◌, ◌≢◌, ℕ, zero, suc, ◌+◌, ◌*◌, ◌/◌, ◌%◌, ◌<◌, ◌==◌, Bool, true, false, cond}
+use Rattle.std.proofs.Common.{◌⊎◌, inl, inr, refl, sym, ◌∙◌, ap, subst, arith, List, [], ◌∷◌, ◌++◌, length}
 use Rattle.std.proofs.lemmas.Bool.{cases_eq, cond-true, cond-false, eq-eqb, ne_eqb}
 use Rattle.std.proofs.lemmas.List.{get_or_append_left, length-append}
 use Rattle.std.proofs.Math.Seq.{get_or-append_seam}
@@ -41,7 +42,9 @@ placed-else : (place : ℕ → ℕ) (x y m v : ℕ) → v ≢ x → v ≢ y → 
 placed-else place x y m v ne nd = cond-false _ _ _ (ne_eqb _ _ ne) ∙ cond-false _ _ _ (ne_eqb _ _ nd)
 
 -- a new segment comes to the end of the list
-pub listed_more : {live live' : ℕ → Bool} {hs : List ℕ} (new : List ℕ) {x : ℕ} (y : ℕ) → live_segments live' half_limit ≡ live_segments live half_limit + 1 → ((a : ℕ) → live a ≡ true → a < half_limit) → ((a : ℕ) → live' a ≡ true → a < half_limit) → IsListed live hs → AddsSegment live live' half_limit x → y ≡ twin x → new ≡ (hs ++ x ∷ []) ++ y ∷ [] → IsListed live' new
+pub listed_more : {live live' : ℕ → Bool} {hs : List ℕ} (new : List ℕ) {x : ℕ} (y : ℕ) → live_segments live' half_limit ≡ live_segments live half_limit + 1
+    → ((a : ℕ) → live a ≡ true → a < half_limit) → ((a : ℕ) → live' a ≡ true → a < half_limit) → IsListed live hs → AddsSegment live live' half_limit x
+    → y ≡ twin x → new ≡ (hs ++ x ∷ []) ++ y ∷ [] → IsListed live' new
 listed_more {live} {live'} {hs} new {x} y one_more within within' k t ey en =
     let m : ℕ = length hs in
     let g : Longer hs new x y = subst (λ (l : List ℕ). Longer hs l x y) (sym en) (longer hs x y) in
@@ -80,7 +83,8 @@ listed_more {live} {live'} {hs} new {x} y one_more within within' k t ey en =
     }
 
 -- a new segment's halves have its label
-pub labelled_more : {old new : ℕ → ℕ} {live : ℕ → Bool} (labels : List ℕ) {hs : List ℕ} (all : List ℕ) {x : ℕ} (y i : ℕ) {label : ℕ} → all ≡ (hs ++ x ∷ []) ++ y ∷ [] → y ≡ twin x → length hs ≡ 2 * i → label ≡ map_of labels i → IsListed live hs
+pub labelled_more : {old new : ℕ → ℕ} {live : ℕ → Bool} (labels : List ℕ) {hs : List ℕ} (all : List ℕ) {x : ℕ} (y i : ℕ) {label : ℕ}
+    → all ≡ (hs ++ x ∷ []) ++ y ∷ [] → y ≡ twin x → length hs ≡ 2 * i → label ≡ map_of labels i → IsListed live hs
     → AreLabelled labels hs old → AddsLabel live old new x label → AreLabelled labels all new
 labelled_more {old} {new} labels {hs} all {x} y i en ey size is k were t a l =
     let g : Longer hs all x y = subst (λ (l : List ℕ). Longer hs l x y) (sym en) (longer hs x y) in
@@ -91,7 +95,8 @@ labelled_more {old} {new} labels {hs} all {x} y i en ey size is k were t a l =
 
 count_none : (p : ℕ → Bool) (n : ℕ) → ((i : ℕ) → p i ≡ false) → count_below p n ≡ 0
 count_none p zero h = refl
-count_none p (suc n) h = ap (λ (b : Bool). count_below p n + cond b 1 0) (h n) ∙ (let e : count_below p n ≡ 0 = count_none p n h in let w : count_below p n + 0 ≡ 0 = omega arith in w)
+count_none p (suc n) h = ap (λ (b : Bool). count_below p n + cond b 1 0) (h n)
+    ∙ (let e : count_below p n ≡ 0 = count_none p n h in let w : count_below p n + 0 ≡ 0 = omega arith in w)
 
 -- nothing is listed where nothing is live
 pub listed_none : (live : ℕ → Bool) → ((a : ℕ) → live a ≡ false) → IsListed live []

@@ -29,7 +29,8 @@ lies f n y label l a p ly = elim (cases_Bool (is_met f n y a)) [
 ]
 
 -- one step more of the walk that paints
-painted-step : (f : ℕ → ℕ) (k y label : ℕ) (l : ℕ → ℕ) (at a : ℕ) → at ≡ after f k y → painted f (k + 1) y label l a ≡ written (painted f k y label l) at label a
+painted-step : (f : ℕ → ℕ) (k y label : ℕ) (l : ℕ → ℕ) (at a : ℕ) → at ≡ after f k y
+    → painted f (k + 1) y label l a ≡ written (painted f k y label l) at label a
 painted-step f k y label l at a e = grind (arith, cases_eq, cond-true, is_met_more, or_left, eq-eqb, ne_eqb, cond-false)
 
 pub painted_more : (f : ℕ → ℕ) (k y label : ℕ) (l : ℕ → ℕ) (at : ℕ) → at ≡ after f k y → written (painted f k y label l) at label ≡ painted f (k + 1) y label l
@@ -55,7 +56,8 @@ pub record IsScene (live : ℕ → Bool) (f : ℕ → ℕ) (n i j : ℕ) : Type 
   pub second : live j ≡ true
 
 -- an exchange in one face leaves two with one label
-pub parted : {live : ℕ → Bool} {f : ℕ → ℕ} (g : ℕ → ℕ) {l : ℕ → ℕ} {n i j : ℕ} → IsScene live (face_next f) n i j → IsExchange (face_next f) (face_next g) i j → LabelsFaces live f l → l i ≡ l j → IsCoarse live (face_next g) l i j
+pub parted : {live : ℕ → Bool} {f : ℕ → ℕ} (g : ℕ → ℕ) {l : ℕ → ℕ} {n i j : ℕ} → IsScene live (face_next f) n i j → IsExchange (face_next f) (face_next g) i j
+    → LabelsFaces live f l → l i ≡ l j → IsCoarse live (face_next g) l i j
 parted {f} g {n} {i} {j} w x labels e =
     let p : ℕ → ℕ = face_next f in
     let q : ℕ → ℕ = face_next g in
@@ -68,7 +70,8 @@ parted {f} g {n} {i} {j} w x labels e =
     }
 
 -- and where two faces have one label, an exchange between them makes one of them
-pub joined : {live : ℕ → Bool} (f g : ℕ → ℕ) {l : ℕ → ℕ} {n i j : ℕ} → IsScene live (face_next f) n i j → IsExchange (face_next f) (face_next g) i j → IsCoarse live (face_next f) l i j → (SameCycle (face_next f) i j → ⊥) → LabelsFaces live g l
+pub joined : {live : ℕ → Bool} (f g : ℕ → ℕ) {l : ℕ → ℕ} {n i j : ℕ} → IsScene live (face_next f) n i j → IsExchange (face_next f) (face_next g) i j
+    → IsCoarse live (face_next f) l i j → (SameCycle (face_next f) i j → ⊥) → LabelsFaces live g l
 joined f g {n} {i} {j} w x k apart =
     let p : ℕ → ℕ = face_next f in
     let q : ℕ → ℕ = face_next g in
@@ -96,7 +99,9 @@ joined f g {n} {i} {j} w x k apart =
     }
 
 -- one of two faces with one label gets a new one
-pub part_painted : {live : ℕ → Bool} (g : ℕ → ℕ) {l : ℕ → ℕ} {n i j : ℕ} (y new : ℕ) → IsScene live (face_next g) n i j → IsCoarse live (face_next g) l i j → live y ≡ true → SameCycle (face_next g) y i ⊎ SameCycle (face_next g) y j → ((a : ℕ) → live a ≡ true → l a ≢ new) → LabelsFaces live g (painted (face_next g) n y new l)
+pub part_painted : {live : ℕ → Bool} (g : ℕ → ℕ) {l : ℕ → ℕ} {n i j : ℕ} (y new : ℕ) → IsScene live (face_next g) n i j → IsCoarse live (face_next g) l i j
+    → live y ≡ true → SameCycle (face_next g) y i ⊎ SameCycle (face_next g) y j → ((a : ℕ) → live a ≡ true → l a ≢ new)
+    → LabelsFaces live g (painted (face_next g) n y new l)
 part_painted {live} g {l} {n} {i} {j} y new w k ty side fresh =
     let q : ℕ → ℕ = face_next g in
     let hq : IsPermutation q n = w.permutation in
@@ -139,7 +144,8 @@ abbrev pub AreEnds : (ℕ → ℕ) → ℕ → ℕ → ℕ → ℕ → Type 0
 AreEnds f i j y z = (SameCycle f y i × SameCycle f z j) ⊎ (SameCycle f y j × SameCycle f z i)
 
 -- the face of y gets the label of the face of z
-pub share_painted : {live : ℕ → Bool} {f l : ℕ → ℕ} {n i j : ℕ} (y z : ℕ) → IsScene live (face_next f) n i j → LabelsFaces live f l → live y ≡ true → live z ≡ true → AreEnds (face_next f) i j y z → IsCoarse live (face_next f) (painted (face_next f) n y (l z) l) i j
+pub share_painted : {live : ℕ → Bool} {f l : ℕ → ℕ} {n i j : ℕ} (y z : ℕ) → IsScene live (face_next f) n i j → LabelsFaces live f l → live y ≡ true
+    → live z ≡ true → AreEnds (face_next f) i j y z → IsCoarse live (face_next f) (painted (face_next f) n y (l z) l) i j
 share_painted {live} {f} {l} {n} {i} {j} y z w labels ty tz side =
     let q : ℕ → ℕ = face_next f in
     let hq : IsPermutation q n = w.permutation in

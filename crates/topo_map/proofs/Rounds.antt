@@ -6,7 +6,8 @@ use Rattle.topo_perm.proofs.permutations.Lists.{must_return}
 use Rattle.topo_map.specs.Rotation.{Rotation, IsDegree, turn}
 
 -- as many steps as there are numbers, and not back before the last
-pub whole_degree : (r : Rotation) (n k a d : ℕ) → IsPermutation (turn r) n → a < n → k ≡ n → d ≡ n → ((j : ℕ) → 0 < j → j < k → after (turn r) j a ≢ a) → IsDegree r a d
+pub whole_degree : (r : Rotation) (n k a d : ℕ) → IsPermutation (turn r) n → a < n → k ≡ n → d ≡ n → ((j : ℕ) → 0 < j → j < k → after (turn r) j a ≢ a)
+    → IsDegree r a d
 whole_degree r n k a d h la e ed out =
     let f : ℕ → ℕ = turn r in
     let outs : (j : ℕ) → 0 < j → j < d → after f j a ≢ a = λ j p q. out j p (let w : j < k = omega arith in w) in
@@ -18,5 +19,6 @@ whole_degree r n k a d h la e ed out =
       ]))
     ]
 
-pub out_more : (f : ℕ → ℕ) (k a at : ℕ) → at ≡ after f k a → at ≢ a → ((j : ℕ) → 0 < j → j < k → after f j a ≢ a) → (j : ℕ) → 0 < j → j < k + 1 → after f j a ≢ a
+pub out_more : (f : ℕ → ℕ) (k a at : ℕ) → at ≡ after f k a → at ≢ a → ((j : ℕ) → 0 < j → j < k → after f j a ≢ a) → (j : ℕ) → 0 < j → j < k + 1
+    → after f j a ≢ a
 out_more f k a at e ne out j p l = grind (arith, cases_eq)

@@ -1,5 +1,6 @@
 -- The turn that the slots of a slab hold, and what a write to one slot does to it.
-use Rattle.std.proofs.Common.{◌≡◌, ◌≢◌, ℕ, ◌+◌, ◌*◌, ◌/◌, ◌%◌, ◌<◌, ◌==◌, true, false, inl, inr, refl, sym, ◌∙◌, ap, subst, arith, length, Option, Some, None, is_some}
+use Rattle.std.proofs.Common.{◌≡◌, ◌≢◌, ℕ, ◌+◌, ◌*◌, ◌/◌, ◌%◌, ◌<◌, ◌==◌, true, false, inl, inr}
+use Rattle.std.proofs.Common.{refl, sym, ◌∙◌, ap, subst, arith, length, Option, Some, None, is_some}
 use Rattle.std.proofs.lemmas.Bool.{cases_eq, cases_lt, cond-true, cond-false, eq-eqb, ne_eqb}
 use Rattle.std.specs.Option.{option_map}
 use Rattle.std.proofs.Math.ListN.{get_or-map}
@@ -58,16 +59,20 @@ key-at key way at e = ap (λ (n : ℕ). n / 2) (sym e) ∙ number_key key way
 pub contains : (s : Slab Segment) (key at : ℕ) → key ≡ at / 2 → holds s at ≡ true → ContainsKey s key
 contains s key at e h = subst (λ (k : ℕ). is_some (get s k) ≡ true) (sym e) (sym (live_at nexts s at) ∙ h)
 
-slot-at : (pick : Segment → Slot) (s : Slab Segment) (a key : ℕ) (seg : Segment) → a / 2 ≡ key → get s key ≡ Some seg → turn_in (shown pick s) a ≡ turned a (Some (pick seg))
-slot-at pick s a key seg e g = turn_at pick s a ∙ ap (λ (k : ℕ). turned a (option_map pick (get s k))) e ∙ ap (λ (o : Option Segment). turned a (option_map pick o)) g
+slot-at : (pick : Segment → Slot) (s : Slab Segment) (a key : ℕ) (seg : Segment) → a / 2 ≡ key → get s key ≡ Some seg
+    → turn_in (shown pick s) a ≡ turned a (Some (pick seg))
+slot-at pick s a key seg e g = turn_at pick s a ∙ ap (λ (k : ℕ). turned a (option_map pick (get s k))) e
+    ∙ ap (λ (o : Option Segment). turned a (option_map pick o)) g
 
 -- what a half turns to, by the segment at its key
-pub found : (pick : Segment → Slot) (s : Slab Segment) (key : ℕ) (way : Way) (at : ℕ) (seg : Segment) → half_number key way ≡ at → get s key ≡ Some seg → turn_in (shown pick s) at ≡ side way (pick seg)
+pub found : (pick : Segment → Slot) (s : Slab Segment) (key : ℕ) (way : Way) (at : ℕ) (seg : Segment) → half_number key way ≡ at → get s key ≡ Some seg
+    → turn_in (shown pick s) at ≡ side way (pick seg)
 found pick s key way at seg e g = slot-at pick s at key seg (key-at key way at e) g ∙ side-at key way at (pick seg) e
 
 -- ---- A write to one slot
 
-sided : (way : Way) (key at a to : ℕ) (t : Slot) (f : ℕ → ℕ) → half_number key way ≡ at → a / 2 ≡ key → f a ≡ turned a (Some t) → turned a (Some (with_side way t to)) ≡ written f at to a
+sided : (way : Way) (key at a to : ℕ) (t : Slot) (f : ℕ → ℕ) → half_number key way ≡ at → a / 2 ≡ key → f a ≡ turned a (Some t)
+    → turned a (Some (with_side way t to)) ≡ written f at to a
 sided Forward key at a to t f e k h = grind (arith, cases_eq, cond-true, eq-eqb, written-at, cond-false, ne_eqb, written-else)
 sided Back key at a to t f e k h = grind (arith, cases_eq, cond-true, eq-eqb, written-else, cond-false, ne_eqb, written-at)
 
@@ -76,15 +81,18 @@ pub record StandsAt (s : Slab Segment) (key : ℕ) (way : Way) (at : ℕ) (seg :
   pub half : half_number key way ≡ at
   pub there : get s key ≡ Some seg
 
-pub rewritten : (pick : Segment → Slot) {s s' : Slab Segment} {key : ℕ} {way : Way} {at : ℕ} (to : ℕ) {seg : Segment} (v : Segment) → StandsAt s key way at seg → Updates s s' key (Some v) → pick v ≡ with_side way (pick seg) to → turn_in (shown pick s') ≡ written (turn_in (shown pick s)) at to
-rewritten pick {s} {s'} {key} {way} {at} to {seg} v stands u p = funext (turn_in (shown pick s')) (written (turn_in (shown pick s)) at to) (λ a. elim (cases_eq (a / 2) key) [
-  | inr ne ↦ turn_at pick s' a ∙ ap (λ (o : Option Segment). turned a (option_map pick o)) (u.others (a / 2) ne) ∙ sym (turn_at pick s a)
-      ∙ sym (written-else (turn_in (shown pick s)) at to a (λ w. ne (ap (λ (n : ℕ). n / 2) w ∙ key-at key way at stands.half)))
-  | inl same ↦ slot-at pick s' a key v same u.changed ∙ ap (λ (t : Slot). turned a (Some t)) p
-      ∙ sided way key at a to (pick seg) (turn_in (shown pick s)) stands.half same (slot-at pick s a key seg same stands.there)
-])
+pub rewritten : (pick : Segment → Slot) {s s' : Slab Segment} {key : ℕ} {way : Way} {at : ℕ} (to : ℕ) {seg : Segment} (v : Segment) → StandsAt s key way at seg
+    → Updates s s' key (Some v) → pick v ≡ with_side way (pick seg) to → turn_in (shown pick s') ≡ written (turn_in (shown pick s)) at to
+rewritten pick {s} {s'} {key} {way} {at} to {seg} v stands u p =
+    funext (turn_in (shown pick s')) (written (turn_in (shown pick s)) at to) (λ a. elim (cases_eq (a / 2) key) [
+      | inr ne ↦ turn_at pick s' a ∙ ap (λ (o : Option Segment). turned a (option_map pick o)) (u.others (a / 2) ne) ∙ sym (turn_at pick s a)
+          ∙ sym (written-else (turn_in (shown pick s)) at to a (λ w. ne (ap (λ (n : ℕ). n / 2) w ∙ key-at key way at stands.half)))
+      | inl same ↦ slot-at pick s' a key v same u.changed ∙ ap (λ (t : Slot). turned a (Some t)) p
+          ∙ sided way key at a to (pick seg) (turn_in (shown pick s)) stands.half same (slot-at pick s a key seg same stands.there)
+    ])
 
-pub unwritten : (pick : Segment → Slot) (s s' : Slab Segment) (key : ℕ) (seg v : Segment) → get s key ≡ Some seg → Updates s s' key (Some v) → pick v ≡ pick seg → turn_in (shown pick s') ≡ turn_in (shown pick s)
+pub unwritten : (pick : Segment → Slot) (s s' : Slab Segment) (key : ℕ) (seg v : Segment) → get s key ≡ Some seg → Updates s s' key (Some v) → pick v ≡ pick seg
+    → turn_in (shown pick s') ≡ turn_in (shown pick s)
 unwritten pick s s' key seg v g u p = funext (turn_in (shown pick s')) (turn_in (shown pick s)) (λ a. elim (cases_eq (a / 2) key) [
   | inr ne ↦ turn_at pick s' a ∙ ap (λ (o : Option Segment). turned a (option_map pick o)) (u.others (a / 2) ne) ∙ sym (turn_at pick s a)
   | inl same ↦ slot-at pick s' a key v same u.changed ∙ ap (λ (t : Slot). turned a (Some t)) p ∙ sym (slot-at pick s a key seg same g)
@@ -103,16 +111,19 @@ unfolding edge_in
 label_at s a = ap labelled (get_or-map (option_map nexts) s.slots (a / 2) None)
 
 pub label-there : (s : Slab Segment) (key : ℕ) (seg : Segment) (a : ℕ) → a / 2 ≡ key → get s key ≡ Some seg → label_in s a ≡ seg.edge
-label-there s key seg a e g = label_at s a ∙ ap (λ (k : ℕ). labelled (option_map nexts (get s k))) e ∙ ap (λ (o : Option Segment). labelled (option_map nexts o)) g
+label-there s key seg a e g = label_at s a ∙ ap (λ (k : ℕ). labelled (option_map nexts (get s k))) e
+    ∙ ap (λ (o : Option Segment). labelled (option_map nexts o)) g
 
 pub label-else : (s s' : Slab Segment) (key : ℕ) (slot : Option Segment) → Updates s s' key slot → (a : ℕ) → a / 2 ≢ key → label_in s' a ≡ label_in s a
 label-else s s' key slot u a ne = label_at s' a ∙ ap (λ (o : Option Segment). labelled (option_map nexts o)) (u.others (a / 2) ne) ∙ sym (label_at s a)
 
-same_labels : (s s' : Slab Segment) (key : ℕ) (seg v : Segment) → get s key ≡ Some seg → Updates s s' key (Some v) → v.edge ≡ seg.edge → label_in s' ≡ label_in s
+same_labels : (s s' : Slab Segment) (key : ℕ) (seg v : Segment) → get s key ≡ Some seg → Updates s s' key (Some v) → v.edge ≡ seg.edge
+    → label_in s' ≡ label_in s
 same_labels s s' key seg v g u e = funext (label_in s') (label_in s) (λ a. grind (arith, cases_eq, label-else, label-there))
 
 -- the label of a face that the segment at a key has
-pub face-there : (s : Slab Segment) (key : ℕ) (way : Way) (at : ℕ) (seg : Segment) → half_number key way ≡ at → get s key ≡ Some seg → face_in s at ≡ side way (sides seg)
+pub face-there : (s : Slab Segment) (key : ℕ) (way : Way) (at : ℕ) (seg : Segment) → half_number key way ≡ at → get s key ≡ Some seg
+    → face_in s at ≡ side way (sides seg)
 face-there s key way at seg e g = found sides s key way at seg e g
 
 pub face-else : (s s' : Slab Segment) (key : ℕ) (slot : Option Segment) → Updates s s' key slot → (a : ℕ) → a / 2 ≢ key → face_in s' a ≡ face_in s a
@@ -141,7 +152,8 @@ updates s key seg v g = grind (arith, get_or-set_same, in-slots, get_or-set_othe
 pub same_len : (s : Slab Segment) (key : ℕ) (seg v : Segment) → get s key ≡ Some seg → slab_len (with_value s key v) ≡ slab_len s
 same_len s key seg v g = grind (arith, sum_by-set, in-slots)
 
-pub wired_next : {s : Slab Segment} {key : ℕ} (way : Way) {at : ℕ} (to : ℕ) {seg : Segment} (v : Segment) → StandsAt s key way at seg → nexts v ≡ with_side way (nexts seg) to → befores v ≡ befores seg → sides v ≡ sides seg → Rewires s (with_value s key v) (written (next_in s) at to) (before_in s)
+pub wired_next : {s : Slab Segment} {key : ℕ} (way : Way) {at : ℕ} (to : ℕ) {seg : Segment} (v : Segment) → StandsAt s key way at seg → nexts v
+    ≡ with_side way (nexts seg) to → befores v ≡ befores seg → sides v ≡ sides seg → Rewires s (with_value s key v) (written (next_in s) at to) (before_in s)
 wired_next {s} {key} way {at} to {seg} v stands p q r =
     let g : get s key ≡ Some seg = stands.there in
     let u : Updates s (with_value s key v) key (Some v) = updates s key seg v g in
@@ -155,7 +167,8 @@ wired_next {s} {key} way {at} to {seg} v stands p q r =
       capacity = refl;
     }
 
-pub wired_before : {s : Slab Segment} {key : ℕ} (way : Way) {at : ℕ} (to : ℕ) {seg : Segment} (v : Segment) → StandsAt s key way at seg → befores v ≡ with_side way (befores seg) to → nexts v ≡ nexts seg → sides v ≡ sides seg → Rewires s (with_value s key v) (next_in s) (written (before_in s) at to)
+pub wired_before : {s : Slab Segment} {key : ℕ} (way : Way) {at : ℕ} (to : ℕ) {seg : Segment} (v : Segment) → StandsAt s key way at seg → befores v
+    ≡ with_side way (befores seg) to → nexts v ≡ nexts seg → sides v ≡ sides seg → Rewires s (with_value s key v) (next_in s) (written (before_in s) at to)
 wired_before {s} {key} way {at} to {seg} v stands p q r =
     let g : get s key ≡ Some seg = stands.there in
     let u : Updates s (with_value s key v) key (Some v) = updates s key seg v g in
@@ -169,7 +182,8 @@ wired_before {s} {key} way {at} to {seg} v stands p q r =
       capacity = refl;
     }
 
-pub wired_face : {s : Slab Segment} {key : ℕ} (way : Way) {at : ℕ} (to : ℕ) {seg : Segment} (v : Segment) → StandsAt s key way at seg → sides v ≡ with_side way (sides seg) to → nexts v ≡ nexts seg → befores v ≡ befores seg → Repaints s (with_value s key v) (written (face_in s) at to)
+pub wired_face : {s : Slab Segment} {key : ℕ} (way : Way) {at : ℕ} (to : ℕ) {seg : Segment} (v : Segment) → StandsAt s key way at seg
+    → sides v ≡ with_side way (sides seg) to → nexts v ≡ nexts seg → befores v ≡ befores seg → Repaints s (with_value s key v) (written (face_in s) at to)
 wired_face {s} {key} way {at} to {seg} v stands p q r =
     let g : get s key ≡ Some seg = stands.there in
     let u : Updates s (with_value s key v) key (Some v) = updates s key seg v g in

@@ -9,7 +9,8 @@ use Rattle.topo_perm.specs.Joins.{AddsSegment}
 use Rattle.topo_perm.proofs.permutations.Faces.{twin-twin, twin-other}
 use Rattle.topo_perm.proofs.permutations.Splitting.{without-self, without-elsewhere}
 use Rattle.topo_perm.proofs.edits.EditCounts.{put-elsewhere}
-use Rattle.topo_perm.proofs.edits.Allowed.{AreDarts, IsChordPut, hang_allowed, chord_allowed, chord_put, unchord_allowed, unchord_made, split_allowed, smooth_allowed}
+use Rattle.topo_perm.proofs.edits.Allowed.{AreDarts, IsChordPut, hang_allowed, chord_allowed, chord_put}
+use Rattle.topo_perm.proofs.edits.Allowed.{unchord_allowed, unchord_made, split_allowed, smooth_allowed}
 use Rattle.topo_perm.proofs.edits.SlabEdits.{segments_grow}
 use Rattle.topo_perm.proofs.edits.Bypassing.{twin-half}
 use Rattle.topo_map.specs.Rotation.{half_limit, AddsLabel, CountsFewer, CountsMore, IsOneFace, IsWhole, KeepsLabels, Grows, PartsFaces, Shrinks}
@@ -75,23 +76,27 @@ still_live s s1 x c st h = grind (arith, apart)
 -- ---- Steps in a row
 
 pub then_turned : (s s1 s2 : Slab Segment) (f g : ℕ → ℕ) → IsTurned s s1 f → IsTurned s1 s2 g → IsTurned s s2 g
-then_turned s s1 s2 f g t u = record { next = u.next; live = u.live ∙ t.live; edges = u.edges ∙ t.edges; len = u.len ∙ t.len; capacity = u.capacity ∙ t.capacity; kept = u.kept }
+then_turned s s1 s2 f g t u =
+    record { next = u.next; live = u.live ∙ t.live; edges = u.edges ∙ t.edges; len = u.len ∙ t.len; capacity = u.capacity ∙ t.capacity; kept = u.kept }
 
 pub turned_live : (s s1 : Slab Segment) (f : ℕ → ℕ) (a b : ℕ) → IsTurned s s1 f → a ≡ b → holds s b ≡ true → holds s1 a ≡ true
 turned_live s s1 f a b t e h = ap (λ (l : ℕ → Bool). l a) t.live ∙ ap (holds s) e ∙ h
 
 same_room : (s s1 : Slab Segment) (f : ℕ → ℕ) → IsTurned s s1 f → room_of s1 ≡ room_of s
-same_room s s1 f t = ap (λ (n : ℕ). cond (nat_le n 2147483647) (n - slab_len s1) 0) t.capacity ∙ ap (λ (n : ℕ). cond (nat_le s.capacity 2147483647) (s.capacity - n) 0) t.len
+same_room s s1 f t = ap (λ (n : ℕ). cond (nat_le n 2147483647) (n - slab_len s1) 0) t.capacity
+    ∙ ap (λ (n : ℕ). cond (nat_le s.capacity 2147483647) (s.capacity - n) 0) t.len
 
 same_limit : (s s1 : Slab Segment) (f : ℕ → ℕ) → IsTurned s s1 f → limit_of s1 ≡ limit_of s
 same_limit s s1 f t = ap (λ (n : ℕ). 2 * min n 2147483647) t.capacity
 
 -- ---- Labels
 
-pub label_added : (s s1 s' : Slab Segment) (x label : ℕ) → label_in s' ≡ label_in s1 → AddsLabel (holds s) (label_in s) (label_in s1) x label → AddsLabel (holds s) (label_in s) (label_in s') x label
+pub label_added : (s s1 s' : Slab Segment) (x label : ℕ) → label_in s' ≡ label_in s1 → AddsLabel (holds s) (label_in s) (label_in s1) x label
+    → AddsLabel (holds s) (label_in s) (label_in s') x label
 label_added s s1 s' x label e a = subst (λ (f : ℕ → ℕ). AddsLabel (holds s) (label_in s) f x label) (sym e) a
 
-pub labels_kept : (s s1 s' : Slab Segment) → label_in s1 ≡ label_in s → KeepsLabels (holds s') (label_in s1) (label_in s') → KeepsLabels (holds s') (label_in s) (label_in s')
+pub labels_kept : (s s1 s' : Slab Segment) → label_in s1 ≡ label_in s → KeepsLabels (holds s') (label_in s1) (label_in s')
+    → KeepsLabels (holds s') (label_in s) (label_in s')
 labels_kept s s1 s' e k = subst (λ (f : ℕ → ℕ). KeepsLabels (holds s') f (label_in s')) e k
 
 -- ---- The ends
@@ -166,7 +171,8 @@ hung s s1 s2 c x st alive t =
     record {
       allowed = k;
       added = added s s1 s2 x (put (next_in s1) x c) st t;
-      counts = counts_more s s2 1 0 (hang_more (holds s) (holds s2) (next_in s) (next_in s2) c x (whole s st.sound) (live_added s s1 s2 x (put (next_in s1) x c) st t) alive k);
+      counts = counts_more s s2 1 0 (hang_more (holds s) (holds s2) (next_in s) (next_in s2) c x (whole s st.sound)
+          (live_added s s1 s2 x (put (next_in s1) x c) st t) alive k);
     }
 
 -- ---- Chord
@@ -176,13 +182,16 @@ pub record IsChorded (s s' : Slab Segment) (c d x : ℕ) : Type 0 where
   pub added : IsAdded s s' x
   pub counts : IsOneFace (view_of s) c d → CountsMore (view_of s) (view_of s') 0 1
 
-pub chord_end_alone : (s s1 s2 : Slab Segment) (c x y : ℕ) → IsStart s s1 x → holds s c ≡ true → IsTurned s1 s2 (put (next_in s1) x c) → y ≡ twin x → next_in s2 y ≡ y
+pub chord_end_alone : (s s1 s2 : Slab Segment) (c x y : ℕ) → IsStart s s1 x → holds s c ≡ true → IsTurned s1 s2 (put (next_in s1) x c) → y ≡ twin x
+    → next_in s2 y ≡ y
 chord_end_alone s s1 s2 c x y st alive t e = grind (arith, apart, twin_alone, put-elsewhere, twin-other)
 
-pub chorded : {s s1 s2 s3 : Slab Segment} (c d : ℕ) {x : ℕ} (y : ℕ) → IsStart s s1 x → holds s c ≡ true → holds s d ≡ true → y ≡ twin x → IsTurned s1 s2 (put (next_in s1) x c) → IsTurned s2 s3 (put (next_in s2) y d) → IsChorded s s3 c d x
+pub chorded : {s s1 s2 s3 : Slab Segment} (c d : ℕ) {x : ℕ} (y : ℕ) → IsStart s s1 x → holds s c ≡ true → holds s d ≡ true → y ≡ twin x
+    → IsTurned s1 s2 (put (next_in s1) x c) → IsTurned s2 s3 (put (next_in s2) y d) → IsChorded s s3 c d x
 chorded {s} {s1} {s2} {s3} c d {x} y st alive alive_d ey t u =
     let both : IsTurned s1 s3 (put (next_in s2) y d) = then_turned s1 s2 s3 (put (next_in s1) x c) (put (next_in s2) y d) t u in
-    let e : next_in s3 ≡ put (put (next_in s) x c) (twin x) d = u.next ∙ ap (λ (v : ℕ). put (next_in s2) v d) ey ∙ ap (λ (f : ℕ → ℕ). put f (twin x) d) (t.next ∙ ap (λ (f : ℕ → ℕ). put f x c) st.inserted.next) in
+    let e : next_in s3 ≡ put (put (next_in s) x c) (twin x) d = u.next ∙ ap (λ (v : ℕ). put (next_in s2) v d) ey
+    ∙ ap (λ (f : ℕ → ℕ). put f (twin x) d) (t.next ∙ ap (λ (f : ℕ → ℕ). put f x c) st.inserted.next) in
     let k : IsChordPut (next_in s) (next_in s3) half_limit c d x = subst (λ (g : ℕ → ℕ). IsChordPut (next_in s) g half_limit c d x) (sym e)
     (chord_put (next_in s) half_limit c d x (darts s st.sound) st.inserted.within (isolated s s1 x st) (apart s s1 x c st alive) (apart s s1 x d st alive_d)) in
     record {
@@ -200,23 +209,29 @@ pub record IsSplitUp (s s' : Slab Segment) (h x : ℕ) : Type 0 where
   pub counts : CountsMore (view_of s) (view_of s') 1 0
 
 -- after its end is out of the turn, x still stands alone
-pub split_alone : {s s1 s2 s3 : Slab Segment} (h : ℕ) {x : ℕ} (y t : ℕ) → IsStart s s1 x → holds s h ≡ true → y ≡ twin x → t ≡ twin h → IsTurned s1 s2 (put (next_in s1) y t) → IsTurned s2 s3 (without (next_in s2) t) → next_in s3 x ≡ x
+pub split_alone : {s s1 s2 s3 : Slab Segment} (h : ℕ) {x : ℕ} (y t : ℕ) → IsStart s s1 x → holds s h ≡ true → y ≡ twin x → t ≡ twin h
+    → IsTurned s1 s2 (put (next_in s1) y t) → IsTurned s2 s3 (without (next_in s2) t) → next_in s3 x ≡ x
 split_alone h y t st alive ey et u v = grind (arith, apart, twin-twin, alone, twin-other, put-elsewhere, without-elsewhere)
 
-pub splitted : {s s1 s2 s3 s4 : Slab Segment} (h : ℕ) {x : ℕ} (y t : ℕ) → IsStart s s1 x → holds s h ≡ true → y ≡ twin x → t ≡ twin h → IsTurned s1 s2 (put (next_in s1) y t) → IsTurned s2 s3 (without (next_in s2) t) → IsTurned s3 s4 (put (next_in s3) x t) → IsSplitUp s s4 h x
+pub splitted : {s s1 s2 s3 s4 : Slab Segment} (h : ℕ) {x : ℕ} (y t : ℕ) → IsStart s s1 x → holds s h ≡ true → y ≡ twin x → t ≡ twin h
+    → IsTurned s1 s2 (put (next_in s1) y t) → IsTurned s2 s3 (without (next_in s2) t) → IsTurned s3 s4 (put (next_in s3) x t) → IsSplitUp s s4 h x
 splitted {s} {s1} {s2} {s3} {s4} h {x} y t st alive ey et u v w =
     let f : ℕ → ℕ = next_in s in
     let uv : IsTurned s1 s3 (without (next_in s2) t) = then_turned s1 s2 s3 (put (next_in s1) y t) (without (next_in s2) t) u v in
     let all : IsTurned s1 s4 (put (next_in s3) x t) = then_turned s1 s3 s4 (without (next_in s2) t) (put (next_in s3) x t) uv w in
-    let e2 : next_in s2 ≡ put f (twin x) (twin h) = u.next ∙ ap (λ (k : ℕ → ℕ). put k y t) st.inserted.next ∙ ap (λ (a : ℕ). put f a t) ey ∙ ap (λ (a : ℕ). put f (twin x) a) et in
-    let e3 : next_in s3 ≡ without (put f (twin x) (twin h)) (twin h) = v.next ∙ ap (λ (k : ℕ → ℕ). without k t) e2 ∙ ap (λ (a : ℕ). without (put f (twin x) (twin h)) a) et in
-    let e4 : next_in s4 ≡ put (without (put f (twin x) (twin h)) (twin h)) x (twin h) = w.next ∙ ap (λ (k : ℕ → ℕ). put k x t) e3 ∙ ap (λ (a : ℕ). put (without (put f (twin x) (twin h)) (twin h)) x a) et in
+    let e2 : next_in s2 ≡ put f (twin x) (twin h) = u.next ∙ ap (λ (k : ℕ → ℕ). put k y t) st.inserted.next ∙ ap (λ (a : ℕ). put f a t) ey
+    ∙ ap (λ (a : ℕ). put f (twin x) a) et in
+    let e3 : next_in s3 ≡ without (put f (twin x) (twin h)) (twin h) = v.next ∙ ap (λ (k : ℕ → ℕ). without k t) e2
+    ∙ ap (λ (a : ℕ). without (put f (twin x) (twin h)) a) et in
+    let e4 : next_in s4 ≡ put (without (put f (twin x) (twin h)) (twin h)) x (twin h) = w.next ∙ ap (λ (k : ℕ → ℕ). put k x t) e3
+    ∙ ap (λ (a : ℕ). put (without (put f (twin x) (twin h)) (twin h)) x a) et in
     let k : IsAllowedSplit f (next_in s4) half_limit h x = subst (λ (g : ℕ → ℕ). IsAllowedSplit f g half_limit h x) (sym e4)
     (split_allowed f half_limit h x (darts s st.sound) st.inserted.within (isolated s s1 x st) (apart s s1 x h st alive)) in
     record {
       allowed = k;
       added = added s s1 s4 x (put (next_in s3) x t) st all;
-      counts = counts_more s s4 1 0 (split_more (holds s) (holds s4) f (next_in s4) h x (whole s st.sound) (live_added s s1 s4 x (put (next_in s3) x t) st all) alive k);
+      counts = counts_more s s4 1 0 (split_more (holds s) (holds s4) f (next_in s4) h x (whole s st.sound)
+          (live_added s s1 s4 x (put (next_in s3) x t) st all) alive k);
     }
 
 -- ---- Unchord
@@ -226,22 +241,27 @@ pub record IsUnchorded (s s' : Slab Segment) (h : ℕ) : Type 0 where
   pub taken : IsTaken s s' h
   pub counts : PartsFaces (view_of s) h → CountsFewer (view_of s) (view_of s') 0 1
 
-pub unchord_alone : (s s1 s2 : Slab Segment) (h t : ℕ) → t ≡ twin h → IsTurned s s1 (without (next_in s) h) → IsTurned s1 s2 (without (next_in s1) t) → next_in s2 h ≡ h
+pub unchord_alone : (s s1 s2 : Slab Segment) (h t : ℕ) → t ≡ twin h → IsTurned s s1 (without (next_in s) h) → IsTurned s1 s2 (without (next_in s1) t)
+    → next_in s2 h ≡ h
 unchord_alone s s1 s2 h t et u v = grind (arith, twin-other, without-self, without-elsewhere)
 
 pub without_alone : (s s1 : Slab Segment) (h t : ℕ) → t ≡ twin h → IsTurned s s1 (without (next_in s) t) → next_in s1 (twin h) ≡ twin h
 without_alone s s1 h t et v = ap (next_in s1) (sym et) ∙ ap (λ (f : ℕ → ℕ). f t) v.next ∙ without-self (next_in s) t t refl ∙ et
 
-pub unchorded : {s s1 s2 s3 : Slab Segment} {h : ℕ} (t : ℕ) → IsKept s → holds s h ≡ true → t ≡ twin h → IsTurned s s1 (without (next_in s) h) → IsTurned s1 s2 (without (next_in s1) t) → IsRemoved s2 s3 h → IsUnchorded s s3 h
+pub unchorded : {s s1 s2 s3 : Slab Segment} {h : ℕ} (t : ℕ) → IsKept s → holds s h ≡ true → t ≡ twin h → IsTurned s s1 (without (next_in s) h)
+    → IsTurned s1 s2 (without (next_in s1) t) → IsRemoved s2 s3 h → IsUnchorded s s3 h
 unchorded {s} {s1} {s2} {s3} {h} t i alive et u v r =
     let f : ℕ → ℕ = next_in s in
     let uv : IsTurned s s2 (without (next_in s1) t) = then_turned s s1 s2 (without f h) (without (next_in s1) t) u v in
-    let e : next_in s3 ≡ without (without f h) (twin h) = r.next ∙ v.next ∙ ap (λ (k : ℕ → ℕ). without k t) u.next ∙ ap (λ (a : ℕ). without (without f h) a) et in
+    let e : next_in s3 ≡ without (without f h) (twin h) = r.next ∙ v.next ∙ ap (λ (k : ℕ → ℕ). without k t) u.next
+    ∙ ap (λ (a : ℕ). without (without f h) a) et in
     record {
       edit = subst (λ (g : ℕ → ℕ). IsUnchord f g half_limit h) (sym e) (unchord_made f half_limit h);
       taken = taken s s2 s3 h (without (next_in s1) t) i (i.within h alive) uv r;
-      counts = λ parts. counts_fewer s s3 0 1 (unchord_fewer (holds s) (holds s3) f (next_in s3) h (whole s i) (live_taken s s2 s3 h (without (next_in s1) t) uv r)
-          (subst (λ (g : ℕ → ℕ). IsAllowedUnchord f g half_limit h) (sym e) (unchord_allowed f half_limit h (darts s i) (i.within h alive) parts.two_faces parts.not_alone)));
+      counts = λ parts. counts_fewer s s3 0 1
+          (unchord_fewer (holds s) (holds s3) f (next_in s3) h (whole s i) (live_taken s s2 s3 h (without (next_in s1) t) uv r)
+          (subst (λ (g : ℕ → ℕ). IsAllowedUnchord f g half_limit h) (sym e)
+          (unchord_allowed f half_limit h (darts s i) (i.within h alive) parts.two_faces parts.not_alone)));
     }
 
 -- ---- Smooth
@@ -261,14 +281,17 @@ pub record IsAtMidpoint (s : Slab Segment) (x t y : ℕ) : Type 0 where
   pub onward : t ≡ next_in s x
   pub other : y ≡ twin x
 
-pub smoothed_out : {s s1 s2 s3 s4 : Slab Segment} {x t y : ℕ} → IsAtMidpoint s x t y → IsTurned s s1 (without (next_in s) x) → IsTurned s1 s2 (put (next_in s1) t y) → IsTurned s2 s3 (without (next_in s2) y) → IsRemoved s3 s4 x → IsSmoothed s s4 x
+pub smoothed_out : {s s1 s2 s3 s4 : Slab Segment} {x t y : ℕ} → IsAtMidpoint s x t y → IsTurned s s1 (without (next_in s) x)
+    → IsTurned s1 s2 (put (next_in s1) t y) → IsTurned s2 s3 (without (next_in s2) y) → IsRemoved s3 s4 x → IsSmoothed s s4 x
 smoothed_out {s} {s1} {s2} {s3} {s4} {x} {t} {y} m u v w r =
     let record { kept = i; live = alive; degree_two = back; not_alone = na; two_segments = nl; onward = et; other = ey } = m in
     let f : ℕ → ℕ = next_in s in
     let uv : IsTurned s s2 (put (next_in s1) t y) = then_turned s s1 s2 (without f x) (put (next_in s1) t y) u v in
     let all : IsTurned s s3 (without (next_in s2) y) = then_turned s s2 s3 (put (next_in s1) t y) (without (next_in s2) y) uv w in
-    let e2 : next_in s2 ≡ put (without f x) (f x) (twin x) = v.next ∙ ap (λ (k : ℕ → ℕ). put k t y) u.next ∙ ap (λ (a : ℕ). put (without f x) a y) et ∙ ap (λ (a : ℕ). put (without f x) (f x) a) ey in
-    let e4 : next_in s4 ≡ without (put (without f x) (f x) (twin x)) (twin x) = r.next ∙ w.next ∙ ap (λ (k : ℕ → ℕ). without k y) e2 ∙ ap (λ (a : ℕ). without (put (without f x) (f x) (twin x)) a) ey in
+    let e2 : next_in s2 ≡ put (without f x) (f x) (twin x) = v.next ∙ ap (λ (k : ℕ → ℕ). put k t y) u.next ∙ ap (λ (a : ℕ). put (without f x) a y) et
+    ∙ ap (λ (a : ℕ). put (without f x) (f x) a) ey in
+    let e4 : next_in s4 ≡ without (put (without f x) (f x) (twin x)) (twin x) = r.next ∙ w.next ∙ ap (λ (k : ℕ → ℕ). without k y) e2
+    ∙ ap (λ (a : ℕ). without (put (without f x) (f x) (twin x)) a) ey in
     let k : IsAllowedSmooth f (next_in s4) half_limit x = subst (λ (g : ℕ → ℕ). IsAllowedSmooth f g half_limit x) (sym e4)
     (smooth_allowed f half_limit x (darts s i) (i.within x alive) back na nl) in
     record {

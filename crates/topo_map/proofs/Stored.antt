@@ -1,5 +1,6 @@
 -- Segments that are stored by themselves, and those that are taken out.
-use Rattle.std.proofs.Common.{◌≡◌, ◌≢◌, ℕ, ◌+◌, ◌-◌, ◌*◌, ◌/◌, ◌%◌, ◌<◌, ◌≤◌, ◌==◌, Bool, true, false, cond, inl, inr, refl, sym, ◌∙◌, ap, subst, arith, Option, Some, None, is_some, length, nat_le, min}
+use Rattle.std.proofs.Common.{◌≡◌, ◌≢◌, ℕ, ◌+◌, ◌-◌, ◌*◌, ◌/◌, ◌%◌, ◌<◌, ◌≤◌, ◌==◌, Bool, true, false, cond, inl, inr}
+use Rattle.std.proofs.Common.{refl, sym, ◌∙◌, ap, subst, arith, Option, Some, None, is_some, length, nat_le, min}
 use Rattle.std.proofs.lemmas.Bool.{cases_Bool, cases_eq, cond-true, cond-false, eq-eqb, ne_eqb, leb-true}
 use Rattle.std.specs.Option.{option_map}
 use Rattle.slab.specs.Slab.{Slab, get, slab_len, with_value, Updates}
@@ -10,7 +11,8 @@ use Rattle.topo_core.specs.declared.darts.Way.TheVariants.{Forward, Back}
 use Rattle.topo_perm.proofs.edits.Bypassing.{half-same, twin-half}
 use Rattle.topo_map.specs.Halves.{half_number}
 use Rattle.topo_map.specs.Rotation.{AddsLabel, KeepsLabels, Slot, turned, turn_in, half_limit}
-use Rattle.topo_map.specs.Segments.{shown, holds, next_in, before_in, nexts, befores, label_in, face_in, limit_of, room_of, isolated_segment, AddsFaces, AreInverse, IsKept, IsInserted, IsRemoved}
+use Rattle.topo_map.specs.Segments.{shown, holds, next_in, before_in, nexts, befores, label_in, face_in, limit_of}
+use Rattle.topo_map.specs.Segments.{room_of, isolated_segment, AddsFaces, AreInverse, IsKept, IsInserted, IsRemoved}
 use Rattle.topo_map.specs.declared.segments.Segment.{Segment}
 use Rattle.topo_map.proofs.Maps.{funext}
 use Rattle.topo_map.proofs.Slots.{turn_at, label-there, label-else, face-there, face-else, live-slot, live_at, updates, same_len}
@@ -49,7 +51,8 @@ below_limit s a k all h = grind (arith, limit-is, live-slot)
 
 -- ---- The two halves at a key
 
-adds : (live live' : ℕ → Bool) (n key x : ℕ) → x / 2 ≡ key → ((a : ℕ) → a / 2 ≡ key → live a ≡ false) → ((a : ℕ) → a / 2 ≡ key → live' a ≡ true) → ((a : ℕ) → a / 2 ≢ key → live' a ≡ live a) → AddsSegment live live' n x
+adds : (live live' : ℕ → Bool) (n key x : ℕ) → x / 2 ≡ key → ((a : ℕ) → a / 2 ≡ key → live a ≡ false) → ((a : ℕ) → a / 2 ≡ key → live' a ≡ true)
+    → ((a : ℕ) → a / 2 ≢ key → live' a ≡ live a) → AddsSegment live live' n x
 adds live live' n key x e none some others = grind (arith, twin-half, half-same)
 
 -- ---- A slot that changes
@@ -63,14 +66,18 @@ live-else s new key slot u a ne = live_at nexts new a ∙ ap is_some (u.others (
 live-was : (s : Slab Segment) (key : ℕ) (slot : Option Segment) → get s key ≡ slot → (a : ℕ) → a / 2 ≡ key → holds s a ≡ is_some slot
 live-was s key slot g a e = live_at nexts s a ∙ ap (λ (k : ℕ). is_some (get s k)) e ∙ ap is_some g
 
-same_turn : (pick : Segment → Slot) (s new : Slab Segment) (key : ℕ) (slot : Option Segment) → Updates s new key slot → ((a : ℕ) → a / 2 ≡ key → turned a (option_map pick slot) ≡ a) → ((a : ℕ) → a / 2 ≡ key → turn_in (shown pick s) a ≡ a) → turn_in (shown pick new) ≡ turn_in (shown pick s)
+same_turn : (pick : Segment → Slot) (s new : Slab Segment) (key : ℕ) (slot : Option Segment) → Updates s new key slot
+    → ((a : ℕ) → a / 2 ≡ key → turned a (option_map pick slot) ≡ a) → ((a : ℕ) → a / 2 ≡ key → turn_in (shown pick s) a ≡ a)
+    → turn_in (shown pick new) ≡ turn_in (shown pick s)
 same_turn pick s new key slot u after before = funext (turn_in (shown pick new)) (turn_in (shown pick s)) (λ a. elim (cases_eq (a / 2) key) [
-  | inl e ↦ turn_at pick new a ∙ ap (λ (k : ℕ). turned a (option_map pick (get new k))) e ∙ ap (λ (o : Option Segment). turned a (option_map pick o)) u.changed ∙ after a e ∙ sym (before a e)
+  | inl e ↦ turn_at pick new a ∙ ap (λ (k : ℕ). turned a (option_map pick (get new k))) e ∙ ap (λ (o : Option Segment). turned a (option_map pick o)) u.changed
+      ∙ after a e ∙ sym (before a e)
   | inr ne ↦ turn_at pick new a ∙ ap (λ (o : Option Segment). turned a (option_map pick o)) (u.others (a / 2) ne) ∙ sym (turn_at pick s a)
 ])
 
 turn-none : (pick : Segment → Slot) (s : Slab Segment) (key : ℕ) → get s key ≡ None → (a : ℕ) → a / 2 ≡ key → turn_in (shown pick s) a ≡ a
-turn-none pick s key g a e = turn_at pick s a ∙ ap (λ (k : ℕ). turned a (option_map pick (get s k))) e ∙ ap (λ (o : Option Segment). turned a (option_map pick o)) g
+turn-none pick s key g a e = turn_at pick s a ∙ ap (λ (k : ℕ). turned a (option_map pick (get s k))) e
+    ∙ ap (λ (o : Option Segment). turned a (option_map pick o)) g
 
 by_itself : (a key : ℕ) → a / 2 ≡ key → cond (a % 2 == 0) (2 * key) (2 * key + 1) ≡ a
 by_itself a key e = grind (arith, cases_eq, cond-true, eq-eqb, cond-false, ne_eqb)
@@ -88,19 +95,23 @@ pub record IsNewAt (s new : Slab Segment) (key edge left right : ℕ) : Type 0 w
   pub capacity : new.capacity ≡ s.capacity
   pub below : key < s.capacity
 
-pub inserted : {s new : Slab Segment} {key edge left right : ℕ} (x : ℕ) → IsKept s → 0 < room_of s → IsNewAt s new key edge left right → 2 * key ≡ x → IsInserted s new x
+pub inserted : {s new : Slab Segment} {key edge left right : ℕ} (x : ℕ) → IsKept s → 0 < room_of s → IsNewAt s new key edge left right → 2 * key ≡ x
+    → IsInserted s new x
 inserted {s} {new} {key} {edge} {left} {right} x k room i ex =
     let kx : x / 2 ≡ key = omega arith in
     let r : HasRoom s.capacity (slab_len s) = has_room s.capacity (slab_len s) room in
     let narrow : s.capacity ≤ 2147483647 = r.narrow in
     let below : key < s.capacity = i.below in
     let lim : half_limit ≡ 4294967294 = limit-is in
-    let f : next_in new ≡ next_in s = same_turn nexts s new key (Some (isolated_segment key edge left right)) i.updates (λ a e. by_itself a key e) (turn-none nexts s key i.free) in
-    let b : before_in new ≡ before_in s = same_turn befores s new key (Some (isolated_segment key edge left right)) i.updates (λ a e. by_itself a key e) (turn-none befores s key i.free) in
+    let f : next_in new ≡ next_in s =
+    same_turn nexts s new key (Some (isolated_segment key edge left right)) i.updates (λ a e. by_itself a key e) (turn-none nexts s key i.free) in
+    let b : before_in new ≡ before_in s =
+    same_turn befores s new key (Some (isolated_segment key edge left right)) i.updates (λ a e. by_itself a key e) (turn-none befores s key i.free) in
     record {
       next = f;
       within = omega arith;
-      live = adds (holds s) (holds new) half_limit key x kx (live-was s key None i.free) (live-there s new key (Some (isolated_segment key edge left right)) i.updates) (live-else s new key (Some (isolated_segment key edge left right)) i.updates);
+      live = adds (holds s) (holds new) half_limit key x kx (live-was s key None i.free) (live-there s new key (Some (isolated_segment key edge left right))
+          i.updates) (live-else s new key (Some (isolated_segment key edge left right)) i.updates);
       room = room_less s.capacity (slab_len s) new.capacity (slab_len new) room i.capacity i.len;
       limit = ap (λ (n : ℕ). 2 * min n 2147483647) i.capacity;
       below = (let same : new.capacity ≡ s.capacity = i.capacity in omega arith);
@@ -114,11 +125,13 @@ inserted {s} {new} {key} {edge} {left} {right} x k room i ex =
     }
 
 -- its halves have its label, and all others theirs
-pub label_stored : (s new : Slab Segment) (key edge left right x : ℕ) → IsNewAt s new key edge left right → 2 * key ≡ x → AddsLabel (holds s) (label_in s) (label_in new) x edge
+pub label_stored : (s new : Slab Segment) (key edge left right x : ℕ) → IsNewAt s new key edge left right → 2 * key ≡ x
+    → AddsLabel (holds s) (label_in s) (label_in new) x edge
 label_stored s new key edge left right x i ex = grind (arith, label-there, twin-half, label-else, true_false, live-was)
 
 -- its halves have their labels of faces, and all others theirs
-pub faces_stored : (s new : Slab Segment) (key edge left right x : ℕ) → IsNewAt s new key edge left right → 2 * key ≡ x → AddsFaces (holds s) (face_in s) (face_in new) x left right
+pub faces_stored : (s new : Slab Segment) (key edge left right x : ℕ) → IsNewAt s new key edge left right → 2 * key ≡ x
+    → AddsFaces (holds s) (face_in s) (face_in new) x left right
 faces_stored s new key edge left right x i ex =
     let kx : x / 2 ≡ key = omega arith in
     let t : half_number key Back ≡ twin x = grind (arith, twin-cases) in
@@ -134,15 +147,18 @@ pub record IsGoneAt (s new : Slab Segment) (key : ℕ) (seg : Segment) : Type 0 
   pub len : slab_len new + 1 ≡ slab_len s
   pub capacity : new.capacity ≡ s.capacity
 
-pub removed : (s new : Slab Segment) (key x : ℕ) (seg : Segment) → IsKept s → next_in s x ≡ x → next_in s (twin x) ≡ twin x → IsGoneAt s new key seg → x / 2 ≡ key → IsRemoved s new x
+pub removed : (s new : Slab Segment) (key x : ℕ) (seg : Segment) → IsKept s → next_in s x ≡ x → next_in s (twin x) ≡ twin x → IsGoneAt s new key seg
+    → x / 2 ≡ key → IsRemoved s new x
 removed s new key x seg k alone twin_alone i kx =
     let fixed : (a : ℕ) → a / 2 ≡ key → next_in s a ≡ a = λ a e. grind (arith, half-same) in
     let f : next_in new ≡ next_in s = same_turn nexts s new key None i.updates (λ a e. refl) fixed in
-    let b : before_in new ≡ before_in s = same_turn befores s new key None i.updates (λ a e. refl) (λ a e. ap (before_in s) (sym (fixed a e)) ∙ k.inverse.back a) in
+    let b : before_in new ≡ before_in s =
+    same_turn befores s new key None i.updates (λ a e. refl) (λ a e. ap (before_in s) (sym (fixed a e)) ∙ k.inverse.back a) in
     let r : Frees s.capacity (slab_len s) new.capacity (slab_len new) = room_more s.capacity (slab_len s) new.capacity (slab_len new) i.capacity i.len in
     record {
       next = f;
-      live = adds (holds new) (holds s) half_limit key x kx (live-there s new key None i.updates) (live-was s key (Some seg) i.was) (λ a ne. sym (live-else s new key None i.updates a ne));
+      live = adds (holds new) (holds s) half_limit key x kx (live-there s new key None i.updates) (live-was s key (Some seg) i.was)
+          (λ a ne. sym (live-else s new key None i.updates a ne));
       room = r.never_less;
       freed = r.one_more;
       limit = ap (λ (n : ℕ). 2 * min n 2147483647) i.capacity;
@@ -163,7 +179,9 @@ pub faces_left : (s new : Slab Segment) (key : ℕ) (seg : Segment) → IsGoneAt
 faces_left s new key seg i a h = face-else s new key None i.updates a (λ e. true_false (sym h ∙ live-there s new key None i.updates a e))
 
 -- stored, and then written again at its key
-pub two_writes : {s mid : Slab Segment} {key : ℕ} (edge left right : ℕ) {blank : Segment} (seg : Segment) → get s key ≡ None → Updates s mid key (Some blank) → seg ≡ isolated_segment key edge left right → slab_len mid ≡ slab_len s + 1 → mid.capacity ≡ s.capacity → key < mid.capacity → IsNewAt s (with_value mid key seg) key edge left right
+pub two_writes : {s mid : Slab Segment} {key : ℕ} (edge left right : ℕ) {blank : Segment} (seg : Segment) → get s key ≡ None → Updates s mid key (Some blank)
+    → seg ≡ isolated_segment key edge left right → slab_len mid ≡ slab_len s + 1 → mid.capacity ≡ s.capacity → key < mid.capacity
+    → IsNewAt s (with_value mid key seg) key edge left right
 two_writes {s} {mid} {key} edge left right {blank} seg free u e len cap below =
     let v : Updates mid (with_value mid key seg) key (Some seg) = updates mid key blank seg u.changed in
     grind (arith, free, updates, len, same_len, below)

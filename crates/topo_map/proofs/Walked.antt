@@ -13,7 +13,15 @@ use Rattle.topo_map.proofs.Steps.{live_twin}
 use Rattle.topo_map.proofs.Painting.{painted_more, painted_round}
 
 pub then_painted : (s s1 s2 : Slab Segment) (l m : ℕ → ℕ) → Repaints s s1 l → Repaints s1 s2 m → Repaints s s2 m
-then_painted s s1 s2 l m r t = record { faces = t.faces; next = t.next ∙ r.next; before = t.before ∙ r.before; live = t.live ∙ r.live; edges = t.edges ∙ r.edges; len = t.len ∙ r.len; capacity = t.capacity ∙ r.capacity }
+then_painted s s1 s2 l m r t = record {
+  faces = t.faces;
+  next = t.next ∙ r.next;
+  before = t.before ∙ r.before;
+  live = t.live ∙ r.live;
+  edges = t.edges ∙ r.edges;
+  len = t.len ∙ r.len;
+  capacity = t.capacity ∙ r.capacity;
+}
 
 pub repainted : (s s1 : Slab Segment) (l m : ℕ → ℕ) → l ≡ m → Repaints s s1 l → Repaints s s1 m
 repainted s s1 l m e r = subst (λ (k : ℕ → ℕ). Repaints s s1 k) e r
@@ -40,7 +48,8 @@ pub record IsPaintedTo (s s1 : Slab Segment) (k start label at : ℕ) : Type 0 w
 pub painted_start : (s : Slab Segment) (start label : ℕ) → holds s start ≡ true → IsPaintedTo s s 0 start label start
 painted_start s start label h = record { place = refl; live = h; painted = unpainted s }
 
-pub painted_on : {s s1 s2 : Slab Segment} {k start label at : ℕ} (t next : ℕ) → IsKept s → IsPaintedTo s s1 k start label at → Repaints s1 s2 (written (face_in s1) at label) → t ≡ twin at → next ≡ next_in s2 t → IsPaintedTo s s2 (k + 1) start label next
+pub painted_on : {s s1 s2 : Slab Segment} {k start label at : ℕ} (t next : ℕ) → IsKept s → IsPaintedTo s s1 k start label at
+    → Repaints s1 s2 (written (face_in s1) at label) → t ≡ twin at → next ≡ next_in s2 t → IsPaintedTo s s2 (k + 1) start label next
 painted_on {s} {s1} {s2} {k} {start} {label} {at} t next kept w r et en =
     let f : ℕ → ℕ = face_next (next_in s) in
     let e : next ≡ next_in s t = en ∙ ap (λ (g : ℕ → ℕ). g t) (r.next ∙ w.painted.next) in
@@ -53,11 +62,14 @@ painted_on {s} {s1} {s2} {k} {start} {label} {at} t next kept w r et en =
     }
 
 -- back at the start
-pub painted_all : (s s1 : Slab Segment) (k start label at : ℕ) → k < half_limit → IsPaintedTo s s1 (k + 1) start label at → at ≡ start → IsPainted s s1 start label
+pub painted_all : (s s1 : Slab Segment) (k start label at : ℕ) → k < half_limit → IsPaintedTo s s1 (k + 1) start label at → at ≡ start
+    → IsPainted s s1 start label
 painted_all s s1 k start label at l w e =
     let f : ℕ → ℕ = face_next (next_in s) in
-    repainted s s1 (painted f (k + 1) start label (face_in s)) (painted f half_limit start label (face_in s)) (painted_round f half_limit k start label (face_in s) l (sym w.place ∙ e)) w.painted
+    repainted s s1 (painted f (k + 1) start label (face_in s)) (painted f half_limit start label (face_in s))
+    (painted_round f half_limit k start label (face_in s) l (sym w.place ∙ e)) w.painted
 
 pub painted_end : (s s1 : Slab Segment) (k start label at : ℕ) → k ≡ half_limit → IsPaintedTo s s1 k start label at → IsPainted s s1 start label
-painted_end s s1 k start label at e w = repainted s s1 (painted (face_next (next_in s)) k start label (face_in s)) (painted (face_next (next_in s)) half_limit start label (face_in s))
+painted_end s s1 k start label at e w =
+    repainted s s1 (painted (face_next (next_in s)) k start label (face_in s)) (painted (face_next (next_in s)) half_limit start label (face_in s))
     (ap (λ (n : ℕ). painted (face_next (next_in s)) n start label (face_in s)) e) w.painted

@@ -1,6 +1,7 @@
 //! The segments of a list of turns.
 
-ghost use Rattle.std.specs.Prelude.{◌≡◌, ◌+◌, ◌*◌, ◌%◌, ◌<◌, ◌≤◌, [], ◌++◌, ◌∷◌, true, length, slice_index, IfOk};
+ghost use Rattle.std.specs.Prelude.{◌≡◌, ◌+◌, ◌*◌, ◌%◌, ◌<◌, ◌≤◌, [], ◌++◌};
+ghost use Rattle.std.specs.Prelude.{◌∷◌, true, length, slice_index, IfOk};
 ghost use Rattle.topo_core.specs.Cycles.{IsPermutationList, map_of};
 ghost use Rattle.topo_core.specs.Rotations.{twin};
 ghost use Rattle.topo_map.specs.Building.{AreAlone, AreBlank, IsJoined};
@@ -12,7 +13,8 @@ use crate::segments::{self, Segment, insert_isolated, link};
 use slab::Slab;
 use std::alloc::{AllocError, Global};
 
-/// Segments with these labels, each half a point by itself, and their halves. No face has a label yet.
+/// Segments with these labels, each half a point by itself, and their halves. No face has a label
+/// yet.
 pub(crate) fn isolated_halves(
     alloc: Global,
     segments: &mut Slab<Segment>,
@@ -21,7 +23,8 @@ pub(crate) fn isolated_halves(
     requires { segments.old.slots ≡ [] }
     ensures length { IfOk result (λ halves. length halves.items ≡ 2 * length edges.now) }
     ensures alone { IfOk result (λ halves. AreAlone segments.new halves.items) }
-    ensures labels { IfOk result (λ halves. AreLabelled edges.now halves.items (label_in segments.new)) }
+    ensures labels { IfOk result
+        (λ halves. AreLabelled edges.now halves.items (label_in segments.new)) }
     ensures blank { IfOk result (λ _. AreBlank segments.new) }
 {
     segments::reserve(segments, edges.len())?;

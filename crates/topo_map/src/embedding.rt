@@ -1,10 +1,15 @@
 //! The embedding and its edits.
 
-ghost use Rattle.std.specs.Prelude.{◌≡◌, ◌≢◌, ◌↔◌, ◌+◌, ◌*◌, ℕ, [], ◌∷◌, length, ◌<◌, ◌≤◌, ◌^◌, true, IsTrue, IsOk, IfOk, OnOk};
+ghost use Rattle.std.specs.Prelude.{◌≡◌, ◌≢◌, ◌↔◌, ◌+◌, ◌*◌, ℕ, [], ◌∷◌, length};
+ghost use Rattle.std.specs.Prelude.{◌<◌, ◌≤◌, ◌^◌, true, IsTrue, IsOk, IfOk, OnOk};
 ghost use Rattle.topo_core.specs.Cycles.{IsPermutationList, SameCycle};
 ghost use Rattle.topo_core.specs.Edits.{IsChord, IsHang, IsSmooth, IsSplit, IsUnchord};
 ghost use Rattle.topo_core.specs.Rotations.{face_next, twin};
-ghost use Rattle.topo_map.specs.Rotation.{AddsLabel, AreLabelled, CountsFewer, CountsMore, Grows, IsDegree, IsEmbedding, IsMadeFrom, IsOneFace, KeepsLabels, PartsFaces, Shrinks, TellsFaces, edge_of, face_of, half_limit, is_live, segments as segments_of, turn};
+ghost use Rattle.topo_map.specs.Rotation.{AddsLabel, AreLabelled, CountsFewer, CountsMore};
+ghost use Rattle.topo_map.specs.Rotation.{Grows, IsDegree, IsEmbedding, IsMadeFrom};
+ghost use Rattle.topo_map.specs.Rotation.{IsOneFace, KeepsLabels, PartsFaces, Shrinks};
+ghost use Rattle.topo_map.specs.Rotation.{TellsFaces, edge_of, face_of, half_limit};
+ghost use Rattle.topo_map.specs.Rotation.{is_live, segments as segments_of, turn};
 
 use crate::build::{isolated_halves, join_turns};
 use crate::faces::{HALF_LIMIT, attach, detach, label_faces};
@@ -16,15 +21,16 @@ use slab::Slab;
 use std::alloc::{AllocError, Global};
 use std::marker::Model;
 
-/// A graph on closed surfaces: segments between points, and round each point its halves in clockwise
-/// order.
+/// A graph on closed surfaces: segments between points, and round each point its halves in
+/// clockwise order.
 pub struct Embedding {
     segments: Slab<Segment>,
     // The label that the next new face gets: each half has a smaller one.
     unused: u32,
 }
 
-// Written out, so that it is proved once: a derived one is proved anew in each function that lets such a value go.
+// Written out, so that it is proved once: a derived one is proved anew in each function that lets
+// such a value go.
 impl Drop for Embedding {
     fn drop(self) {
         let Embedding {
@@ -51,8 +57,10 @@ impl Model for Embedding {
 impl Embedding {
     /// One segment with two points, on an edge with this label, and one of its halves.
     pub fn seed(alloc: Global, edge: u32) -> Result<(Self, Half), AllocError>
-        ensures made { IfOk result (λ made. IsMadeFrom (0 ∷ 1 ∷ []) (made.1 ∷ twin made.1 ∷ []) made.0) }
-        ensures labels { IfOk result (λ made. (edge_of made.0 made.1 ≡ edge) × (edge_of made.0 (twin made.1) ≡ edge)) }
+        ensures made { IfOk result
+            (λ made. IsMadeFrom (0 ∷ 1 ∷ []) (made.1 ∷ twin made.1 ∷ []) made.0) }
+        ensures labels { IfOk result
+            (λ made. (edge_of made.0 made.1 ≡ edge) × (edge_of made.0 (twin made.1) ≡ edge)) }
     {
         let mut segments = Slab::new(alloc);
         segments::reserve(&mut segments, 1)?;
@@ -61,8 +69,8 @@ impl Embedding {
         Ok((Embedding { segments, unused }, half))
     }
 
-    /// The embedding of which `turns` are the turns, where `2i` and `2i + 1` are the two halves of the
-    /// segment with label `edges[i]`, and its halves in this order.
+    /// The embedding of which `turns` are the turns, where `2i` and `2i + 1` are the two halves of
+    /// the segment with label `edges[i]`, and its halves in this order.
     pub fn from_turns(
         alloc: Global,
         turns: &[u32],
@@ -98,8 +106,8 @@ impl Embedding {
         segments::room(&self.segments)
     }
 
-    /// Makes room for so many more segments. An error leaves all halves as they were; the room may have
-    /// changed.
+    /// Makes room for so many more segments. An error leaves all halves as they were; the room may
+    /// have changed.
     pub fn reserve(&mut self, more: usize) -> Result<(), AllocError>
         ensures same { self.new.slots ≡ self.old.slots }
         ensures same_labels { self.new.labels ≡ self.old.labels }
@@ -180,8 +188,8 @@ impl Embedding {
         face(&self.segments, h)
     }
 
-    /// A length for lists by the label of a face: above the labels of all faces. It is at most about twice
-    /// that of lists by half.
+    /// A length for lists by the label of a face: above the labels of all faces. It is at most
+    /// about twice that of lists by half.
     pub fn labels(&self) -> u32
         ensures tell { TellsFaces self.now }
         ensures above { (a : ℕ) → is_live self.now a ≡ true → face_of self.now a < result }
@@ -215,14 +223,15 @@ impl Embedding {
         HALF_LIMIT
     }
 
-    /// A new point on a new segment of this edge that starts in the corner before `c`. Answers the half
-    /// that leads to the point.
+    /// A new point on a new segment of this edge that starts in the corner before `c`. Answers the
+    /// half that leads to the point.
     pub fn hang(&mut self, c: Half, edge: u32) -> Half
         requires live { is_live self.old c ≡ true }
         requires room { 0 < self.old.room }
         ensures edit { IsHang (turn self.old) (turn self.new) half_limit c result }
         ensures grows { Grows self.old self.new result }
-        ensures label { AddsLabel (is_live self.old) (edge_of self.old) (edge_of self.new) result edge }
+        ensures label { AddsLabel (is_live self.old) (edge_of self.old)
+            (edge_of self.new) result edge }
         ensures counts { CountsMore self.old self.new 1 0 }
     {
         let label = face(&self.segments, c);
@@ -231,16 +240,17 @@ impl Embedding {
         x
     }
 
-    /// A new segment of this edge from the corner before `c` to the corner before `d`; they may be one corner, and
-    /// the segment is then a loop. Where they lie in one face, it parts that face in two. Answers its
-    /// half that starts at `c`.
+    /// A new segment of this edge from the corner before `c` to the corner before `d`; they may be
+    /// one corner, and the segment is then a loop. Where they lie in one face, it parts that face
+    /// in two. Answers its half that starts at `c`.
     pub fn chord(&mut self, c: Half, d: Half, edge: u32) -> Half
         requires live { is_live self.old c ≡ true }
         requires live_end { is_live self.old d ≡ true }
         requires room { 0 < self.old.room }
         ensures edit { IsChord (turn self.old) (turn self.new) half_limit c d result }
         ensures grows { Grows self.old self.new result }
-        ensures label { AddsLabel (is_live self.old) (edge_of self.old) (edge_of self.new) result edge }
+        ensures label { AddsLabel (is_live self.old) (edge_of self.old)
+            (edge_of self.new) result edge }
         ensures counts { IsOneFace self.old c d → CountsMore self.old self.new 0 1 }
     {
         let label = face(&self.segments, c);
@@ -250,14 +260,15 @@ impl Embedding {
         start
     }
 
-    /// A new point on the segment of `h`, and so on its edge. Answers the half that goes on from it, in the direction
-    /// of `h`.
+    /// A new point on the segment of `h`, and so on its edge. Answers the half that goes on from
+    /// it, in the direction of `h`.
     pub fn split(&mut self, h: Half) -> Half
         requires live { is_live self.old h ≡ true }
         requires room { 0 < self.old.room }
         ensures edit { IsSplit (turn self.old) (turn self.new) half_limit h result }
         ensures grows { Grows self.old self.new result }
-        ensures label { AddsLabel (is_live self.old) (edge_of self.old) (edge_of self.new) result (edge_of self.old h) }
+        ensures label { AddsLabel (is_live self.old) (edge_of self.old)
+            (edge_of self.new) result (edge_of self.old h) }
         ensures counts { CountsMore self.old self.new 1 0 }
     {
         let end = h.twin();

@@ -1,17 +1,18 @@
-//! The labels of faces. Each half has the label of the face on its left, and where a face is parted or
-//! two are joined, the smaller of the two is labelled anew by a walk.
+//! The labels of faces. Each half has the label of the face on its left, and where a face is parted
+//! or two are joined, the smaller of the two is labelled anew by a walk.
 //!
-//! Labels are counted upwards. Where one was given that is above twice the number of halves that there is
-//! place for, and some, all faces are labelled anew from the first on. They then get no more labels than
-//! there are halves. So a list by label stays short, and a pass over all halves comes at most once in as
-//! many edits: it is amortized constant time for an edit.
+//! Labels are counted upwards. Where one was given that is above twice the number of halves that
+//! there is place for, and some, all faces are labelled anew from the first on. They then get no
+//! more labels than there are halves. So a list by label stays short, and a pass over all halves
+//! comes at most once in as many edits: it is amortized constant time for an edit.
 
 ghost use Rattle.std.specs.Prelude.{◌≡◌, ◌≢◌, ◌⊎◌, ◌+◌, ◌<◌, ℕ, true, false};
 ghost use Rattle.topo_core.specs.Rotations.{face_next, twin};
 ghost use Rattle.topo_map.specs.Building.{AreBlank};
 ghost use Rattle.topo_map.specs.Labels.{IsLabelled, IsPainted};
 ghost use Rattle.topo_map.specs.Rotation.{half_limit};
-ghost use Rattle.topo_map.specs.Segments.{IsKept, IsTurned, Repaints, face_in, holds, next_in, put, without};
+ghost use Rattle.topo_map.specs.Segments.{IsKept, IsTurned, Repaints, face_in};
+ghost use Rattle.topo_map.specs.Segments.{holds, next_in, put, without};
 
 use crate::half::Half;
 use crate::segments::{Segment, contains, face, limit, next, put_before, set_face, take_out};
@@ -20,7 +21,8 @@ use slab::Slab;
 /// Above the numbers of all halves.
 pub(crate) const HALF_LIMIT: u64 = 4_294_967_294;
 
-/// So many labels are given beyond twice the halves, so that few halves are not labelled anew often.
+/// So many labels are given beyond twice the halves, so that few halves are not labelled anew
+/// often.
 const SPARE_LABELS: usize = 1024;
 
 /// The whole face of `start` gets this label.
@@ -39,8 +41,8 @@ pub(crate) fn paint(segments: &mut Slab<Segment>, start: Half, label: u32)
     }
 }
 
-/// Whether the walk round the face of `a` ends no later than that round the face of `b`, if both go in
-/// step.
+/// Whether the walk round the face of `a` ends no later than that round the face of `b`, if both go
+/// in step.
 fn is_shorter(segments: &Slab<Segment>, a: Half, b: Half) -> bool
     requires kept { IsKept segments.now }
     requires live { holds segments.now a ≡ true }
@@ -66,7 +68,8 @@ fn share_label(segments: &mut Slab<Segment>, a: Half, b: Half)
     requires kept { IsKept segments.old }
     requires live { holds segments.old a ≡ true }
     requires live_other { holds segments.old b ≡ true }
-    ensures { IsPainted segments.old segments.new a (face_in segments.old b) ⊎ IsPainted segments.old segments.new b (face_in segments.old a) }
+    ensures { IsPainted segments.old segments.new a (face_in segments.old b)
+        ⊎ IsPainted segments.old segments.new b (face_in segments.old a) }
 {
     if is_shorter(segments, a, b) {
         let other = face(segments, b);
@@ -82,7 +85,8 @@ fn part_label(segments: &mut Slab<Segment>, a: Half, b: Half, label: u32)
     requires kept { IsKept segments.old }
     requires live { holds segments.old a ≡ true }
     requires live_other { holds segments.old b ≡ true }
-    ensures { IsPainted segments.old segments.new a label ⊎ IsPainted segments.old segments.new b label }
+    ensures { IsPainted segments.old segments.new a label
+        ⊎ IsPainted segments.old segments.new b label }
 {
     if is_shorter(segments, a, b) {
         paint(segments, a, label);
@@ -114,8 +118,8 @@ pub(crate) fn attach(segments: &mut Slab<Segment>, unused: u32, x: Half, c: Half
     }
 }
 
-/// `x` becomes a point by itself, and the faces beside it are labelled as they lie then. Answers the
-/// label that is unused then.
+/// `x` becomes a point by itself, and the faces beside it are labelled as they lie then. Answers
+/// the label that is unused then.
 pub(crate) fn detach(segments: &mut Slab<Segment>, unused: u32, x: Half) -> u32
     requires kept { IsKept segments.old }
     requires live { holds segments.old x ≡ true }
@@ -138,7 +142,8 @@ pub(crate) fn detach(segments: &mut Slab<Segment>, unused: u32, x: Half) -> u32
 
 /// Whether a half is there and its face has no label.
 fn lacks_label(segments: &Slab<Segment>, half: Half) -> bool
-    ensures yes { result ≡ true → (holds segments.now half ≡ true) × (face_in segments.now half ≡ 0) }
+    ensures yes { result ≡ true → (holds segments.now half ≡ true)
+        × (face_in segments.now half ≡ 0) }
     ensures no { result ≡ false → holds segments.now half ≡ true → face_in segments.now half ≢ 0 }
 {
     contains(segments, half) && face(segments, half) == 0

@@ -6,18 +6,22 @@ ghost use Rattle.std.specs.Prelude.{◌≡◌, ◌≢◌, ◌+◌, ◌<◌, ◌�
 ghost use Rattle.slab.specs.Slab.{slab_len};
 ghost use Rattle.topo_core.specs.Rotations.{twin};
 ghost use Rattle.topo_map.specs.Rotation.{AddsLabel, KeepsLabels};
-ghost use Rattle.topo_map.specs.Segments.{AddsFaces, IsInserted, IsKept, IsRemoved, IsTurned, Repaints, Rewires, before_in, face_in, holds, isolated_segment, label_in, limit_of, next_in, put, room_of, without, written};
+ghost use Rattle.topo_map.specs.Segments.{AddsFaces, IsInserted, IsKept, IsRemoved};
+ghost use Rattle.topo_map.specs.Segments.{IsTurned, Repaints, Rewires, before_in, face_in};
+ghost use Rattle.topo_map.specs.Segments.{holds, isolated_segment, label_in, limit_of};
+ghost use Rattle.topo_map.specs.Segments.{next_in, put, room_of, without, written};
 
 use crate::half::Half;
 use slab::Slab;
 use std::alloc::AllocError;
 use topo_core::darts::Way;
 
-/// A slab of more segments is used for no new one, so that each half's number fits its type, and what is
-/// above all of them too.
+/// A slab of more segments is used for no new one, so that each half's number fits its type, and
+/// what is above all of them too.
 const MAX_SEGMENTS: usize = 2_147_483_647;
 
-/// The halves after and before a half, clockwise at its point, and the label of the face on its left.
+/// The halves after and before a half, clockwise at its point, and the label of the face on its
+/// left.
 #[derive(Clone, Copy)]
 pub(crate) struct Links {
     next: Half,
@@ -122,7 +126,8 @@ pub(crate) fn set_face(segments: &mut Slab<Segment>, at: Half, label: u32)
 
 fn set_next(segments: &mut Slab<Segment>, at: Half, to: Half)
     requires { holds segments.old at ≡ true }
-    ensures { Rewires segments.old segments.new (written (next_in segments.old) at to) (before_in segments.old) }
+    ensures { Rewires segments.old segments.new (written (next_in segments.old) at to)
+        (before_in segments.old) }
 {
     let segment = &mut segments[at.key()];
     match at.way() {
@@ -133,7 +138,8 @@ fn set_next(segments: &mut Slab<Segment>, at: Half, to: Half)
 
 fn set_previous(segments: &mut Slab<Segment>, at: Half, to: Half)
     requires { holds segments.old at ≡ true }
-    ensures { Rewires segments.old segments.new (next_in segments.old) (written (before_in segments.old) at to) }
+    ensures { Rewires segments.old segments.new (next_in segments.old)
+        (written (before_in segments.old) at to) }
 {
     let segment = &mut segments[at.key()];
     match at.way() {
@@ -146,7 +152,8 @@ fn set_previous(segments: &mut Slab<Segment>, at: Half, to: Half)
 pub(crate) fn link(segments: &mut Slab<Segment>, from: Half, to: Half)
     requires from { holds segments.old from ≡ true }
     requires to { holds segments.old to ≡ true }
-    ensures { Rewires segments.old segments.new (written (next_in segments.old) from to) (written (before_in segments.old) to from) }
+    ensures { Rewires segments.old segments.new (written (next_in segments.old) from to)
+        (written (before_in segments.old) to from) }
 {
     set_next(segments, from, to);
     set_previous(segments, to, from);
@@ -180,9 +187,9 @@ pub(crate) fn take_out(segments: &mut Slab<Segment>, x: Half)
     link(segments, x, x);
 }
 
-/// A new segment on an edge, with each half a point by itself, and these labels of the faces on the left of the
-/// half that is answered and of its twin. The slab gives the key only as it stores, so the segment is
-/// written a second time.
+/// A new segment on an edge, with each half a point by itself, and these labels of the faces on the
+/// left of the half that is answered and of its twin. The slab gives the key only as it stores, so
+/// the segment is written a second time.
 pub(crate) fn insert_isolated(
     segments: &mut Slab<Segment>,
     edge: u32,
@@ -192,8 +199,10 @@ pub(crate) fn insert_isolated(
     requires kept { IsKept segments.old }
     requires room { 0 < room_of segments.old }
     ensures inserted { IsInserted segments.old segments.new result }
-    ensures label { AddsLabel (holds segments.old) (label_in segments.old) (label_in segments.new) result edge }
-    ensures faces { AddsFaces (holds segments.old) (face_in segments.old) (face_in segments.new) result left right }
+    ensures label { AddsLabel (holds segments.old) (label_in segments.old)
+        (label_in segments.new) result edge }
+    ensures faces { AddsFaces (holds segments.old) (face_in segments.old)
+        (face_in segments.new) result left right }
 {
     let key = segments.insert_reserved(Segment::isolated(0, edge, left, right));
     segments[key] = Segment::isolated(key as u32, edge, left, right);
@@ -207,7 +216,8 @@ pub(crate) fn remove_isolated(segments: &mut Slab<Segment>, x: Half)
     requires alone { next_in segments.old x ≡ x }
     requires twin_alone { next_in segments.old (twin x) ≡ twin x }
     ensures removed { IsRemoved segments.old segments.new x }
-    ensures labels { KeepsLabels (holds segments.new) (label_in segments.old) (label_in segments.new) }
+    ensures labels { KeepsLabels (holds segments.new) (label_in segments.old)
+        (label_in segments.new) }
     ensures faces { KeepsLabels (holds segments.new) (face_in segments.old) (face_in segments.new) }
 {
     segments.remove(x.key());
@@ -235,7 +245,8 @@ pub(crate) fn room(segments: &Slab<Segment>) -> usize
     }
 }
 
-/// Makes room for so many more segments. What would pass the bound is refused before anything grows.
+/// Makes room for so many more segments. What would pass the bound is refused before anything
+/// grows.
 pub(crate) fn reserve(segments: &mut Slab<Segment>, more: usize) -> Result<(), AllocError>
     ensures slots { segments.new.slots ≡ segments.old.slots }
     ensures room { OnOk result (more ≤ room_of segments.new) }

@@ -44,11 +44,13 @@ OneFaceParts = (f : ℕ → ℕ) (n h : ℕ) → IsSegmentOf f n h → HasGenusZ
 
 -- not to cross a segment is to take its darts out of the turn, for all other darts
 abbrev pub TakenOutJoined : Type 0
-TakenOutJoined = (f g : ℕ → ℕ) (n h a b : ℕ) → IsSegmentOf f n h → IsUnchord f g n h → IsElsewhere n h a → IsElsewhere n h b → JoinedWithout f h a b ↔ Joined g twin a b
+TakenOutJoined = (f g : ℕ → ℕ) (n h a b : ℕ) → IsSegmentOf f n h → IsUnchord f g n h → IsElsewhere n h a → IsElsewhere n h b → JoinedWithout f h a b
+    ↔ Joined g twin a b
 
 -- taken out with different faces on its two sides, it leaves joined what was joined
 abbrev pub TakenOutKeeps : Type 0
-TakenOutKeeps = (f g : ℕ → ℕ) (n h a b : ℕ) → IsSegmentOf f n h → IsUnchord f g n h → ¬ SameCycle (face_next f) h (twin h) → IsElsewhere n h a → IsElsewhere n h b → Joined f twin a b → Joined g twin a b
+TakenOutKeeps = (f g : ℕ → ℕ) (n h a b : ℕ) → IsSegmentOf f n h → IsUnchord f g n h → ¬ SameCycle (face_next f) h (twin h) → IsElsewhere n h a
+    → IsElsewhere n h b → Joined f twin a b → Joined g twin a b
 
 -- taken out with one face on both sides, in genus zero, it parts the darts at its one end from those at its other
 abbrev pub TakenOutParts : Type 0

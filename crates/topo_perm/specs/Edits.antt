@@ -80,10 +80,12 @@ abbrev pub HangIsPossible : Type 0
 HangIsPossible = (f : ℕ → ℕ) (n c x : ℕ) → IsPermutation f n → n % 2 ≡ 0 → x < n → IsIsolated f x → IsApart n c x → Leads (λ g. IsAllowedHang f g n c x)
 
 abbrev pub ChordIsPossible : Type 0
-ChordIsPossible = (f : ℕ → ℕ) (n c d x : ℕ) → IsPermutation f n → n % 2 ≡ 0 → x < n → IsIsolated f x → IsApart n c x → SameCycle (face_next f) c d → Leads (λ g. IsAllowedChord f g n c d x)
+ChordIsPossible = (f : ℕ → ℕ) (n c d x : ℕ) → IsPermutation f n → n % 2 ≡ 0 → x < n → IsIsolated f x → IsApart n c x → SameCycle (face_next f) c d
+    → Leads (λ g. IsAllowedChord f g n c d x)
 
 abbrev pub UnchordIsPossible : Type 0
-UnchordIsPossible = (f : ℕ → ℕ) (n h : ℕ) → IsPermutation f n → n % 2 ≡ 0 → h < n → ¬ SameCycle (face_next f) h (twin h) → (f h ≡ twin h → f (twin h) ≢ h) → Leads (λ g. IsAllowedUnchord f g n h)
+UnchordIsPossible = (f : ℕ → ℕ) (n h : ℕ) → IsPermutation f n → n % 2 ≡ 0 → h < n → ¬ SameCycle (face_next f) h (twin h) → (f h ≡ twin h → f (twin h) ≢ h)
+    → Leads (λ g. IsAllowedUnchord f g n h)
 
 abbrev pub SplitIsPossible : Type 0
 SplitIsPossible = (f : ℕ → ℕ) (n h x : ℕ) → IsPermutation f n → n % 2 ≡ 0 → x < n → IsIsolated f x → IsApart n h x → Leads (λ g. IsAllowedSplit f g n h x)

@@ -26,12 +26,14 @@ HangLabels = (live live' : ℕ → Bool) (f g l l' : ℕ → ℕ) (n c x : ℕ) 
 
 -- each half of a new segment goes on along the face of the one that was split
 abbrev pub SplitLabels : Type 0
-SplitLabels = (live live' : ℕ → Bool) (f g l l' : ℕ → ℕ) (n h x : ℕ) → AddsBelow live live' n x → live h ≡ true → live (twin h) ≡ true → IsAllowedSplit f g n h x → LabelsFaces live f l
+SplitLabels = (live live' : ℕ → Bool) (f g l l' : ℕ → ℕ) (n h x : ℕ) → AddsBelow live live' n x → live h ≡ true → live (twin h) ≡ true
+    → IsAllowedSplit f g n h x → LabelsFaces live f l
     → AreKept live l l' → l' x ≡ l h → l' (twin x) ≡ l (twin h) → LabelsFaces live' g l'
 
 -- what is left keeps its labels
 abbrev pub SmoothLabels : Type 0
-SmoothLabels = (live live' : ℕ → Bool) (f g l l' : ℕ → ℕ) (n x : ℕ) → AddsBelow live' live n x → IsAllowedSmooth f g n x → LabelsFaces live f l → AreKept live' l l' → LabelsFaces live' g l'
+SmoothLabels = (live live' : ℕ → Bool) (f g l l' : ℕ → ℕ) (n x : ℕ) → AddsBelow live' live n x → IsAllowedSmooth f g n x → LabelsFaces live f l
+    → AreKept live' l l' → LabelsFaces live' g l'
 
 -- the whole face of y, on one side of the new segment, has a new label, and all else the old ones
 pub record ArePartLabels (live live' : ℕ → Bool) (g l l' : ℕ → ℕ) (c y new : ℕ) : Type 0 where
@@ -42,7 +44,8 @@ pub record ArePartLabels (live live' : ℕ → Bool) (g l l' : ℕ → ℕ) (c y
 
 -- either side of a chord between two corners may have the new label
 abbrev pub ChordLabels : Type 0
-ChordLabels = (live live' : ℕ → Bool) (f g l l' : ℕ → ℕ) (n c d x y new : ℕ) → AddsBelow live live' n x → live c ≡ true → live d ≡ true → c ≢ d → IsAllowedChord f g n c d x → LabelsFaces live f l
+ChordLabels = (live live' : ℕ → Bool) (f g l l' : ℕ → ℕ) (n c d x y new : ℕ) → AddsBelow live live' n x → live c ≡ true → live d ≡ true → c ≢ d
+    → IsAllowedChord f g n c d x → LabelsFaces live f l
     → (y ≡ x) ⊎ (y ≡ twin x) → ArePartLabels live live' g l l' c y new → LabelsFaces live' g l'
 
 -- the darts of the face of y, on one side of the segment that goes, have the label of the other side, and all else the old ones

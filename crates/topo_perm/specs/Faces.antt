@@ -21,15 +21,20 @@ SplitSides = (f g : ℕ → ℕ) (n h x : ℕ) → IsAllowedSplit f g n h x → 
 
 -- darts in one face stay in one face, but for the face that the chord parts
 abbrev pub ChordKeepsFaces : Type 0
-ChordKeepsFaces = (f g : ℕ → ℕ) (n c d x a b : ℕ) → IsAllowedChord f g n c d x → IsApart n a x → ¬ SameCycle (face_next f) a c → SameCycle (face_next f) a b → SameCycle (face_next g) a b
+ChordKeepsFaces = (f g : ℕ → ℕ) (n c d x a b : ℕ) → IsAllowedChord f g n c d x → IsApart n a x → ¬ SameCycle (face_next f) a c → SameCycle (face_next f) a b
+    → SameCycle (face_next g) a b
 
--- with two different corners, the new segment has the corner that it leads to in the face on its one side, the one that it leaves in the face on its other, and these are two
+-- with two different corners, the new segment has the corner that it leads to in the face on its one side, the one that it leaves in the face on its other, and
+-- these are two
 abbrev pub ChordSides : Type 0
-ChordSides = (f g : ℕ → ℕ) (n c d x : ℕ) → IsAllowedChord f g n c d x → c ≢ d → SameCycle (face_next g) x d × SameCycle (face_next g) (twin x) c × ¬ SameCycle (face_next g) x (twin x)
+ChordSides = (f g : ℕ → ℕ) (n c d x : ℕ) → IsAllowedChord f g n c d x → c ≢ d → SameCycle (face_next g) x d × SameCycle (face_next g) (twin x) c
+    × ¬ SameCycle (face_next g) x (twin x)
 
 -- the two faces at a segment that goes become one, and no other is parted
 abbrev pub UnchordKeepsFaces : Type 0
-UnchordKeepsFaces = (f g : ℕ → ℕ) (n h a b : ℕ) → IsAllowedUnchord f g n h → IsApart n a h → IsApart n b h → SameCycle (face_next f) a b → SameCycle (face_next g) a b
+UnchordKeepsFaces = (f g : ℕ → ℕ) (n h a b : ℕ) → IsAllowedUnchord f g n h → IsApart n a h → IsApart n b h → SameCycle (face_next f) a b
+    → SameCycle (face_next g) a b
 
 abbrev pub SmoothKeepsFaces : Type 0
-SmoothKeepsFaces = (f g : ℕ → ℕ) (n x a b : ℕ) → IsAllowedSmooth f g n x → IsApart n a x → IsApart n b x → SameCycle (face_next f) a b → SameCycle (face_next g) a b
+SmoothKeepsFaces = (f g : ℕ → ℕ) (n x a b : ℕ) → IsAllowedSmooth f g n x → IsApart n a x → IsApart n b x → SameCycle (face_next f) a b
+    → SameCycle (face_next g) a b

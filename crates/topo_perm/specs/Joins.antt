@@ -16,17 +16,22 @@ pub record AddsSegment (live live' : ℕ → Bool) (n x : ℕ) : Type 0 where
   pub others : (a : ℕ) → a < n → a ≢ x → a ≢ twin x → live' a ≡ live a
 
 abbrev pub HangConnects : Type 0
-HangConnects = (f g : ℕ → ℕ) (live live' : ℕ → Bool) (n c x : ℕ) → IsAllowedHang f g n c x → AddsSegment live live' n x → live c ≡ true → IsConnectedAmong live f n → IsConnectedAmong live' g n
+HangConnects = (f g : ℕ → ℕ) (live live' : ℕ → Bool) (n c x : ℕ) → IsAllowedHang f g n c x → AddsSegment live live' n x → live c ≡ true
+    → IsConnectedAmong live f n → IsConnectedAmong live' g n
 
 abbrev pub ChordConnects : Type 0
-ChordConnects = (f g : ℕ → ℕ) (live live' : ℕ → Bool) (n c d x : ℕ) → IsAllowedChord f g n c d x → AddsSegment live live' n x → live c ≡ true → IsConnectedAmong live f n → IsConnectedAmong live' g n
+ChordConnects = (f g : ℕ → ℕ) (live live' : ℕ → Bool) (n c d x : ℕ) → IsAllowedChord f g n c d x → AddsSegment live live' n x → live c ≡ true
+    → IsConnectedAmong live f n → IsConnectedAmong live' g n
 
 abbrev pub SplitConnects : Type 0
-SplitConnects = (f g : ℕ → ℕ) (live live' : ℕ → Bool) (n h x : ℕ) → IsAllowedSplit f g n h x → AddsSegment live live' n x → live h ≡ true → IsConnectedAmong live f n → IsConnectedAmong live' g n
+SplitConnects = (f g : ℕ → ℕ) (live live' : ℕ → Bool) (n h x : ℕ) → IsAllowedSplit f g n h x → AddsSegment live live' n x → live h ≡ true
+    → IsConnectedAmong live f n → IsConnectedAmong live' g n
 
 -- the segment of h was live, and is not any more
 abbrev pub UnchordConnects : Type 0
-UnchordConnects = (f g : ℕ → ℕ) (live live' : ℕ → Bool) (n h : ℕ) → IsAllowedUnchord f g n h → AddsSegment live' live n h → IsConnectedAmong live f n → IsConnectedAmong live' g n
+UnchordConnects = (f g : ℕ → ℕ) (live live' : ℕ → Bool) (n h : ℕ) → IsAllowedUnchord f g n h → AddsSegment live' live n h → IsConnectedAmong live f n
+    → IsConnectedAmong live' g n
 
 abbrev pub SmoothConnects : Type 0
-SmoothConnects = (f g : ℕ → ℕ) (live live' : ℕ → Bool) (n x : ℕ) → IsAllowedSmooth f g n x → AddsSegment live' live n x → IsConnectedAmong live f n → IsConnectedAmong live' g n
+SmoothConnects = (f g : ℕ → ℕ) (live live' : ℕ → Bool) (n x : ℕ) → IsAllowedSmooth f g n x → AddsSegment live' live n x → IsConnectedAmong live f n
+    → IsConnectedAmong live' g n

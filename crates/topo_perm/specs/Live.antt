@@ -38,7 +38,8 @@ LiveSegments = (live : ℕ → Bool) (n : ℕ) → n / 2 ≡ live_segments live 
 
 -- where the live darts hang together, they are one component, and each free segment is one
 abbrev pub LiveComponents : Type 0
-LiveComponents = (live : ℕ → Bool) (f : ℕ → ℕ) (n a : ℕ) → IsSlab live f n → IsConnectedAmong live f n → a < n → live a ≡ true → IsClassCount (Joined f twin) n (1 + free_segments live n)
+LiveComponents = (live : ℕ → Bool) (f : ℕ → ℕ) (n a : ℕ) → IsSlab live f n → IsConnectedAmong live f n → a < n → live a ≡ true
+    → IsClassCount (Joined f twin) n (1 + free_segments live n)
 
 -- points - segments + faces = 2 among the live darts is genus zero of the whole slab
 abbrev pub LiveGenusZero : Type 0

@@ -37,42 +37,50 @@ abbrev pub HangLivePoints : Type 0
 HangLivePoints = (live live' : ℕ → Bool) (f g : ℕ → ℕ) (n c x : ℕ) → GrowsSlab live live' f g n x → IsAllowedHang f g n c x → AreMore live live' f g n 1
 
 abbrev pub HangLiveFaces : Type 0
-HangLiveFaces = (live live' : ℕ → Bool) (f g : ℕ → ℕ) (n c x : ℕ) → GrowsSlab live live' f g n x → IsAllowedHang f g n c x → AreMore live live' (face_next f) (face_next g) n 0
+HangLiveFaces = (live live' : ℕ → Bool) (f g : ℕ → ℕ) (n c x : ℕ) → GrowsSlab live live' f g n x → IsAllowedHang f g n c x
+    → AreMore live live' (face_next f) (face_next g) n 0
 
 abbrev pub ChordLivePoints : Type 0
 ChordLivePoints = (live live' : ℕ → Bool) (f g : ℕ → ℕ) (n c d x : ℕ) → GrowsSlab live live' f g n x → IsAllowedChord f g n c d x → AreMore live live' f g n 0
 
 abbrev pub ChordLiveFaces : Type 0
-ChordLiveFaces = (live live' : ℕ → Bool) (f g : ℕ → ℕ) (n c d x : ℕ) → GrowsSlab live live' f g n x → IsAllowedChord f g n c d x → AreMore live live' (face_next f) (face_next g) n 1
+ChordLiveFaces = (live live' : ℕ → Bool) (f g : ℕ → ℕ) (n c d x : ℕ) → GrowsSlab live live' f g n x → IsAllowedChord f g n c d x
+    → AreMore live live' (face_next f) (face_next g) n 1
 
 abbrev pub SplitLivePoints : Type 0
 SplitLivePoints = (live live' : ℕ → Bool) (f g : ℕ → ℕ) (n h x : ℕ) → GrowsSlab live live' f g n x → IsAllowedSplit f g n h x → AreMore live live' f g n 1
 
 abbrev pub SplitLiveFaces : Type 0
-SplitLiveFaces = (live live' : ℕ → Bool) (f g : ℕ → ℕ) (n h x : ℕ) → GrowsSlab live live' f g n x → IsAllowedSplit f g n h x → AreMore live live' (face_next f) (face_next g) n 0
+SplitLiveFaces = (live live' : ℕ → Bool) (f g : ℕ → ℕ) (n h x : ℕ) → GrowsSlab live live' f g n x → IsAllowedSplit f g n h x
+    → AreMore live live' (face_next f) (face_next g) n 0
 
 abbrev pub UnchordLivePoints : Type 0
 UnchordLivePoints = (live live' : ℕ → Bool) (f g : ℕ → ℕ) (n h : ℕ) → ShrinksSlab live live' f g n h → IsAllowedUnchord f g n h → AreMore live' live g f n 0
 
 abbrev pub UnchordLiveFaces : Type 0
-UnchordLiveFaces = (live live' : ℕ → Bool) (f g : ℕ → ℕ) (n h : ℕ) → ShrinksSlab live live' f g n h → IsAllowedUnchord f g n h → AreMore live' live (face_next g) (face_next f) n 1
+UnchordLiveFaces = (live live' : ℕ → Bool) (f g : ℕ → ℕ) (n h : ℕ) → ShrinksSlab live live' f g n h → IsAllowedUnchord f g n h
+    → AreMore live' live (face_next g) (face_next f) n 1
 
 abbrev pub SmoothLivePoints : Type 0
 SmoothLivePoints = (live live' : ℕ → Bool) (f g : ℕ → ℕ) (n x : ℕ) → ShrinksSlab live live' f g n x → IsAllowedSmooth f g n x → AreMore live' live g f n 1
 
 abbrev pub SmoothLiveFaces : Type 0
-SmoothLiveFaces = (live live' : ℕ → Bool) (f g : ℕ → ℕ) (n x : ℕ) → ShrinksSlab live live' f g n x → IsAllowedSmooth f g n x → AreMore live' live (face_next g) (face_next f) n 0
+SmoothLiveFaces = (live live' : ℕ → Bool) (f g : ℕ → ℕ) (n x : ℕ) → ShrinksSlab live live' f g n x → IsAllowedSmooth f g n x
+    → AreMore live' live (face_next g) (face_next f) n 0
 
 -- ---- The slab stays one
 
 abbrev pub HangKeepsSlab : Type 0
-HangKeepsSlab = (live live' : ℕ → Bool) (f g : ℕ → ℕ) (n c x : ℕ) → IsSlab live f n → AddsSegment live live' n x → live c ≡ true → IsAllowedHang f g n c x → IsSlab live' g n
+HangKeepsSlab = (live live' : ℕ → Bool) (f g : ℕ → ℕ) (n c x : ℕ) → IsSlab live f n → AddsSegment live live' n x → live c ≡ true → IsAllowedHang f g n c x
+    → IsSlab live' g n
 
 abbrev pub ChordKeepsSlab : Type 0
-ChordKeepsSlab = (live live' : ℕ → Bool) (f g : ℕ → ℕ) (n c d x : ℕ) → IsSlab live f n → AddsSegment live live' n x → live c ≡ true → live d ≡ true → IsAllowedChord f g n c d x → IsSlab live' g n
+ChordKeepsSlab = (live live' : ℕ → Bool) (f g : ℕ → ℕ) (n c d x : ℕ) → IsSlab live f n → AddsSegment live live' n x → live c ≡ true → live d ≡ true
+    → IsAllowedChord f g n c d x → IsSlab live' g n
 
 abbrev pub SplitKeepsSlab : Type 0
-SplitKeepsSlab = (live live' : ℕ → Bool) (f g : ℕ → ℕ) (n h x : ℕ) → IsSlab live f n → AddsSegment live live' n x → live h ≡ true → IsAllowedSplit f g n h x → IsSlab live' g n
+SplitKeepsSlab = (live live' : ℕ → Bool) (f g : ℕ → ℕ) (n h x : ℕ) → IsSlab live f n → AddsSegment live live' n x → live h ≡ true → IsAllowedSplit f g n h x
+    → IsSlab live' g n
 
 abbrev pub UnchordKeepsSlab : Type 0
 UnchordKeepsSlab = (live live' : ℕ → Bool) (f g : ℕ → ℕ) (n h : ℕ) → IsSlab live f n → AddsSegment live' live n h → IsAllowedUnchord f g n h → IsSlab live' g n

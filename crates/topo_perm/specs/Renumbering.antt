@@ -46,10 +46,12 @@ pub record CarriesClasses (h back : ℕ → ℕ) (r s : ℕ → ℕ → Bool) (n
   pub apart : (y z : ℕ) → y < m → z < m → live z ≡ true → s y z ≡ true → live y ≡ true
 
 abbrev pub RenumberedClasses : Type 0
-RenumberedClasses = (h back : ℕ → ℕ) (r s : ℕ → ℕ → Bool) (n : ℕ) (live : ℕ → Bool) (m : ℕ) → CarriesClasses h back r s n live m → class_count r n ≡ live_class_count live s m
+RenumberedClasses = (h back : ℕ → ℕ) (r s : ℕ → ℕ → Bool) (n : ℕ) (live : ℕ → Bool) (m : ℕ) → CarriesClasses h back r s n live m
+    → class_count r n ≡ live_class_count live s m
 
 abbrev pub RenumberedSameCycle : Type 0
-RenumberedSameCycle = (h back f g : ℕ → ℕ) (n : ℕ) (live : ℕ → Bool) (m a b : ℕ) → Renumbers h back f g n live m → a < n → b < n → SameCycle f a b ↔ SameCycle g (h a) (h b)
+RenumberedSameCycle = (h back f g : ℕ → ℕ) (n : ℕ) (live : ℕ → Bool) (m a b : ℕ) → Renumbers h back f g n live m → a < n → b < n → SameCycle f a b
+    ↔ SameCycle g (h a) (h b)
 
 abbrev pub RenumberedCycles : Type 0
 RenumberedCycles = (h back f g : ℕ → ℕ) (n : ℕ) (live : ℕ → Bool) (m : ℕ) → Renumbers h back f g n live m → cycle_count f n ≡ live_cycle_count live g m
@@ -59,10 +61,13 @@ abbrev pub RenumberedWhole : Type 0
 RenumberedWhole = (h back f g : ℕ → ℕ) (n m : ℕ) → Renumbers h back f g n (λ _. true) m → cycle_count f n ≡ cycle_count g m
 
 abbrev pub RenumberedFaces : Type 0
-RenumberedFaces = (h back f g : ℕ → ℕ) (n : ℕ) (live : ℕ → Bool) (m : ℕ) → RenumbersTurn h back f g n live m → Renumbers h back (face_next f) (face_next g) n live m
+RenumberedFaces = (h back f g : ℕ → ℕ) (n : ℕ) (live : ℕ → Bool) (m : ℕ) → RenumbersTurn h back f g n live m
+    → Renumbers h back (face_next f) (face_next g) n live m
 
 abbrev pub RenumberedJoined : Type 0
-RenumberedJoined = (h back f g : ℕ → ℕ) (n : ℕ) (live : ℕ → Bool) (m a b : ℕ) → RenumbersTurn h back f g n live m → a < n → b < n → Joined f twin a b ↔ Joined g twin (h a) (h b)
+RenumberedJoined = (h back f g : ℕ → ℕ) (n : ℕ) (live : ℕ → Bool) (m a b : ℕ) → RenumbersTurn h back f g n live m → a < n → b < n → Joined f twin a b
+    ↔ Joined g twin (h a) (h b)
 
 abbrev pub RenumberedConnected : Type 0
-RenumberedConnected = (h back f g : ℕ → ℕ) (n : ℕ) (live : ℕ → Bool) (m : ℕ) → RenumbersTurn h back f g n live m → IsConnectedAmong (λ _. true) f n ↔ IsConnectedAmong live g m
+RenumberedConnected = (h back f g : ℕ → ℕ) (n : ℕ) (live : ℕ → Bool) (m : ℕ) → RenumbersTurn h back f g n live m → IsConnectedAmong (λ _. true) f n
+    ↔ IsConnectedAmong live g m

@@ -17,7 +17,8 @@ pub(crate) fn other_dart(dart: usize, darts: usize) -> usize
     if dart % 2 == 0 { dart + 1 } else { dart - 1 }
 }
 
-/// Marks a dart and puts it at the end of the order, unless it is marked; the new length of the order.
+/// Marks a dart and puts it at the end of the order, unless it is marked; the new length of the
+/// order.
 fn visit(seen: &mut [bool], order: &mut [usize], found: usize, dart: usize) -> usize
     requires dart_within { dart < length seen.old }
     requires room { mark seen.old dart ≡ false → found < length order.old }
@@ -48,7 +49,8 @@ fn reach(
     requires closed { IsClosed (map_of images.now) (length images.now) seen.old }
     ensures counted { result ≡ marked_count seen.new (length images.now) }
     ensures reached { (a : ℕ) → a < length images.now →
-        (mark seen.new a ≡ true) ↔ ((mark seen.old a ≡ true) ⊎ Joined (map_of images.now) twin start a) }
+        (mark seen.new a ≡ true)
+        ↔ ((mark seen.old a ≡ true) ⊎ Joined (map_of images.now) twin start a) }
 {
     let mut found = visit(seen, order, before, start);
     for done in before..images.len() {

@@ -1,6 +1,7 @@
 //! What changes of a permutation do to its cycles.
 
-ghost use Rattle.std.specs.Prelude.{◌≡◌, ◌≢◌, ◌+◌, ◌*◌, ◌%◌, ◌<◌, ◌≤◌, length, swap, slice_index, IfOk};
+ghost use Rattle.std.specs.Prelude.{◌≡◌, ◌≢◌, ◌+◌, ◌*◌, ◌%◌, ◌<◌, ◌≤◌};
+ghost use Rattle.std.specs.Prelude.{length, swap, slice_index, IfOk};
 ghost use Rattle.topo_core.specs.Cycles.{IsBypass, IsPermutationList, SameCycle, cycles_of, map_of};
 ghost use Rattle.topo_core.specs.Rotations.{IsComponentCount, faces_of};
 
@@ -23,8 +24,10 @@ pub fn exchange(images: &mut [u32], i: u32, j: u32)
     requires different { i ≢ j }
     ensures exchanged { images.new ≡ swap images.old i j }
     ensures permutation { IsPermutationList images.new }
-    ensures splits { SameCycle (map_of images.old) i j → cycles_of images.new ≡ cycles_of images.old + 1 }
-    ensures joins { ¬ SameCycle (map_of images.old) i j → cycles_of images.new + 1 ≡ cycles_of images.old }
+    ensures splits { SameCycle (map_of images.old) i j
+        → cycles_of images.new ≡ cycles_of images.old + 1 }
+    ensures joins { ¬ SameCycle (map_of images.old) i j
+        → cycles_of images.new + 1 ≡ cycles_of images.old }
 {
     images.swap(i as usize, j as usize);
 }
@@ -53,13 +56,15 @@ pub fn bypass(images: &mut [u32], i: u32)
     ensures bypassed { IsBypass (map_of images.old) (map_of images.new) (length images.old) i }
     ensures permutation { IsPermutationList images.new }
     ensures alone { slice_index images.old i ≡ i → images.new ≡ images.old }
-    ensures splits { slice_index images.old i ≢ i → cycles_of images.new ≡ cycles_of images.old + 1 }
+    ensures splits { slice_index images.old i ≢ i
+        → cycles_of images.new ≡ cycles_of images.old + 1 }
 {
     let before = predecessor(images, i);
     images.swap(before as usize, i as usize);
 }
 
-/// Counts points, segments, faces and components. Darts `2i` and `2i + 1` are the two of one segment.
+/// Counts points, segments, faces and components. Darts `2i` and `2i + 1` are the two of one
+/// segment.
 pub fn euler<A: Allocator + Clone>(alloc: A, images: &[u32]) -> Result<Euler, AllocError>
     requires permutation { IsPermutationList images.now }
     requires even { length images.now % 2 ≡ 0 }
@@ -67,7 +72,8 @@ pub fn euler<A: Allocator + Clone>(alloc: A, images: &[u32]) -> Result<Euler, Al
     ensures segments { IfOk result (λ numbers. 2 * numbers.segments ≡ length images.now) }
     ensures faces { IfOk result (λ numbers. numbers.faces ≡ faces_of images.now) }
     ensures components { IfOk result (λ numbers. IsComponentCount images.now numbers.components) }
-    ensures bound { IfOk result (λ numbers. numbers.points + numbers.faces ≤ numbers.segments + 2 * numbers.components) }
+    ensures bound { IfOk result
+        (λ numbers. numbers.points + numbers.faces ≤ numbers.segments + 2 * numbers.components) }
 {
     let mut faces: Vec<u32, A> = Vec::new(alloc.clone()?);
     for dart in 0..images.len() {

@@ -1,8 +1,8 @@
 //! Permutations as lists of images, and rotation systems: counts, and what changes do to them.
 //!
-//! A list of images stands for the map that sends each place to its entry. `cycles` and `same_cycle`
-//! answer exactly for a permutation. In a rotation system darts `2i` and `2i + 1` are the two of
-//! segment `i`, and the permutation turns to the next dart clockwise: `is_connected` and
+//! A list of images stands for the map that sends each place to its entry. `cycles` and
+//! `same_cycle` answer exactly for a permutation. In a rotation system darts `2i` and `2i + 1` are
+//! the two of segment `i`, and the permutation turns to the next dart clockwise: `is_connected` and
 //! `laws::euler` answer exactly for it, in linear time, and points, segments, faces and components
 //! keep Euler's bound.
 //!
@@ -16,12 +16,13 @@
 //!   conditions hold, what becomes of the points and faces of the whole slab, and that live darts
 //!   stay joined.
 //! - `laws::faces`: which darts lie in one face after each edit.
-//! - `laws::slabs`: counts, components and genus of the whole slab, against those of the live darts,
-//!   and the five edits in terms of live counts.
-//! - `laws::renumbering`: darts under new numbers keep counts of classes and cycles, faces, and what
-//!   is joined.
+//! - `laws::slabs`: counts, components and genus of the whole slab, against those of the live
+//!   darts, and the five edits in terms of live counts.
+//! - `laws::renumbering`: darts under new numbers keep counts of classes and cycles, faces, and
+//!   what is joined.
 //! - `laws::cuts`: a segment with two faces on its sides leaves its ends joined, one with a single
-//!   face in genus zero parts them, whether it is not crossed or its darts are taken out of the turn.
+//!   face in genus zero parts them, whether it is not crossed or its darts are taken out of the
+//!   turn.
 //!
 //! A caller:
 //!
@@ -37,7 +38,8 @@
 //! ```
 #![tactic(auto)]
 
-ghost use Rattle.std.specs.Prelude.{◌≡◌, ◌↔◌, ℕ, ◌<◌, ◌||◌, false, length, slice_index_or, IsTrue, IfOk};
+ghost use Rattle.std.specs.Prelude.{◌≡◌, ◌↔◌, ℕ, ◌<◌, ◌||◌, false};
+ghost use Rattle.std.specs.Prelude.{length, slice_index_or, IsTrue, IfOk};
 ghost use Rattle.topo_core.specs.Cycles.{IsPermutationList, SameCycle, cycles_of, is_met, map_of};
 
 use std::alloc::{AllocError, Allocator};
@@ -63,7 +65,8 @@ fn mark_cycle(images: &[u32], seen: &mut [bool], start: usize)
     requires same_length { length seen.old ≡ length images.now }
     ensures { (a : ℕ) → a < length images.now →
         slice_index_or seen.new a false ≡
-        (is_met (map_of images.now) (length images.now) start a || slice_index_or seen.old a false) }
+        (is_met (map_of images.now) (length images.now) start a
+        || slice_index_or seen.old a false) }
 {
     let mut at = start;
     for _steps in 0..images.len() {

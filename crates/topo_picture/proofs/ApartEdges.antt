@@ -32,15 +32,19 @@ is_apart rows region row passed =
       edge = off (holds_edge region row.id) (left_true edge a start);
       a = off (holds_vertex region row.a) (right_true edge a start);
       b = off (holds_vertex region row.b) (right_true first b ends);
-      crossed = λ x c there is. off (holds_edge region c.crossed) (left_true (not (holds_edge region c.crossed)) (not (holds_edge region c.newcomer)) (one x c last there is));
-      newcomer = λ x c there is. off (holds_edge region c.newcomer) (right_true (not (holds_edge region c.crossed)) (not (holds_edge region c.newcomer)) (one x c last there is));
+      crossed = λ x c there is. off (holds_edge region c.crossed)
+          (left_true (not (holds_edge region c.crossed)) (not (holds_edge region c.newcomer)) (one x c last there is));
+      newcomer = λ x c there is. off (holds_edge region c.newcomer)
+          (right_true (not (holds_edge region c.crossed)) (not (holds_edge region c.newcomer)) (one x c last there is));
     } where
-      one : (x : ℕ) (c : CrossRow) → list_all (λ x. is_of_others region (cross_row rows x)) row.crossings ≡ true → IsIn x row.crossings → cross_row rows x ≡ Some c
+      one : (x : ℕ) (c : CrossRow) → list_all (λ x. is_of_others region (cross_row rows x)) row.crossings ≡ true → IsIn x row.crossings
+          → cross_row rows x ≡ Some c
           → (not (holds_edge region c.crossed) && not (holds_edge region c.newcomer)) ≡ true
       one x c passed there is = sym (ap (is_of_others region) is) ∙ test_of_each (λ x. is_of_others region (cross_row rows x)) x row.crossings passed there
 
 -- so does the edge that was found at a place
-pub found_apart : (rows : Rows) (region : RegionState) (edge place : ℕ) (row : EdgeRow) → IsPlaceOf rows.edges (λ r. r.id) edge place → row ≡ slice_index_or rows.edges place row
+pub found_apart : (rows : Rows) (region : RegionState) (edge place : ℕ) (row : EdgeRow) → IsPlaceOf rows.edges (λ r. r.id) edge place
+    → row ≡ slice_index_or rows.edges place row
     → lies_apart rows region row ≡ true → IfSome (edge_row rows edge) (IsApart rows region)
 found_apart rows region edge place row there read passed =
     let same : Some row ≡ Some there.row = ap Some read ∙ sym (slice_get-get_or rows.edges place row there.within) ∙ there.at in

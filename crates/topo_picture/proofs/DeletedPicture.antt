@@ -18,22 +18,27 @@ module _ (limits : Limits) (rows : Rows) (e : ℕ) (is : IsPicture limits rows) 
   small = omega (arith, is.crossings, limits.crossings_in_range)
 
   -- with no cut by faces the picture without the edge is a picture
-  pub deletion_of_picture : (new : Rows) → new ≡ without rows e → ((i : ℕ) → i ≤ length (edge_at rows e).crossings → HasOneFace rows e i → ⊥) → IsPicture limits new
+  pub deletion_of_picture : (new : Rows) → new ≡ without rows e → ((i : ℕ) → i ≤ length (edge_at rows e).crossings → HasOneFace rows e i → ⊥)
+      → IsPicture limits new
   deletion_of_picture new same none = subst (IsPicture limits) (sym same) (record {
-    lawful = whole_without rows is.lawful.embedding.well_formed e (some_of (edge_row rows e) there).0 (some_of (edge_row rows e) there).1 is.lawful.embedding.connected is.lawful.genus_zero small none;
+    lawful = whole_without rows is.lawful.embedding.well_formed e (some_of (edge_row rows e) there).0
+        (some_of (edge_row rows e) there).1 is.lawful.embedding.connected is.lawful.genus_zero small none;
     vertices = subst (λ (k : ℕ). k ≤ limits.vertices) (sym (vertices_without rows e)) is.vertices;
     edges = is.edges;
     crossings = is.crossings;
   })
 
   pub whole_of_picture : ((i : ℕ) → i ≤ length (edge_at rows e).crossings → HasOneFace rows e i → ⊥) → (i : ℕ) → IsCut rows e i → ⊥
-  whole_of_picture none = no_cut rows is.lawful.embedding.well_formed e (some_of (edge_row rows e) there).0 (some_of (edge_row rows e) there).1 is.lawful.embedding.connected is.lawful.genus_zero none
+  whole_of_picture none = no_cut rows is.lawful.embedding.well_formed e (some_of (edge_row rows e) there).0
+      (some_of (edge_row rows e) there).1 is.lawful.embedding.connected is.lawful.genus_zero none
 
   pub cut_of_picture : (i : ℕ) → IsLocalCut rows e i → IsCut rows e i
-  cut_of_picture = cut_by_faces rows is.lawful.embedding.well_formed e (some_of (edge_row rows e) there).0 (some_of (edge_row rows e) there).1 is.lawful.embedding.connected is.lawful.genus_zero
+  cut_of_picture = cut_by_faces rows is.lawful.embedding.well_formed e (some_of (edge_row rows e) there).0
+      (some_of (edge_row rows e) there).1 is.lawful.embedding.connected is.lawful.genus_zero
 
   pub local_of_picture : (i : ℕ) → IsCut rows e i → IsLocalCut rows e i
-  local_of_picture = cut_is_by_faces rows is.lawful.embedding.well_formed e (some_of (edge_row rows e) there).0 (some_of (edge_row rows e) there).1 is.lawful.embedding.connected is.lawful.genus_zero
+  local_of_picture = cut_is_by_faces rows is.lawful.embedding.well_formed e (some_of (edge_row rows e) there).0
+      (some_of (edge_row rows e) there).1 is.lawful.embedding.connected is.lawful.genus_zero
 
   -- where nothing is a cut, no segment has one face on both sides
   pub faces_of_picture : ((i : ℕ) → IsCut rows e i → ⊥) → (i : ℕ) → i ≤ length (edge_at rows e).crossings → HasOneFace rows e i → ⊥
@@ -41,7 +46,8 @@ module _ (limits : Limits) (rows : Rows) (e : ℕ) (is : IsPicture limits rows) 
     below : (n i : ℕ) → i < n → i ≤ length (edge_at rows e).crossings → HasOneFace rows e i → ⊥
     below zero i before on_path one_face = omega arith
     below (suc n) i before on_path one_face =
-        none i (cut_of_picture i (record { there = there; on_path = on_path; one_face = one_face; two_faces_before = λ j least. below n j (omega arith) (omega arith) }))
+        none i (cut_of_picture i
+        (record { there = there; on_path = on_path; one_face = one_face; two_faces_before = λ j least. below n j (omega arith) (omega arith) }))
 
 -- ---- What is seen
 
@@ -52,16 +58,19 @@ in_view limits rows s seen P h = subst (λ (s : Shown). P s.rows) seen h
 -- ---- The edge that was shown last
 
 -- without it the rows are those before, but for the ids that were given
-pub undone_rows : (p rows new : Rows) (e : ℕ) → IsShownOn p rows e → new ≡ without rows e → new ≡ record p { next_edge = rows.next_edge; next_crossing = rows.next_crossing }
+pub undone_rows : (p rows new : Rows) (e : ℕ) → IsShownOn p rows e → new ≡ without rows e
+    → new ≡ record p { next_edge = rows.next_edge; next_crossing = rows.next_crossing }
 undone_rows p rows new e s w =
     let given : without rows e ≡ record p { next_edge = p.next_edge + 1; next_crossing = p.next_crossing + length s.route.crossed } =
-    ap (λ (r : Rows). without r e) s.rows_are ∙ ap (without (shown p s.u s.v s.kind s.route)) s.newest ∙ insertion_undone p s.u s.v s.kind s.route s.lawful.embedding.well_formed s.insertable in
+    ap (λ (r : Rows). without r e) s.rows_are ∙ ap (without (shown p s.u s.v s.kind s.route)) s.newest
+    ∙ insertion_undone p s.u s.v s.kind s.route s.lawful.embedding.well_formed s.insertable in
     w ∙ given ∙ ap (λ (r : Rows). (let q : Rows = record p { next_edge = r.next_edge; next_crossing = r.next_crossing } in q)) (sym s.rows_are)
 
 pub shown_there : (p rows : Rows) (e : ℕ) → IsShownOn p rows e → edge_row rows e ≡ None → ⊥
 shown_there p rows e s w =
     let found = shown_new_row p s.u s.v s.kind s.route s.lawful.embedding.well_formed.paths in
-    let none : edge_row (shown p s.u s.v s.kind s.route) p.next_edge ≡ None = ap (λ (r : Rows). edge_row r p.next_edge) (sym s.rows_are) ∙ ap (edge_row rows) (sym s.newest) ∙ w in
+    let none : edge_row (shown p s.u s.v s.kind s.route) p.next_edge ≡ None = ap (λ (r : Rows). edge_row r p.next_edge) (sym s.rows_are)
+    ∙ ap (edge_row rows) (sym s.newest) ∙ w in
     some_none (sym found ∙ none) where
       some_none : {X : Type 0} {x : X} → Some x ≡ None → ⊥
       some_none h = cc

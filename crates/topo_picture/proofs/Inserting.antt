@@ -24,7 +24,8 @@ pub record IsAdmitted (limits : Limits) (rows : Rows) (u v kind : ℕ) : Type 0 
   pub edge_left : rows.next_edge < limits.edges
 
 -- tests that none refuses
-none_refuses : (a b c d e : Bool) → cond (not (a && b)) (Some NoVertex) (cond c (Some SameEnds) (cond (not d) (Some BadKind) (cond (not e) (Some Full) None))) ≡ None
+none_refuses : (a b c d e : Bool)
+    → cond (not (a && b)) (Some NoVertex) (cond c (Some SameEnds) (cond (not d) (Some BadKind) (cond (not e) (Some Full) None))) ≡ None
     → (a ≡ true) × (b ≡ true) × (c ≡ false) × (d ≡ true) × (e ≡ true)
 none_refuses false b c d e h = cc
 none_refuses true false c d e h = cc
@@ -36,10 +37,12 @@ none_refuses true true false true true h = (refl, refl, refl, refl, refl)
 pub admitted : (limits : Limits) (rows : Rows) (u v kind : ℕ) → insert_refusal limits rows u v kind ≡ None → IsAdmitted limits rows u v kind
 admitted limits rows u v kind h = grind (arith, none_refuses, ltb-true, false≢true, eq-eqb)
 
-module _ (limits : Limits) (rows : Rows) (u v kind : ℕ) (r : Route) (was : IsPicture limits rows) (may : insert_refusal limits rows u v kind ≡ None) (simple : IsSimpleRoute rows u v r) where
+module _ (limits : Limits) (rows : Rows) (u v kind : ℕ) (r : Route) (was : IsPicture limits rows) (may : insert_refusal limits rows u v kind ≡ None)
+    (simple : IsSimpleRoute rows u v r) where
   -- a route that meets no face twice can be shown
   pub insertable : IsInsertable rows u v kind r
-  insertable = let a = admitted limits rows u v kind may in simple_is_insertable rows u v kind r was.lawful.embedding.well_formed a.u_there a.v_there a.apart a.known simple
+  insertable = let a = admitted limits rows u v kind may in
+      simple_is_insertable rows u v kind r was.lawful.embedding.well_formed a.u_there a.v_there a.apart a.known simple
 
   -- what an insertion along it makes of a picture is a picture, if there is room
   pub shown_is_picture : HasRoomFor limits rows r → IsPicture limits (shown rows u v kind r)
@@ -51,6 +54,7 @@ module _ (limits : Limits) (rows : Rows) (u v kind : ℕ) (r : Route) (was : IsP
   }
 
   -- after an insertion along it, with or without memory for it
-  pub after_insertion : {A E : Type 0} (result : Result A E) (new : Rows) → HasRoomFor limits rows r → OnOk result (new ≡ shown rows u v kind r) → OnErr result (new ≡ rows) → IsPicture limits new
+  pub after_insertion : {A E : Type 0} (result : Result A E) (new : Rows) → HasRoomFor limits rows r → OnOk result (new ≡ shown rows u v kind r)
+      → OnErr result (new ≡ rows) → IsPicture limits new
   after_insertion (Ok done) new room ok err = subst (IsPicture limits) (sym ok) (shown_is_picture room)
   after_insertion (Err refused) new room ok err = subst (IsPicture limits) (sym err) was

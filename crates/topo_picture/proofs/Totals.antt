@@ -23,6 +23,13 @@ pub counted : (limits : Limits) (rows : Rows) → IsPicture limits rows → IsCo
 counted limits rows is = grind (arith, left_true, few_rise, length-map, segments_total)
 
 -- the counts that follow from those of vertices, crossings and edges
-pub counts_are : (rows : Rows) (vertices crossings edges : ℕ) → IsCounted rows → vertices ≡ length rows.rotations → crossings ≡ length rows.crossings → edges ≡ length rows.edges
-    → AreCountsOf rows (record { vertices = vertices; crossings = crossings; edges = edges; segments = edges + 2 * crossings; faces = edges + 2 * crossings + 2 - (vertices + crossings) })
+pub counts_are : (rows : Rows) (vertices crossings edges : ℕ) → IsCounted rows → vertices ≡ length rows.rotations → crossings ≡ length rows.crossings
+    → edges ≡ length rows.edges
+    → AreCountsOf rows (record {
+      vertices = vertices;
+      crossings = crossings;
+      edges = edges;
+      segments = edges + 2 * crossings;
+      faces = edges + 2 * crossings + 2 - (vertices + crossings);
+    })
 counts_are rows vertices crossings edges size v x e = grind arith

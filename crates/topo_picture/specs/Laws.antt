@@ -11,7 +11,8 @@ use Rattle.topo_rows.specs.Shown.{IsPicture}
 
 -- a new edge shown along a route that meets no face twice makes a lawful picture of a lawful picture
 abbrev pub InsertionKeepsLawful : Type 0
-InsertionKeepsLawful = (rows : Rows) (u v kind : ℕ) (r : Route) → Lawful rows → u < length rows.rotations → v < length rows.rotations → u ≢ v → kind < 64 → IsSimpleRoute rows u v r
+InsertionKeepsLawful = (rows : Rows) (u v kind : ℕ) (r : Route) → Lawful rows → u < length rows.rotations → v < length rows.rotations → u ≢ v → kind < 64
+    → IsSimpleRoute rows u v r
     → rows.next_crossing + length r.crossed ≤ 4294967296 → Lawful (shown rows u v kind r)
 
 -- the first segment of an edge with one face on both sides, when those before it are out, is the first without which the picture falls apart

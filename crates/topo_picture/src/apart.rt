@@ -21,7 +21,8 @@ fn is_of_others(rows: &KeptRows, region: &Region, crossing: u32) -> bool
 
 /// Whether all of these crossings are.
 fn are_of_others(rows: &KeptRows, region: &Region, crossings: &[u32]) -> bool
-    ensures { result ≡ list_all (λ x. is_of_others region.now (cross_row rows.now x)) crossings.now }
+    ensures { result ≡ list_all
+        (λ x. is_of_others region.now (cross_row rows.now x)) crossings.now }
 {
     crossings
         .iter()

@@ -14,8 +14,8 @@ pub struct Counts {
     pub faces: u32,
 }
 
-/// How large a picture with so many vertices, crossings and edges is. Each crossing stands on two paths, so it
-/// makes two segments more, and the faces follow by Euler's formula.
+/// How large a picture with so many vertices, crossings and edges is. Each crossing stands on two
+/// paths, so it makes two segments more, and the faces follow by Euler's formula.
 pub(crate) fn counted(vertices: usize, crossings: usize, edges: usize) -> Counts
     requires { (rows : Rows) × HasTotals rows vertices crossings edges }
     ensures { (rows : Rows) → HasTotals rows vertices crossings edges → AreCountsOf rows result }

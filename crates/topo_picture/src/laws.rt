@@ -9,8 +9,8 @@ pub fn insertion_keeps_lawful()
 {}
 
 /// The first segment of an edge with one face on both sides, when those before it are out, is the
-/// first without which the picture falls apart: what a walk round a face finds is what connectedness
-/// says.
+/// first without which the picture falls apart: what a walk round a face finds is what
+/// connectedness says.
 pub fn cuts_agree()
     ensures { CutsAgree }
 {}

@@ -3,9 +3,9 @@
 //! A `Picture` is seen as its rows and its limits. Its rows are lawful at all times, a connected
 //! embedding of genus zero, and its counts never pass its limits. Each call does exactly what the
 //! definitions of `topo_core` say, or answers the first reason why it cannot and then changes
-//! nothing. `Picture::load` takes rows that are handed in: it answers the picture with these rows and
-//! limits exactly where the rows are lawful and within the limits, and else names the first test that
-//! they fail.
+//! nothing. `Picture::load` takes rows that are handed in: it answers the picture with these rows
+//! and limits exactly where the rows are lawful and within the limits, and else names the first
+//! test that they fail.
 //!
 //! A caller:
 //!

@@ -22,14 +22,15 @@ use topo_rows::flat::turns_of;
 use topo_rows::load::{LoadFault, judge};
 use topo_rows::{IdIndex, Turns};
 
-/// A connected embedding of a graph of genus zero, within limits. It keeps its rows with the halves along
-/// their edges, in a slab of segments.
+/// A connected embedding of a graph of genus zero, within limits. It keeps its rows with the halves
+/// along their edges, in a slab of segments.
 pub struct Picture {
     limits: Limits,
     embedded: Embedded,
 }
 
-// Written out, so that it is proved once: a derived one is proved anew in each function that lets such a value go.
+// Written out, so that it is proved once: a derived one is proved anew in each function that lets
+// such a value go.
 impl Drop for Picture {
     fn drop(self) {
         let Picture {
@@ -51,7 +52,8 @@ impl Model for Picture {
 }
 
 impl Picture {
-    ghost use Rattle.std.specs.Prelude.{◌≡◌, ◌⊎◌, ◌+◌, ◌<◌, ℕ, true, IfOk, IfErr, IfSome, OnErr, length, is_some, Some, None};
+    ghost use Rattle.std.specs.Prelude.{◌≡◌, ◌⊎◌, ◌+◌, ◌<◌, ℕ, true, IfOk, IfErr};
+    ghost use Rattle.std.specs.Prelude.{IfSome, OnErr, length, is_some, Some, None};
     ghost use Rattle.topo_core.specs.Pictures.{seed};
     ghost use Rattle.topo_core.specs.Routes.{IsSimpleRoute};
     ghost use Rattle.topo_core.specs.Changes.{IsCut, grown, shown, without};
@@ -75,8 +77,8 @@ impl Picture {
         Ok(Picture { limits, embedded })
     }
 
-    /// The picture with these rows and limits. Rows that are none are refused by the first test that
-    /// they fail, in the order of the faults. Memory may be answered in place of any answer.
+    /// The picture with these rows and limits. Rows that are none are refused by the first test
+    /// that they fail, in the order of the faults. Memory may be answered in place of any answer.
     pub fn load(alloc: Global, limits: Limits, rows: &Rows) -> Result<Self, LoadFault>
         ensures rows { IfOk result (λ p. p.rows ≡ rows.now) }
         ensures limits { IfOk result (λ p. p.limits ≡ limits) }
@@ -97,8 +99,8 @@ impl Picture {
         self.limits
     }
 
-    /// How large the picture with these rows and limits is, which is not made. Rows that are none are
-    /// refused as `load` refuses them.
+    /// How large the picture with these rows and limits is, which is not made. Rows that are none
+    /// are refused as `load` refuses them.
     pub fn counts_of(alloc: Global, limits: Limits, rows: &Rows) -> Result<Counts, LoadFault>
         ensures counts { IfOk result (AreCountsOf rows.now) }
         ensures lawful { IfOk result (λ _. IsPicture limits rows.now) }
@@ -135,15 +137,16 @@ impl Picture {
         Frozen::new(alloc, self.embedded.copy(alloc)?)
     }
 
-    /// Its rows as they are, with their darts numbered in lists that are lent: what its frozen picture
-    /// answers, and nothing of it is copied. The lists are written anew.
+    /// Its rows as they are, with their darts numbered in lists that are lent: what its frozen
+    /// picture answers, and nothing of it is copied. The lists are written anew.
     pub fn numbered<'a>(&'a self, lists: &'a mut NumberLists) -> Result<Numbered<'a>, AllocError>
         ensures { IfOk result (λ d. d.rows ≡ self.now.rows) }
     {
         Numbered::new(&self.embedded, lists)
     }
 
-    /// Its rows with their embedding, for a search that hands out no heights. It takes no time to make.
+    /// Its rows with their embedding, for a search that hands out no heights. It takes no time to
+    /// make.
     pub fn embedded(&self) -> EmbeddedRows<'_>
         ensures { result.embedded.rows ≡ self.now.rows }
     {
@@ -167,8 +170,10 @@ impl Picture {
     /// BadKind where the kind is above 63, and as Full where no edge id is left: the first of these
     /// that holds.
     pub fn admit(&self, u: u32, v: u32, kind: u32) -> Result<(), Refusal>
-        ensures admitted { IfOk result (λ _. insert_refusal self.now.limits self.now.rows u v kind ≡ None) }
-        ensures refused { IfErr result (λ why. insert_refusal self.now.limits self.now.rows u v kind ≡ Some why) }
+        ensures admitted { IfOk result
+            (λ _. insert_refusal self.now.limits self.now.rows u v kind ≡ None) }
+        ensures refused { IfErr result
+            (λ why. insert_refusal self.now.limits self.now.rows u v kind ≡ Some why) }
     {
         match check_insertion(&self.limits, self.embedded.rows(), u, v, kind) {
             Some(why) => Err(why),
@@ -176,26 +181,33 @@ impl Picture {
         }
     }
 
-    /// The numbers that a growth would get, or the first reason why it would be refused, as `grow` says.
+    /// The numbers that a growth would get, or the first reason why it would be refused, as `grow`
+    /// says.
     pub fn admit_growth(
         &self,
         u: u32,
         position: u32,
         kind: u32,
     ) -> Result<(VertexId, EdgeId), Refusal>
-        ensures admitted { IfOk result (λ _. grow_refusal self.now.limits self.now.rows u position kind ≡ None) }
-        ensures numbers { IfOk result (λ made. (made.0 ≡ length self.now.rows.rotations) × (made.1 ≡ self.now.rows.next_edge)) }
-        ensures refused { IfErr result (λ why. grow_refusal self.now.limits self.now.rows u position kind ≡ Some why) }
+        ensures admitted { IfOk result
+            (λ _. grow_refusal self.now.limits self.now.rows u position kind ≡ None) }
+        ensures numbers { IfOk result
+            (λ made. (made.0 ≡ length self.now.rows.rotations)
+            × (made.1 ≡ self.now.rows.next_edge)) }
+        ensures refused { IfErr result
+            (λ why. grow_refusal self.now.limits self.now.rows u position kind ≡ Some why) }
     {
         check_growth(&self.limits, self.embedded.rows(), u, position, kind)
     }
 
-    /// The number that an edge along this route would get. It would be refused as Full where the crossing
-    /// ids left are fewer than the route crosses.
+    /// The number that an edge along this route would get. It would be refused as Full where the
+    /// crossing ids left are fewer than the route crosses.
     pub fn admit_route(&self, route: &Route) -> Result<EdgeId, Refusal>
         ensures room { IfOk result (λ _. HasRoomFor self.now.limits self.now.rows route.now) }
         ensures number { IfOk result (λ made. made ≡ self.now.rows.next_edge) }
-        ensures refused { IfErr result (λ why. (why ≡ Refusal.Full) × (self.now.limits.crossings < self.now.rows.next_crossing + length route.now.crossed)) }
+        ensures refused { IfErr result (λ why. (why ≡ Refusal.Full)
+            × (self.now.limits.crossings < self.now.rows.next_crossing
+            + length route.now.crossed)) }
     {
         check_room(&self.limits, self.embedded.rows(), route)
     }
@@ -204,8 +216,10 @@ impl Picture {
     pub fn admit_deletion(&self, edge: u32) -> Result<(), Refusal>
         ensures there { IfOk result (λ _. is_some (edge_row self.now.rows edge) ≡ true) }
         ensures whole { IfOk result (λ _. (i : ℕ) → IsCut self.now.rows edge i → ⊥) }
-        ensures refused { IfErr result (λ why. ((why ≡ Refusal.NoEdge) × (edge_row self.now.rows edge ≡ None))
-            ⊎ ((i : ℕ) × (why ≡ Refusal.Cut i) × (is_some (edge_row self.now.rows edge) ≡ true) × IsCut self.now.rows edge i)) }
+        ensures refused { IfErr result
+            (λ why. ((why ≡ Refusal.NoEdge) × (edge_row self.now.rows edge ≡ None))
+            ⊎ ((i : ℕ) × (why ≡ Refusal.Cut i) × (is_some (edge_row self.now.rows edge) ≡ true)
+            × IsCut self.now.rows edge i)) }
         ensures lawful { IsPicture self.now.limits self.now.rows }
     {
         if !has_edge(self.embedded.rows(), self.embedded.hints(), edge) {
@@ -217,11 +231,12 @@ impl Picture {
         }
     }
 
-    /// Whether an edge lies apart from a region of this picture: it is not of the region, ends at no vertex
-    /// of it, and crosses no edge of it. So does an edge that is not there.
+    /// Whether an edge lies apart from a region of this picture: it is not of the region, ends at
+    /// no vertex of it, and crosses no edge of it. So does an edge that is not there.
     #[tactic(auto, using(crate::proofs::ApartEdges::is_apart))]
     pub fn is_apart(&self, edge: u32, region: &Region) -> bool
-        ensures { result ≡ true → IfSome (edge_row self.now.rows edge) (IsApart self.now.rows region.now) }
+        ensures { result ≡ true
+            → IfSome (edge_row self.now.rows edge) (IsApart self.now.rows region.now) }
     {
         let rows = self.embedded.rows();
         let hints = self.embedded.hints();
@@ -244,12 +259,17 @@ impl Picture {
         position: u32,
         kind: u32,
     ) -> Result<(VertexId, EdgeId), Refusal>
-        ensures accepted { IfOk result (λ _. grow_refusal self.old.limits self.old.rows u position kind ≡ None) }
-        ensures numbers { IfOk result (λ made. (made.0 ≡ length self.old.rows.rotations) × (made.1 ≡ self.old.rows.next_edge)) }
+        ensures accepted { IfOk result
+            (λ _. grow_refusal self.old.limits self.old.rows u position kind ≡ None) }
+        ensures numbers { IfOk result
+            (λ made. (made.0 ≡ length self.old.rows.rotations)
+            × (made.1 ≡ self.old.rows.next_edge)) }
         ensures grown { IfOk result (λ _. self.new.rows ≡ grown self.old.rows u position kind) }
 
-        ensures refused { IfErr result (λ why. (grow_refusal self.old.limits self.old.rows u position kind ≡ Some why)
-            ⊎ ((why ≡ Refusal.Memory) × (grow_refusal self.old.limits self.old.rows u position kind ≡ None))) }
+        ensures refused { IfErr result
+            (λ why. (grow_refusal self.old.limits self.old.rows u position kind ≡ Some why)
+            ⊎ ((why ≡ Refusal.Memory)
+            × (grow_refusal self.old.limits self.old.rows u position kind ≡ None))) }
         ensures unchanged { OnErr result (self.new ≡ self.old) }
 
         ensures same_limits { self.new.limits ≡ self.old.limits }
@@ -263,8 +283,8 @@ impl Picture {
     }
 
     /// Puts a new edge of the given kind from `u` to `v` along the route, with a crossing on each
-    /// segment that it crosses, and answers its number. It is refused as Full where the crossing ids
-    /// left are fewer than the route crosses. Memory is answered only where they suffice.
+    /// segment that it crosses, and answers its number. It is refused as Full where the crossing
+    /// ids left are fewer than the route crosses. Memory is answered only where they suffice.
     pub fn apply_route(
         &mut self,
         alloc: Global,
@@ -279,7 +299,9 @@ impl Picture {
         ensures number { IfOk result (λ made. made ≡ self.old.rows.next_edge) }
         ensures shown { IfOk result (λ _. self.new.rows ≡ shown self.old.rows u v kind route.now) }
 
-        ensures refused { IfErr result (λ why. ((why ≡ Refusal.Full) × (self.old.limits.crossings < self.old.rows.next_crossing + length route.now.crossed))
+        ensures refused { IfErr result
+            (λ why. ((why ≡ Refusal.Full)
+            × (self.old.limits.crossings < self.old.rows.next_crossing + length route.now.crossed))
             ⊎ ((why ≡ Refusal.Memory) × HasRoomFor self.old.limits self.old.rows route.now)) }
         ensures unchanged { OnErr result (self.new ≡ self.old) }
 
@@ -306,9 +328,13 @@ impl Picture {
         requires simple { IsSimpleRoute self.old.rows u v plan.now.route }
         ensures room { IfOk result (λ _. HasRoomFor self.old.limits self.old.rows plan.now.route) }
         ensures number { IfOk result (λ made. made ≡ self.old.rows.next_edge) }
-        ensures shown { IfOk result (λ _. self.new.rows ≡ shown self.old.rows u v kind plan.now.route) }
+        ensures shown { IfOk result
+            (λ _. self.new.rows ≡ shown self.old.rows u v kind plan.now.route) }
 
-        ensures refused { IfErr result (λ why. ((why ≡ Refusal.Full) × (self.old.limits.crossings < self.old.rows.next_crossing + length plan.now.route.crossed))
+        ensures refused { IfErr result
+            (λ why. ((why ≡ Refusal.Full)
+            × (self.old.limits.crossings < self.old.rows.next_crossing
+            + length plan.now.route.crossed))
             ⊎ ((why ≡ Refusal.Memory) × HasRoomFor self.old.limits self.old.rows plan.now.route)) }
         ensures unchanged { OnErr result (self.new ≡ self.old) }
 
@@ -318,20 +344,26 @@ impl Picture {
         self.apply_route(alloc, u, v, kind, &plan.route)
     }
 
-    /// Takes an edge out, with its crossings. It is refused as NoEdge where there is no such edge, and
-    /// as Cut with a segment where the picture would fall apart: the first segment of the edge such
-    /// that the picture falls apart when it and those before it are out. It takes no memory. The edge
-    /// that was shown last can always go, and then the picture is as before but for the ids that were
-    /// given.
+    /// Takes an edge out, with its crossings. It is refused as NoEdge where there is no such edge,
+    /// and as Cut with a segment where the picture would fall apart: the first segment of the edge
+    /// such that the picture falls apart when it and those before it are out. It takes no memory.
+    /// The edge that was shown last can always go, and then the picture is as before but for the
+    /// ids that were given.
     pub fn delete(&mut self, edge: u32) -> Result<(), Refusal>
         ensures there { IfOk result (λ _. is_some (edge_row self.old.rows edge) ≡ true) }
         ensures whole { IfOk result (λ _. (i : ℕ) → IsCut self.old.rows edge i → ⊥) }
         ensures without { IfOk result (λ _. self.new.rows ≡ without self.old.rows edge) }
-        ensures undoes { IfOk result (λ _. (p : Rows) → IsShownOn p self.old.rows edge → self.new.rows ≡ record p { next_edge = self.old.rows.next_edge; next_crossing = self.old.rows.next_crossing }) }
+        ensures undoes { IfOk result (λ _. (p : Rows) → IsShownOn p self.old.rows edge
+            → self.new.rows ≡ record p {
+              next_edge = self.old.rows.next_edge;
+              next_crossing = self.old.rows.next_crossing;
+            }) }
         ensures can_undo { OnErr result ((p : Rows) → IsShownOn p self.old.rows edge → ⊥) }
 
-        ensures refused { IfErr result (λ why. ((why ≡ Refusal.NoEdge) × (edge_row self.old.rows edge ≡ None))
-            ⊎ ((i : ℕ) × (why ≡ Refusal.Cut i) × (is_some (edge_row self.old.rows edge) ≡ true) × IsCut self.old.rows edge i)) }
+        ensures refused { IfErr result
+            (λ why. ((why ≡ Refusal.NoEdge) × (edge_row self.old.rows edge ≡ None))
+            ⊎ ((i : ℕ) × (why ≡ Refusal.Cut i) × (is_some (edge_row self.old.rows edge) ≡ true)
+            × IsCut self.old.rows edge i)) }
         ensures unchanged { OnErr result (self.new ≡ self.old) }
 
         ensures same_limits { self.new.limits ≡ self.old.limits }
@@ -355,7 +387,8 @@ impl Picture {
     }
 }
 
-ghost use Rattle.std.specs.Prelude.{◌≡◌, ◌+◌, ◌<◌, ◌≤◌, true, IfErr, IfOk, None, Some, is_some, length, [], ◌∷◌};
+ghost use Rattle.std.specs.Prelude.{◌≡◌, ◌+◌, ◌<◌, ◌≤◌, true, IfErr, IfOk};
+ghost use Rattle.std.specs.Prelude.{None, Some, is_some, length, [], ◌∷◌};
 ghost use Rattle.topo_core.specs.Lawful.{has_good_paths};
 ghost use Rattle.topo_core.specs.Picture.{edge_row};
 ghost use Rattle.topo_core.specs.Pictures.{seed};
@@ -364,11 +397,12 @@ ghost use Rattle.topo_rows.specs.Flats.{AreTurnsOf};
 ghost use Rattle.topo_rows.specs.Loading.{FailsFirst};
 ghost use Rattle.topo_rows.specs.Shown.{IsPicture};
 
-/// The rotation system of rows that are a picture within the limits. Else the first test that they fail,
-/// or Memory.
+/// The rotation system of rows that are a picture within the limits. Else the first test that they
+/// fail, or Memory.
 fn judged(alloc: Global, limits: &Limits, rows: &Rows) -> Result<Turns, LoadFault>
     ensures picture { IfOk result (λ _. IsPicture limits.now rows.now) }
-    ensures turns { IfOk result (λ turns. AreTurnsOf rows.now turns.begins.items turns.images.items) }
+    ensures turns { IfOk result
+        (λ turns. AreTurnsOf rows.now turns.begins.items turns.images.items) }
     ensures refused { IfErr result (FailsFirst limits.now rows.now) }
 {
     match judge(alloc, limits, rows) {
@@ -435,8 +469,10 @@ fn check_growth(
     kind: u32,
 ) -> Result<(VertexId, EdgeId), Refusal>
     ensures admitted { IfOk result (λ _. grow_refusal limits.now rows.now u position kind ≡ None) }
-    ensures numbers { IfOk result (λ made. (made.0 ≡ length rows.now.rotations) × (made.1 ≡ rows.now.next_edge)) }
-    ensures refused { IfErr result (λ why. grow_refusal limits.now rows.now u position kind ≡ Some why) }
+    ensures numbers { IfOk result
+        (λ made. (made.0 ≡ length rows.now.rotations) × (made.1 ≡ rows.now.next_edge)) }
+    ensures refused { IfErr result
+        (λ why. grow_refusal limits.now rows.now u position kind ≡ Some why) }
 {
     let vertices = rows.rotations().len();
     if u as usize >= vertices {
@@ -460,7 +496,8 @@ fn check_room(limits: &Limits, rows: &KeptRows, route: &Route) -> Result<EdgeId,
     requires { rows.now.next_crossing ≤ limits.now.crossings }
     ensures room { IfOk result (λ _. HasRoomFor limits.now rows.now route.now) }
     ensures number { IfOk result (λ made. made ≡ rows.now.next_edge) }
-    ensures refused { IfErr result (λ why. (why ≡ Refusal.Full) × (limits.now.crossings < rows.now.next_crossing + length route.now.crossed)) }
+    ensures refused { IfErr result (λ why. (why ≡ Refusal.Full)
+        × (limits.now.crossings < rows.now.next_crossing + length route.now.crossed)) }
 {
     let needed = route.crossed.as_slice().len();
     let left = limits.crossings - rows.next_crossing();

@@ -18,14 +18,18 @@ past_all m n true e h = cc
 past_all m n false e h = grind (arith, nat_tests)
 
 -- where no entry is found bad, each is good
-good_at : (entries : List (Option ℕ)) → length entries ≤ position_or_len (λ entry. not (is_good entry)) entries → (i : ℕ) → is_good (slice_index_or entries i None) ≡ true
+good_at : (entries : List (Option ℕ)) → length entries ≤ position_or_len (λ entry. not (is_good entry)) entries → (i : ℕ)
+    → is_good (slice_index_or entries i None) ≡ true
 good_at [] h i = refl
 good_at (x ∷ xs) h i = by_test (is_good x) refl i h (good_at xs) where
-  by_test : (b : Bool) → is_good x ≡ b → (i : ℕ) → suc (length xs) ≤ cond {A = ℕ} (not (not (is_good x))) (1 + position_or_len (λ entry. not (is_good entry)) xs) 0
-      → (length xs ≤ position_or_len (λ entry. not (is_good entry)) xs → (i : ℕ) → is_good (slice_index_or xs i None) ≡ true) → is_good (slice_index_or (x ∷ xs) i None) ≡ true
+  by_test : (b : Bool) → is_good x ≡ b → (i : ℕ)
+      → suc (length xs) ≤ cond {A = ℕ} (not (not (is_good x))) (1 + position_or_len (λ entry. not (is_good entry)) xs) 0
+      → (length xs ≤ position_or_len (λ entry. not (is_good entry)) xs → (i : ℕ) → is_good (slice_index_or xs i None) ≡ true)
+      → is_good (slice_index_or (x ∷ xs) i None) ≡ true
   by_test true e zero h rest = e
   by_test true e (suc i) h rest =
-      let here : cond {A = ℕ} (not (not (is_good x))) (1 + position_or_len (λ entry. not (is_good entry)) xs) 0 ≡ 1 + position_or_len (λ entry. not (is_good entry)) xs =
+      let here : cond {A = ℕ} (not (not (is_good x))) (1 + position_or_len (λ entry. not (is_good entry)) xs) 0 ≡ 1
+      + position_or_len (λ entry. not (is_good entry)) xs =
       ap (λ (b : Bool). cond {A = ℕ} (not (not b)) (1 + position_or_len (λ entry. not (is_good entry)) xs) 0) e in rest (omega arith) i
   by_test false e i h rest =
       let here : cond {A = ℕ} (not (not (is_good x))) (1 + position_or_len (λ entry. not (is_good entry)) xs) 0 ≡ 0 =
@@ -33,7 +37,8 @@ good_at (x ∷ xs) h i = by_test (is_good x) refl i h (good_at xs) where
 
 -- an entry of a table without a bad entry is good
 pub good_entry : (entries : List (Option ℕ)) → first_bad entries ≡ None → (i : ℕ) → is_good (slice_index_or entries i None) ≡ true
-good_entry entries h i = good_at entries (past_all (position_or_len (λ entry. not (is_good entry)) entries) (length entries) (nat_lt (position_or_len (λ entry. not (is_good entry)) entries) (length entries)) refl h) i
+good_entry entries h i = good_at entries (past_all (position_or_len (λ entry. not (is_good entry)) entries) (length entries)
+    (nat_lt (position_or_len (λ entry. not (is_good entry)) entries) (length entries)) refl h) i
 
 pub price_in_range : (entries : List (Option ℕ)) → first_bad entries ≡ None → (i : ℕ) → IfSome (slice_index_or entries i None) (λ n. (1 ≤ n) × (n ≤ 1000))
 price_in_range entries h i = good_price (slice_index_or entries i None) (good_entry entries h i)

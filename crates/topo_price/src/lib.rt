@@ -1,5 +1,5 @@
-//! The prices of edges: a stored closure that keeps its promise, and the table that the program makes
-//! one over.
+//! The prices of edges: a stored closure that keeps its promise, and the table that the program
+//! makes one over.
 //!
 //! A price is from 1 to 1000, and an edge without one must not be crossed. `Tariff::new` takes the
 //! promise as its condition, and from then on the type keeps it: `price` answers the promised

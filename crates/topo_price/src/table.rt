@@ -1,6 +1,7 @@
 //! A price for each kind of edge.
 
-ghost use Rattle.std.specs.Prelude.{◌≡◌, ◌<◌, ◌≤◌, Some, None, Err, IfSome, IsSomeAnd, MatchResult, slice_get, length};
+ghost use Rattle.std.specs.Prelude.{◌≡◌, ◌<◌, ◌≤◌, Some, None, Err, IfSome};
+ghost use Rattle.std.specs.Prelude.{IsSomeAnd, MatchResult, slice_get, length};
 ghost use Rattle.topo_price.specs.Prices.{first_bad, is_good};
 
 use std::fmt;
@@ -90,7 +91,8 @@ impl Model for PriceTable {
 impl PriceTable {
     /// The table with these entries, by kind; else the least kind whose entry is no price.
     pub fn new(prices: [Option<u32>; KINDS]) -> Result<Self, PriceFault>
-        ensures { MatchResult result (λ t. (t ≡ prices) × (first_bad prices ≡ None)) (λ e. IsSomeAnd (first_bad prices) (λ kind. e ≡ PriceFault.BadPrice kind)) }
+        ensures { MatchResult result (λ t. (t ≡ prices) × (first_bad prices ≡ None))
+            (λ e. IsSomeAnd (first_bad prices) (λ kind. e ≡ PriceFault.BadPrice kind)) }
     {
         match first_bad_kind(&prices) {
             Some(kind) => Err(PriceFault::BadPrice(kind as u8)),

@@ -35,7 +35,8 @@ pub record AreHeightsUpTo (price : Pricing) (g : Named) (v : ℕ) (heights : Lis
 pub record AreHeightsFor (price : Pricing) (g : Named) (u v : ℕ) (heights : List ℕ) : Type 0 where
   pub top : ℕ → ℕ
   pub known : AreHeightsBelow price g v top heights
-  pub start : (position from : ℕ) → IsStart g u heights position from → (p : ℕ) (c : Dart) → corner g.rows u p ≡ Some c → slice_index heights from < top (g.name c)
+  pub start : (position from : ℕ) → IsStart g u heights position from → (p : ℕ) (c : Dart) → corner g.rows u p ≡ Some c
+      → slice_index heights from < top (g.name c)
   pub none : HasNoStart g u heights → HasNoRoute price g.rows u v
 
 -- a route down the heights is first by them, and so it is the first route
@@ -63,9 +64,12 @@ pub record IsDescent (price : Pricing) (g : Named) (heights : List ℕ) (from : 
 -- a walk so far: what leads on from `at` leads on from the start
 pub record Descends (price : Pricing) (g : Named) (heights : List ℕ) (from : ℕ) (crossed : List Dart) (at : ℕ) : Type 0 where
   pub name : IsName g at
-  pub walk : (rest : List Dart) (to : Dart) → Crosses (system g.rows) (dart_named g at) rest to → Crosses (system g.rows) (dart_named g from) (crossed ++ rest) to
-  pub cost : (rest : List Dart) → Costs price g.rows rest (height_of g heights (dart_named g at)) → Costs price g.rows (crossed ++ rest) (height_of g heights (dart_named g from))
-  pub first_darts : (rest : List Dart) → TakesFirstDarts price g.rows (height_of g heights) (dart_named g at) rest → TakesFirstDarts price g.rows (height_of g heights) (dart_named g from) (crossed ++ rest)
+  pub walk : (rest : List Dart) (to : Dart) → Crosses (system g.rows) (dart_named g at) rest to
+      → Crosses (system g.rows) (dart_named g from) (crossed ++ rest) to
+  pub cost : (rest : List Dart) → Costs price g.rows rest (height_of g heights (dart_named g at))
+      → Costs price g.rows (crossed ++ rest) (height_of g heights (dart_named g from))
+  pub first_darts : (rest : List Dart) → TakesFirstDarts price g.rows (height_of g heights) (dart_named g at) rest
+      → TakesFirstDarts price g.rows (height_of g heights) (dart_named g from) (crossed ++ rest)
   pub arrives : (rest : List Dart) → arrival (dart_named g from) (crossed ++ rest) ≡ arrival (dart_named g at) rest
 
 -- no corner of v lies in the face of `last`
@@ -82,5 +86,7 @@ pub record IsEnd (rows : Rows) (v : ℕ) (last : Dart) (position : ℕ) : Type 0
 -- the dart where it is tight and comes before the first so far, and else the first so far
 abbrev pub IsFirstOf : Pricing → Named → List ℕ → Option ℕ → ℕ → Option ℕ → Type 0
 IsFirstOf price g heights first dart result =
-    ((result ≡ Some dart) × IsTight price g.rows (height_of g heights) (dart_named g dart) × IfSome first (λ before. dart_cmp (dart_named g dart) (dart_named g before) ≡ Less))
-    ⊎ ((result ≡ first) × (IsTight price g.rows (height_of g heights) (dart_named g dart) → IsSomeAnd first (λ before. dart_cmp (dart_named g dart) (dart_named g before) ≢ Less)))
+    ((result ≡ Some dart) × IsTight price g.rows (height_of g heights) (dart_named g dart)
+    × IfSome first (λ before. dart_cmp (dart_named g dart) (dart_named g before) ≡ Less))
+    ⊎ ((result ≡ first) × (IsTight price g.rows (height_of g heights) (dart_named g dart)
+    → IsSomeAnd first (λ before. dart_cmp (dart_named g dart) (dart_named g before) ≢ Less)))

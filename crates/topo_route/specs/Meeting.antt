@@ -25,7 +25,8 @@ pub record Meets (price : Pricing) (g : Named) (u v : ℕ) (heights distances : 
   pub route : (r : Route) × IsPricedRoute price g.rows u v r least
 
 -- heights spread from v and distances from u, as far as the least sum of the two reaches
-pub record SpreadsBoth (price : Pricing) (g : Named) (face : ℕ → ℕ) (faces u v : ℕ) (heights names waiting distances names' coming : List ℕ) (least : ℕ) : Type 0 where
+pub record SpreadsBoth (price : Pricing) (g : Named) (face : ℕ → ℕ) (faces u v : ℕ) (heights names waiting distances names' coming : List ℕ)
+    (least : ℕ) : Type 0 where
   pub on : SpreadsTo price g face faces v (reach_of least) heights names waiting
   pub back : SpreadsTo price g face faces u (reach_of least) distances names' coming
   pub sums : AreSums g (dart_heights g face heights) (dart_heights g face distances) least

@@ -70,7 +70,8 @@ IsEven rows heights = (d : Dart) → has_dart (darts rows) d ≡ true → height
 
 -- no dart with a price is higher than its twin by more than that price
 abbrev pub IsGentle : Pricing → Rows → List ℕ → Type 0
-IsGentle price rows heights = (d : Dart) (p : ℕ) → has_dart (darts rows) d ≡ true → Price price rows d p → height_in rows heights d ≤ p + height_in rows heights (dart_twin d)
+IsGentle price rows heights = (d : Dart) (p : ℕ) → has_dart (darts rows) d ≡ true → Price price rows d p
+    → height_in rows heights d ≤ p + height_in rows heights (dart_twin d)
 
 -- the corners of the target have height 0
 abbrev pub MeetsTarget : Rows → ℕ → List ℕ → Type 0
@@ -101,8 +102,10 @@ module _ (price : Pricing) (rows : Rows) (u v : ℕ) (plan : Plan) where
   FailsFirst UnevenFace = HasOneEach rows plan.heights × (IsEven rows plan.heights → ⊥)
   FailsFirst TooSteep = HasOneEach rows plan.heights × IsEven rows plan.heights × (IsGentle price rows plan.heights → ⊥)
   FailsFirst TargetNotZero = HasOneEach rows plan.heights × IsEven rows plan.heights × IsGentle price rows plan.heights × (MeetsTarget rows v plan.heights → ⊥)
-  FailsFirst NotARoute = HasOneEach rows plan.heights × IsCertificate price rows v (height_in rows plan.heights) × (IsPricedRoute price rows u v plan.route plan.price → ⊥)
-  FailsFirst NotLeast = HasOneEach rows plan.heights × IsCertificate price rows v (height_in rows plan.heights) × IsPricedRoute price rows u v plan.route plan.price
+  FailsFirst NotARoute = HasOneEach rows plan.heights × IsCertificate price rows v (height_in rows plan.heights)
+      × (IsPricedRoute price rows u v plan.route plan.price → ⊥)
+  FailsFirst NotLeast = HasOneEach rows plan.heights × IsCertificate price rows v (height_in rows plan.heights)
+      × IsPricedRoute price rows u v plan.route plan.price
       × (IsLeastHeight rows u plan.heights plan.price → ⊥)
   FailsFirst NotFirst = HasOneEach rows plan.heights × IsCertificate price rows v (height_in rows plan.heights) × IsLeastHeight rows u plan.heights plan.price
       × (priced : IsPricedRoute price rows u v plan.route plan.price) × (ComesFirst price rows u v plan priced.route.from → ⊥)

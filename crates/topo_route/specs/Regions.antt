@@ -63,7 +63,8 @@ pub record IsApart (before : Rows) (region : RegionState) (row : EdgeRow) : Type
 abbrev pub Spares : Rows → RegionState → Call → Reply → Type 0
 Spares before region call (Refused why) = Unit {0}
 Spares before region (Grow u position kind) (Grown vertex edge) = holds_vertex region u ≡ false
-Spares before region (Insert u v kind) (Put made) = (holds_vertex region u ≡ false) × (holds_vertex region v ≡ false) × All (λ d. holds_edge region d.edge ≡ false) made.route.crossed
+Spares before region (Insert u v kind) (Put made) = (holds_vertex region u ≡ false) × (holds_vertex region v ≡ false)
+    × All (λ d. holds_edge region d.edge ≡ false) made.route.crossed
 Spares before region (Delete e) (Deleted edge) = IfSome (edge_row before e) (IsApart before region)
 -- no other reply is given
 Spares before region (Grow u position kind) (Put made) = ⊥
@@ -80,12 +81,14 @@ AllSpare before region entries = All (λ entry. Spares before region entry.call 
 
 -- a picture that has kept a region keeps it when a call spares it
 abbrev pub SparedRegionsStayKept : Pricing → Type 0
-SparedRegionsStayKept price = (limits : Limits) (before p q : Rows) (region : RegionState) (call : Call) (reply : Reply) → Lawful before → Lawful p → IsRegionOf before region
+SparedRegionsStayKept price = (limits : Limits) (before p q : Rows) (region : RegionState) (call : Call) (reply : Reply) → Lawful before → Lawful p
+    → IsRegionOf before region
     → IsKept before p region → Step price limits p call reply q → Spares before region call reply → IsKept before q region
 
 -- where a picture has kept a region, it keeps the faces that lie in it, the corners of v, and those of u as far as the start
 abbrev pub KeptRegionsKeepFaces : Type 0
-KeptRegionsKeepFaces = (before now : Rows) (region : RegionState) (inside : Dart → Bool) (u v start : ℕ) → Lawful before → Lawful now → IsRegionOf before region → IsKept before now region
+KeptRegionsKeepFaces = (before now : Rows) (region : RegionState) (inside : Dart → Bool) (u v start : ℕ) → Lawful before → Lawful now → IsRegionOf before region
+    → IsKept before now region
     → IsRegion before inside → ((d : Dart) → inside d ≡ true → holds_edge region d.edge ≡ true) → holds_vertex region u ≡ true → holds_vertex region v ≡ true
     → ((q : ℕ) (c : Dart) → q ≤ start → corner before u q ≡ Some c → inside c ≡ true) → ((q : ℕ) (c : Dart) → corner before v q ≡ Some c → inside c ≡ true)
     → KeepsFaces before now (unmoved inside) × KeepsEnds before now (unmoved inside) u v start

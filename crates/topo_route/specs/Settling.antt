@@ -1,5 +1,6 @@
 -- Heights while a search spreads them.
-use Rattle.std.specs.Prelude.{◌≡◌, ◌≢◌, ℕ, ◌+◌, ◌-◌, ◌*◌, ◌/◌, ◌%◌, ◌^◌, ◌<◌, ◌≤◌, ◌==◌, Bool, true, false, cond, List, length, max, min, Option, None, slice_index, slice_index_or, sum_by}
+use Rattle.std.specs.Prelude.{◌≡◌, ◌≢◌, ℕ, ◌+◌, ◌-◌, ◌*◌, ◌/◌, ◌%◌, ◌^◌, ◌<◌, ◌≤◌, ◌==◌, Bool, true, false}
+use Rattle.std.specs.Prelude.{cond, List, length, max, min, Option, None, slice_index, slice_index_or, sum_by}
 use Rattle.std.specs.List.{list_any}
 use Rattle.topo_core.specs.declared.rows.Rows.{Rows}
 use Rattle.topo_core.specs.Picture.{darts}
@@ -61,7 +62,8 @@ pub record AreFaceCosts (price : Pricing) (g : Named) (face : ℕ → ℕ) (face
 
 -- where the dart has a price, its twin stands no higher above it than that, as far as the bound
 abbrev pub IsCrossed : Pricing → Named → ℕ → List ℕ → ℕ → Type 0
-IsCrossed price g bound heights k = (p : ℕ) → Price price g.rows (dart_named g k) p → min (slice_index heights (twin_name g k)) bound ≤ p + slice_index heights k
+IsCrossed price g bound heights k = (p : ℕ) → Price price g.rows (dart_named g k) p
+    → min (slice_index heights (twin_name g k)) bound ≤ p + slice_index heights k
 
 -- and the next along the face no higher than the dart
 abbrev pub IsSettled : Pricing → Named → ℕ → List ℕ → ℕ → Type 0
@@ -73,10 +75,12 @@ IsReached g heights k = IsName g k × (slice_index heights k ≢ unreached)
 
 -- Heights are costs. Each dart lower than its top is settled as far as the reach, but where its face is that in hand or one of the face's
 -- darts waits with its height. What waits is of darts that have been reached, and may be of a height from before.
-pub record Spreads (price : Pricing) (g : Named) (face : ℕ → ℕ) (faces v : ℕ) (top : ℕ → ℕ) (reach : ℕ) (heights names waiting : List ℕ) (in_hand : ℕ) : Type 0 where
+pub record Spreads (price : Pricing) (g : Named) (face : ℕ → ℕ) (faces v : ℕ) (top : ℕ → ℕ) (reach : ℕ) (heights names waiting : List ℕ)
+    (in_hand : ℕ) : Type 0 where
   pub costs : AreFaceCosts price g face faces v heights names
   pub others : (k : ℕ) → IsName g k → (in_hand < g.size → face k ≢ face in_hand) → slice_index (dart_heights g face heights) k < top k
-      → ((j : ℕ) → IsName g j → face j ≡ face k → is_pending (dart_heights g face heights) waiting j ≡ false) → IsSettled price g reach (dart_heights g face heights) k
+      → ((j : ℕ) → IsName g j → face j ≡ face k → is_pending (dart_heights g face heights) waiting j ≡ false)
+      → IsSettled price g reach (dart_heights g face heights) k
   pub reached_waits : (item : ℕ) → is_waiting waiting item ≡ true → IsReached g (dart_heights g face heights) (dart_of_item item)
 
 -- all darts lower than the reach are settled or wait
@@ -111,8 +115,10 @@ abbrev pub effort : List ℕ → List ℕ → ℕ
 effort heights waiting = sum_by (λ h. h) heights + length waiting
 
 -- One step of a search, or more: heights that spread below any tops still do, with another dart in hand
-pub record Relaxes (price : Pricing) (g : Named) (face : ℕ → ℕ) (faces v : ℕ) (others heights names waiting : List ℕ) (least in_hand : ℕ) (heights' names' waiting' : List ℕ) (least' in_hand' : ℕ) : Type 0 where
-  pub spreads : (top : ℕ → ℕ) → Spreads price g face faces v top (reach_of least) heights names waiting in_hand → Spreads price g face faces v top (reach_of least') heights' names' waiting' in_hand'
+pub record Relaxes (price : Pricing) (g : Named) (face : ℕ → ℕ) (faces v : ℕ) (others heights names waiting : List ℕ) (least in_hand : ℕ)
+    (heights' names' waiting' : List ℕ) (least' in_hand' : ℕ) : Type 0 where
+  pub spreads : (top : ℕ → ℕ) → Spreads price g face faces v top (reach_of least) heights names waiting in_hand
+      → Spreads price g face faces v top (reach_of least') heights' names' waiting' in_hand'
   pub costs : AreFaceCosts price g face faces v heights' names'
   pub sums : AreSums g (dart_heights g face heights') (dart_heights g face others) least'
   pub less : least' ≤ least

@@ -95,7 +95,8 @@ pub record CoversKnown (price : Pricing) (g : Named) (m : Renaming) (u v : ℕ) 
 -- What a search from both ends knows, and the route is first by its heights. The darts lower than the level lie inside, and so
 -- do those whose distance makes up no more than the least price with the level. Where corners of u are among those, all of
 -- them are the same.
-pub record CoversMeeting (price : Pricing) (g : Named) (after : Rows) (m : Renaming) (u v : ℕ) (heights distances : List ℕ) (level least : ℕ) (r : Route) : Type 0 where
+pub record CoversMeeting (price : Pricing) (g : Named) (after : Rows) (m : Renaming) (u v : ℕ) (heights distances : List ℕ) (level least : ℕ)
+    (r : Route) : Type 0 where
   pub met : Meets price g u v heights distances level least
   pub first : IsFirstByHeights price g.rows u v (height_of g heights) r least
   pub near_target : (d : Dart) → has_dart (darts g.rows) d ≡ true → height_of g heights d < level → m.inside d ≡ true
@@ -112,18 +113,23 @@ RoutesSurvive price = (before after : Rows) (m : Renaming) (u v : ℕ) (height :
 
 -- the same of any region outside of which all darts are equally high
 abbrev pub CoveredRoutesSurvive : Pricing → Type 0
-CoveredRoutesSurvive price = (before after : Rows) (m : Renaming) (u v : ℕ) (height : Dart → ℕ) (outside : ℕ) (r : Route) (p : ℕ) → KeepsPromise price → Lawful after
-    → KeepsFaces before after m → KeepsEnds before after m u v r.start → CoversRoute price before after m u v height outside r p → IsFirst price after u v (moved m r) p
+CoveredRoutesSurvive price = (before after : Rows) (m : Renaming) (u v : ℕ) (height : Dart → ℕ) (outside : ℕ) (r : Route) (p : ℕ)
+    → KeepsPromise price → Lawful after
+    → KeepsFaces before after m → KeepsEnds before after m u v r.start → CoversRoute price before after m u v height outside r p
+    → IsFirst price after u v (moved m r) p
 
 -- the same of the heights that a search leaves
 abbrev pub FoundRoutesSurvive : Pricing → Type 0
-FoundRoutesSurvive price = (g : Named) (after : Rows) (m : Renaming) (u v : ℕ) (top : ℕ → ℕ) (heights : List ℕ) (r : Route) (p : ℕ) → KeepsPromise price → Lawful g.rows → IsNamed g → Lawful after
+FoundRoutesSurvive price = (g : Named) (after : Rows) (m : Renaming) (u v : ℕ) (top : ℕ → ℕ) (heights : List ℕ) (r : Route) (p : ℕ) → KeepsPromise price
+    → Lawful g.rows → IsNamed g → Lawful after
     → KeepsFaces g.rows after m → KeepsEnds g.rows after m u v r.start → CoversKnown price g m u v top heights r p → IsFirst price after u v (moved m r) p
 
 -- and of what a search from both ends leaves: what it has seen from either end is enough
 abbrev pub MetRoutesSurvive : Pricing → Type 0
-MetRoutesSurvive price = (g : Named) (after : Rows) (m : Renaming) (u v : ℕ) (heights distances : List ℕ) (level least : ℕ) (r : Route) → KeepsPromise price → Lawful g.rows → IsNamed g → Lawful after
-    → KeepsFaces g.rows after m → KeepsEnds g.rows after m u v r.start → CoversMeeting price g after m u v heights distances level least r → IsFirst price after u v (moved m r) least
+MetRoutesSurvive price = (g : Named) (after : Rows) (m : Renaming) (u v : ℕ) (heights distances : List ℕ) (level least : ℕ) (r : Route) → KeepsPromise price
+    → Lawful g.rows → IsNamed g → Lawful after
+    → KeepsFaces g.rows after m → KeepsEnds g.rows after m u v r.start → CoversMeeting price g after m u v heights distances level least r
+    → IsFirst price after u v (moved m r) least
 
 -- ---- Regions that stay, and moves one after the other
 
@@ -138,11 +144,13 @@ unmoved inside = record { inside = inside; kept = inside; move = λ d. d; back =
 
 -- a picture keeps its own faces and corners
 abbrev pub PicturesKeepThemselves : Type 0
-PicturesKeepThemselves = (rows : Rows) (inside : Dart → Bool) (u v start : ℕ) → IsRegion rows inside → KeepsFaces rows rows (unmoved inside) × KeepsEnds rows rows (unmoved inside) u v start
+PicturesKeepThemselves = (rows : Rows) (inside : Dart → Bool) (u v start : ℕ) → IsRegion rows inside → KeepsFaces rows rows (unmoved inside)
+    × KeepsEnds rows rows (unmoved inside) u v start
 
 -- all its darts are a region, which covers each search
 abbrev pub PicturesCoverSearches : Pricing → Type 0
-PicturesCoverSearches price = (rows : Rows) (u v : ℕ) (height : Dart → ℕ) (r : Route) (p : ℕ) → Lawful rows → IsCertificate price rows v height → IsFirstByHeights price rows u v height r p
+PicturesCoverSearches price = (rows : Rows) (u v : ℕ) (height : Dart → ℕ) (r : Route) (p : ℕ) → Lawful rows → IsCertificate price rows v height
+    → IsFirstByHeights price rows u v height r p
     → IsRegion rows (has_dart (darts rows)) × CoversSearch price rows (unmoved (has_dart (darts rows))) u v height r p
 
 -- moved, and then moved on
@@ -151,9 +159,11 @@ followed m on = record { inside = m.inside; kept = λ e. on.kept e && m.kept (on
 
 -- where a third picture keeps all faces that the second has kept, it keeps what the first picture's region has become
 abbrev pub KeptFacesStay : Type 0
-KeptFacesStay = (before between after : Rows) (m on : Renaming) → KeepsFaces before between m → KeepsFaces between after on → ((d : Dart) → m.kept d ≡ true → on.inside d ≡ true)
+KeptFacesStay = (before between after : Rows) (m on : Renaming) → KeepsFaces before between m → KeepsFaces between after on
+    → ((d : Dart) → m.kept d ≡ true → on.inside d ≡ true)
     → KeepsFaces before after (followed m on)
 
 -- and so it is with the corners of both ends
 abbrev pub KeptEndsStay : Type 0
-KeptEndsStay = (before between after : Rows) (m on : Renaming) (u v start : ℕ) → KeepsEnds before between m u v start → KeepsEnds between after on u v start → KeepsEnds before after (followed m on) u v start
+KeptEndsStay = (before between after : Rows) (m on : Renaming) (u v start : ℕ) → KeepsEnds before between m u v start → KeepsEnds between after on u v start
+    → KeepsEnds before after (followed m on) u v start

@@ -22,8 +22,8 @@ const MAX_HEIGHT_SUM: u64 = u64::MAX - 1;
 /// Where a search from both ends has stopped.
 #[derive(Clone, Copy)]
 pub(crate) struct Stop {
-    /// The target's end has settled all darts lower than this, and the start's end those that are no farther
-    /// from it than the rest of the least price.
+    /// The target's end has settled all darts lower than this, and the start's end those that are
+    /// no farther from it than the rest of the least price.
     pub level: u64,
     /// The least price of a route; the greatest number where there is none.
     pub least: u64,
@@ -36,7 +36,11 @@ fn start_both<W: FaceGraph, F: PriceFn>(
     u: u32,
     v: u32,
 ) -> Result<u64, AllocError>
-    ensures { IfOk result (λ least. SpreadsBoth (prices_of (F.may_return priced.now.tariff.now)) (W.named priced.now.graph.now) (W.face_of priced.now.graph.now) (W.face_bound priced.now.graph.now) u v work.new.to_end.heights work.new.to_end.names.items work.new.to_end.waiting work.new.to_start.heights work.new.to_start.names.items work.new.to_start.waiting least) }
+    ensures { IfOk result (λ least. SpreadsBoth (prices_of (F.may_return priced.now.tariff.now))
+        (W.named priced.now.graph.now) (W.face_of priced.now.graph.now)
+        (W.face_bound priced.now.graph.now) u v work.new.to_end.heights work.new.to_end.names.items
+        work.new.to_end.waiting work.new.to_start.heights work.new.to_start.names.items
+        work.new.to_start.waiting least) }
 {
     let faces = priced.graph.faces() as usize;
     work.to_end.clear(faces)?;
@@ -49,10 +53,10 @@ fn start_both<W: FaceGraph, F: PriceFn>(
     Ok(least)
 }
 
-/// Spreads from both ends until no face that waits can be on a route that is cheaper than the cheapest
-/// found, or until one end has nothing left. The end for which fewer wait goes on. The answer is how high
-/// the darts are that the target's end has taken. What is known does not rest on it: whatever the number,
-/// what is left to do from there is done.
+/// Spreads from both ends until no face that waits can be on a route that is cheaper than the
+/// cheapest found, or until one end has nothing left. The end for which fewer wait goes on. The
+/// answer is how high the darts are that the target's end has taken. What is known does not rest on
+/// it: whatever the number, what is left to do from there is done.
 fn spread_both<W: FaceGraph, F: PriceFn>(
     priced: &PricedGraph<W, F>,
     work: &mut Workspace,
@@ -60,9 +64,18 @@ fn spread_both<W: FaceGraph, F: PriceFn>(
     u: u32,
     v: u32,
 ) -> Result<u64, AllocError>
-    requires right { ArePrices (prices_of (F.may_return priced.now.tariff.now)) (W.named priced.now.graph.now) priced.now.prices.items }
-    requires both { SpreadsBoth (prices_of (F.may_return priced.now.tariff.now)) (W.named priced.now.graph.now) (W.face_of priced.now.graph.now) (W.face_bound priced.now.graph.now) u v work.old.to_end.heights work.old.to_end.names.items work.old.to_end.waiting work.old.to_start.heights work.old.to_start.names.items work.old.to_start.waiting least.old }
-    ensures { IfOk result (λ _. SpreadsBoth (prices_of (F.may_return priced.now.tariff.now)) (W.named priced.now.graph.now) (W.face_of priced.now.graph.now) (W.face_bound priced.now.graph.now) u v work.new.to_end.heights work.new.to_end.names.items work.new.to_end.waiting work.new.to_start.heights work.new.to_start.names.items work.new.to_start.waiting least.new) }
+    requires right { ArePrices (prices_of (F.may_return priced.now.tariff.now))
+        (W.named priced.now.graph.now) priced.now.prices.items }
+    requires both { SpreadsBoth (prices_of (F.may_return priced.now.tariff.now))
+        (W.named priced.now.graph.now) (W.face_of priced.now.graph.now)
+        (W.face_bound priced.now.graph.now) u v work.old.to_end.heights work.old.to_end.names.items
+        work.old.to_end.waiting work.old.to_start.heights work.old.to_start.names.items
+        work.old.to_start.waiting least.old }
+    ensures { IfOk result (λ _. SpreadsBoth (prices_of (F.may_return priced.now.tariff.now))
+        (W.named priced.now.graph.now) (W.face_of priced.now.graph.now)
+        (W.face_bound priced.now.graph.now) u v work.new.to_end.heights work.new.to_end.names.items
+        work.new.to_end.waiting work.new.to_start.heights work.new.to_start.names.items
+        work.new.to_start.waiting least.new) }
 {
     let mut level = 0;
     let mut far = 0u64;
@@ -88,10 +101,10 @@ fn spread_both<W: FaceGraph, F: PriceFn>(
     Ok(level)
 }
 
-/// From where the two ends have met: spreads from the start to all darts that a route which passes the
-/// level can have on its way there, and then from the target to all below the level, and on along the
-/// cheapest routes alone. The level is no higher than the least price, so that the faces at the start are
-/// among those that its end has settled.
+/// From where the two ends have met: spreads from the start to all darts that a route which passes
+/// the level can have on its way there, and then from the target to all below the level, and on
+/// along the cheapest routes alone. The level is no higher than the least price, so that the faces
+/// at the start are among those that its end has settled.
 fn finish<W: FaceGraph, F: PriceFn>(
     priced: &PricedGraph<W, F>,
     work: &mut Workspace,
@@ -100,13 +113,29 @@ fn finish<W: FaceGraph, F: PriceFn>(
     v: u32,
     level: u64,
 ) -> Result<Stop, AllocError>
-    requires right { ArePrices (prices_of (F.may_return priced.now.tariff.now)) (W.named priced.now.graph.now) priced.now.prices.items }
+    requires right { ArePrices (prices_of (F.may_return priced.now.tariff.now))
+        (W.named priced.now.graph.now) priced.now.prices.items }
     requires some { 0 < length (darts (W.named priced.now.graph.now).rows) }
-    requires both { SpreadsBoth (prices_of (F.may_return priced.now.tariff.now)) (W.named priced.now.graph.now) (W.face_of priced.now.graph.now) (W.face_bound priced.now.graph.now) u v work.old.to_end.heights work.old.to_end.names.items work.old.to_end.waiting work.old.to_start.heights work.old.to_start.names.items work.old.to_start.waiting least }
-    ensures heights { OnOk result (AreHeightsFor (prices_of (F.may_return priced.now.tariff.now)) (W.named priced.now.graph.now) u v (dart_heights (W.named priced.now.graph.now) (W.face_of priced.now.graph.now) work.new.to_end.heights)) }
-    ensures met { IfOk result (λ stop. HasMet (prices_of (F.may_return priced.now.tariff.now)) (W.named priced.now.graph.now) u v (dart_heights (W.named priced.now.graph.now) (W.face_of priced.now.graph.now) work.new.to_end.heights) (dart_heights (W.named priced.now.graph.now) (W.face_of priced.now.graph.now) work.new.to_start.heights) stop.level stop.least) }
-    ensures to_end { OnOk result (AreLabelled (W.named priced.now.graph.now) (W.face_of priced.now.graph.now) (W.face_bound priced.now.graph.now) work.new.to_end.heights work.new.to_end.names.items) }
-    ensures to_start { OnOk result (AreLabelled (W.named priced.now.graph.now) (W.face_of priced.now.graph.now) (W.face_bound priced.now.graph.now) work.new.to_start.heights work.new.to_start.names.items) }
+    requires both { SpreadsBoth (prices_of (F.may_return priced.now.tariff.now))
+        (W.named priced.now.graph.now) (W.face_of priced.now.graph.now)
+        (W.face_bound priced.now.graph.now) u v work.old.to_end.heights work.old.to_end.names.items
+        work.old.to_end.waiting work.old.to_start.heights work.old.to_start.names.items
+        work.old.to_start.waiting least }
+    ensures heights { OnOk result (AreHeightsFor (prices_of (F.may_return priced.now.tariff.now))
+        (W.named priced.now.graph.now) u v (dart_heights (W.named priced.now.graph.now)
+        (W.face_of priced.now.graph.now) work.new.to_end.heights)) }
+    ensures met { IfOk result (λ stop. HasMet (prices_of (F.may_return priced.now.tariff.now))
+        (W.named priced.now.graph.now) u v
+        (dart_heights (W.named priced.now.graph.now) (W.face_of priced.now.graph.now)
+        work.new.to_end.heights) (dart_heights (W.named priced.now.graph.now)
+        (W.face_of priced.now.graph.now) work.new.to_start.heights) stop.level stop.least) }
+    ensures to_end { OnOk result
+        (AreLabelled (W.named priced.now.graph.now) (W.face_of priced.now.graph.now)
+        (W.face_bound priced.now.graph.now) work.new.to_end.heights work.new.to_end.names.items) }
+    ensures to_start { OnOk result
+        (AreLabelled (W.named priced.now.graph.now) (W.face_of priced.now.graph.now)
+        (W.face_bound priced.now.graph.now)
+        work.new.to_start.heights work.new.to_start.names.items) }
 {
     let reach = least.saturating_add(1);
     let level = level.clamp(1, least.clamp(1, MAX_HEIGHT_SUM));
@@ -133,19 +162,32 @@ fn finish<W: FaceGraph, F: PriceFn>(
     })
 }
 
-/// The least prices of the darts' faces to a face at the target, as far as routes from `u` need them.
+/// The least prices of the darts' faces to a face at the target, as far as routes from `u` need
+/// them.
 pub(crate) fn heights_for<W: FaceGraph, F: PriceFn>(
     priced: &PricedGraph<W, F>,
     u: u32,
     v: u32,
     work: &mut Workspace,
 ) -> Result<Stop, AllocError>
-    requires right { ArePrices (prices_of (F.may_return priced.now.tariff.now)) (W.named priced.now.graph.now) priced.now.prices.items }
+    requires right { ArePrices (prices_of (F.may_return priced.now.tariff.now))
+        (W.named priced.now.graph.now) priced.now.prices.items }
     requires some { 0 < length (darts (W.named priced.now.graph.now).rows) }
-    ensures heights { OnOk result (AreHeightsFor (prices_of (F.may_return priced.now.tariff.now)) (W.named priced.now.graph.now) u v (dart_heights (W.named priced.now.graph.now) (W.face_of priced.now.graph.now) work.new.to_end.heights)) }
-    ensures met { IfOk result (λ stop. HasMet (prices_of (F.may_return priced.now.tariff.now)) (W.named priced.now.graph.now) u v (dart_heights (W.named priced.now.graph.now) (W.face_of priced.now.graph.now) work.new.to_end.heights) (dart_heights (W.named priced.now.graph.now) (W.face_of priced.now.graph.now) work.new.to_start.heights) stop.level stop.least) }
-    ensures to_end { OnOk result (AreLabelled (W.named priced.now.graph.now) (W.face_of priced.now.graph.now) (W.face_bound priced.now.graph.now) work.new.to_end.heights work.new.to_end.names.items) }
-    ensures to_start { OnOk result (AreLabelled (W.named priced.now.graph.now) (W.face_of priced.now.graph.now) (W.face_bound priced.now.graph.now) work.new.to_start.heights work.new.to_start.names.items) }
+    ensures heights { OnOk result (AreHeightsFor (prices_of (F.may_return priced.now.tariff.now))
+        (W.named priced.now.graph.now) u v (dart_heights (W.named priced.now.graph.now)
+        (W.face_of priced.now.graph.now) work.new.to_end.heights)) }
+    ensures met { IfOk result (λ stop. HasMet (prices_of (F.may_return priced.now.tariff.now))
+        (W.named priced.now.graph.now) u v
+        (dart_heights (W.named priced.now.graph.now) (W.face_of priced.now.graph.now)
+        work.new.to_end.heights) (dart_heights (W.named priced.now.graph.now)
+        (W.face_of priced.now.graph.now) work.new.to_start.heights) stop.level stop.least) }
+    ensures to_end { OnOk result
+        (AreLabelled (W.named priced.now.graph.now) (W.face_of priced.now.graph.now)
+        (W.face_bound priced.now.graph.now) work.new.to_end.heights work.new.to_end.names.items) }
+    ensures to_start { OnOk result
+        (AreLabelled (W.named priced.now.graph.now) (W.face_of priced.now.graph.now)
+        (W.face_bound priced.now.graph.now)
+        work.new.to_start.heights work.new.to_start.names.items) }
 {
     let mut least = start_both(priced, work, u, v)?;
     let level = spread_both(priced, work, &mut least, u, v)?;
@@ -158,12 +200,18 @@ pub(crate) fn least_heights<W: FaceGraph, F: PriceFn>(
     v: u32,
     work: &mut Workspace,
 ) -> Result<(), AllocError>
-    requires right { ArePrices (prices_of (F.may_return priced.now.tariff.now)) (W.named priced.now.graph.now) priced.now.prices.items }
+    requires right { ArePrices (prices_of (F.may_return priced.now.tariff.now))
+        (W.named priced.now.graph.now) priced.now.prices.items }
     requires some { 0 < length (darts (W.named priced.now.graph.now).rows) }
     requires alone { work.old.to_start.heights ≡ [] }
-    ensures are_heights { OnOk result (AreHeights (prices_of (F.may_return priced.now.tariff.now)) (W.named priced.now.graph.now) v (dart_heights (W.named priced.now.graph.now) (W.face_of priced.now.graph.now) work.new.to_end.heights)) }
-    ensures in_range { OnOk result ((k : ℕ) → slice_index (dart_heights (W.named priced.now.graph.now) (W.face_of priced.now.graph.now) work.new.to_end.heights) k ≤ unreached) }
-    ensures one_each { OnOk result (length work.new.to_end.heights ≡ W.face_bound priced.now.graph.now) }
+    ensures are_heights { OnOk result (AreHeights (prices_of (F.may_return priced.now.tariff.now))
+        (W.named priced.now.graph.now) v (dart_heights (W.named priced.now.graph.now)
+        (W.face_of priced.now.graph.now) work.new.to_end.heights)) }
+    ensures in_range { OnOk result
+        ((k : ℕ) → slice_index (dart_heights (W.named priced.now.graph.now)
+        (W.face_of priced.now.graph.now) work.new.to_end.heights) k ≤ unreached) }
+    ensures one_each { OnOk result
+        (length work.new.to_end.heights ≡ W.face_bound priced.now.graph.now) }
 {
     let faces = priced.graph.faces();
     work.to_end.clear(faces as usize)?;

@@ -1,6 +1,7 @@
 //! The items that wait: darts whose faces spread the heights that were written for them.
 
-ghost use Rattle.std.specs.Prelude.{◌≡◌, ℕ, ◌+◌, ◌/◌, ◌^◌, ◌<◌, ◌≤◌, ◌==◌, ◌||◌, MatchOption, IfOk, length, [], slice_index};
+ghost use Rattle.std.specs.Prelude.{◌≡◌, ℕ, ◌+◌, ◌/◌, ◌^◌, ◌<◌, ◌≤◌, ◌==◌, ◌||◌};
+ghost use Rattle.std.specs.Prelude.{MatchOption, IfOk, length, [], slice_index};
 ghost use Rattle.topo_route.specs.Settling.{dart_of_item, is_waiting, item_of};
 
 use std::alloc::{AllocError, Global};
@@ -20,9 +21,9 @@ pub(crate) struct Entry {
     below: usize,
 }
 
-/// Items in buckets by their heights modulo 1001, the least heights first. Contracts see the list of
-/// the items: which of them comes out first is speed alone. A bucket is a chain of entries, from one
-/// more than the place of its last one down; entries are put at the end and never moved.
+/// Items in buckets by their heights modulo 1001, the least heights first. Contracts see the list
+/// of the items: which of them comes out first is speed alone. A bucket is a chain of entries, from
+/// one more than the place of its last one down; entries are put at the end and never moved.
 #[derive(Drop)]
 pub(crate) struct BucketQueue {
     entries: Vec<Entry>,
@@ -40,7 +41,8 @@ impl Model for BucketQueue {
 
     ghost view = { λ w. all_chained w.entries.items w.heads.items };
 
-    ghost invariant = { λ w. (length w.heads.items ≡ 1001) × (w.first < 1001) × GoesDown w.entries.items × StaysBelow w.entries.items w.heads.items };
+    ghost invariant = { λ w. (length w.heads.items ≡ 1001) × (w.first < 1001)
+        × GoesDown w.entries.items × StaysBelow w.entries.items w.heads.items };
 }
 
 impl BucketQueue {
@@ -75,7 +77,8 @@ impl BucketQueue {
 
     /// Adds an item of this height.
     pub(crate) fn push(&mut self, height: u64, item: u64) -> Result<(), AllocError>
-        ensures waits { IfOk result (λ _. (k : ℕ) → is_waiting self.new k ≡ (item == k || is_waiting self.old k)) }
+        ensures waits { IfOk result
+            (λ _. (k : ℕ) → is_waiting self.new k ≡ (item == k || is_waiting self.old k)) }
         ensures len { IfOk result (λ _. length self.new ≡ length self.old + 1) }
     {
         let bucket = (height % BUCKET_COUNT as u64) as usize;
@@ -88,8 +91,10 @@ impl BucketQueue {
 
     /// Takes out one that waits, the least first.
     pub(crate) fn pop(&mut self) -> Option<u64>
-        ensures waits { MatchOption result (self.old ≡ []) (λ item. (k : ℕ) → is_waiting self.old k ≡ (item == k || is_waiting self.new k)) }
-        ensures len { MatchOption result (self.new ≡ []) (λ _. length self.new + 1 ≡ length self.old) }
+        ensures waits { MatchOption result (self.old ≡ [])
+            (λ item. (k : ℕ) → is_waiting self.old k ≡ (item == k || is_waiting self.new k)) }
+        ensures len { MatchOption result (self.new ≡ [])
+            (λ _. length self.new + 1 ≡ length self.old) }
     {
         match full_bucket(self.heads.as_slice(), self.first) {
             Some(bucket) => {
@@ -130,8 +135,8 @@ fn full_between(heads: &[usize], from: usize, to: usize) -> Option<usize>
     None
 }
 
-/// What waits when a face is given a height: a dart of it, and the low half of the height above it. Who
-/// takes it out sees by it whether the face has been given another height since.
+/// What waits when a face is given a height: a dart of it, and the low half of the height above it.
+/// Who takes it out sees by it whether the face has been given another height since.
 pub(crate) fn item_of(dart: u32, height: u64) -> u64
     ensures { result ≡ item_of dart height }
 {

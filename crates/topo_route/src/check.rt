@@ -20,7 +20,8 @@ fn verdict<D: Dual, F: PriceFn>(
     v: u32,
     plan: &Plan,
 ) -> Result<(), PlanFault>
-    ensures verdict { MatchResult result (λ _. PassesAll (prices_of (F.may_return tariff.now)) (D.shows dual.now) u v plan.now)
+    ensures verdict { MatchResult result
+        (λ _. PassesAll (prices_of (F.may_return tariff.now)) (D.shows dual.now) u v plan.now)
         (FailsFirst (prices_of (F.may_return tariff.now)) (D.shows dual.now) u v plan.now) }
     ensures promise { OnOk result (KeepsPromise (prices_of (F.may_return tariff.now))) }
 {
@@ -64,10 +65,13 @@ pub fn check<D: Dual, F: PriceFn>(
     requires u_there { u < length (D.shows dual.now).rotations }
     requires v_there { v < length (D.shows dual.now).rotations }
     requires apart { u ≢ v }
-    ensures verdict { MatchResult result (λ _. PassesAll (prices_of (F.may_return tariff.now)) (D.shows dual.now) u v plan.now)
+    ensures verdict { MatchResult result
+        (λ _. PassesAll (prices_of (F.may_return tariff.now)) (D.shows dual.now) u v plan.now)
         (FailsFirst (prices_of (F.may_return tariff.now)) (D.shows dual.now) u v plan.now) }
-    ensures first { OnOk result (IsFirst (prices_of (F.may_return tariff.now)) (D.shows dual.now) u v plan.now.route plan.now.price) }
-    ensures own { IsPlan (prices_of (F.may_return tariff.now)) (D.shows dual.now) u v plan.now → result ≡ Ok tt }
+    ensures first { OnOk result (IsFirst (prices_of (F.may_return tariff.now))
+        (D.shows dual.now) u v plan.now.route plan.now.price) }
+    ensures own { IsPlan (prices_of (F.may_return tariff.now)) (D.shows dual.now) u v plan.now
+        → result ≡ Ok tt }
 {
     verdict(dual, tariff, u, v, plan)
 }

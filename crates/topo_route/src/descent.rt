@@ -1,12 +1,14 @@
 //! The route down the heights.
 
-ghost use Rattle.std.specs.Prelude.{◌≡◌, ◌≢◌, ◌<◌, ◌≤◌, ◌↔◌, ℕ, IsTrue, MatchOption, IfOk, IfSome, IsSomeAnd, Some, false, length};
+ghost use Rattle.std.specs.Prelude.{◌≡◌, ◌≢◌, ◌<◌, ◌≤◌, ◌↔◌, ℕ, IsTrue, MatchOption};
+ghost use Rattle.std.specs.Prelude.{IfOk, IfSome, IsSomeAnd, Some, false, length};
 ghost use Rattle.topo_core.specs.declared.darts.Dart.{Dart};
 ghost use Rattle.topo_core.specs.Picture.{corner};
 ghost use Rattle.topo_core.specs.RouteLaws.{IsTight};
 ghost use Rattle.topo_core.specs.Routes.{unreached};
 ghost use Rattle.topo_price.specs.Prices.{prices_of};
-ghost use Rattle.topo_route.specs.Descents.{AreHeightsUpTo, HasNoEnd, HasNoStart, IsDescent, IsEnd, IsFirstOf, IsFirstTight, IsStart};
+ghost use Rattle.topo_route.specs.Descents.{AreHeightsUpTo, HasNoEnd, HasNoStart, IsDescent};
+ghost use Rattle.topo_route.specs.Descents.{IsEnd, IsFirstOf, IsFirstTight, IsStart};
 ghost use Rattle.topo_route.specs.FaceHeights.{dart_heights};
 ghost use Rattle.topo_route.specs.Names.{IsName, dart_named, height_of};
 ghost use Rattle.topo_route.specs.Plans.{HasNoneBefore, IsLeastAt};
@@ -20,12 +22,16 @@ use std::alloc::{AllocError, Global};
 use topo_core::darts::Dart;
 use topo_price::tariff::PriceFn;
 
-/// The least height of a corner, and the greatest number where there is none. No corner is asked after
-/// one of height 0.
+/// The least height of a corner, and the greatest number where there is none. No corner is asked
+/// after one of height 0.
 pub(crate) fn least_corner<W: FaceGraph>(graph: &W, u: u32, heights: &StampedArray) -> u64
     requires { length heights.now ≡ W.face_bound graph.now }
-    ensures low { (p : ℕ) → (c : Dart) → corner (W.named graph.now).rows u p ≡ Some c → result ≤ height_of (W.named graph.now) (dart_heights (W.named graph.now) (W.face_of graph.now) heights.now) c }
-    ensures attained { result ≢ unreached → IsLeastAt (W.named graph.now).rows u (height_of (W.named graph.now) (dart_heights (W.named graph.now) (W.face_of graph.now) heights.now)) result }
+    ensures low { (p : ℕ) → (c : Dart) → corner (W.named graph.now).rows u p ≡ Some c
+        → result ≤ height_of (W.named graph.now)
+        (dart_heights (W.named graph.now) (W.face_of graph.now) heights.now) c }
+    ensures attained { result ≢ unreached
+        → IsLeastAt (W.named graph.now).rows u (height_of (W.named graph.now)
+        (dart_heights (W.named graph.now) (W.face_of graph.now) heights.now)) result }
 {
     let mut least = u64::MAX;
     for position in 0..graph.degree(u) {
@@ -50,9 +56,16 @@ fn corner_of_height<W: FaceGraph>(
     height: u64,
 ) -> Option<(u32, u32)>
     requires { length heights.now ≡ W.face_bound graph.now }
-    ensures { MatchOption result ((p : ℕ) → (c : Dart) → corner (W.named graph.now).rows u p ≡ Some c → height_of (W.named graph.now) (dart_heights (W.named graph.now) (W.face_of graph.now) heights.now) c ≢ height)
-        (λ r. IsName (W.named graph.now) r.1 × (corner (W.named graph.now).rows u r.0 ≡ Some (dart_named (W.named graph.now) r.1))
-        × (height_of (W.named graph.now) (dart_heights (W.named graph.now) (W.face_of graph.now) heights.now) (dart_named (W.named graph.now) r.1) ≡ height) × HasNoneBefore (W.named graph.now).rows u (height_of (W.named graph.now) (dart_heights (W.named graph.now) (W.face_of graph.now) heights.now)) r.0 height) }
+    ensures { MatchOption result
+        ((p : ℕ) → (c : Dart) → corner (W.named graph.now).rows u p ≡ Some c
+        → height_of (W.named graph.now)
+        (dart_heights (W.named graph.now) (W.face_of graph.now) heights.now) c ≢ height)
+        (λ r. IsName (W.named graph.now) r.1
+        × (corner (W.named graph.now).rows u r.0 ≡ Some (dart_named (W.named graph.now) r.1))
+        × (height_of (W.named graph.now) (dart_heights (W.named graph.now) (W.face_of graph.now)
+        heights.now) (dart_named (W.named graph.now) r.1) ≡ height)
+        × HasNoneBefore (W.named graph.now).rows u (height_of (W.named graph.now)
+        (dart_heights (W.named graph.now) (W.face_of graph.now) heights.now)) r.0 height) }
 {
     for position in 0..graph.degree(u) {
         if let Some(corner) = corner_at(graph, u, position) {
@@ -71,7 +84,11 @@ pub(crate) fn start_corner<W: FaceGraph>(
     heights: &StampedArray,
 ) -> Option<(u32, u32)>
     requires { length heights.now ≡ W.face_bound graph.now }
-    ensures { MatchOption result (HasNoStart (W.named graph.now) u (dart_heights (W.named graph.now) (W.face_of graph.now) heights.now)) (λ r. IsStart (W.named graph.now) u (dart_heights (W.named graph.now) (W.face_of graph.now) heights.now) r.0 r.1) }
+    ensures { MatchOption result
+        (HasNoStart (W.named graph.now) u
+        (dart_heights (W.named graph.now) (W.face_of graph.now) heights.now))
+        (λ r. IsStart (W.named graph.now) u
+        (dart_heights (W.named graph.now) (W.face_of graph.now) heights.now) r.0 r.1) }
 {
     let least = least_corner(graph, u, heights);
     if least == u64::MAX {
@@ -84,7 +101,8 @@ pub(crate) fn start_corner<W: FaceGraph>(
 /// The first corner in the face of `last`.
 pub(crate) fn end_corner<W: FaceGraph>(graph: &W, v: u32, last: u32) -> Option<u32>
     requires { IsName (W.named graph.now) last }
-    ensures { MatchOption result (HasNoEnd (W.named graph.now).rows v (dart_named (W.named graph.now) last))
+    ensures { MatchOption result
+        (HasNoEnd (W.named graph.now).rows v (dart_named (W.named graph.now) last))
         (IsEnd (W.named graph.now).rows v (dart_named (W.named graph.now) last)) }
 {
     for position in 0..graph.degree(v) {
@@ -103,10 +121,15 @@ fn is_tight<W: FaceGraph, F: PriceFn>(
     heights: &StampedArray,
     dart: u32,
 ) -> bool
-    requires right { ArePrices (prices_of (F.may_return priced.now.tariff.now)) (W.named priced.now.graph.now) priced.now.prices.items }
+    requires right { ArePrices (prices_of (F.may_return priced.now.tariff.now))
+        (W.named priced.now.graph.now) priced.now.prices.items }
     requires one_each { length heights.now ≡ W.face_bound priced.now.graph.now }
     requires name { IsName (W.named priced.now.graph.now) dart }
-    ensures { IsTrue result ↔ IsTight (prices_of (F.may_return priced.now.tariff.now)) (W.named priced.now.graph.now).rows (height_of (W.named priced.now.graph.now) (dart_heights (W.named priced.now.graph.now) (W.face_of priced.now.graph.now) heights.now)) (dart_named (W.named priced.now.graph.now) dart) }
+    ensures { IsTrue result ↔ IsTight (prices_of (F.may_return priced.now.tariff.now))
+        (W.named priced.now.graph.now).rows
+        (height_of (W.named priced.now.graph.now)
+        (dart_heights (W.named priced.now.graph.now) (W.face_of priced.now.graph.now) heights.now))
+        (dart_named (W.named priced.now.graph.now) dart) }
 {
     let twin = across(priced.graph, dart);
     let other = height_at(priced.graph, heights, twin);
@@ -120,19 +143,22 @@ fn is_tight<W: FaceGraph, F: PriceFn>(
     }
 }
 
-/// The first of the tight darts so far, and of this one if it is tight. Only then is it asked which of
-/// the two comes first.
+/// The first of the tight darts so far, and of this one if it is tight. Only then is it asked which
+/// of the two comes first.
 fn first_of<W: FaceGraph, F: PriceFn>(
     priced: &PricedGraph<W, F>,
     heights: &StampedArray,
     first: Option<u32>,
     dart: u32,
 ) -> Option<u32>
-    requires right { ArePrices (prices_of (F.may_return priced.now.tariff.now)) (W.named priced.now.graph.now) priced.now.prices.items }
+    requires right { ArePrices (prices_of (F.may_return priced.now.tariff.now))
+        (W.named priced.now.graph.now) priced.now.prices.items }
     requires one_each { length heights.now ≡ W.face_bound priced.now.graph.now }
     requires first_there { IfSome first (IsName (W.named priced.now.graph.now)) }
     requires name { IsName (W.named priced.now.graph.now) dart }
-    ensures { IsFirstOf (prices_of (F.may_return priced.now.tariff.now)) (W.named priced.now.graph.now) (dart_heights (W.named priced.now.graph.now) (W.face_of priced.now.graph.now) heights.now) first dart result }
+    ensures { IsFirstOf (prices_of (F.may_return priced.now.tariff.now))
+        (W.named priced.now.graph.now) (dart_heights (W.named priced.now.graph.now)
+        (W.face_of priced.now.graph.now) heights.now) first dart result }
 {
     if !is_tight(priced, heights, dart) {
         return first;
@@ -156,12 +182,19 @@ fn first_tight<W: FaceGraph, F: PriceFn>(
     v: u32,
     at: u32,
 ) -> Option<u32>
-    requires right { ArePrices (prices_of (F.may_return priced.now.tariff.now)) (W.named priced.now.graph.now) priced.now.prices.items }
-    requires known { AreHeightsUpTo (prices_of (F.may_return priced.now.tariff.now)) (W.named priced.now.graph.now) v (dart_heights (W.named priced.now.graph.now) (W.face_of priced.now.graph.now) heights.now) at }
+    requires right { ArePrices (prices_of (F.may_return priced.now.tariff.now))
+        (W.named priced.now.graph.now) priced.now.prices.items }
+    requires known { AreHeightsUpTo (prices_of (F.may_return priced.now.tariff.now))
+        (W.named priced.now.graph.now) v (dart_heights (W.named priced.now.graph.now)
+        (W.face_of priced.now.graph.now) heights.now) at }
     requires one_each { length heights.now ≡ W.face_bound priced.now.graph.now }
     requires name { IsName (W.named priced.now.graph.now) at }
-    requires above { 0 < height_of (W.named priced.now.graph.now) (dart_heights (W.named priced.now.graph.now) (W.face_of priced.now.graph.now) heights.now) (dart_named (W.named priced.now.graph.now) at) }
-    ensures { IsSomeAnd result (IsFirstTight (prices_of (F.may_return priced.now.tariff.now)) (W.named priced.now.graph.now) (dart_heights (W.named priced.now.graph.now) (W.face_of priced.now.graph.now) heights.now) at) }
+    requires above { 0 < height_of (W.named priced.now.graph.now)
+        (dart_heights (W.named priced.now.graph.now) (W.face_of priced.now.graph.now) heights.now)
+        (dart_named (W.named priced.now.graph.now) at) }
+    ensures { IsSomeAnd result (IsFirstTight (prices_of (F.may_return priced.now.tariff.now))
+        (W.named priced.now.graph.now) (dart_heights (W.named priced.now.graph.now)
+        (W.face_of priced.now.graph.now) heights.now) at) }
 {
     let mut dart = at;
     let mut first = None;
@@ -184,11 +217,16 @@ pub(crate) fn descend<W: FaceGraph, F: PriceFn>(
     v: u32,
     from: u32,
 ) -> Result<(Vec<Dart>, u32), AllocError>
-    requires right { ArePrices (prices_of (F.may_return priced.now.tariff.now)) (W.named priced.now.graph.now) priced.now.prices.items }
-    requires known { AreHeightsUpTo (prices_of (F.may_return priced.now.tariff.now)) (W.named priced.now.graph.now) v (dart_heights (W.named priced.now.graph.now) (W.face_of priced.now.graph.now) heights.now) from }
+    requires right { ArePrices (prices_of (F.may_return priced.now.tariff.now))
+        (W.named priced.now.graph.now) priced.now.prices.items }
+    requires known { AreHeightsUpTo (prices_of (F.may_return priced.now.tariff.now))
+        (W.named priced.now.graph.now) v (dart_heights (W.named priced.now.graph.now)
+        (W.face_of priced.now.graph.now) heights.now) from }
     requires one_each { length heights.now ≡ W.face_bound priced.now.graph.now }
     requires name { IsName (W.named priced.now.graph.now) from }
-    ensures { IfOk result (λ r. IsDescent (prices_of (F.may_return priced.now.tariff.now)) (W.named priced.now.graph.now) (dart_heights (W.named priced.now.graph.now) (W.face_of priced.now.graph.now) heights.now) from r.0.items r.1) }
+    ensures { IfOk result (λ r. IsDescent (prices_of (F.may_return priced.now.tariff.now))
+        (W.named priced.now.graph.now) (dart_heights (W.named priced.now.graph.now)
+        (W.face_of priced.now.graph.now) heights.now) from r.0.items r.1) }
 {
     let mut crossed = Vec::new(alloc);
     let mut at = from;

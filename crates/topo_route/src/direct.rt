@@ -13,9 +13,9 @@ use topo_core::routes::Route;
 /// Beyond the first corner, as many are looked at as take no more questions than these.
 const MAX_FACE_TESTS: u32 = 32;
 
-/// The first route from `u` to `v` that crosses nothing, where a face at one of the first corners of `u` is
-/// also at `v`. None says nothing of the corners that were not looked at. It takes the time of one round of
-/// the target's corners.
+/// The first route from `u` to `v` that crosses nothing, where a face at one of the first corners
+/// of `u` is also at `v`. None says nothing of the corners that were not looked at. It takes the
+/// time of one round of the target's corners.
 pub(crate) fn direct_route<W: FaceGraph>(alloc: Global, graph: &W, u: u32, v: u32) -> Option<Route>
     ensures { IfSome result (IsFirstDirect (W.named graph.now).rows u v) }
 {

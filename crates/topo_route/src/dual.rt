@@ -1,6 +1,7 @@
 //! The darts of a picture by their numbers.
 
-ghost use Rattle.std.specs.Prelude.{◌≡◌, ◌<◌, ◌↔◌, IsTrue, if◌then◌else◌, length, Some, None, slice_get, IsSomeAnd};
+ghost use Rattle.std.specs.Prelude.{◌≡◌, ◌<◌, ◌↔◌, IsTrue, if◌then◌else◌};
+ghost use Rattle.std.specs.Prelude.{length, Some, None, slice_get, IsSomeAnd};
 ghost use Rattle.topo_core.specs.Picture.{darts, index_of, start};
 ghost use Rattle.topo_core.specs.Systems.{has_dart};
 ghost use Rattle.topo_core.specs.declared.rows.Rows.{Rows};
@@ -18,11 +19,13 @@ pub trait Dual: FaceGraph {
     /// Where a dart starts.
     fn tail(&self, dart: u32) -> Point
         requires { dart < length (darts (shows self.now)) }
-        ensures { IsSomeAnd (slice_get (darts (shows self.now)) dart) (λ d. result ≡ start (shows self.now) d) };
+        ensures { IsSomeAnd (slice_get (darts (shows self.now)) dart)
+            (λ d. result ≡ start (shows self.now) d) };
 
     /// The number of a dart; none where it is no dart of the picture.
     fn index(&self, dart: Dart) -> Option<u32>
-        ensures { result ≡ (if has_dart (darts (shows self.now)) dart then Some (index_of (shows self.now) dart) else None) };
+        ensures { result ≡ (if has_dart (darts (shows self.now)) dart then Some
+            (index_of (shows self.now) dart) else None) };
 
     /// The names are the numbers.
     ghost numbered: { (picture : Self) → Self.named picture ≡ canonical (shows picture) };

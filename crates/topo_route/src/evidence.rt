@@ -3,8 +3,8 @@
 
 ghost use Rattle.topo_route.specs.SurvivingEvidence.{CrossedElsewhere};
 
-/// Two apexes joined across a triangle, and then an edge that crosses the joining one: the first of the
-/// other routes from apex to apex stays, and darts that it has seen have new segment numbers.
+/// Two apexes joined across a triangle, and then an edge that crosses the joining one: the first of
+/// the other routes from apex to apex stays, and darts that it has seen have new segment numbers.
 pub fn crossed_elsewhere()
     ensures { CrossedElsewhere }
 {}

@@ -6,7 +6,8 @@ ghost use Rattle.topo_core.specs.Darts.{dart_cmp};
 ghost use Rattle.topo_core.specs.Lawful.{Lawful};
 ghost use Rattle.topo_core.specs.Picture.{corner, edge_at, rotation};
 ghost use Rattle.topo_core.specs.Routes.{AreFactsOf};
-ghost use Rattle.topo_route.specs.Names.{HasFaces, IsName, IsNamed, Named, dart_named, next_name, twin_name};
+ghost use Rattle.topo_route.specs.Names.{HasFaces, IsName, IsNamed, Named};
+ghost use Rattle.topo_route.specs.Names.{dart_named, next_name, twin_name};
 
 use topo_core::darts::Dart;
 use topo_core::rows::Facts;
@@ -39,11 +40,14 @@ pub trait FaceGraph {
     /// The facts of the edge that it lies on.
     fn facts(&self, dart: u32) -> Facts
         requires { IsName (named self.now) dart }
-        ensures { AreFactsOf (edge_at (named self.now).rows (dart_named (named self.now) dart).edge) result };
+        ensures { AreFactsOf
+            (edge_at (named self.now).rows (dart_named (named self.now) dart).edge) result };
 
-    /// The dart that names the corner at a position of a vertex; none where there is no such corner.
+    /// The dart that names the corner at a position of a vertex; none where there is no such
+    /// corner.
     fn corner(&self, v: u32, position: u32) -> Option<u32>
-        ensures { result ≡ option_map (named self.now).name (corner (named self.now).rows v position) };
+        ensures { result ≡ option_map (named self.now).name
+            (corner (named self.now).rows v position) };
 
     /// How many corners a vertex has, and 0 where it is no vertex.
     fn degree(&self, v: u32) -> u32
@@ -58,7 +62,9 @@ pub trait FaceGraph {
     fn precedes(&self, dart: u32, other: u32) -> bool
         requires dart_there { IsName (named self.now) dart }
         requires other_there { IsName (named self.now) other }
-        ensures { IsTrue result ↔ dart_cmp (dart_named (named self.now) dart) (dart_named (named self.now) other) ≡ Less };
+        ensures { IsTrue result
+            ↔ dart_cmp (dart_named (named self.now) dart) (dart_named (named self.now)
+            other) ≡ Less };
 
     /// The label of the face on the left of a dart, by the name of the dart.
     ghost face_of: { Self → ℕ → ℕ };
@@ -82,5 +88,6 @@ pub trait FaceGraph {
     ghost has_names: { (picture : Self) → IsNamed (named picture) };
 
     /// Two darts have one label just where one face lies on their left.
-    ghost has_faces: { (picture : Self) → HasFaces (named picture) (face_of picture) (face_bound picture) };
+    ghost has_faces: { (picture : Self)
+        → HasFaces (named picture) (face_of picture) (face_bound picture) };
 }

@@ -1,6 +1,7 @@
 //! Steps from dart to dart by their numbers in canonical order, and which darts have one face.
 
-ghost use Rattle.std.specs.Prelude.{◌≡◌, ◌<◌, ◌≤◌, ◌↔◌, IsTrue, length, Some, None, MatchOption, IfSome, slice_get};
+ghost use Rattle.std.specs.Prelude.{◌≡◌, ◌<◌, ◌≤◌, ◌↔◌, IsTrue, length, Some};
+ghost use Rattle.std.specs.Prelude.{None, MatchOption, IfSome, slice_get};
 ghost use Rattle.topo_core.specs.Cycles.{SameCycle};
 ghost use Rattle.topo_core.specs.Picture.{corner, darts, rotation};
 ghost use Rattle.topo_core.specs.Rotations.{twin};
@@ -55,7 +56,8 @@ pub(crate) fn across<D: Dual>(dual: &D, dart: u32) -> u32
 /// The dart that names a corner.
 pub(crate) fn corner_at<D: Dual>(dual: &D, v: u32, position: u32) -> Option<u32>
     ensures { MatchOption result (corner (D.shows dual.now) v position ≡ None)
-        (λ c. (c < length (darts (D.shows dual.now))) × (corner (D.shows dual.now) v position ≡ Some (dart_of (D.shows dual.now) c))) }
+        (λ c. (c < length (darts (D.shows dual.now)))
+        × (corner (D.shows dual.now) v position ≡ Some (dart_of (D.shows dual.now) c))) }
 {
     steps::corner_at(dual, v, position)
 }

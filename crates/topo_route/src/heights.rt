@@ -4,7 +4,8 @@ ghost use Rattle.std.specs.Prelude.{◌≡◌, ◌<◌, ◌↔◌, IsTrue, lengt
 ghost use Rattle.topo_core.specs.Picture.{darts};
 ghost use Rattle.topo_core.specs.Routes.{KeepsPromise};
 ghost use Rattle.topo_price.specs.Prices.{prices_of};
-ghost use Rattle.topo_route.specs.Plans.{HasFirstStart, HasOneEach, IsEven, IsGentle, IsLeastHeight, MeetsTarget};
+ghost use Rattle.topo_route.specs.Plans.{HasFirstStart, HasOneEach, IsEven};
+ghost use Rattle.topo_route.specs.Plans.{IsGentle, IsLeastHeight, MeetsTarget};
 
 use crate::dual::Dual;
 use crate::faces::{across, corner_at, dart_count, degree, next_along, price_at};
@@ -27,8 +28,10 @@ pub(crate) fn is_even<D: Dual>(dual: &D, heights: &[u64]) -> bool
 /// Whether no dart with a price is higher than its twin by more than that price.
 pub(crate) fn is_gentle<D: Dual, F: PriceFn>(dual: &D, tariff: &Tariff<F>, heights: &[u64]) -> bool
     requires { HasOneEach (D.shows dual.now) heights.now }
-    ensures gentle { IsTrue result ↔ IsGentle (prices_of (F.may_return tariff.now)) (D.shows dual.now) heights.now }
-    ensures promise { 0 < length (darts (D.shows dual.now)) → KeepsPromise (prices_of (F.may_return tariff.now)) }
+    ensures gentle { IsTrue result
+        ↔ IsGentle (prices_of (F.may_return tariff.now)) (D.shows dual.now) heights.now }
+    ensures promise { 0 < length (darts (D.shows dual.now))
+        → KeepsPromise (prices_of (F.may_return tariff.now)) }
 {
     for dart in 0..dart_count(dual) {
         if let Some(price) = price_at(dual, tariff, dart) {

@@ -1,12 +1,15 @@
 //! Laws of routes in two pictures. The functions do nothing: their contracts are the laws.
 
 ghost use Rattle.topo_route.specs.Regions.{KeptRegionsKeepFaces, SparedRegionsStayKept};
-ghost use Rattle.topo_route.specs.Surviving.{CoveredRoutesSurvive, FoundRoutesSurvive, KeptEndsStay, KeptFacesStay, MetRoutesSurvive, PicturesCoverSearches, PicturesKeepThemselves, RoutesSurvive};
+ghost use Rattle.topo_route.specs.Surviving.{CoveredRoutesSurvive, FoundRoutesSurvive};
+ghost use Rattle.topo_route.specs.Surviving.{KeptEndsStay, KeptFacesStay};
+ghost use Rattle.topo_route.specs.Surviving.{MetRoutesSurvive, PicturesCoverSearches};
+ghost use Rattle.topo_route.specs.Surviving.{PicturesKeepThemselves, RoutesSurvive};
 
 use topo_core::prices::Prices;
 
-/// A later picture that still has each face whose darts are lower than the price of the first route,
-/// and the corners at both ends, has the same first route at the same price.
+/// A later picture that still has each face whose darts are lower than the price of the first
+/// route, and the corners at both ends, has the same first route at the same price.
 pub fn routes_survive<P: Prices>()
     ensures { RoutesSurvive P.price }
 {}
@@ -21,8 +24,8 @@ pub fn found_routes_survive<P: Prices>()
     ensures { FoundRoutesSurvive P.price }
 {}
 
-/// The same of what a search from both ends leaves: the darts that it has settled from either end are
-/// enough.
+/// The same of what a search from both ends leaves: the darts that it has settled from either end
+/// are enough.
 pub fn met_routes_survive<P: Prices>()
     ensures { MetRoutesSurvive P.price }
 {}
@@ -32,14 +35,14 @@ pub fn pictures_keep_themselves()
     ensures { PicturesKeepThemselves }
 {}
 
-/// All darts of a picture are a region, and it covers each search: what the first law asks for can be
-/// had.
+/// All darts of a picture are a region, and it covers each search: what the first law asks for can
+/// be had.
 pub fn pictures_cover_searches<P: Prices>()
     ensures { PicturesCoverSearches P.price }
 {}
 
-/// Faces that are kept from one picture to the next, and from there to a third, are kept from the first
-/// to the third.
+/// Faces that are kept from one picture to the next, and from there to a third, are kept from the
+/// first to the third.
 pub fn kept_faces_stay()
     ensures { KeptFacesStay }
 {}
@@ -54,8 +57,8 @@ pub fn regions_stay_kept<P: Prices>()
     ensures { SparedRegionsStayKept P.price }
 {}
 
-/// Where a picture has kept a region, it keeps the faces whose edges the region holds, and the corners
-/// at both ends.
+/// Where a picture has kept a region, it keeps the faces whose edges the region holds, and the
+/// corners at both ends.
 pub fn kept_regions_keep_faces()
     ensures { KeptRegionsKeepFaces }
 {}

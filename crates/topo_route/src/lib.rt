@@ -1,18 +1,19 @@
 //! Routes in the dual graph of a picture: the first of the cheapest, and the check of a plan that
 //! somebody hands in.
 //!
-//! `FaceGraph` is what a picture has to answer of its darts, which have names in no particular order, and
-//! `Dual` what it has to where the names are the numbers in canonical order. `search` takes a `Dual` and
-//! gives the first of the least routes with its price and, as a certificate, the least cost from
-//! each face to the target; `first_route` takes any `FaceGraph`, gives the route and its price alone, and
-//! searches from both ends, no further than until the two meet. `first_route_seen` hands out besides the
-//! region that its search has seen: a later picture that has kept it has the same first route. `check` says
-//! of any plan whether it is that, and which test it fails first: its Ok means that the route is the first
-//! of the least, whoever made the plan.
+//! `FaceGraph` is what a picture has to answer of its darts, which have names in no particular
+//! order, and `Dual` what it has to where the names are the numbers in canonical order. `search`
+//! takes a `Dual` and gives the first of the least routes with its price and, as a certificate, the
+//! least cost from each face to the target; `first_route` takes any `FaceGraph`, gives the route
+//! and its price alone, and searches from both ends, no further than until the two meet.
+//! `first_route_seen` hands out besides the region that its search has seen: a later picture that
+//! has kept it has the same first route. `check` says of any plan whether it is that, and which
+//! test it fails first: its Ok means that the route is the first of the least, whoever made the
+//! plan.
 //!
-//! `laws` says when a route survives a change of the picture: where each face that its search has seen is
-//! still there, it is the first of the least routes of the later picture too. `evidence` computes such
-//! a change.
+//! `laws` says when a route survives a change of the picture: where each face that its search has
+//! seen is still there, it is the first of the least routes of the later picture too. `evidence`
+//! computes such a change.
 //!
 //! A caller, over any picture (`Picture::embedded` of `topo_picture` gives one):
 //!

@@ -13,8 +13,8 @@ pub struct PricedRoute {
     pub price: u64,
 }
 
-/// A route, and the region that it rests on: while a picture keeps that, the route is its first too. None
-/// where nothing is known of it.
+/// A route, and the region that it rests on: while a picture keeps that, the route is its first
+/// too. None where nothing is known of it.
 #[derive(Drop)]
 pub struct SeenRoute {
     pub first: PricedRoute,

@@ -15,8 +15,8 @@ use crate::steps::price_at;
 use std::alloc::{AllocError, Global};
 use topo_price::tariff::{PriceFn, Tariff};
 
-/// A picture with prices. Those of the first segments are kept, by half of a name; the others are asked
-/// for each time.
+/// A picture with prices. Those of the first segments are kept, by half of a name; the others are
+/// asked for each time.
 #[derive(Drop)]
 pub(crate) struct PricedGraph<'a, W: FaceGraph, F: PriceFn> {
     pub graph: &'a W,
@@ -28,8 +28,11 @@ impl<W: FaceGraph, F: PriceFn> PricedGraph<'_, W, F> {
     /// The price of crossing a dart.
     pub(crate) fn price(&self, dart: u32) -> Option<u32>
         requires name { IsName (W.named self.now.graph.now) dart }
-        requires right { ArePrices (prices_of (F.may_return self.now.tariff.now)) (W.named self.now.graph.now) self.now.prices.items }
-        ensures price { IsPriceFor (prices_of (F.may_return self.now.tariff.now)) (W.named self.now.graph.now).rows (dart_named (W.named self.now.graph.now) dart) result }
+        requires right { ArePrices (prices_of (F.may_return self.now.tariff.now))
+            (W.named self.now.graph.now) self.now.prices.items }
+        ensures price { IsPriceFor (prices_of (F.may_return self.now.tariff.now))
+            (W.named self.now.graph.now).rows
+            (dart_named (W.named self.now.graph.now) dart) result }
         ensures promise { KeepsPromise (prices_of (F.may_return self.now.tariff.now)) }
     {
         let segment = (dart / 2) as usize;
@@ -50,7 +53,8 @@ fn segment_price<D: Dual, F: PriceFn>(
 ) -> Option<u32>
     requires within { dart < length (darts (D.shows dual.now)) }
     requires even { dart % 2 ≡ 0 }
-    requires right { ArePricesOf (prices_of (F.may_return tariff.now)) (D.shows dual.now) prices.now (dart / 2) }
+    requires right { ArePricesOf (prices_of (F.may_return tariff.now))
+        (D.shows dual.now) prices.now (dart / 2) }
     ensures price { IsPriceAt (prices_of (F.may_return tariff.now)) (D.shows dual.now) dart result }
     ensures promise { KeepsPromise (prices_of (F.may_return tariff.now)) }
 {
@@ -70,7 +74,9 @@ pub(crate) fn segment_prices<D: Dual, F: PriceFn>(
     dual: &D,
     tariff: &Tariff<F>,
 ) -> Result<Vec<Option<u32>>, AllocError>
-    ensures { IfOk result (λ prices. ArePrices (prices_of (F.may_return tariff.now)) (D.named dual.now) prices.items) }
+    ensures { IfOk result
+        (λ prices. ArePrices (prices_of (F.may_return tariff.now))
+        (D.named dual.now) prices.items) }
 {
     let segments = faces::dart_count(dual) / 2;
     let mut prices = Vec::with_capacity(alloc, segments as usize)?;

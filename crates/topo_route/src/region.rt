@@ -7,14 +7,16 @@ use std::alloc::{AllocError, Global};
 use std::marker::Model;
 use topo_core::rows::Facts;
 
-/// Edges and vertices of a picture, marked by their ids. A picture that comes later keeps the region if its
-/// edges, with the crossings on them, and the edges round its vertices are as they were.
+/// Edges and vertices of a picture, marked by their ids. A picture that comes later keeps the
+/// region if its edges, with the crossings on them, and the edges round its vertices are as they
+/// were.
 pub struct Region {
     edges: Vec<bool>,
     vertices: Vec<bool>,
 }
 
-// Written out, so that it is proved once: a derived one is proved anew in each function that lets such a value go.
+// Written out, so that it is proved once: a derived one is proved anew in each function that lets
+// such a value go.
 impl Drop for Region {
     fn drop(self) {
         let Region { edges, vertices } = self;
@@ -59,8 +61,10 @@ impl Region {
 
     /// Puts the edge with these facts into it, and both ends of it.
     pub(crate) fn mark(&mut self, facts: &Facts) -> Result<(), AllocError>
-        ensures edges { OnOk result ((e : ℕ) → holds_edge self.new e ≡ (facts.now.id == e || holds_edge self.old e)) }
-        ensures vertices { OnOk result ((w : ℕ) → holds_vertex self.new w ≡ (facts.now.b == w || (facts.now.a == w || holds_vertex self.old w))) }
+        ensures edges { OnOk result
+            ((e : ℕ) → holds_edge self.new e ≡ (facts.now.id == e || holds_edge self.old e)) }
+        ensures vertices { OnOk result ((w : ℕ) → holds_vertex self.new w
+            ≡ (facts.now.b == w || (facts.now.a == w || holds_vertex self.old w))) }
     {
         mark_id(&mut self.edges, facts.id)?;
         mark_id(&mut self.vertices, facts.a)?;
@@ -80,7 +84,8 @@ fn is_marked(marks: &[bool], id: u32) -> bool
 
 /// Marks an id. The list grows as far as that takes.
 fn mark_id(marks: &mut Vec<bool>, id: u32) -> Result<(), AllocError>
-    ensures { OnOk result ((k : ℕ) → slice_index_or marks.new.items k false ≡ (id == k || slice_index_or marks.old.items k false)) }
+    ensures { OnOk result ((k : ℕ) → slice_index_or marks.new.items k false
+        ≡ (id == k || slice_index_or marks.old.items k false)) }
 {
     let place = id as usize;
     if marks.len() <= place {

@@ -36,13 +36,19 @@ fn route_by_heights<W: FaceGraph, F: PriceFn>(
     v: u32,
     heights: &StampedArray,
 ) -> Result<Option<PricedRoute>, AllocError>
-    requires right { ArePrices (prices_of (F.may_return priced.now.tariff.now)) (W.named priced.now.graph.now) priced.now.prices.items }
-    requires known { AreHeightsFor (prices_of (F.may_return priced.now.tariff.now)) (W.named priced.now.graph.now) u v (dart_heights (W.named priced.now.graph.now) (W.face_of priced.now.graph.now) heights.now) }
+    requires right { ArePrices (prices_of (F.may_return priced.now.tariff.now))
+        (W.named priced.now.graph.now) priced.now.prices.items }
+    requires known { AreHeightsFor (prices_of (F.may_return priced.now.tariff.now))
+        (W.named priced.now.graph.now) u v
+        (dart_heights (W.named priced.now.graph.now) (W.face_of priced.now.graph.now) heights.now) }
     requires one_each { length heights.now ≡ W.face_bound priced.now.graph.now }
     requires some { 0 < length (darts (W.named priced.now.graph.now).rows) }
     ensures { IfOk result (λ found. MatchOption found
-        (HasNoRoute (prices_of (F.may_return priced.now.tariff.now)) (W.named priced.now.graph.now).rows u v)
-        (IsFirstRoute (prices_of (F.may_return priced.now.tariff.now)) (W.named priced.now.graph.now) u v (dart_heights (W.named priced.now.graph.now) (W.face_of priced.now.graph.now) heights.now))) }
+        (HasNoRoute (prices_of (F.may_return priced.now.tariff.now))
+        (W.named priced.now.graph.now).rows u v)
+        (IsFirstRoute (prices_of (F.may_return priced.now.tariff.now))
+        (W.named priced.now.graph.now) u v (dart_heights (W.named priced.now.graph.now)
+        (W.face_of priced.now.graph.now) heights.now))) }
 {
     match start_corner(priced.graph, u, heights) {
         Some((start, from)) => {
@@ -71,7 +77,9 @@ fn numbers_of<D: Dual>(
     heights: &StampedArray,
 ) -> Result<Vec<u64>, AllocError>
     requires { length heights.now ≡ D.face_bound dual.now }
-    ensures { IfOk result (λ numbers. numbers.items ≡ dart_heights (D.named dual.now) (D.face_of dual.now) heights.now) }
+    ensures { IfOk result
+        (λ numbers. numbers.items
+        ≡ dart_heights (D.named dual.now) (D.face_of dual.now) heights.now) }
 {
     let darts = dart_count(dual);
     let mut numbers = Vec::with_capacity(alloc, darts as usize)?;
@@ -118,7 +126,8 @@ pub fn search<D: Dual, F: PriceFn>(
     }
 }
 
-/// A route that was found, and where the search from both ends has stopped; none where there was no search.
+/// A route that was found, and where the search from both ends has stopped; none where there was no
+/// search.
 #[derive(Drop)]
 struct Found {
     first: PricedRoute,
@@ -139,11 +148,17 @@ fn find_route<W: FaceGraph, F: PriceFn>(
     requires apart { u ≢ v }
     ensures first { IfOk result (λ found. MatchOption found
         (HasNoRoute (prices_of (F.may_return tariff.now)) (W.named graph.now).rows u v)
-        (λ r. IsFirst (prices_of (F.may_return tariff.now)) (W.named graph.now).rows u v r.first.route r.first.price)) }
+        (λ r. IsFirst (prices_of (F.may_return tariff.now))
+        (W.named graph.now).rows u v r.first.route r.first.price)) }
     ensures stop { IfOk result (λ found. IfSome found (λ r. IfSome r.stop (λ stop.
-        RestsOn (prices_of (F.may_return tariff.now)) (W.named graph.now) u v (dart_heights (W.named graph.now) (W.face_of graph.now) work.new.to_end.heights) (dart_heights (W.named graph.now) (W.face_of graph.now) work.new.to_start.heights) stop.level stop.least r.first.route r.first.price))) }
+        RestsOn (prices_of (F.may_return tariff.now)) (W.named graph.now) u v
+        (dart_heights (W.named graph.now) (W.face_of graph.now) work.new.to_end.heights)
+        (dart_heights (W.named graph.now) (W.face_of graph.now) work.new.to_start.heights)
+        stop.level stop.least r.first.route r.first.price))) }
     ensures seen { IfOk result (λ found. IfSome found (λ r. IfSome r.stop (λ stop.
-        HasSeen (W.named graph.now) (W.face_of graph.now) (W.face_bound graph.now) work.new.to_end.heights work.new.to_end.names.items work.new.to_start.heights work.new.to_start.names.items stop.level stop.least))) }
+        HasSeen (W.named graph.now) (W.face_of graph.now) (W.face_bound graph.now)
+        work.new.to_end.heights work.new.to_end.names.items work.new.to_start.heights
+        work.new.to_start.names.items stop.level stop.least))) }
     ensures promise { KeepsPromise (prices_of (F.may_return tariff.now)) }
 {
     tariff.keeps_promise();
@@ -167,20 +182,21 @@ fn find_route<W: FaceGraph, F: PriceFn>(
     }
 }
 
-/// The first of the least routes from `u` to `v`, two different vertices, with its price; none where
-/// no route crosses only edges that have a price.
+/// The first of the least routes from `u` to `v`, two different vertices, with its price; none
+/// where no route crosses only edges that have a price.
 ///
-/// As `search`, for a call that hands out no heights. It searches from both ends until the two searches
-/// meet, so its time follows the faces of two discs, one round each end, which together reach as far as
-/// the route is dear. What it writes on is handed in, and costs nothing for the rest of the picture. An
-/// edge is asked for its price each time that it is needed.
+/// As `search`, for a call that hands out no heights. It searches from both ends until the two
+/// searches meet, so its time follows the faces of two discs, one round each end, which together
+/// reach as far as the route is dear. What it writes on is handed in, and costs nothing for the
+/// rest of the picture. An edge is asked for its price each time that it is needed.
 ///
-/// If a face at one of the first corners of `u` is also at `v`, nothing is crossed and nothing is searched.
+/// If a face at one of the first corners of `u` is also at `v`, nothing is crossed and nothing is
+/// searched.
 ///
-/// Shortest paths in the dual graph (Dijkstra 1959) from both ends (Nicholson 1966), by buckets of equal
-/// height (Dial 1969). What is spread from `u` says how high above `v` a dart may be that no spread from
-/// `v` has reached: the heights, cut off there, are a certificate. This is what proves the route, whatever
-/// the order in which faces were taken and wherever the two ends met.
+/// Shortest paths in the dual graph (Dijkstra 1959) from both ends (Nicholson 1966), by buckets of
+/// equal height (Dial 1969). What is spread from `u` says how high above `v` a dart may be that no
+/// spread from `v` has reached: the heights, cut off there, are a certificate. This is what proves
+/// the route, whatever the order in which faces were taken and wherever the two ends met.
 pub fn first_route<W: FaceGraph, F: PriceFn>(
     alloc: Global,
     graph: &W,
@@ -194,7 +210,8 @@ pub fn first_route<W: FaceGraph, F: PriceFn>(
     requires apart { u ≢ v }
     ensures { IfOk result (λ found. MatchOption found
         (HasNoRoute (prices_of (F.may_return tariff.now)) (W.named graph.now).rows u v)
-        (λ r. IsFirst (prices_of (F.may_return tariff.now)) (W.named graph.now).rows u v r.route r.price)) }
+        (λ r. IsFirst (prices_of (F.may_return tariff.now))
+        (W.named graph.now).rows u v r.route r.price)) }
 {
     let found = find_route(alloc, graph, tariff, u, v, work)?;
     match found {
@@ -203,11 +220,12 @@ pub fn first_route<W: FaceGraph, F: PriceFn>(
     }
 }
 
-/// As `first_route`, with what the search has seen: on each later picture that has kept that region, the
-/// route is still the first, at the same price. No region is handed out for a route that crosses nothing.
+/// As `first_route`, with what the search has seen: on each later picture that has kept that
+/// region, the route is still the first, at the same price. No region is handed out for a route
+/// that crosses nothing.
 ///
-/// What is seen are the faces that the two ends have settled, so to go through them takes less time than
-/// the search did. The marks take a byte for each id up to the greatest that was seen.
+/// What is seen are the faces that the two ends have settled, so to go through them takes less time
+/// than the search did. The marks take a byte for each id up to the greatest that was seen.
 pub fn first_route_seen<W: FaceGraph, F: PriceFn>(
     alloc: Global,
     graph: &W,
@@ -221,10 +239,12 @@ pub fn first_route_seen<W: FaceGraph, F: PriceFn>(
     requires apart { u ≢ v }
     ensures first { IfOk result (λ found. MatchOption found
         (HasNoRoute (prices_of (F.may_return tariff.now)) (W.named graph.now).rows u v)
-        (λ r. IsFirst (prices_of (F.may_return tariff.now)) (W.named graph.now).rows u v r.first.route r.first.price)) }
+        (λ r. IsFirst (prices_of (F.may_return tariff.now))
+        (W.named graph.now).rows u v r.first.route r.first.price)) }
     ensures region { IfOk result (λ found. IfSome found (λ r. IfSome r.region (λ region.
         IsRegionOf (W.named graph.now).rows region
-        × IsFirstWhileKept (prices_of (F.may_return tariff.now)) (W.named graph.now).rows u v region r.first.route r.first.price))) }
+        × IsFirstWhileKept (prices_of (F.may_return tariff.now))
+        (W.named graph.now).rows u v region r.first.route r.first.price))) }
 {
     let found = find_route(alloc, graph, tariff, u, v, work)?;
     match found {

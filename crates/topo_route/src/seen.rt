@@ -21,7 +21,8 @@ fn mark_edge<W: FaceGraph>(graph: &W, dart: u32, region: &mut Region) -> Result<
     requires of_rows { IsRegionOf (W.named graph.now).rows region.old }
     ensures of_rows { OnOk result (IsRegionOf (W.named graph.now).rows region.new) }
     ensures more { OnOk result (HoldsMore region.old region.new) }
-    ensures itself { OnOk result (holds_edge region.new (dart_named (W.named graph.now) dart).edge ≡ true) }
+    ensures itself { OnOk result
+        (holds_edge region.new (dart_named (W.named graph.now) dart).edge ≡ true) }
 {
     if region.has_edge(graph.edge(dart)) {
         return Ok(());
@@ -36,7 +37,9 @@ fn mark_face<W: FaceGraph>(graph: &W, dart: u32, region: &mut Region) -> Result<
     requires of_rows { IsRegionOf (W.named graph.now).rows region.old }
     ensures of_rows { OnOk result (IsRegionOf (W.named graph.now).rows region.new) }
     ensures more { OnOk result (HoldsMore region.old region.new) }
-    ensures round { OnOk result ((k : ℕ) → IsName (W.named graph.now) k → W.face_of graph.now k ≡ W.face_of graph.now dart → holds_edge region.new (dart_named (W.named graph.now) k).edge ≡ true) }
+    ensures round { OnOk result ((k : ℕ) → IsName (W.named graph.now) k
+        → W.face_of graph.now k ≡ W.face_of graph.now dart
+        → holds_edge region.new (dart_named (W.named graph.now) k).edge ≡ true) }
 {
     let mut at = dart;
     for _steps in 0..graph.size() {
@@ -56,11 +59,14 @@ fn mark_below<W: FaceGraph>(
     bound: u64,
     region: &mut Region,
 ) -> Result<(), AllocError>
-    requires labelled { AreLabelled (W.named graph.now) (W.face_of graph.now) (W.face_bound graph.now) labels.now.heights labels.now.names.items }
+    requires labelled { AreLabelled (W.named graph.now) (W.face_of graph.now)
+        (W.face_bound graph.now) labels.now.heights labels.now.names.items }
     requires of_rows { IsRegionOf (W.named graph.now).rows region.old }
     ensures of_rows { OnOk result (IsRegionOf (W.named graph.now).rows region.new) }
     ensures more { OnOk result (HoldsMore region.old region.new) }
-    ensures below { OnOk result (HoldsBelow (W.named graph.now) (dart_heights (W.named graph.now) (W.face_of graph.now) labels.now.heights) bound region.new) }
+    ensures below { OnOk result (HoldsBelow (W.named graph.now)
+        (dart_heights (W.named graph.now) (W.face_of graph.now) labels.now.heights)
+        bound region.new) }
 {
     let places = labels.heights.written();
     for i in 0..places.len() {
@@ -72,19 +78,25 @@ fn mark_below<W: FaceGraph>(
     Ok(())
 }
 
-/// The edges of all faces lower than the level, and of those no farther from the start than the rest of the
-/// least price.
+/// The edges of all faces lower than the level, and of those no farther from the start than the
+/// rest of the least price.
 fn region_of<W: FaceGraph>(
     alloc: Global,
     graph: &W,
     work: &Workspace,
     stop: Stop,
 ) -> Result<Region, AllocError>
-    requires to_end { AreLabelled (W.named graph.now) (W.face_of graph.now) (W.face_bound graph.now) work.now.to_end.heights work.now.to_end.names.items }
-    requires to_start { AreLabelled (W.named graph.now) (W.face_of graph.now) (W.face_bound graph.now) work.now.to_start.heights work.now.to_start.names.items }
+    requires to_end { AreLabelled (W.named graph.now) (W.face_of graph.now)
+        (W.face_bound graph.now) work.now.to_end.heights work.now.to_end.names.items }
+    requires to_start { AreLabelled (W.named graph.now) (W.face_of graph.now)
+        (W.face_bound graph.now) work.now.to_start.heights work.now.to_start.names.items }
     requires within { stop.level ≤ stop.least }
     requires some { stop.least < unreached }
-    ensures { IfOk result (λ region. HoldsSeen (W.named graph.now) (dart_heights (W.named graph.now) (W.face_of graph.now) work.now.to_end.heights) (dart_heights (W.named graph.now) (W.face_of graph.now) work.now.to_start.heights) stop.level stop.least region) }
+    ensures { IfOk result
+        (λ region. HoldsSeen (W.named graph.now)
+        (dart_heights (W.named graph.now) (W.face_of graph.now) work.now.to_end.heights)
+        (dart_heights (W.named graph.now) (W.face_of graph.now) work.now.to_start.heights)
+        stop.level stop.least region) }
 {
     let mut region = Region::new(alloc);
     mark_below(graph, &work.to_end, stop.level, &mut region)?;
@@ -100,8 +112,15 @@ pub(crate) fn seen_region<W: FaceGraph>(
     work: &Workspace,
     stop: Option<Stop>,
 ) -> Result<Option<Region>, AllocError>
-    requires { IfSome stop (λ s. HasSeen (W.named graph.now) (W.face_of graph.now) (W.face_bound graph.now) work.now.to_end.heights work.now.to_end.names.items work.now.to_start.heights work.now.to_start.names.items s.level s.least) }
-    ensures { IfOk result (λ found. IfSome found (λ region. IsSomeAnd stop (λ s. (0 < s.least) × (s.least < unreached) × HoldsSeen (W.named graph.now) (dart_heights (W.named graph.now) (W.face_of graph.now) work.now.to_end.heights) (dart_heights (W.named graph.now) (W.face_of graph.now) work.now.to_start.heights) s.level s.least region))) }
+    requires { IfSome stop (λ s. HasSeen (W.named graph.now) (W.face_of graph.now)
+        (W.face_bound graph.now) work.now.to_end.heights work.now.to_end.names.items
+        work.now.to_start.heights work.now.to_start.names.items s.level s.least) }
+    ensures { IfOk result
+        (λ found. IfSome found
+        (λ region. IsSomeAnd stop (λ s. (0 < s.least) × (s.least < unreached)
+        × HoldsSeen (W.named graph.now) (dart_heights (W.named graph.now) (W.face_of graph.now)
+        work.now.to_end.heights) (dart_heights (W.named graph.now)
+        (W.face_of graph.now) work.now.to_start.heights) s.level s.least region))) }
 {
     match stop {
         Some(stop) => {

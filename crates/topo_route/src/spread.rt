@@ -1,13 +1,18 @@
 //! Heights spread from one end over the picture.
 
-ghost use Rattle.std.specs.Prelude.{◌≡◌, ◌≢◌, ◌+◌, ◌<◌, ◌≤◌, ◌^◌, [], ℕ, IfOk, IfSome, MatchOption, OnOk, false, length, min, replicate, slice_index, slice_set, true};
+ghost use Rattle.std.specs.Prelude.{◌≡◌, ◌≢◌, ◌+◌, ◌<◌, ◌≤◌, ◌^◌, [], ℕ, IfOk};
+ghost use Rattle.std.specs.Prelude.{IfSome, MatchOption, OnOk, false, length};
+ghost use Rattle.std.specs.Prelude.{min, replicate, slice_index, slice_set, true};
 ghost use Rattle.topo_core.specs.Picture.{darts};
 ghost use Rattle.topo_price.specs.Prices.{prices_of};
 ghost use Rattle.topo_core.specs.Routes.{unreached};
 ghost use Rattle.topo_route.specs.FaceHeights.{dart_heights};
 ghost use Rattle.topo_route.specs.Names.{IsName, height_of};
 ghost use Rattle.topo_route.specs.Plans.{AreHeights, IsZeroAt};
-ghost use Rattle.topo_route.specs.Settling.{AreCosts, AreFaceCosts, AreLowered, ArePrices, AreSums, IsCrossed, IsReached, IsSettled, Relaxes, Spreads, SpreadsTo, dart_of_item, effort, is_pending, is_waiting, number_at, reach_of, top_of};
+ghost use Rattle.topo_route.specs.Settling.{AreCosts, AreFaceCosts, AreLowered, ArePrices};
+ghost use Rattle.topo_route.specs.Settling.{AreSums, IsCrossed, IsReached, IsSettled, Relaxes};
+ghost use Rattle.topo_route.specs.Settling.{Spreads, SpreadsTo, dart_of_item, effort};
+ghost use Rattle.topo_route.specs.Settling.{is_pending, is_waiting, number_at, reach_of, top_of};
 ghost use Rattle.topo_route.specs.StampedArrays.{span};
 
 use crate::bucket_queue::{BucketQueue, dart_of_item, item_of, least_height};
@@ -18,8 +23,8 @@ use crate::steps::{across, corner_at, face_at, next_along};
 use std::alloc::{AllocError, Global};
 use topo_price::tariff::PriceFn;
 
-/// What a search knows of the faces from one of its ends: how high they lie above it, by their labels, a dart
-/// of each that it has reached, and the darts whose faces wait.
+/// What a search knows of the faces from one of its ends: how high they lie above it, by their
+/// labels, a dart of each that it has reached, and the darts whose faces wait.
 #[derive(Drop)]
 pub(crate) struct Labels {
     pub heights: StampedArray,
@@ -53,8 +58,8 @@ impl Labels {
         Ok(())
     }
 
-    /// Gives a face a height, and names a dart of it. With the height above the other end it may be the
-    /// least sum.
+    /// Gives a face a height, and names a dart of it. With the height above the other end it may be
+    /// the least sum.
     fn lower(
         &mut self,
         other: &StampedArray,
@@ -67,9 +72,11 @@ impl Labels {
         requires named { face < length self.old.names.items }
         requires fits { height < span }
         ensures heights { OnOk result (self.new.heights ≡ slice_set self.old.heights face height) }
-        ensures names { OnOk result (self.new.names.items ≡ slice_set self.old.names.items face dart) }
+        ensures names { OnOk result
+            (self.new.names.items ≡ slice_set self.old.names.items face dart) }
         ensures waiting { OnOk result (self.new.waiting ≡ self.old.waiting) }
-        ensures least { OnOk result (least.new ≡ min least.old (height + number_at other.now face)) }
+        ensures least { OnOk result
+            (least.new ≡ min least.old (height + number_at other.now face)) }
     {
         self.heights.set(face, height)?;
         self.names[face as usize] = dart;
@@ -80,8 +87,9 @@ impl Labels {
         Ok(())
     }
 
-    /// Crosses a dart backwards: the face of its twin reaches the end over it. A height that this lowers, and
-    /// brings down to the least sum, waits. The price is not asked where not even 1 would do so.
+    /// Crosses a dart backwards: the face of its twin reaches the end over it. A height that this
+    /// lowers, and brings down to the least sum, waits. The price is not asked where not even 1
+    /// would do so.
     fn relax_twin<W: FaceGraph, F: PriceFn>(
         &mut self,
         priced: &PricedGraph<W, F>,
@@ -91,14 +99,33 @@ impl Labels {
         dart: u32,
         height: u64,
     ) -> Result<(), AllocError>
-        requires right { ArePrices (prices_of (F.may_return priced.now.tariff.now)) (W.named priced.now.graph.now) priced.now.prices.items }
-        requires costs { AreFaceCosts (prices_of (F.may_return priced.now.tariff.now)) (W.named priced.now.graph.now) (W.face_of priced.now.graph.now) (W.face_bound priced.now.graph.now) v self.old.heights self.old.names.items }
-        requires in_hand { IsReached (W.named priced.now.graph.now) (dart_heights (W.named priced.now.graph.now) (W.face_of priced.now.graph.now) self.old.heights) dart }
-        requires height { height ≡ slice_index (dart_heights (W.named priced.now.graph.now) (W.face_of priced.now.graph.now) self.old.heights) dart }
-        requires sums { AreSums (W.named priced.now.graph.now) (dart_heights (W.named priced.now.graph.now) (W.face_of priced.now.graph.now) self.old.heights) (dart_heights (W.named priced.now.graph.now) (W.face_of priced.now.graph.now) other.now) least.old }
-        ensures relaxes { IfOk result (λ _. Relaxes (prices_of (F.may_return priced.now.tariff.now)) (W.named priced.now.graph.now) (W.face_of priced.now.graph.now) (W.face_bound priced.now.graph.now) v other.now self.old.heights self.old.names.items self.old.waiting least.old dart self.new.heights self.new.names.items self.new.waiting least.new dart) }
-        ensures crossed { IfOk result (λ _. IsCrossed (prices_of (F.may_return priced.now.tariff.now)) (W.named priced.now.graph.now) (reach_of least.new) (dart_heights (W.named priced.now.graph.now) (W.face_of priced.now.graph.now) self.new.heights) dart) }
-        ensures same { IfOk result (λ _. slice_index (dart_heights (W.named priced.now.graph.now) (W.face_of priced.now.graph.now) self.new.heights) dart ≡ height) }
+        requires right { ArePrices (prices_of (F.may_return priced.now.tariff.now))
+            (W.named priced.now.graph.now) priced.now.prices.items }
+        requires costs { AreFaceCosts (prices_of (F.may_return priced.now.tariff.now))
+            (W.named priced.now.graph.now) (W.face_of priced.now.graph.now)
+            (W.face_bound priced.now.graph.now) v self.old.heights self.old.names.items }
+        requires in_hand { IsReached (W.named priced.now.graph.now)
+            (dart_heights (W.named priced.now.graph.now)
+            (W.face_of priced.now.graph.now) self.old.heights) dart }
+        requires height { height ≡ slice_index (dart_heights (W.named priced.now.graph.now)
+            (W.face_of priced.now.graph.now) self.old.heights) dart }
+        requires sums { AreSums (W.named priced.now.graph.now)
+            (dart_heights (W.named priced.now.graph.now) (W.face_of priced.now.graph.now)
+            self.old.heights) (dart_heights (W.named priced.now.graph.now)
+            (W.face_of priced.now.graph.now) other.now) least.old }
+        ensures relaxes { IfOk result (λ _. Relaxes (prices_of (F.may_return priced.now.tariff.now))
+            (W.named priced.now.graph.now) (W.face_of priced.now.graph.now)
+            (W.face_bound priced.now.graph.now) v other.now self.old.heights self.old.names.items
+            self.old.waiting least.old dart self.new.heights self.new.names.items self.new.waiting
+            least.new dart) }
+        ensures crossed { IfOk result
+            (λ _. IsCrossed (prices_of (F.may_return priced.now.tariff.now))
+            (W.named priced.now.graph.now) (reach_of least.new)
+            (dart_heights (W.named priced.now.graph.now)
+            (W.face_of priced.now.graph.now) self.new.heights) dart) }
+        ensures same { IfOk result
+            (λ _. slice_index (dart_heights (W.named priced.now.graph.now)
+            (W.face_of priced.now.graph.now) self.new.heights) dart ≡ height) }
     {
         let twin = across(priced.graph, dart);
         let face = face_at(priced.graph, twin);
@@ -120,8 +147,8 @@ impl Labels {
         }
     }
 
-    /// Spreads the height of a face over the segments round it, as far as it lowers what is there: one walk
-    /// round the face.
+    /// Spreads the height of a face over the segments round it, as far as it lowers what is there:
+    /// one walk round the face.
     fn relax_face<W: FaceGraph, F: PriceFn>(
         &mut self,
         priced: &PricedGraph<W, F>,
@@ -131,12 +158,25 @@ impl Labels {
         dart: u32,
         height: u64,
     ) -> Result<(), AllocError>
-        requires right { ArePrices (prices_of (F.may_return priced.now.tariff.now)) (W.named priced.now.graph.now) priced.now.prices.items }
-        requires costs { AreFaceCosts (prices_of (F.may_return priced.now.tariff.now)) (W.named priced.now.graph.now) (W.face_of priced.now.graph.now) (W.face_bound priced.now.graph.now) v self.old.heights self.old.names.items }
-        requires in_hand { IsReached (W.named priced.now.graph.now) (dart_heights (W.named priced.now.graph.now) (W.face_of priced.now.graph.now) self.old.heights) dart }
-        requires height { height ≡ slice_index (dart_heights (W.named priced.now.graph.now) (W.face_of priced.now.graph.now) self.old.heights) dart }
-        requires sums { AreSums (W.named priced.now.graph.now) (dart_heights (W.named priced.now.graph.now) (W.face_of priced.now.graph.now) self.old.heights) (dart_heights (W.named priced.now.graph.now) (W.face_of priced.now.graph.now) other.now) least.old }
-        ensures { IfOk result (λ _. Relaxes (prices_of (F.may_return priced.now.tariff.now)) (W.named priced.now.graph.now) (W.face_of priced.now.graph.now) (W.face_bound priced.now.graph.now) v other.now self.old.heights self.old.names.items self.old.waiting least.old dart self.new.heights self.new.names.items self.new.waiting least.new (W.named priced.now.graph.now).size) }
+        requires right { ArePrices (prices_of (F.may_return priced.now.tariff.now))
+            (W.named priced.now.graph.now) priced.now.prices.items }
+        requires costs { AreFaceCosts (prices_of (F.may_return priced.now.tariff.now))
+            (W.named priced.now.graph.now) (W.face_of priced.now.graph.now)
+            (W.face_bound priced.now.graph.now) v self.old.heights self.old.names.items }
+        requires in_hand { IsReached (W.named priced.now.graph.now)
+            (dart_heights (W.named priced.now.graph.now)
+            (W.face_of priced.now.graph.now) self.old.heights) dart }
+        requires height { height ≡ slice_index (dart_heights (W.named priced.now.graph.now)
+            (W.face_of priced.now.graph.now) self.old.heights) dart }
+        requires sums { AreSums (W.named priced.now.graph.now)
+            (dart_heights (W.named priced.now.graph.now) (W.face_of priced.now.graph.now)
+            self.old.heights) (dart_heights (W.named priced.now.graph.now)
+            (W.face_of priced.now.graph.now) other.now) least.old }
+        ensures { IfOk result (λ _. Relaxes (prices_of (F.may_return priced.now.tariff.now))
+            (W.named priced.now.graph.now) (W.face_of priced.now.graph.now)
+            (W.face_bound priced.now.graph.now) v other.now self.old.heights self.old.names.items
+            self.old.waiting least.old dart self.new.heights self.new.names.items self.new.waiting
+            least.new (W.named priced.now.graph.now).size) }
     {
         let mut at = dart;
         for _steps in 0..priced.graph.size() {
@@ -149,8 +189,8 @@ impl Labels {
         Ok(())
     }
 
-    /// Spreads the heights of all that wait and are lower than the level, or whose sum with the height
-    /// above the other end is neither above `most` nor above the least.
+    /// Spreads the heights of all that wait and are lower than the level, or whose sum with the
+    /// height above the other end is neither above `most` nor above the least.
     pub(crate) fn spread<W: FaceGraph, F: PriceFn>(
         &mut self,
         priced: &PricedGraph<W, F>,
@@ -160,14 +200,42 @@ impl Labels {
         level: u64,
         most: u64,
     ) -> Result<(), AllocError>
-        requires right { ArePrices (prices_of (F.may_return priced.now.tariff.now)) (W.named priced.now.graph.now) priced.now.prices.items }
-        requires spreads { Spreads (prices_of (F.may_return priced.now.tariff.now)) (W.named priced.now.graph.now) (W.face_of priced.now.graph.now) (W.face_bound priced.now.graph.now) v (top_of level (min most least.old) (dart_heights (W.named priced.now.graph.now) (W.face_of priced.now.graph.now) other.now)) (reach_of least.old) self.old.heights self.old.names.items self.old.waiting (W.named priced.now.graph.now).size }
-        requires sums { AreSums (W.named priced.now.graph.now) (dart_heights (W.named priced.now.graph.now) (W.face_of priced.now.graph.now) self.old.heights) (dart_heights (W.named priced.now.graph.now) (W.face_of priced.now.graph.now) other.now) least.old }
-        ensures costs { IfOk result (λ _. AreFaceCosts (prices_of (F.may_return priced.now.tariff.now)) (W.named priced.now.graph.now) (W.face_of priced.now.graph.now) (W.face_bound priced.now.graph.now) v self.new.heights self.new.names.items) }
-        ensures settled { IfOk result (λ _. (k : ℕ) → IsName (W.named priced.now.graph.now) k → slice_index (dart_heights (W.named priced.now.graph.now) (W.face_of priced.now.graph.now) self.new.heights) k < top_of level (min most least.new) (dart_heights (W.named priced.now.graph.now) (W.face_of priced.now.graph.now) other.now) k → IsSettled (prices_of (F.may_return priced.now.tariff.now)) (W.named priced.now.graph.now) (reach_of least.new) (dart_heights (W.named priced.now.graph.now) (W.face_of priced.now.graph.now) self.new.heights) k) }
-        ensures sums { IfOk result (λ _. AreSums (W.named priced.now.graph.now) (dart_heights (W.named priced.now.graph.now) (W.face_of priced.now.graph.now) self.new.heights) (dart_heights (W.named priced.now.graph.now) (W.face_of priced.now.graph.now) other.now) least.new) }
+        requires right { ArePrices (prices_of (F.may_return priced.now.tariff.now))
+            (W.named priced.now.graph.now) priced.now.prices.items }
+        requires spreads { Spreads (prices_of (F.may_return priced.now.tariff.now))
+            (W.named priced.now.graph.now) (W.face_of priced.now.graph.now)
+            (W.face_bound priced.now.graph.now) v
+            (top_of level (min most least.old)
+            (dart_heights (W.named priced.now.graph.now) (W.face_of priced.now.graph.now)
+            other.now)) (reach_of least.old) self.old.heights self.old.names.items self.old.waiting
+            (W.named priced.now.graph.now).size }
+        requires sums { AreSums (W.named priced.now.graph.now)
+            (dart_heights (W.named priced.now.graph.now) (W.face_of priced.now.graph.now)
+            self.old.heights) (dart_heights (W.named priced.now.graph.now)
+            (W.face_of priced.now.graph.now) other.now) least.old }
+        ensures costs { IfOk result
+            (λ _. AreFaceCosts (prices_of (F.may_return priced.now.tariff.now))
+            (W.named priced.now.graph.now) (W.face_of priced.now.graph.now)
+            (W.face_bound priced.now.graph.now) v self.new.heights self.new.names.items) }
+        ensures settled { IfOk result (λ _. (k : ℕ) → IsName (W.named priced.now.graph.now) k
+            → slice_index (dart_heights (W.named priced.now.graph.now)
+            (W.face_of priced.now.graph.now) self.new.heights) k < top_of level (min most least.new)
+            (dart_heights (W.named priced.now.graph.now) (W.face_of priced.now.graph.now) other.now)
+            k → IsSettled (prices_of (F.may_return priced.now.tariff.now))
+            (W.named priced.now.graph.now) (reach_of least.new)
+            (dart_heights (W.named priced.now.graph.now)
+            (W.face_of priced.now.graph.now) self.new.heights) k) }
+        ensures sums { IfOk result
+            (λ _. AreSums (W.named priced.now.graph.now)
+            (dart_heights (W.named priced.now.graph.now) (W.face_of priced.now.graph.now)
+            self.new.heights) (dart_heights (W.named priced.now.graph.now)
+            (W.face_of priced.now.graph.now) other.now) least.new) }
         ensures less { IfOk result (λ _. least.new ≤ least.old) }
-        ensures lower { IfOk result (λ _. AreLowered (dart_heights (W.named priced.now.graph.now) (W.face_of priced.now.graph.now) self.old.heights) (dart_heights (W.named priced.now.graph.now) (W.face_of priced.now.graph.now) self.new.heights)) }
+        ensures lower { IfOk result
+            (λ _. AreLowered (dart_heights (W.named priced.now.graph.now)
+            (W.face_of priced.now.graph.now) self.old.heights)
+            (dart_heights (W.named priced.now.graph.now)
+            (W.face_of priced.now.graph.now) self.new.heights)) }
     {
         let _darts = priced.graph.size();
         while let Some((dart, height)) = next_pending(
@@ -183,7 +251,8 @@ impl Labels {
         Ok(())
     }
 
-    /// Spreads the height of one that waits and is not above the least sum, if there is one: its height.
+    /// Spreads the height of one that waits and is not above the least sum, if there is one: its
+    /// height.
     pub(crate) fn spread_next<W: FaceGraph, F: PriceFn>(
         &mut self,
         priced: &PricedGraph<W, F>,
@@ -191,14 +260,35 @@ impl Labels {
         least: &mut u64,
         v: u32,
     ) -> Result<Option<u64>, AllocError>
-        requires right { ArePrices (prices_of (F.may_return priced.now.tariff.now)) (W.named priced.now.graph.now) priced.now.prices.items }
-        requires spreads { SpreadsTo (prices_of (F.may_return priced.now.tariff.now)) (W.named priced.now.graph.now) (W.face_of priced.now.graph.now) (W.face_bound priced.now.graph.now) v (reach_of least.old) self.old.heights self.old.names.items self.old.waiting }
-        requires sums { AreSums (W.named priced.now.graph.now) (dart_heights (W.named priced.now.graph.now) (W.face_of priced.now.graph.now) self.old.heights) (dart_heights (W.named priced.now.graph.now) (W.face_of priced.now.graph.now) other.now) least.old }
-        ensures spreads { IfOk result (λ _. SpreadsTo (prices_of (F.may_return priced.now.tariff.now)) (W.named priced.now.graph.now) (W.face_of priced.now.graph.now) (W.face_bound priced.now.graph.now) v (reach_of least.new) self.new.heights self.new.names.items self.new.waiting) }
-        ensures sums { IfOk result (λ _. AreSums (W.named priced.now.graph.now) (dart_heights (W.named priced.now.graph.now) (W.face_of priced.now.graph.now) self.new.heights) (dart_heights (W.named priced.now.graph.now) (W.face_of priced.now.graph.now) other.now) least.new) }
+        requires right { ArePrices (prices_of (F.may_return priced.now.tariff.now))
+            (W.named priced.now.graph.now) priced.now.prices.items }
+        requires spreads { SpreadsTo (prices_of (F.may_return priced.now.tariff.now))
+            (W.named priced.now.graph.now) (W.face_of priced.now.graph.now)
+            (W.face_bound priced.now.graph.now) v (reach_of least.old)
+            self.old.heights self.old.names.items self.old.waiting }
+        requires sums { AreSums (W.named priced.now.graph.now)
+            (dart_heights (W.named priced.now.graph.now) (W.face_of priced.now.graph.now)
+            self.old.heights) (dart_heights (W.named priced.now.graph.now)
+            (W.face_of priced.now.graph.now) other.now) least.old }
+        ensures spreads { IfOk result
+            (λ _. SpreadsTo (prices_of (F.may_return priced.now.tariff.now))
+            (W.named priced.now.graph.now) (W.face_of priced.now.graph.now)
+            (W.face_bound priced.now.graph.now) v (reach_of least.new)
+            self.new.heights self.new.names.items self.new.waiting) }
+        ensures sums { IfOk result
+            (λ _. AreSums (W.named priced.now.graph.now)
+            (dart_heights (W.named priced.now.graph.now) (W.face_of priced.now.graph.now)
+            self.new.heights) (dart_heights (W.named priced.now.graph.now)
+            (W.face_of priced.now.graph.now) other.now) least.new) }
         ensures less { IfOk result (λ _. least.new ≤ least.old) }
-        ensures falls { IfOk result (λ found. IfSome found (λ _. effort self.new.heights self.new.waiting < effort self.old.heights self.old.waiting)) }
-        ensures lower { IfOk result (λ _. AreLowered (dart_heights (W.named priced.now.graph.now) (W.face_of priced.now.graph.now) self.old.heights) (dart_heights (W.named priced.now.graph.now) (W.face_of priced.now.graph.now) self.new.heights)) }
+        ensures falls { IfOk result
+            (λ found. IfSome found (λ _. effort self.new.heights self.new.waiting
+            < effort self.old.heights self.old.waiting)) }
+        ensures lower { IfOk result
+            (λ _. AreLowered (dart_heights (W.named priced.now.graph.now)
+            (W.face_of priced.now.graph.now) self.old.heights)
+            (dart_heights (W.named priced.now.graph.now)
+            (W.face_of priced.now.graph.now) self.new.heights)) }
     {
         let _darts = priced.graph.size();
         let reach = (*least).saturating_add(1);
@@ -226,10 +316,22 @@ impl Labels {
         least: &mut u64,
         v: u32,
     ) -> Result<(), AllocError>
-        requires costs { AreFaceCosts (prices_of (F.may_return priced.now.tariff.now)) (W.named priced.now.graph.now) (W.face_of priced.now.graph.now) (W.face_bound priced.now.graph.now) v self.old.heights self.old.names.items }
-        requires sums { AreSums (W.named priced.now.graph.now) (dart_heights (W.named priced.now.graph.now) (W.face_of priced.now.graph.now) self.old.heights) (dart_heights (W.named priced.now.graph.now) (W.face_of priced.now.graph.now) other.now) least.old }
-        ensures relaxes { IfOk result (λ _. Relaxes (prices_of (F.may_return priced.now.tariff.now)) (W.named priced.now.graph.now) (W.face_of priced.now.graph.now) (W.face_bound priced.now.graph.now) v other.now self.old.heights self.old.names.items self.old.waiting least.old (W.named priced.now.graph.now).size self.new.heights self.new.names.items self.new.waiting least.new (W.named priced.now.graph.now).size) }
-        ensures ends { IfOk result (λ _. IsZeroAt (W.named priced.now.graph.now).rows v (height_of (W.named priced.now.graph.now) (dart_heights (W.named priced.now.graph.now) (W.face_of priced.now.graph.now) self.new.heights))) }
+        requires costs { AreFaceCosts (prices_of (F.may_return priced.now.tariff.now))
+            (W.named priced.now.graph.now) (W.face_of priced.now.graph.now)
+            (W.face_bound priced.now.graph.now) v self.old.heights self.old.names.items }
+        requires sums { AreSums (W.named priced.now.graph.now)
+            (dart_heights (W.named priced.now.graph.now) (W.face_of priced.now.graph.now)
+            self.old.heights) (dart_heights (W.named priced.now.graph.now)
+            (W.face_of priced.now.graph.now) other.now) least.old }
+        ensures relaxes { IfOk result (λ _. Relaxes (prices_of (F.may_return priced.now.tariff.now))
+            (W.named priced.now.graph.now) (W.face_of priced.now.graph.now)
+            (W.face_bound priced.now.graph.now) v other.now self.old.heights self.old.names.items
+            self.old.waiting least.old (W.named priced.now.graph.now).size self.new.heights
+            self.new.names.items self.new.waiting least.new (W.named priced.now.graph.now).size) }
+        ensures ends { IfOk result
+            (λ _. IsZeroAt (W.named priced.now.graph.now).rows v
+            (height_of (W.named priced.now.graph.now) (dart_heights (W.named priced.now.graph.now)
+            (W.face_of priced.now.graph.now) self.new.heights))) }
     {
         for position in 0..priced.graph.degree(v) {
             if let Some(corner) = corner_at(priced.graph, v, position) {
@@ -244,10 +346,10 @@ impl Labels {
     }
 }
 
-/// Takes out the next dart that waits with the height of its face, which is lower than the level or makes
-/// up no more than `most` with the face's height above the other end: the dart and that height. An item of
-/// another height is passed over: the face was lowered since, and then its new height waits too or was spread.
-/// No height is read for an item that says that it is too high.
+/// Takes out the next dart that waits with the height of its face, which is lower than the level or
+/// makes up no more than `most` with the face's height above the other end: the dart and that
+/// height. An item of another height is passed over: the face was lowered since, and then its new
+/// height waits too or was spread. No height is read for an item that says that it is too high.
 fn next_pending<W: FaceGraph>(
     graph: &W,
     heights: &StampedArray,
@@ -257,13 +359,27 @@ fn next_pending<W: FaceGraph>(
     most: u64,
 ) -> Option<(u32, u64)>
     requires one_each { length heights.now ≡ W.face_bound graph.now }
-    requires names { (item : ℕ) → is_waiting waiting.old item ≡ true → IsName (W.named graph.now) (dart_of_item item) }
+    requires names { (item : ℕ) → is_waiting waiting.old item ≡ true
+        → IsName (W.named graph.now) (dart_of_item item) }
     ensures name { IfSome result (λ r. IsName (W.named graph.now) r.0) }
-    ensures pending { IfSome result (λ r. is_pending (dart_heights (W.named graph.now) (W.face_of graph.now) heights.now) waiting.old r.0 ≡ true) }
-    ensures height { IfSome result (λ r. r.1 ≡ slice_index (dart_heights (W.named graph.now) (W.face_of graph.now) heights.now) r.0) }
-    ensures others { MatchOption result ((k : ℕ) → k < 2 ^ 32 → IsName (W.named graph.now) k → slice_index (dart_heights (W.named graph.now) (W.face_of graph.now) heights.now) k < top_of level most (dart_heights (W.named graph.now) (W.face_of graph.now) other.now) k → is_pending (dart_heights (W.named graph.now) (W.face_of graph.now) heights.now) waiting.old k ≡ false)
-        (λ r. (k : ℕ) → k < 2 ^ 32 → IsName (W.named graph.now) k → slice_index (dart_heights (W.named graph.now) (W.face_of graph.now) heights.now) k < top_of level most (dart_heights (W.named graph.now) (W.face_of graph.now) other.now) k → k ≢ r.0 → is_pending (dart_heights (W.named graph.now) (W.face_of graph.now) heights.now) waiting.new k ≡ is_pending (dart_heights (W.named graph.now) (W.face_of graph.now) heights.now) waiting.old k) }
-    ensures fewer { (item : ℕ) → is_waiting waiting.new item ≡ true → is_waiting waiting.old item ≡ true }
+    ensures pending { IfSome result
+        (λ r. is_pending (dart_heights (W.named graph.now) (W.face_of graph.now) heights.now)
+        waiting.old r.0 ≡ true) }
+    ensures height { IfSome result (λ r. r.1
+        ≡ slice_index (dart_heights (W.named graph.now) (W.face_of graph.now) heights.now) r.0) }
+    ensures others { MatchOption result ((k : ℕ) → k < 2 ^ 32 → IsName (W.named graph.now) k
+        → slice_index (dart_heights (W.named graph.now) (W.face_of graph.now) heights.now) k
+        < top_of level most (dart_heights (W.named graph.now) (W.face_of graph.now) other.now) k
+        → is_pending (dart_heights (W.named graph.now) (W.face_of graph.now) heights.now)
+        waiting.old k ≡ false)
+        (λ r. (k : ℕ) → k < 2 ^ 32 → IsName (W.named graph.now) k
+        → slice_index (dart_heights (W.named graph.now) (W.face_of graph.now) heights.now) k
+        < top_of level most (dart_heights (W.named graph.now) (W.face_of graph.now) other.now) k
+        → k ≢ r.0 → is_pending (dart_heights (W.named graph.now) (W.face_of graph.now) heights.now)
+        waiting.new k ≡ is_pending
+        (dart_heights (W.named graph.now) (W.face_of graph.now) heights.now) waiting.old k) }
+    ensures fewer { (item : ℕ) → is_waiting waiting.new item ≡ true
+        → is_waiting waiting.old item ≡ true }
     ensures len { IfSome result (λ _. length waiting.new < length waiting.old) }
 {
     let bound = level.max(most.saturating_add(1));

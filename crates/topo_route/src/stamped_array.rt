@@ -1,6 +1,7 @@
 //! A list of numbers that is blank again in one step.
 
-ghost use Rattle.std.specs.Prelude.{◌≡◌, ◌≢◌, ◌<◌, ◌≤◌, [], ℕ, IfOk, OnOk, length, replicate, slice_index, slice_set, true};
+ghost use Rattle.std.specs.Prelude.{◌≡◌, ◌≢◌, ◌<◌, ◌≤◌, [], ℕ, IfOk, OnOk, length};
+ghost use Rattle.std.specs.Prelude.{replicate, slice_index, slice_set, true};
 ghost use Rattle.topo_core.specs.Items.{has_id};
 ghost use Rattle.topo_core.specs.Routes.{unreached};
 ghost use Rattle.topo_route.specs.Settling.{number_at};
@@ -9,16 +10,16 @@ ghost use Rattle.topo_route.specs.StampedArrays.{span};
 use std::alloc::{AllocError, Global};
 use std::marker::Model;
 
-/// How many numbers an epoch has: more than heights of faces that have a label of 32 bits, since no price is
-/// above 1000.
+/// How many numbers an epoch has: more than heights of faces that have a label of 32 bits, since no
+/// price is above 1000.
 const SPAN: u64 = 1 << 42;
 
-/// A list of numbers, each the greatest until another is written. Contracts see the list. A number is
-/// kept as a word, above a base that is lower in each epoch by as many numbers as an epoch has. So a word of an
-/// earlier epoch is past those of this one, a new epoch blanks the whole list, and a search that is given one
-/// takes no time for what it does not reach. The words are never fewer than they were: a list that is long again
-/// takes no time either. The places written in the epoch are listed too, each once: what a search has reached can
-/// be gone through.
+/// A list of numbers, each the greatest until another is written. Contracts see the list. A number
+/// is kept as a word, above a base that is lower in each epoch by as many numbers as an epoch has.
+/// So a word of an earlier epoch is past those of this one, a new epoch blanks the whole list, and
+/// a search that is given one takes no time for what it does not reach. The words are never fewer
+/// than they were: a list that is long again takes no time either. The places written in the epoch
+/// are listed too, each once: what a search has reached can be gone through.
 #[derive(Drop)]
 pub(crate) struct StampedArray {
     words: Vec<u64>,
@@ -120,7 +121,8 @@ impl StampedArray {
     /// The places where something is written.
     pub(crate) fn written(&self) -> &[u32]
         ensures there { (k : ℕ) → has_id result.now k ≡ true → k < length self.now }
-        ensures all { (k : ℕ) → k < length self.now → slice_index self.now k ≢ unreached → has_id result.now k ≡ true }
+        ensures all { (k : ℕ) → k < length self.now → slice_index self.now k ≢ unreached
+            → has_id result.now k ≡ true }
     {
         self.written.as_slice()
     }

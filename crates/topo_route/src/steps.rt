@@ -1,6 +1,7 @@
 //! Steps from dart to dart by their names.
 
-ghost use Rattle.std.specs.Prelude.{◌≡◌, ◌<◌, ◌≤◌, ◌↔◌, IsTrue, Some, None, MatchOption, IfSome, length, slice_index};
+ghost use Rattle.std.specs.Prelude.{◌≡◌, ◌<◌, ◌≤◌, ◌↔◌, IsTrue, Some, None};
+ghost use Rattle.std.specs.Prelude.{MatchOption, IfSome, length, slice_index};
 ghost use Rattle.topo_core.specs.Picture.{corner, system};
 ghost use Rattle.topo_core.specs.Routes.{KeepsPromise};
 ghost use Rattle.topo_core.specs.Systems.{SameFace};
@@ -44,7 +45,8 @@ pub(crate) fn face_at<W: FaceGraph>(graph: &W, dart: u32) -> u32
 pub(crate) fn height_at<W: FaceGraph>(graph: &W, heights: &StampedArray, dart: u32) -> u64
     requires one_each { length heights.now ≡ W.face_bound graph.now }
     requires name { IsName (W.named graph.now) dart }
-    ensures { result ≡ slice_index (dart_heights (W.named graph.now) (W.face_of graph.now) heights.now) dart }
+    ensures { result ≡ slice_index
+        (dart_heights (W.named graph.now) (W.face_of graph.now) heights.now) dart }
 {
     heights.get(face_at(graph, dart))
 }
@@ -53,7 +55,8 @@ pub(crate) fn height_at<W: FaceGraph>(graph: &W, heights: &StampedArray, dart: u
 pub(crate) fn same_face<W: FaceGraph>(graph: &W, dart: u32, other: u32) -> bool
     requires dart_there { IsName (W.named graph.now) dart }
     requires other_there { IsName (W.named graph.now) other }
-    ensures { IsTrue result ↔ SameFace (system (W.named graph.now).rows) (dart_named (W.named graph.now) dart) (dart_named (W.named graph.now) other) }
+    ensures { IsTrue result ↔ SameFace (system (W.named graph.now).rows)
+        (dart_named (W.named graph.now) dart) (dart_named (W.named graph.now) other) }
 {
     graph.face(dart) == graph.face(other)
 }
@@ -61,7 +64,8 @@ pub(crate) fn same_face<W: FaceGraph>(graph: &W, dart: u32, other: u32) -> bool
 /// The dart that names a corner.
 pub(crate) fn corner_at<W: FaceGraph>(graph: &W, v: u32, position: u32) -> Option<u32>
     ensures { MatchOption result (corner (W.named graph.now).rows v position ≡ None)
-        (λ c. IsName (W.named graph.now) c × (corner (W.named graph.now).rows v position ≡ Some (dart_named (W.named graph.now) c))) }
+        (λ c. IsName (W.named graph.now) c
+        × (corner (W.named graph.now).rows v position ≡ Some (dart_named (W.named graph.now) c))) }
 {
     graph.corner(v, position)
 }
@@ -73,7 +77,8 @@ pub(crate) fn price_at<W: FaceGraph, F: PriceFn>(
     dart: u32,
 ) -> Option<u32>
     requires { IsName (W.named graph.now) dart }
-    ensures price { IsPriceFor (prices_of (F.may_return tariff.now)) (W.named graph.now).rows (dart_named (W.named graph.now) dart) result }
+    ensures price { IsPriceFor (prices_of (F.may_return tariff.now))
+        (W.named graph.now).rows (dart_named (W.named graph.now) dart) result }
     ensures in_range { IfSome result (λ p. (1 ≤ p) × (p ≤ 1000)) }
     ensures promise { KeepsPromise (prices_of (F.may_return tariff.now)) }
 {

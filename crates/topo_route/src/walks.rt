@@ -7,7 +7,8 @@ ghost use Rattle.topo_core.specs.RouteLaws.{IsTight, TakesFirstDarts, arrival};
 ghost use Rattle.topo_core.specs.Routes.{Crosses, IsPricedRoute};
 ghost use Rattle.topo_core.specs.Systems.{has_dart};
 ghost use Rattle.topo_price.specs.Prices.{prices_of};
-ghost use Rattle.topo_route.specs.Numbers.{CannotCross, CannotPay, Crossing, HasTightBefore, Payment, Walks, dart_of};
+ghost use Rattle.topo_route.specs.Numbers.{CannotCross, CannotPay, Crossing};
+ghost use Rattle.topo_route.specs.Numbers.{HasTightBefore, Payment, Walks, dart_of};
 ghost use Rattle.topo_route.specs.Plans.{ComesFirst, HasFirstEnd, HasOneEach, height_in};
 
 use crate::dual::Dual;
@@ -21,7 +22,9 @@ use topo_price::tariff::{PriceFn, Tariff};
 /// The number of a dart of the picture.
 fn number_of<D: Dual>(dual: &D, dart: Dart) -> Option<u32>
     ensures { MatchOption result (has_dart (darts (D.shows dual.now)) dart ≡ false)
-        (λ number. (number < length (darts (D.shows dual.now))) × (dart_of (D.shows dual.now) number ≡ dart) × (index_of (D.shows dual.now) dart ≡ number)) }
+        (λ number. (number < length (darts (D.shows dual.now)))
+        × (dart_of (D.shows dual.now) number ≡ dart)
+        × (index_of (D.shows dual.now) dart ≡ number)) }
 {
     dual.index(dart)
 }
@@ -29,8 +32,10 @@ fn number_of<D: Dual>(dual: &D, dart: Dart) -> Option<u32>
 /// What is left of an amount when the price of a dart is taken from it.
 fn pay<D: Dual, F: PriceFn>(dual: &D, tariff: &Tariff<F>, number: u32, left: u64) -> Option<u64>
     requires { number < length (darts (D.shows dual.now)) }
-    ensures { MatchOption result (CannotPay (prices_of (F.may_return tariff.now)) (D.shows dual.now) (dart_of (D.shows dual.now) number) left)
-        (Payment (prices_of (F.may_return tariff.now)) (D.shows dual.now) (dart_of (D.shows dual.now) number) left) }
+    ensures { MatchOption result (CannotPay (prices_of (F.may_return tariff.now)) (D.shows dual.now)
+        (dart_of (D.shows dual.now) number) left)
+        (Payment (prices_of (F.may_return tariff.now)) (D.shows dual.now)
+        (dart_of (D.shows dual.now) number) left) }
 {
     match price_at(dual, tariff, number) {
         Some(price) => {
@@ -54,8 +59,10 @@ fn cross<D: Dual, F: PriceFn>(
     left: u64,
 ) -> Option<(u32, u64)>
     requires { at < length (darts (D.shows dual.now)) }
-    ensures { MatchOption result (CannotCross (prices_of (F.may_return tariff.now)) (D.shows dual.now) at dart left)
-        (λ r. Crossing (prices_of (F.may_return tariff.now)) (D.shows dual.now) at dart left r.0 r.1) }
+    ensures { MatchOption result
+        (CannotCross (prices_of (F.may_return tariff.now)) (D.shows dual.now) at dart left)
+        (λ r. Crossing (prices_of (F.may_return tariff.now))
+        (D.shows dual.now) at dart left r.0 r.1) }
 {
     match number_of(dual, dart) {
         Some(number) => {
@@ -82,7 +89,8 @@ fn walks<D: Dual, F: PriceFn>(
 ) -> bool
     requires from_within { from < length (darts (D.shows dual.now)) }
     requires to_within { to < length (darts (D.shows dual.now)) }
-    ensures { IsTrue result ↔ Walks (prices_of (F.may_return tariff.now)) (D.shows dual.now) (dart_of (D.shows dual.now) from) crossed.now (dart_of (D.shows dual.now) to) price }
+    ensures { IsTrue result ↔ Walks (prices_of (F.may_return tariff.now)) (D.shows dual.now)
+        (dart_of (D.shows dual.now) from) crossed.now (dart_of (D.shows dual.now) to) price }
 {
     let mut at = from;
     let mut left = price;
@@ -107,9 +115,12 @@ pub(crate) fn start_of_route<D: Dual, F: PriceFn>(
     route: &Route,
     price: u64,
 ) -> Option<u32>
-    ensures { MatchOption result (IsPricedRoute (prices_of (F.may_return tariff.now)) (D.shows dual.now) u v route.now price → ⊥)
+    ensures { MatchOption result
+        (IsPricedRoute (prices_of (F.may_return tariff.now)) (D.shows dual.now) u v route.now price
+        → ⊥)
         (λ from. (from < length (darts (D.shows dual.now)))
-        × (priced : IsPricedRoute (prices_of (F.may_return tariff.now)) (D.shows dual.now) u v route.now price) × (priced.route.from ≡ dart_of (D.shows dual.now) from)) }
+        × (priced : IsPricedRoute (prices_of (F.may_return tariff.now)) (D.shows dual.now)
+        u v route.now price) × (priced.route.from ≡ dart_of (D.shows dual.now) from)) }
 {
     match (
         corner_at(dual, u, route.start),
@@ -130,7 +141,8 @@ pub(crate) fn start_of_route<D: Dual, F: PriceFn>(
 fn is_tight<D: Dual, F: PriceFn>(dual: &D, tariff: &Tariff<F>, heights: &[u64], dart: u32) -> bool
     requires one_each { HasOneEach (D.shows dual.now) heights.now }
     requires within { dart < length (darts (D.shows dual.now)) }
-    ensures { IsTrue result ↔ IsTight (prices_of (F.may_return tariff.now)) (D.shows dual.now) (height_in (D.shows dual.now) heights.now) (dart_of (D.shows dual.now) dart) }
+    ensures { IsTrue result ↔ IsTight (prices_of (F.may_return tariff.now)) (D.shows dual.now)
+        (height_in (D.shows dual.now) heights.now) (dart_of (D.shows dual.now) dart) }
 {
     let other = heights[across(dual, dart) as usize];
     let height = heights[dart as usize];
@@ -155,7 +167,8 @@ fn has_tight_before<D: Dual, F: PriceFn>(
 ) -> bool
     requires one_each { HasOneEach (D.shows dual.now) heights.now }
     requires within { at < length (darts (D.shows dual.now)) }
-    ensures { IsTrue result ↔ HasTightBefore (prices_of (F.may_return tariff.now)) (D.shows dual.now) heights.now at number }
+    ensures { IsTrue result ↔ HasTightBefore (prices_of (F.may_return tariff.now))
+        (D.shows dual.now) heights.now at number }
 {
     let mut dart = at;
     for _steps in 0..dart_count(dual) {
@@ -180,10 +193,16 @@ fn first_walk<D: Dual, F: PriceFn>(
 ) -> Option<u32>
     requires one_each { HasOneEach (D.shows dual.now) heights.now }
     requires within { from < length (darts (D.shows dual.now)) }
-    requires walk { (to : Dart) × Crosses (system (D.shows dual.now)) (dart_of (D.shows dual.now) from) crossed.now to }
-    ensures { MatchOption result (TakesFirstDarts (prices_of (F.may_return tariff.now)) (D.shows dual.now) (height_in (D.shows dual.now) heights.now) (dart_of (D.shows dual.now) from) crossed.now → ⊥)
-        (λ last. (last < length (darts (D.shows dual.now))) × (dart_of (D.shows dual.now) last ≡ arrival (dart_of (D.shows dual.now) from) crossed.now)
-        × TakesFirstDarts (prices_of (F.may_return tariff.now)) (D.shows dual.now) (height_in (D.shows dual.now) heights.now) (dart_of (D.shows dual.now) from) crossed.now) }
+    requires walk { (to : Dart)
+        × Crosses (system (D.shows dual.now)) (dart_of (D.shows dual.now) from) crossed.now to }
+    ensures { MatchOption result
+        (TakesFirstDarts (prices_of (F.may_return tariff.now)) (D.shows dual.now)
+        (height_in (D.shows dual.now) heights.now) (dart_of (D.shows dual.now) from) crossed.now
+        → ⊥)
+        (λ last. (last < length (darts (D.shows dual.now)))
+        × (dart_of (D.shows dual.now) last ≡ arrival (dart_of (D.shows dual.now) from) crossed.now)
+        × TakesFirstDarts (prices_of (F.may_return tariff.now)) (D.shows dual.now)
+        (height_in (D.shows dual.now) heights.now) (dart_of (D.shows dual.now) from) crossed.now) }
 {
     let mut at = from;
     for dart in crossed {
@@ -203,7 +222,8 @@ fn first_walk<D: Dual, F: PriceFn>(
 /// Whether no corner at the target before this position lies in the face of `last`.
 pub(crate) fn has_first_end<D: Dual>(dual: &D, v: u32, end: u32, last: u32) -> bool
     requires { last < length (darts (D.shows dual.now)) }
-    ensures { IsTrue result ↔ HasFirstEnd (D.shows dual.now) v end (dart_of (D.shows dual.now) last) }
+    ensures { IsTrue result
+        ↔ HasFirstEnd (D.shows dual.now) v end (dart_of (D.shows dual.now) last) }
 {
     for position in 0..end {
         if let Some(corner) = corner_at(dual, v, position) {
@@ -226,8 +246,10 @@ pub(crate) fn comes_first<D: Dual, F: PriceFn>(
 ) -> bool
     requires one_each { HasOneEach (D.shows dual.now) plan.now.heights }
     requires within { from < length (darts (D.shows dual.now)) }
-    requires walk { (to : Dart) × Crosses (system (D.shows dual.now)) (dart_of (D.shows dual.now) from) plan.now.route.crossed to }
-    ensures { IsTrue result ↔ ComesFirst (prices_of (F.may_return tariff.now)) (D.shows dual.now) u v plan.now (dart_of (D.shows dual.now) from) }
+    requires walk { (to : Dart) × Crosses (system (D.shows dual.now))
+        (dart_of (D.shows dual.now) from) plan.now.route.crossed to }
+    ensures { IsTrue result ↔ ComesFirst (prices_of (F.may_return tariff.now))
+        (D.shows dual.now) u v plan.now (dart_of (D.shows dual.now) from) }
 {
     let heights = plan.heights.as_slice();
     if !has_first_start(dual, u, heights, plan.route.start, plan.price) {

@@ -5,15 +5,16 @@ ghost use Rattle.std.specs.Prelude.{◌≡◌, [], IfOk};
 use crate::spread::Labels;
 use std::alloc::{AllocError, Global};
 
-/// What a search knows of the faces from both of its ends, kept for the next one. Each search begins
-/// with all of it blank, whatever the one before it left, and that takes no time that grows with the
-/// picture, but where the picture has more labels of faces than any before.
+/// What a search knows of the faces from both of its ends, kept for the next one. Each search
+/// begins with all of it blank, whatever the one before it left, and that takes no time that grows
+/// with the picture, but where the picture has more labels of faces than any before.
 pub struct Workspace {
     pub(crate) to_end: Labels,
     pub(crate) to_start: Labels,
 }
 
-// Written out, so that it is proved once: a derived one is proved anew in each function that lets such a value go.
+// Written out, so that it is proved once: a derived one is proved anew in each function that lets
+// such a value go.
 impl Drop for Workspace {
     fn drop(self) {
         let Workspace { to_end, to_start } = self;

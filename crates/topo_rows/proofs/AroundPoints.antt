@@ -26,7 +26,8 @@ use Rattle.topo_rows.specs.Around.{entry_after}
 
 -- in a list of images no two of which are the same, the image of an entry is followed by that of the next
 module _ (g : ℕ → Dart) where
-  follower_of_entry : (first : Dart) (es : List ℕ) (e : ℕ) → IsDistinct (map g es) → has_id es e ≡ true → ((xs : List ℕ) → has_id xs e ≡ true → has_dart (map g xs) (g e) ≡ true)
+  follower_of_entry : (first : Dart) (es : List ℕ) (e : ℕ) → IsDistinct (map g es) → has_id es e ≡ true
+      → ((xs : List ℕ) → has_id xs e ≡ true → has_dart (map g xs) (g e) ≡ true)
       → follower first (map g es) (g e) ≡ slice_index_or (map g es) (position_or_len (λ y. y == e) es + 1) first
   follower_of_entry first [] e distinct h has = cc
   follower_of_entry first (c ∷ cs) e distinct h has = elim (cases_Bool (c == e)) [
@@ -34,16 +35,19 @@ module _ (g : ℕ → Dart) where
     | inr f ↦
         let later : has_id cs e ≡ true = or_second (c == e) (has_id cs e) f h in
         let other : same_dart (g e) (g c) ≡ false = grind (arith, cases_Bool, false≢true, head_not_later, same_dart_true) in
-        let at : position_or_len (λ y. y == e) (c ∷ cs) ≡ 1 + position_or_len (λ y. y == e) cs = ap (λ (b : Bool). cond {A = ℕ} (not b) (1 + position_or_len (λ y. y == e) cs) 0) f in
+        let at : position_or_len (λ y. y == e) (c ∷ cs) ≡ 1 + position_or_len (λ y. y == e) cs =
+        ap (λ (b : Bool). cond {A = ℕ} (not b) (1 + position_or_len (λ y. y == e) cs) 0) f in
         let next : position_or_len (λ y. y == e) (c ∷ cs) + 1 ≡ suc (position_or_len (λ y. y == e) cs + 1) = omega arith in
         ap (λ (b : Bool). cond b (slice_index_or (map g cs) 0 first) (follower first (map g cs) (g e))) other
         ∙ follower_of_entry first cs e (distinct_tail (g c) (map g cs) distinct) later has
         ∙ sym (ap (λ k. slice_index_or (map g (c ∷ cs)) k first) next)
   ]
 
-  next_of_entry : (es : List ℕ) (e : ℕ) → IsDistinct (map g es) → has_id es e ≡ true → ((xs : List ℕ) → has_id xs e ≡ true → has_dart (map g xs) (g e) ≡ true) → next_around (map g es) (g e) ≡ g (entry_after es e)
+  next_of_entry : (es : List ℕ) (e : ℕ) → IsDistinct (map g es) → has_id es e ≡ true → ((xs : List ℕ) → has_id xs e ≡ true → has_dart (map g xs) (g e) ≡ true)
+      → next_around (map g es) (g e) ≡ g (entry_after es e)
   next_of_entry [] e distinct h has = cc
-  next_of_entry (c ∷ cs) e distinct h has = follower_of_entry (g c) (c ∷ cs) e distinct h has ∙ get_or-map g (c ∷ cs) (position_or_len (λ y. y == e) (c ∷ cs) + 1) c
+  next_of_entry (c ∷ cs) e distinct h has = follower_of_entry (g c) (c ∷ cs) e distinct h has
+      ∙ get_or-map g (c ∷ cs) (position_or_len (λ y. y == e) (c ∷ cs) + 1) c
 
 -- ---- In well-formed rows
 
@@ -51,9 +55,11 @@ module _ (rows : Rows) (good : IsWellFormed rows) where
   distinct : IsDistinct (darts_in (system rows))
   distinct = distinct_system rows good.paths good.crossings good.rotations
 
-  pub turn_at_vertex : (v e : ℕ) → v < length rows.rotations → has_id (rotation rows v) e ≡ true → turn (system rows) (end_dart rows v e) ≡ end_dart rows v (entry_after (rotation rows v) e)
+  pub turn_at_vertex : (v e : ℕ) → v < length rows.rotations → has_id (rotation rows v) e ≡ true
+      → turn (system rows) (end_dart rows v e) ≡ end_dart rows v (entry_after (rotation rows v) e)
   turn_at_vertex v e inside h =
       let there : IsIn (around_vertex rows v) (system rows) = vertex_point rows v (vertex_in rows v inside) in
-      let has : (xs : List ℕ) → has_id xs e ≡ true → has_dart (map (end_dart rows v) xs) (end_dart rows v e) ≡ true = λ xs k. has_item (end_dart rows v e) (map (end_dart rows v) xs) (in_map (end_dart rows v) e xs (in_has_id e xs k)) in
+      let has : (xs : List ℕ) → has_id xs e ≡ true → has_dart (map (end_dart rows v) xs) (end_dart rows v e) ≡ true =
+      λ xs k. has_item (end_dart rows v e) (map (end_dart rows v) xs) (in_map (end_dart rows v) e xs (in_has_id e xs k)) in
       turn_at_point (system rows) distinct (around_vertex rows v) (end_dart rows v e) there (has (rotation rows v) h)
       ∙ next_of_entry (end_dart rows v) (rotation rows v) e (point_distinct (system rows) (around_vertex rows v) distinct there) h has

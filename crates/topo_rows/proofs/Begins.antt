@@ -1,5 +1,6 @@
 -- Where the darts of each edge begin, and the numbers of darts.
-use Rattle.std.proofs.Common.{◌≡◌, ◌+◌, ◌*◌, ◌<◌, ap, arith, Bool, cond, eqb, false, inl, inr, length, List, not, refl, Some, subst, suc, sym, true, zero, ℕ, [], ◌++◌, ◌∙◌, ◌∷◌}
+use Rattle.std.proofs.Common.{◌≡◌, ◌+◌, ◌*◌, ◌<◌, ap, arith, Bool, cond, eqb, false, inl, inr, length}
+use Rattle.std.proofs.Common.{List, not, refl, Some, subst, suc, sym, true, zero, ℕ, [], ◌++◌, ◌∙◌, ◌∷◌}
 use Rattle.std.specs.Prelude.{find, flat_map, is_some, map, slice_get, slice_index, ◌==◌}
 use Rattle.std.specs.List.{list_all, position_or_len, range_with_len}
 use Rattle.std.specs.List.Sorted.{IsStrictlyIncreasing}
@@ -38,13 +39,15 @@ both_length e a (suc n) = let rest = both_length e (a + 1) n in omega arith
 pub darts_length : (row : EdgeRow) → length (darts_of row) ≡ 2 * segment_count row
 darts_length row = both_length row.id 0 (segment_count row)
 
-pub forward_get : (e a n s : ℕ) → s < n → slice_get (flat_map (both_ways e) (range_with_len a n)) (2 * s) ≡ Some (record { edge = e; seg = a + s; way = Forward })
+pub forward_get : (e a n s : ℕ) → s < n
+    → slice_get (flat_map (both_ways e) (range_with_len a n)) (2 * s) ≡ Some (record { edge = e; seg = a + s; way = Forward })
 forward_get e a zero s h = absurd (omega arith)
 forward_get e a (suc n) zero h = let same : a ≡ a + 0 = omega arith in ap (λ s. Some (record { edge = e; seg = s; way = Forward })) same
 forward_get e a (suc n) (suc s) h =
     let place : 2 * suc s ≡ suc (suc (2 * s)) = omega arith in
     let same : (a + 1) + s ≡ a + suc s = omega arith in
-    ap (slice_get (flat_map (both_ways e) (range_with_len a (suc n)))) place ∙ forward_get e (a + 1) n s (omega arith) ∙ ap (λ s. Some (record { edge = e; seg = s; way = Forward })) same
+    ap (slice_get (flat_map (both_ways e) (range_with_len a (suc n)))) place ∙ forward_get e (a + 1) n s (omega arith)
+    ∙ ap (λ s. Some (record { edge = e; seg = s; way = Forward })) same
 
 pub back_get : (e a n s : ℕ) → s < n → slice_get (flat_map (both_ways e) (range_with_len a n)) (2 * s + 1) ≡ Some (record { edge = e; seg = a + s; way = Back })
 back_get e a zero s h = absurd (omega arith)
@@ -52,7 +55,8 @@ back_get e a (suc n) zero h = let same : a ≡ a + 0 = omega arith in ap (λ s. 
 back_get e a (suc n) (suc s) h =
     let place : 2 * suc s + 1 ≡ suc (suc (2 * s + 1)) = omega arith in
     let same : (a + 1) + s ≡ a + suc s = omega arith in
-    ap (slice_get (flat_map (both_ways e) (range_with_len a (suc n)))) place ∙ back_get e (a + 1) n s (omega arith) ∙ ap (λ s. Some (record { edge = e; seg = s; way = Back })) same
+    ap (slice_get (flat_map (both_ways e) (range_with_len a (suc n)))) place ∙ back_get e (a + 1) n s (omega arith)
+    ∙ ap (λ s. Some (record { edge = e; seg = s; way = Back })) same
 
 -- ---- Where the darts of an edge begin
 
@@ -75,7 +79,8 @@ begins_at n (r ∷ rest) (suc k) row e =
       before = 2 * segment_count r + more.before;
       here = more.here ∙ omega arith;
       next = more.next ∙ omega arith;
-      listed = λ j h. get_right (darts_of r) (flat_map darts_of rest) (2 * segment_count r + more.before + j) (more.before + j) (omega (arith, darts_length r)) ∙ more.listed j h;
+      listed = λ j h. get_right (darts_of r) (flat_map darts_of rest) (2 * segment_count r + more.before + j) (more.before + j) (omega (arith, darts_length r))
+          ∙ more.listed j h;
     }
 
 -- the numbers end with that of all darts
@@ -85,7 +90,8 @@ begins_length n (row ∷ rest) = let more = begins_length (n + 2 * segment_count
 
 pub begins_last : (n : ℕ) (edges : List EdgeRow) → slice_index (begins_from n edges) (length edges) ≡ n + length (flat_map darts_of edges)
 begins_last n [] = omega arith
-begins_last n (row ∷ rest) = begins_last (n + 2 * segment_count row) rest ∙ omega (arith, darts_length row, length-append (darts_of row) (flat_map darts_of rest))
+begins_last n (row ∷ rest) = begins_last (n + 2 * segment_count row) rest
+    ∙ omega (arith, darts_length row, length-append (darts_of row) (flat_map darts_of rest))
 
 -- ---- The numbers of darts
 
@@ -93,7 +99,8 @@ module _ (rows : Rows) (paths : has_good_paths rows ≡ true) (k : ℕ) (row : E
   begin : BeginsAt 0 rows.edges k row
   begin = begins_at 0 rows.edges k row at
 
-  pub number_forward : (s : ℕ) → s < segment_count row → index_of rows (record { edge = row.id; seg = s; way = Forward }) ≡ slice_index (begins_from 0 rows.edges) k + 2 * s
+  pub number_forward : (s : ℕ) → s < segment_count row
+      → index_of rows (record { edge = row.id; seg = s; way = Forward }) ≡ slice_index (begins_from 0 rows.edges) k + 2 * s
   number_forward s h =
       let b = begin in
       let same : 0 + s ≡ s = omega arith in
@@ -101,7 +108,8 @@ module _ (rows : Rows) (paths : has_good_paths rows ≡ true) (k : ℕ) (row : E
       b.listed (2 * s) (omega arith) ∙ forward_get row.id 0 (segment_count row) s h ∙ ap (λ s. Some (record { edge = row.id; seg = s; way = Forward })) same in
       index_of_get rows paths (b.before + 2 * s) _ there ∙ omega (arith, b.here)
 
-  pub number_back : (s : ℕ) → s < segment_count row → index_of rows (record { edge = row.id; seg = s; way = Back }) ≡ slice_index (begins_from 0 rows.edges) k + 2 * s + 1
+  pub number_back : (s : ℕ) → s < segment_count row
+      → index_of rows (record { edge = row.id; seg = s; way = Back }) ≡ slice_index (begins_from 0 rows.edges) k + 2 * s + 1
   number_back s h =
       let b = begin in
       let same : 0 + s ≡ s = omega arith in
@@ -117,14 +125,17 @@ module _ (rows : Rows) (paths : has_good_paths rows ≡ true) (k : ℕ) (row : E
 -- ---- Places by ids
 
 -- the row that an id finds stands at the place of the id among the ids
-pub found_at : (e : ℕ) (edges : List EdgeRow) → is_some (find (λ row. row.id == e) edges) ≡ true → slice_get edges (position_or_len (λ y. y == e) (map (λ row. row.id) edges)) ≡ find (λ row. row.id == e) edges
+pub found_at : (e : ℕ) (edges : List EdgeRow) → is_some (find (λ row. row.id == e) edges) ≡ true
+    → slice_get edges (position_or_len (λ y. y == e) (map (λ row. row.id) edges)) ≡ find (λ row. row.id == e) edges
 found_at e [] h = cc
 found_at e (row ∷ rest) h = elim (cases_Bool (row.id == e)) [
   | inl t ↦ cc
   | inr f ↦
-      let place : position_or_len (λ y. y == e) (row.id ∷ map (λ row. row.id) rest) ≡ 1 + position_or_len (λ y. y == e) (map (λ row. row.id) rest) = ap (λ (b : Bool). cond {A = ℕ} (not b) (1 + position_or_len (λ y. y == e) (map (λ row. row.id) rest)) 0) f in
+      let place : position_or_len (λ y. y == e) (row.id ∷ map (λ row. row.id) rest) ≡ 1 + position_or_len (λ y. y == e) (map (λ row. row.id) rest) =
+      ap (λ (b : Bool). cond {A = ℕ} (not b) (1 + position_or_len (λ y. y == e) (map (λ row. row.id) rest)) 0) f in
       let next : 1 + position_or_len (λ y. y == e) (map (λ row. row.id) rest) ≡ suc (position_or_len (λ y. y == e) (map (λ row. row.id) rest)) = omega arith in
-      let later : find (λ row. row.id == e) (row ∷ rest) ≡ find (λ row. row.id == e) rest = ap (λ (b : Bool). cond b (Some row) (find (λ row. row.id == e) rest)) f in
+      let later : find (λ row. row.id == e) (row ∷ rest) ≡ find (λ row. row.id == e) rest =
+      ap (λ (b : Bool). cond b (Some row) (find (λ row. row.id == e) rest)) f in
       ap (slice_get (row ∷ rest)) (place ∙ next) ∙ found_at e rest (sym (ap is_some later) ∙ h) ∙ sym later
 ]
 
@@ -139,22 +150,28 @@ module _ (rows : Rows) (paths : has_good_paths rows ≡ true) (v e place : ℕ) 
   is_e : row.id ≡ e
   is_e = row_id rows e row there.is_row
 
-  by_end : (t : Bool) → eqb row.a v ≡ t → end_dart rows v e ≡ cond t (record { edge = e; seg = 0; way = Forward }) (record { edge = e; seg = length row.crossings; way = Back })
-  by_end t is = ap (λ (r : EdgeRow). cond (r.a == v) (record { edge = e; seg = 0; way = Forward }) (record { edge = e; seg = length r.crossings; way = Back })) (edge_at_row rows e row there.is_row)
+  by_end : (t : Bool) → eqb row.a v ≡ t
+      → end_dart rows v e ≡ cond t (record { edge = e; seg = 0; way = Forward }) (record { edge = e; seg = length row.crossings; way = Back })
+  by_end t is = ap (λ (r : EdgeRow). cond (r.a == v) (record { edge = e; seg = 0; way = Forward }) (record { edge = e; seg = length r.crossings; way = Back }))
+      (edge_at_row rows e row there.is_row)
       ∙ ap (λ (b : Bool). cond b (record { edge = e; seg = 0; way = Forward }) (record { edge = e; seg = length row.crossings; way = Back })) is
 
   pub first_number : eqb row.a v ≡ true → slice_index (begins_from 0 rows.edges) place ≡ index_of rows (end_dart rows v e)
   first_number is =
       let number = number_forward rows paths place row there.at 0 (omega arith) in
-      let named : index_of rows (record { edge = row.id; seg = 0; way = Forward }) ≡ index_of rows (end_dart rows v e) = ap (λ f. index_of rows (record { edge = f; seg = 0; way = Forward })) is_e ∙ ap (index_of rows) (sym (by_end true is)) in omega arith
+      let named : index_of rows (record { edge = row.id; seg = 0; way = Forward }) ≡ index_of rows (end_dart rows v e) =
+      ap (λ f. index_of rows (record { edge = f; seg = 0; way = Forward })) is_e ∙ ap (index_of rows) (sym (by_end true is)) in omega arith
 
   pub last_number : eqb row.a v ≡ false → index_of rows (end_dart rows v e) + 1 ≡ slice_index (begins_from 0 rows.edges) (place + 1)
   last_number is =
       let number = number_last rows paths place row there.at in
-      let named : index_of rows (record { edge = row.id; seg = length row.crossings; way = Back }) ≡ index_of rows (end_dart rows v e) = ap (λ f. index_of rows (record { edge = f; seg = length row.crossings; way = Back })) is_e ∙ ap (index_of rows) (sym (by_end false is)) in
+      let named : index_of rows (record { edge = row.id; seg = length row.crossings; way = Back }) ≡ index_of rows (end_dart rows v e) =
+      ap (λ f. index_of rows (record { edge = f; seg = length row.crossings; way = Back })) is_e ∙ ap (index_of rows) (sym (by_end false is)) in
       let next : suc place ≡ place + 1 = omega arith in
-      let at : slice_index (begins_from 0 rows.edges) (suc place) ≡ slice_index (begins_from 0 rows.edges) (place + 1) = ap (slice_index (begins_from 0 rows.edges)) next in omega arith
+      let at : slice_index (begins_from 0 rows.edges) (suc place) ≡ slice_index (begins_from 0 rows.edges) (place + 1) =
+      ap (slice_index (begins_from 0 rows.edges)) next in omega arith
 
 -- the ids of edges whose paths are good rise
 pub edge_ids_climb : (rows : Rows) (ids : List ℕ) → has_good_paths rows ≡ true → ids ≡ map (λ row. row.id) rows.edges → IsStrictlyIncreasing ids
-edge_ids_climb rows ids paths are = subst IsStrictlyIncreasing (sym are) (rises_strictly rows.next_edge (map (λ row. row.id) rows.edges) (left_true _ (list_all (has_good_path rows) rows.edges) paths))
+edge_ids_climb rows ids paths are = subst IsStrictlyIncreasing (sym are)
+    (rises_strictly rows.next_edge (map (λ row. row.id) rows.edges) (left_true _ (list_all (has_good_path rows) rows.edges) paths))

@@ -34,7 +34,8 @@ module _ {X : Type 0} (key : X → ℕ) (xs : List X) (id : ℕ) (rise : IdsRise
   placed_here place x at named =
       let inside = got_within xs place x at in
       let is : slice_index (map key xs) place ≡ id = key_read place x inside ∙ ap key (get_or_from_slice_get xs place x x at) ∙ named in
-      let there : position_or_len (λ row. key row == id) xs ≡ place = sym (place_among key id xs) ∙ place_is (map key xs) place id up (omega (arith, many)) is in
+      let there : position_or_len (λ row. key row == id) xs ≡ place = sym (place_among key id xs)
+      ∙ place_is (map key xs) place id up (omega (arith, many)) is in
       record { row = x; within = inside; at = at; named = named; found = find_at (λ row. key row == id) xs ∙ ap (slice_get xs) there ∙ at; first = sym there }
 
   pub placed_read : (place : ℕ) (d : X) → place < length xs → key (get_or xs place d) ≡ id → IsPlaceOf xs key id place
@@ -48,7 +49,8 @@ module _ {X : Type 0} (key : X → ℕ) (xs : List X) (id : ℕ) (rise : IdsRise
   finds_none none = by_answer (find (λ row. key row == id) xs) refl where
     by_answer : (o : Option X) → find (λ row. key row == id) xs ≡ o → find (λ row. key row == id) xs ≡ None
     by_answer None e = e
-    by_answer (Some x) e = absurd (none (position_or_len (λ row. key row == id) xs) x (sym (find_at (λ row. key row == id) xs) ∙ e) (eqb-true (key x) id (found (λ row. key row == id) x xs e).1))
+    by_answer (Some x) e = absurd (none (position_or_len (λ row. key row == id) xs) x (sym (find_at (λ row. key row == id) xs) ∙ e)
+        (eqb-true (key x) id (found (λ row. key row == id) x xs e).1))
 
   keys_rise : (i j : ℕ) (d : X) → i ≤ j → j < length xs → key (get_or xs i d) ≤ key (get_or xs j d)
   keys_rise i j d below inside = grind (arith, rising, up, many, key_read)
@@ -76,14 +78,19 @@ module _ {X : Type 0} (key : X → ℕ) (xs : List X) (id : ℕ) (rise : IdsRise
 
 -- the ids of good paths and of good crossings rise
 pub edges_rise : (rows : Rows) (edges : List EdgeRow) → has_good_paths rows ≡ true → edges ≡ rows.edges → IdsRise (map (λ row. row.id) edges)
-edges_rise rows edges paths same = subst (λ (es : List EdgeRow). IdsRise (map (λ row. row.id) es)) (sym same) (rows.next_edge, left_true _ (list_all (has_good_path rows) rows.edges) paths)
+edges_rise rows edges paths same =
+    subst (λ (es : List EdgeRow). IdsRise (map (λ row. row.id) es)) (sym same) (rows.next_edge, left_true _ (list_all (has_good_path rows) rows.edges) paths)
 
-pub crossings_rise : (rows : Rows) (crossings : List CrossRow) → has_good_crossings rows ≡ true → crossings ≡ rows.crossings → IdsRise (map (λ row. row.id) crossings)
-crossings_rise rows crossings good same = subst (λ (cs : List CrossRow). IdsRise (map (λ row. row.id) cs)) (sym same) (rows.next_crossing, left_true _ (list_all (is_good_crossing rows) rows.crossings) good)
+pub crossings_rise : (rows : Rows) (crossings : List CrossRow) → has_good_crossings rows ≡ true → crossings ≡ rows.crossings
+    → IdsRise (map (λ row. row.id) crossings)
+crossings_rise rows crossings good same = subst (λ (cs : List CrossRow). IdsRise (map (λ row. row.id) cs)) (sym same)
+    (rows.next_crossing, left_true _ (list_all (is_good_crossing rows) rows.crossings) good)
 
 -- what is read at the place of an edge
-pub at_edge_place : (rows : Rows) (e place : ℕ) (row : EdgeRow) (edges : List EdgeRow) → edges ≡ rows.edges → IsPlaceOf edges (λ row. row.id) e place → row ≡ get_or edges place row → AtPlace rows e place row
+pub at_edge_place : (rows : Rows) (e place : ℕ) (row : EdgeRow) (edges : List EdgeRow) → edges ≡ rows.edges → IsPlaceOf edges (λ row. row.id) e place
+    → row ≡ get_or edges place row → AtPlace rows e place row
 at_edge_place rows e place row edges same p read = grind (arith, get_or_from_slice_get)
 
-pub finds_no_edge : (rows : Rows) (e id : ℕ) (edges : List EdgeRow) → id ≡ e → edges ≡ rows.edges → find (λ row. row.id == id) edges ≡ None → edge_row rows e ≡ None
+pub finds_no_edge : (rows : Rows) (e id : ℕ) (edges : List EdgeRow) → id ≡ e → edges ≡ rows.edges → find (λ row. row.id == id) edges ≡ None
+    → edge_row rows e ≡ None
 finds_no_edge rows e id edges is same none = ap (edge_row rows) (sym is) ∙ ap (λ (es : List EdgeRow). find (λ row. row.id == id) es) (sym same) ∙ none

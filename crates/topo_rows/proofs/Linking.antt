@@ -56,11 +56,13 @@ turn_link : (ix : Dart → ℕ) (d : Dart) (s : System) → has_dart (darts_in s
 turn_link ix d [] h = cc
 turn_link ix d (around ∷ s) h = elim (cases_Bool (has_dart around d)) [
   | inl e ↦
-      let next : turn (around ∷ s) d ≡ follower (slice_index_or around 0 d) around d = ap (λ (b : Bool). cond b (follower (slice_index_or around 0 d) around d) (turn s d)) e in
+      let next : turn (around ∷ s) d ≡ follower (slice_index_or around 0 d) around d =
+      ap (λ (b : Bool). cond b (follower (slice_index_or around 0 d) around d) (turn s d)) e in
       in_left _ (links (map ix around)) (links_of ix s) (subst (λ y. IsIn (ix d, ix y) (links (map ix around))) (sym next) (here around e))
   | inr e ↦
       let next : turn (around ∷ s) d ≡ turn s d = ap (λ (b : Bool). cond b (follower (slice_index_or around 0 d) around d) (turn s d)) e in
-      in_right _ (links (map ix around)) (links_of ix s) (subst (λ y. IsIn (ix d, ix y) (links_of ix s)) (sym next) (turn_link ix d s (later around (darts_in s) e h)))
+      in_right _ (links (map ix around)) (links_of ix s)
+      (subst (λ y. IsIn (ix d, ix y) (links_of ix s)) (sym next) (turn_link ix d s (later around (darts_in s) e h)))
 ] where
   here : (around : List Dart) → has_dart around d ≡ true → IsIn (ix d, ix (follower (slice_index_or around 0 d) around d)) (links (map ix around))
   here [] e = cc
@@ -117,10 +119,14 @@ module _ (rows : Rows) (good : IsWellFormed rows) where
 
   -- the same, where the links round the vertices are written first, and then those round the crossings
   pub linked_in_turn : (xs : List ℕ) → length xs ≡ length (darts rows)
-      → written (written xs (flat_map (λ v. links (vertex_round rows v)) (vertices rows))) (flat_map (λ x. links (crossing_round rows x)) rows.crossings) ≡ turn_images rows
+      → written (written xs (flat_map (λ v. links (vertex_round rows v)) (vertices rows))) (flat_map (λ x. links (crossing_round rows x)) rows.crossings)
+      ≡ turn_images rows
   linked_in_turn xs as_many =
       sym (written_append xs (flat_map (λ v. links (vertex_round rows v)) (vertices rows)) (flat_map (λ x. links (crossing_round rows x)) rows.crossings))
-      ∙ ap (written xs) (sym (flat_map-append (λ around. links (map ix around)) (map (around_vertex rows) (vertices rows)) (map (around_crossing rows) rows.crossings)
-      ∙ ap (λ us. us ++ flat_map (λ around. links (map ix around)) (map (around_crossing rows) rows.crossings)) (joined_map (λ around. links (map ix around)) (around_vertex rows) (vertices rows))
-      ∙ ap (λ us. flat_map (λ v. links (vertex_round rows v)) (vertices rows) ++ us) (joined_map (λ around. links (map ix around)) (around_crossing rows) rows.crossings)))
+      ∙ ap (written xs) (sym
+      (flat_map-append (λ around. links (map ix around)) (map (around_vertex rows) (vertices rows)) (map (around_crossing rows) rows.crossings)
+      ∙ ap (λ us. us ++ flat_map (λ around. links (map ix around)) (map (around_crossing rows) rows.crossings))
+      (joined_map (λ around. links (map ix around)) (around_vertex rows) (vertices rows))
+      ∙ ap (λ us. flat_map (λ v. links (vertex_round rows v)) (vertices rows) ++ us)
+      (joined_map (λ around. links (map ix around)) (around_crossing rows) rows.crossings)))
       ∙ linked xs as_many

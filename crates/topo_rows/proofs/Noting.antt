@@ -1,5 +1,6 @@
 -- The numbers of the darts ahead of crossings, as they are noted path by path.
-use Rattle.std.proofs.Common.{◌≡◌, ◌≢◌, ◌&&◌, ◌+◌, ◌*◌, ◌<◌, ap, arith, Bool, cond, drop, eqb, false, get_or, inr, length, List, not, refl, Some, subst, suc, sym, true, zero, ℕ, [], ◌∙◌, ◌∷◌}
+use Rattle.std.proofs.Common.{◌≡◌, ◌≢◌, ◌&&◌, ◌+◌, ◌*◌, ◌<◌, ap, arith, Bool, cond, drop, eqb, false, get_or}
+use Rattle.std.proofs.Common.{inr, length, List, not, refl, Some, subst, suc, sym, true, zero, ℕ, [], ◌∙◌, ◌∷◌}
 use Rattle.std.specs.Prelude.{count_by, map, slice_get, slice_index, slice_set, sum_by, ◌==◌}
 use Rattle.std.specs.List.{list_all, position_or_len}
 use Rattle.std.proofs.lemmas.Bool.Decides.{nat_tests}
@@ -41,14 +42,16 @@ place_among id x (c ∷ cs) = ap (λ n. cond {A = ℕ} (not (id c == x)) (1 + n)
 
 -- one entry of a path
 pub path_step : (crossings : List CrossRow) (e begin s : ℕ) (path ahead : List ℕ) → s < length path
-    → written ahead (path_notes crossings e (begin + 2 * s) (drop s path)) ≡ written (slice_set ahead (note_place crossings e (slice_index path s)) (begin + 2 * s + 2)) (path_notes crossings e (begin + 2 * (s + 1)) (drop (s + 1) path))
+    → written ahead (path_notes crossings e (begin + 2 * s) (drop s path)) ≡ written
+    (slice_set ahead (note_place crossings e (slice_index path s)) (begin + 2 * s + 2)) (path_notes crossings e (begin + 2 * (s + 1)) (drop (s + 1) path))
 path_step crossings e begin s path ahead inside =
     let split : drop s path ≡ slice_index path s ∷ drop (suc s) path = drop-cons path s 0 inside in
     grind arith
 
 -- one path
 pub paths_step : (crossings : List CrossRow) (n i : ℕ) (edges : List EdgeRow) (row : EdgeRow) (ahead : List ℕ) → i < length edges → row ≡ get_or edges i row
-    → written ahead (notes_from crossings n (drop i edges)) ≡ written (written ahead (path_notes crossings row.id n row.crossings)) (notes_from crossings (n + 2 * segment_count row) (drop (i + 1) edges))
+    → written ahead (notes_from crossings n (drop i edges))
+    ≡ written (written ahead (path_notes crossings row.id n row.crossings)) (notes_from crossings (n + 2 * segment_count row) (drop (i + 1) edges))
 paths_step crossings n i edges row ahead inside at = grind (arith, drop-cons, written_append)
 
 -- where a note of a crossing that is there goes
@@ -56,15 +59,19 @@ pub note_place_read : (crossings : List CrossRow) (e x place : ℕ) (d : CrossRo
     → note_place crossings e x ≡ 2 * place + cond {A = ℕ} (e == (get_or crossings place d).crossed) 0 1
 note_place_read crossings e x place d is within = grind (arith, get_or-map)
 
-pub noted_at_crossed : (crossings : List CrossRow) (e x place : ℕ) (d : CrossRow) → place ≡ crossing_place crossings x → place < length crossings → e ≡ (get_or crossings place d).crossed → 2 * place ≡ note_place crossings e x
+pub noted_at_crossed : (crossings : List CrossRow) (e x place : ℕ) (d : CrossRow) → place ≡ crossing_place crossings x → place < length crossings
+    → e ≡ (get_or crossings place d).crossed → 2 * place ≡ note_place crossings e x
 noted_at_crossed crossings e x place d is within same =
     let read = note_place_read crossings e x place d is within in
-    let side : cond {A = ℕ} (e == (get_or crossings place d).crossed) 0 1 ≡ 0 = ap (λ (t : Bool). cond {A = ℕ} t 0 1) (eq-eqb e (get_or crossings place d).crossed same) in omega arith
+    let side : cond {A = ℕ} (e == (get_or crossings place d).crossed) 0 1 ≡ 0 =
+    ap (λ (t : Bool). cond {A = ℕ} t 0 1) (eq-eqb e (get_or crossings place d).crossed same) in omega arith
 
-pub noted_at_newcomer : (crossings : List CrossRow) (e x place : ℕ) (d : CrossRow) → place ≡ crossing_place crossings x → place < length crossings → e ≢ (get_or crossings place d).crossed → 2 * place + 1 ≡ note_place crossings e x
+pub noted_at_newcomer : (crossings : List CrossRow) (e x place : ℕ) (d : CrossRow) → place ≡ crossing_place crossings x → place < length crossings
+    → e ≢ (get_or crossings place d).crossed → 2 * place + 1 ≡ note_place crossings e x
 noted_at_newcomer crossings e x place d is within other =
     let read = note_place_read crossings e x place d is within in
-    let side : cond {A = ℕ} (e == (get_or crossings place d).crossed) 0 1 ≡ 1 = ap (λ (t : Bool). cond {A = ℕ} t 0 1) (differs e (get_or crossings place d).crossed other) in omega arith where
+    let side : cond {A = ℕ} (e == (get_or crossings place d).crossed) 0 1 ≡ 1 =
+    ap (λ (t : Bool). cond {A = ℕ} t 0 1) (differs e (get_or crossings place d).crossed other) in omega arith where
       differs : (m n : ℕ) → m ≢ n → eqb m n ≡ false
       differs m n h = grind (arith, nat_tests)
 
@@ -83,10 +90,13 @@ module _ (crossings : List CrossRow) where
   note_in n k s x row [] at on = cc
   note_in n zero s x row (r ∷ edges) at on =
       let same : r ≡ row = cc in
-      let here : IsIn (note_place crossings row.id x, n + 2 * (s + 1)) (path_notes crossings r.id n r.crossings) = subst (λ (r : EdgeRow). IsIn (note_place crossings row.id x, n + 2 * (s + 1)) (path_notes crossings r.id n r.crossings)) (sym same) (path_note_in row.id n s x row.crossings on) in
+      let here : IsIn (note_place crossings row.id x, n + 2 * (s + 1)) (path_notes crossings r.id n r.crossings) =
+      subst (λ (r : EdgeRow). IsIn (note_place crossings row.id x, n + 2 * (s + 1)) (path_notes crossings r.id n r.crossings)) (sym same)
+      (path_note_in row.id n s x row.crossings on) in
       in_left _ (path_notes crossings r.id n r.crossings) (notes_from crossings (n + 2 * segment_count r) edges) here
   note_in n (suc k) s x row (r ∷ edges) at on =
-      in_right _ (path_notes crossings r.id n r.crossings) (notes_from crossings (n + 2 * segment_count r) edges) (note_in (n + 2 * segment_count r) k s x row edges at on)
+      in_right _ (path_notes crossings r.id n r.crossings) (notes_from crossings (n + 2 * segment_count r) edges)
+      (note_in (n + 2 * segment_count r) k s x row edges at on)
 
   times_path : (key e n : ℕ) (path : List ℕ) → times key (path_notes crossings e n path) ≡ count_by (λ y. note_place crossings e y == key) path
   times_path key e n [] = refl
@@ -95,10 +105,12 @@ module _ (crossings : List CrossRow) where
       let right = sum_by-cons (λ y. one (note_place crossings e y == key)) y path in
       let rest = times_path key e (n + 2) path in omega arith
 
-  pub times_notes : (key n : ℕ) (edges : List EdgeRow) → times key (notes_from crossings n edges) ≡ sum_by (λ row. count_by (λ y. note_place crossings row.id y == key) row.crossings) edges
+  pub times_notes : (key n : ℕ) (edges : List EdgeRow)
+      → times key (notes_from crossings n edges) ≡ sum_by (λ row. count_by (λ y. note_place crossings row.id y == key) row.crossings) edges
   times_notes key n [] = refl
   times_notes key n (row ∷ edges) =
-      let both = sum_by-append (λ (w : ℕ × ℕ). one (w.0 == key)) (path_notes crossings row.id n row.crossings) (notes_from crossings (n + 2 * segment_count row) edges) in
+      let both = sum_by-append (λ (w : ℕ × ℕ). one (w.0 == key)) (path_notes crossings row.id n row.crossings)
+      (notes_from crossings (n + 2 * segment_count row) edges) in
       let right = sum_by-cons (λ row. count_by (λ y. note_place crossings row.id y == key) row.crossings) row edges in
       let here = times_path key row.id n row.crossings in
       let rest = times_notes key (n + 2 * segment_count row) edges in omega arith

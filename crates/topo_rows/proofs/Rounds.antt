@@ -1,5 +1,6 @@
 -- The numbers of the darts at crossings and vertices, as the code finds them.
-use Rattle.std.proofs.Common.{append-nil, drop, take, set, ◌≡◌, ◌&&◌, ◌||◌, ◌+◌, ◌*◌, ◌<◌, ◌≤◌, ap, arith, Bool, cond, eqb, false, get_or, inl, inr, length, List, not, refl, Some, subst, suc, sym, true, zero, ℕ, [], ◌++◌, ◌∙◌, ◌∷◌}
+use Rattle.std.proofs.Common.{append-nil, drop, take, set, ◌≡◌, ◌&&◌, ◌||◌, ◌+◌, ◌*◌, ◌<◌, ◌≤◌, ap, arith, Bool, cond, eqb, false}
+use Rattle.std.proofs.Common.{get_or, inl, inr, length, List, not, refl, Some, subst, suc, sym, true, zero, ℕ, [], ◌++◌, ◌∙◌, ◌∷◌}
 use Rattle.std.specs.Prelude.{count_by, find, is_some, map, Option, flat_map, option_map, slice_get, slice_index, sum_by, unwrap_or, ◌==◌}
 use Rattle.std.specs.List.{list_all, position_or_len, range_with_len}
 use Rattle.std.proofs.lemmas.Bool.Decides.{nat_tests}
@@ -18,7 +19,8 @@ use Rattle.topo_core.specs.declared.rows.EdgeRow.{EdgeRow}
 use Rattle.topo_core.specs.declared.rows.Rows.{Rows}
 use Rattle.topo_core.specs.Items.{IsIn, occurrences, rises_below}
 use Rattle.topo_core.specs.Lawful.{has_good_path, is_good_crossing, IsWellFormed}
-use Rattle.topo_core.specs.Picture.{ahead, around_crossing, around_vertex, behind, clockwise, cross_row, darts, edge_row, end_dart, index_of, place_on, rotation, system}
+use Rattle.topo_core.specs.Picture.{ahead, around_crossing, around_vertex, behind, clockwise, cross_row}
+use Rattle.topo_core.specs.Picture.{darts, edge_row, end_dart, index_of, place_on, rotation, system}
 use Rattle.topo_core.specs.Systems.{darts_in}
 use Rattle.topo_core.proofs.numbering.Counting.{one, sum_found, sum_if, sum_same}
 use Rattle.topo_core.proofs.numbering.Members.{found, in_joined, left_true}
@@ -27,7 +29,8 @@ use Rattle.topo_core.proofs.numbering.Standing.{good_crossing, good_rotation, sy
 use Rattle.topo_core.proofs.systems.SystemDarts.{at_vertex_in, crossing_point, crossing_there, edge_at_row, row_id, row_in, some_of, vertex_in}
 use Rattle.topo_core.proofs.routing.RouteDarts.{has_item}
 use Rattle.topo_core.proofs.growing.Growing.{all_from}
-use Rattle.topo_rows.specs.Flats.{AreAhead, begins_from, crossing_place, crossing_round, links, links_to, note_place, notes_from, round_ahead, vertex_round, written}
+use Rattle.topo_rows.specs.Flats.{AreAhead, begins_from, crossing_place, crossing_round, links}
+use Rattle.topo_rows.specs.Flats.{links_to, note_place, notes_from, round_ahead, vertex_round, written}
 use Rattle.topo_rows.proofs.Begins.{found_at, number_back, number_forward}
 use Rattle.topo_rows.proofs.Noting.{note_in, place_among, times_notes}
 use Rattle.topo_rows.proofs.PairTests.{named}
@@ -44,7 +47,8 @@ place_got x (y ∷ path) h =
       | inr e ↦
           let none : one (y == x) ≡ 0 = ap one e in
           let next : 1 + position_or_len (λ y. y == x) path ≡ suc (position_or_len (λ y. y == x) path) = omega arith in
-          ap (λ (b : Bool). slice_get (y ∷ path) (cond {A = ℕ} (not b) (1 + position_or_len (λ y. y == x) path) 0)) e ∙ ap (slice_get (y ∷ path)) next ∙ place_got x path (omega arith)
+          ap (λ (b : Bool). slice_get (y ∷ path) (cond {A = ℕ} (not b) (1 + position_or_len (λ y. y == x) path) 0)) e ∙ ap (slice_get (y ∷ path)) next
+          ∙ place_got x path (omega arith)
     ]
 
 pub got_within : {X : Type 0} (xs : List X) (i : ℕ) (x : X) → slice_get xs i ≡ Some x → i < length xs
@@ -68,18 +72,21 @@ module _ (rows : Rows) (good : IsWellFormed rows) where
     pub on : slice_get row.crossings (place_on rows e x) ≡ Some x
     pub counted : occurrences x row.crossings ≡ 1
 
-  pub on_path : (c : CrossRow) → IsIn c rows.crossings → (e : ℕ) → is_some (edge_row rows e) ≡ true → (eqb e c.crossed || eqb e c.newcomer) ≡ true → OnPath e c.id
+  pub on_path : (c : CrossRow) → IsIn c rows.crossings → (e : ℕ) → is_some (edge_row rows e) ≡ true
+      → (eqb e c.crossed || eqb e c.newcomer) ≡ true → OnPath e c.id
   on_path c h e is_there ends =
       let row = some_of (edge_row rows e) is_there in
       let says = good_crossing rows good.crossings c h in
       let id_is : row.0.id ≡ e = row_id rows e row.0 row.1 in
-      let once : occurrences c.id row.0.crossings ≡ 1 = says.counted row.0 (row_in rows e row.0 row.1) ∙ ap (λ n. one (n == c.crossed || n == c.newcomer)) id_is ∙ ap one ends in
+      let once : occurrences c.id row.0.crossings ≡ 1 = says.counted row.0 (row_in rows e row.0 row.1) ∙ ap (λ n. one (n == c.crossed || n == c.newcomer)) id_is
+      ∙ ap one ends in
       record {
         row = row.0;
         there = row.1;
         place = position_or_len (λ y. y == e) (map (λ row. row.id) rows.edges);
         at = found_at e rows.edges is_there ∙ row.1;
-        on = ap (λ (r : EdgeRow). slice_get row.0.crossings (position_or_len (λ y. y == c.id) r.crossings)) (edge_at_row rows e row.0 row.1) ∙ place_got c.id row.0.crossings (omega arith);
+        on = ap (λ (r : EdgeRow). slice_get row.0.crossings (position_or_len (λ y. y == c.id) r.crossings)) (edge_at_row rows e row.0 row.1)
+            ∙ place_got c.id row.0.crossings (omega arith);
         counted = once;
       }
 
@@ -103,19 +110,23 @@ module _ (rows : Rows) (good : IsWellFormed rows) where
       sym (place_among (λ c. c.id) c.id rows.crossings)
       ∙ place_is (map (λ c. c.id) rows.crossings) q c.id (rises_strictly rows.next_crossing (map (λ c. c.id) rows.crossings) cross_ids_rise)
       (let inside = got_within rows.crossings q c at in omega (arith, length-map rows.crossings (λ (c : CrossRow). c.id)))
-      (get_or-map (λ c. c.id) rows.crossings q c 0 (got_within rows.crossings q c at) ∙ ap (λ (c : CrossRow). c.id) (get_or_from_slice_get rows.crossings q c c at))
+      (get_or-map (λ c. c.id) rows.crossings q c 0 (got_within rows.crossings q c at)
+      ∙ ap (λ (c : CrossRow). c.id) (get_or_from_slice_get rows.crossings q c c at))
 
   crossed_of : (q : ℕ) (c : CrossRow) → slice_get rows.crossings q ≡ Some c → slice_index (map (λ c. c.crossed) rows.crossings) q ≡ c.crossed
-  crossed_of q c at = get_or-map (λ c. c.crossed) rows.crossings q c 0 (got_within rows.crossings q c at) ∙ ap (λ (c : CrossRow). c.crossed) (get_or_from_slice_get rows.crossings q c c at)
+  crossed_of q c at = get_or-map (λ c. c.crossed) rows.crossings q c 0 (got_within rows.crossings q c at)
+      ∙ ap (λ (c : CrossRow). c.crossed) (get_or_from_slice_get rows.crossings q c c at)
 
   -- where a crossing is noted
-  note_place_of : (q : ℕ) (c : CrossRow) → slice_get rows.crossings q ≡ Some c → (e : ℕ) → note_place rows.crossings e c.id ≡ 2 * q + cond {A = ℕ} (e == c.crossed) 0 1
+  note_place_of : (q : ℕ) (c : CrossRow) → slice_get rows.crossings q ≡ Some c → (e : ℕ)
+      → note_place rows.crossings e c.id ≡ 2 * q + cond {A = ℕ} (e == c.crossed) 0 1
   note_place_of q c at e = grind (arith, place_of_crossing, crossed_of)
 
   find_place : (y : ℕ) (c : CrossRow) (cs : List CrossRow) → find (λ c. c.id == y) cs ≡ Some c → slice_get cs (position_or_len (λ c. c.id == y) cs) ≡ Some c
   find_place y c [] h = cc
   find_place y c (d ∷ cs) h = elim (cases_Bool (d.id == y)) [
-    | inl t ↦ ap (λ (b : Bool). slice_get (d ∷ cs) (cond {A = ℕ} (not b) (1 + position_or_len (λ c. c.id == y) cs) 0)) t ∙ sym (ap (λ (b : Bool). cond b (Some d) (find (λ c. c.id == y) cs)) t) ∙ h
+    | inl t ↦ ap (λ (b : Bool). slice_get (d ∷ cs) (cond {A = ℕ} (not b) (1 + position_or_len (λ c. c.id == y) cs) 0)) t
+        ∙ sym (ap (λ (b : Bool). cond b (Some d) (find (λ c. c.id == y) cs)) t) ∙ h
     | inr f ↦
         let next : 1 + position_or_len (λ c. c.id == y) cs ≡ suc (position_or_len (λ c. c.id == y) cs) = omega arith in
         ap (λ (b : Bool). slice_get (d ∷ cs) (cond {A = ℕ} (not b) (1 + position_or_len (λ c. c.id == y) cs) 0)) f ∙ ap (slice_get (d ∷ cs)) next
@@ -143,7 +154,8 @@ module _ (rows : Rows) (good : IsWellFormed rows) where
 
   -- an entry of a path is noted at a crossing's place just when it is that crossing, on that side
   entry : (q : ℕ) (c : CrossRow) → slice_get rows.crossings q ≡ Some c → (row : EdgeRow) → IsIn row rows.edges → (y : ℕ) → IsIn y row.crossings
-      → (one (note_place rows.crossings row.id y == 2 * q) ≡ cond {A = ℕ} (row.id == c.crossed) (one (y == c.id)) 0) × (one (note_place rows.crossings row.id y == 2 * q + 1) ≡ cond {A = ℕ} (not (row.id == c.crossed)) (one (y == c.id)) 0)
+      → (one (note_place rows.crossings row.id y == 2 * q) ≡ cond {A = ℕ} (row.id == c.crossed) (one (y == c.id)) 0)
+      × (one (note_place rows.crossings row.id y == 2 * q + 1) ≡ cond {A = ℕ} (not (row.id == c.crossed)) (one (y == c.id)) 0)
   entry q c at row h y named = elim (cases_Bool (y == c.id)) [
     | inl same ↦ grind (arith, eqb-true, note_place_of, one, side_even, side_odd)
     | inr apart ↦
@@ -160,17 +172,23 @@ module _ (rows : Rows) (good : IsWellFormed rows) where
 
   -- so the numbers ahead are those that are noted
   module _ (xs : List ℕ) (room : length xs ≡ 2 * length rows.crossings) where
-    at_side : (q : ℕ) (c : CrossRow) (e : ℕ) → slice_get rows.crossings q ≡ Some c → OnPath e c.id → (key : ℕ) → note_place rows.crossings e c.id ≡ key → key < 2 * length rows.crossings → times key (notes_from rows.crossings 0 rows.edges) ≡ 1
+    at_side : (q : ℕ) (c : CrossRow) (e : ℕ) → slice_get rows.crossings q ≡ Some c → OnPath e c.id → (key : ℕ) → note_place rows.crossings e c.id ≡ key
+        → key < 2 * length rows.crossings → times key (notes_from rows.crossings 0 rows.edges) ≡ 1
         → slice_index (written xs (notes_from rows.crossings 0 rows.edges)) key ≡ index_of rows (ahead rows e c.id)
     at_side q c e at p key is below once =
-        let inn : IsIn (note_place rows.crossings p.row.id c.id, slice_index (begins_from 0 rows.edges) p.place + 2 * (place_on rows e c.id + 1)) (notes_from rows.crossings 0 rows.edges) = note_in rows.crossings 0 p.place (place_on rows e c.id) c.id p.row rows.edges p.at p.on in
+        let inn : IsIn (note_place rows.crossings p.row.id c.id, slice_index (begins_from 0 rows.edges) p.place + 2 * (place_on rows e c.id + 1))
+        (notes_from rows.crossings 0 rows.edges) = note_in rows.crossings 0 p.place (place_on rows e c.id) c.id p.row rows.edges p.at p.on in
         let key_is : note_place rows.crossings p.row.id c.id ≡ key = ap (λ f. note_place rows.crossings f c.id) (row_id rows e p.row p.there) ∙ is in
-        let value : slice_index (begins_from 0 rows.edges) p.place + 2 * (place_on rows e c.id + 1) ≡ index_of rows (ahead rows e c.id) = sym (ahead_number e c.id p) in
+        let value : slice_index (begins_from 0 rows.edges) p.place + 2 * (place_on rows e c.id + 1) ≡ index_of rows (ahead rows e c.id) =
+        sym (ahead_number e c.id p) in
         written_once key (index_of rows (ahead rows e c.id)) xs (notes_from rows.crossings 0 rows.edges) (omega arith) once
-        (subst (λ v. IsIn (key, v) (notes_from rows.crossings 0 rows.edges)) value (subst (λ k. IsIn (k, slice_index (begins_from 0 rows.edges) p.place + 2 * (place_on rows e c.id + 1)) (notes_from rows.crossings 0 rows.edges)) key_is inn))
+        (subst (λ v. IsIn (key, v) (notes_from rows.crossings 0 rows.edges)) value
+        (subst (λ k. IsIn (k, slice_index (begins_from 0 rows.edges) p.place + 2 * (place_on rows e c.id + 1))
+        (notes_from rows.crossings 0 rows.edges)) key_is inn))
 
     -- one edge has the crossing on that side
-    once_found : (x e : ℕ) (row : EdgeRow) → edge_row rows e ≡ Some row → occurrences x row.crossings ≡ 1 → sum_by (λ row. cond {A = ℕ} (row.id == e) (occurrences x row.crossings) 0) rows.edges ≡ 1
+    once_found : (x e : ℕ) (row : EdgeRow) → edge_row rows e ≡ Some row → occurrences x row.crossings ≡ 1
+        → sum_by (λ row. cond {A = ℕ} (row.id == e) (occurrences x row.crossings) 0) rows.edges ≡ 1
     once_found x e row there counted =
         sum_found (λ row. row.id) (λ row. occurrences x row.crossings) rows.next_edge e rows.edges edge_ids_rise
         ∙ ap (λ (o : Option EdgeRow). unwrap_or (option_map (λ row. occurrences x row.crossings) o) 0) there ∙ counted
@@ -183,23 +201,30 @@ module _ (rows : Rows) (good : IsWellFormed rows) where
           let says = good_crossing rows good.crossings c h in
           let p = on_path c h c.crossed says.crossed (ap (λ b. b || eqb c.crossed c.newcomer) (eq-eqb c.crossed c.crossed refl)) in
           let inside = got_within rows.crossings q c at in
-          at_side q c c.crossed at p (2 * q) (note_place_of q c at c.crossed ∙ ap (λ (t : Bool). 2 * q + cond {A = ℕ} t 0 1) (eq-eqb c.crossed c.crossed refl) ∙ omega arith) (omega arith)
+          at_side q c c.crossed at p (2 * q)
+          (note_place_of q c at c.crossed ∙ ap (λ (t : Bool). 2 * q + cond {A = ℕ} t 0 1) (eq-eqb c.crossed c.crossed refl) ∙ omega arith) (omega arith)
           (times_notes rows.crossings (2 * q) 0 rows.edges
-          ∙ sum_same (λ row. count_by (λ y. note_place rows.crossings row.id y == 2 * q) row.crossings) (λ row. cond {A = ℕ} (row.id == c.crossed) (occurrences c.id row.crossings) 0) rows.edges (λ row k.
-          sum_same (λ y. one (note_place rows.crossings row.id y == 2 * q)) (λ y. cond {A = ℕ} (row.id == c.crossed) (one (y == c.id)) 0) row.crossings (λ y i. (entry q c at row k y i).0) ∙ sum_if (row.id == c.crossed) (λ y. one (y == c.id)) row.crossings)
+          ∙ sum_same (λ row. count_by (λ y. note_place rows.crossings row.id y == 2 * q) row.crossings)
+          (λ row. cond {A = ℕ} (row.id == c.crossed) (occurrences c.id row.crossings) 0) rows.edges (λ row k.
+          sum_same (λ y. one (note_place rows.crossings row.id y == 2 * q)) (λ y. cond {A = ℕ} (row.id == c.crossed) (one (y == c.id)) 0) row.crossings
+          (λ y i. (entry q c at row k y i).0) ∙ sum_if (row.id == c.crossed) (λ y. one (y == c.id)) row.crossings)
           ∙ once_found c.id c.crossed p.row p.there p.counted);
       newcomer = λ q c at.
           let h = in_at q c rows.crossings at in
           let says = good_crossing rows good.crossings c h in
-          let p = on_path c h c.newcomer says.newcomer (ap (λ b. eqb c.newcomer c.crossed || b) (eq-eqb c.newcomer c.newcomer refl) ∙ or_yes (eqb c.newcomer c.crossed)) in
+          let p = on_path c h c.newcomer says.newcomer
+          (ap (λ b. eqb c.newcomer c.crossed || b) (eq-eqb c.newcomer c.newcomer refl) ∙ or_yes (eqb c.newcomer c.crossed)) in
           let inside = got_within rows.crossings q c at in
           let not_crossed : eqb c.newcomer c.crossed ≡ false = flip c.crossed c.newcomer says.apart in
           at_side q c c.newcomer at p (2 * q + 1) (note_place_of q c at c.newcomer ∙ ap (λ (t : Bool). 2 * q + cond {A = ℕ} t 0 1) not_crossed) (omega arith)
           (times_notes rows.crossings (2 * q + 1) 0 rows.edges
-          ∙ sum_same (λ row. count_by (λ y. note_place rows.crossings row.id y == 2 * q + 1) row.crossings) (λ row. cond {A = ℕ} (row.id == c.newcomer) (occurrences c.id row.crossings) 0) rows.edges (λ row k.
-          sum_same (λ y. one (note_place rows.crossings row.id y == 2 * q + 1)) (λ y. cond {A = ℕ} (not (row.id == c.crossed)) (one (y == c.id)) 0) row.crossings (λ y i. (entry q c at row k y i).1)
+          ∙ sum_same (λ row. count_by (λ y. note_place rows.crossings row.id y == 2 * q + 1) row.crossings)
+          (λ row. cond {A = ℕ} (row.id == c.newcomer) (occurrences c.id row.crossings) 0) rows.edges (λ row k.
+          sum_same (λ y. one (note_place rows.crossings row.id y == 2 * q + 1)) (λ y. cond {A = ℕ} (not (row.id == c.crossed)) (one (y == c.id)) 0)
+          row.crossings (λ y i. (entry q c at row k y i).1)
           ∙ sum_if (not (row.id == c.crossed)) (λ y. one (y == c.id)) row.crossings
-          ∙ other_side (row.id == c.crossed) (row.id == c.newcomer) (occurrences c.id row.crossings) (says.counted row k) (never_both row.id c.crossed c.newcomer says.apart))
+          ∙ other_side (row.id == c.crossed) (row.id == c.newcomer) (occurrences c.id row.crossings) (says.counted row k)
+          (never_both row.id c.crossed c.newcomer says.apart))
           ∙ once_found c.id c.newcomer p.row p.there p.counted);
     } where
       in_at : (q : ℕ) (c : CrossRow) (cs : List CrossRow) → slice_get cs q ≡ Some c → IsIn c cs
@@ -229,16 +254,19 @@ module _ (rows : Rows) (good : IsWellFormed rows) where
   number_within : (d : Dart) → IsIn d (darts_in (system rows)) → index_of rows d < length (darts rows)
   number_within d h = place_less (darts rows) d (sym (system_test rows good.paths good.crossings good.rotations d) ∙ has_item d (darts_in (system rows)) h)
 
-  each_within : (ds : List Dart) → ((d : Dart) → IsIn d ds → index_of rows d < length (darts rows)) → (k : ℕ) → k < length (map (index_of rows) ds) → slice_index (map (index_of rows) ds) k < length (darts rows)
+  each_within : (ds : List Dart) → ((d : Dart) → IsIn d ds → index_of rows d < length (darts rows)) → (k : ℕ) → k < length (map (index_of rows) ds)
+      → slice_index (map (index_of rows) ds) k < length (darts rows)
   each_within [] each k h = absurd (omega arith)
   each_within (d ∷ ds) each zero h = each d (inl refl)
   each_within (d ∷ ds) each (suc k) h = each_within ds (λ d i. each d (inr i)) k (omega arith)
 
-  pub round_within : (v : ℕ) → v < length rows.rotations → (round : List ℕ) → round ≡ vertex_round rows v → (k : ℕ) → k < length round → slice_index round k < length (darts rows)
+  pub round_within : (v : ℕ) → v < length rows.rotations → (round : List ℕ) → round ≡ vertex_round rows v → (k : ℕ) → k < length round
+      → slice_index round k < length (darts rows)
   round_within v h round is k below = grind (arith, each_within, number_within, at_vertex_in)
 
   -- the edges in a vertex's list are there
-  pub edge_known : (v : ℕ) → v < length rows.rotations → (around : List ℕ) → around ≡ rotation rows v → (i : ℕ) → i < length around → is_some (edge_row rows (slice_index around i)) ≡ true
+  pub edge_known : (v : ℕ) → v < length rows.rotations → (around : List ℕ) → around ≡ rotation rows v → (i : ℕ) → i < length around
+      → is_some (edge_row rows (slice_index around i)) ≡ true
   edge_known v h around is i below =
       (good_rotation rows good.rotations v (vertex_in rows v h)).known (slice_index around i)
       (subst (IsIn (slice_index around i)) is (at_in around i below)) where
@@ -269,7 +297,8 @@ module _ (rows : Rows) (good : IsWellFormed rows) where
   newcomer_in LeftToRight a b m n = inr (inl refl)
   newcomer_in RightToLeft a b m n = inr (inr (inr (inl refl)))
 
-  round_of : (s : Sign) (a b m n : Dart) → index_of rows b + 1 ≡ index_of rows a → index_of rows n + 1 ≡ index_of rows m → round_ahead s (index_of rows a) (index_of rows m) ≡ map (index_of rows) (clockwise s a b m n)
+  round_of : (s : Sign) (a b m n : Dart) → index_of rows b + 1 ≡ index_of rows a → index_of rows n + 1 ≡ index_of rows m
+      → round_ahead s (index_of rows a) (index_of rows m) ≡ map (index_of rows) (clockwise s a b m n)
   round_of LeftToRight a b m n first second = grind arith
   round_of RightToLeft a b m n first second = grind arith
 
@@ -278,7 +307,8 @@ module _ (rows : Rows) (good : IsWellFormed rows) where
   row_in_crossings zero c (d ∷ cs) e = let same : d ≡ c = cc in inl (sym same)
   row_in_crossings (suc q) c (d ∷ cs) e = inr (row_in_crossings q c cs e)
 
-  pub ahead_of_crossing : (numbers : List ℕ) → AreAhead rows numbers → (q : ℕ) (c : CrossRow) → slice_get rows.crossings q ≡ Some c → AheadOf c (slice_index numbers (2 * q)) (slice_index numbers (2 * q + 1))
+  pub ahead_of_crossing : (numbers : List ℕ) → AreAhead rows numbers → (q : ℕ) (c : CrossRow) → slice_get rows.crossings q ≡ Some c
+      → AheadOf c (slice_index numbers (2 * q)) (slice_index numbers (2 * q + 1))
   ahead_of_crossing numbers are q c at =
       let h = row_in_crossings q c rows.crossings at in
       let says = good_crossing rows good.crossings c h in
@@ -289,14 +319,17 @@ module _ (rows : Rows) (good : IsWellFormed rows) where
       let second = behind_number c.newcomer c.id n in
       let crossed_is = are.crossed q c at in
       let newcomer_is = are.newcomer q c at in
-      let first_within = at_crossing (ahead rows c.crossed c.id) c h (crossed_in c.sign (ahead rows c.crossed c.id) (behind rows c.crossed c.id) (ahead rows c.newcomer c.id) (behind rows c.newcomer c.id)) in
-      let second_within = at_crossing (ahead rows c.newcomer c.id) c h (newcomer_in c.sign (ahead rows c.crossed c.id) (behind rows c.crossed c.id) (ahead rows c.newcomer c.id) (behind rows c.newcomer c.id)) in
+      let first_within = at_crossing (ahead rows c.crossed c.id) c h
+      (crossed_in c.sign (ahead rows c.crossed c.id) (behind rows c.crossed c.id) (ahead rows c.newcomer c.id) (behind rows c.newcomer c.id)) in
+      let second_within = at_crossing (ahead rows c.newcomer c.id) c h
+      (newcomer_in c.sign (ahead rows c.crossed c.id) (behind rows c.crossed c.id) (ahead rows c.newcomer c.id) (behind rows c.newcomer c.id)) in
       record {
         crossed_some = omega arith;
         newcomer_some = omega arith;
         crossed_within = omega arith;
         newcomer_within = omega arith;
-        round = ap (λ k. round_ahead c.sign k (slice_index numbers (2 * q + 1))) crossed_is ∙ ap (λ k. round_ahead c.sign (index_of rows (ahead rows c.crossed c.id)) k) newcomer_is
+        round = ap (λ k. round_ahead c.sign k (slice_index numbers (2 * q + 1))) crossed_is
+            ∙ ap (λ k. round_ahead c.sign (index_of rows (ahead rows c.crossed c.id)) k) newcomer_is
             ∙ round_of c.sign (ahead rows c.crossed c.id) (behind rows c.crossed c.id) (ahead rows c.newcomer c.id) (behind rows c.newcomer c.id) first second;
       } where
         yes : (b : Bool) → (b || true) ≡ true
@@ -305,7 +338,8 @@ module _ (rows : Rows) (good : IsWellFormed rows) where
 
   -- what a path names is known
   pub paths_known : list_all (λ row. list_all (λ x. is_some (cross_row rows x)) row.crossings) rows.edges ≡ true
-  paths_known = all_from (λ row. list_all (λ x. is_some (cross_row rows x)) row.crossings) rows.edges (λ row h. all_from (λ x. is_some (cross_row rows x)) row.crossings (λ x k. crossing_there rows good.paths row h x k))
+  paths_known = all_from (λ row. list_all (λ x. is_some (cross_row rows x)) row.crossings) rows.edges
+      (λ row h. all_from (λ x. is_some (cross_row rows x)) row.crossings (λ x k. crossing_there rows good.paths row h x k))
 
 -- ---- Steps of loops
 
@@ -316,11 +350,13 @@ range_push a (suc n) =
     let f : (a + 1) + n ≡ a + suc n = omega arith in
     ap (range_with_len a) e ∙ ap (λ xs. a ∷ xs) (range_push (a + 1) n ∙ ap (λ k. range_with_len (a + 1) n ++ k ∷ []) f)
 
-pub linked_more : {X : Type 0} (f : X → List (ℕ × ℕ)) (xs : List X) (x : X) (images now next : List ℕ) → now ≡ written images (flat_map f xs) → next ≡ written now (f x) → next ≡ written images (flat_map f (xs ++ x ∷ []))
+pub linked_more : {X : Type 0} (f : X → List (ℕ × ℕ)) (xs : List X) (x : X) (images now next : List ℕ) → now ≡ written images (flat_map f xs)
+    → next ≡ written now (f x) → next ≡ written images (flat_map f (xs ++ x ∷ []))
 linked_more f xs x images now next was step = grind (arith, written_append, flat_map-append, append-nil)
 
 -- the links of a round, written one after another from its first entry
-pub round_starts : (images round : List ℕ) (first : ℕ) → 0 < length round → first ≡ slice_index round 0 → written images (links_to first (first ∷ drop 1 round)) ≡ written images (links round)
+pub round_starts : (images round : List ℕ) (first : ℕ) → 0 < length round → first ≡ slice_index round 0
+    → written images (links_to first (first ∷ drop 1 round)) ≡ written images (links round)
 round_starts images [] first some is = absurd (omega arith)
 round_starts images (x ∷ xs) first some is = ap (λ f. written images (links_to f (f ∷ xs))) is
 
@@ -335,27 +371,33 @@ round_ends images round first here i past = ap (λ xs. written images (links_to 
 pub round_length : (rows : Rows) (v : ℕ) (around : List ℕ) → around ≡ rotation rows v → length (vertex_round rows v) ≡ length around
 round_length rows v around is = length-map (around_vertex rows v) (index_of rows) ∙ length-map (rotation rows v) (end_dart rows v) ∙ sym (ap length is)
 
-pub round_number : (rows : Rows) (v : ℕ) (around : List ℕ) → around ≡ rotation rows v → (i : ℕ) → i < length around → slice_index (vertex_round rows v) i ≡ index_of rows (end_dart rows v (slice_index around i))
+pub round_number : (rows : Rows) (v : ℕ) (around : List ℕ) → around ≡ rotation rows v → (i : ℕ) → i < length around
+    → slice_index (vertex_round rows v) i ≡ index_of rows (end_dart rows v (slice_index around i))
 round_number rows v around is i inside =
     get_or-map (index_of rows) (around_vertex rows v) i (end_dart rows v 0) 0 (omega (arith, ap length is, length-map (rotation rows v) (end_dart rows v)))
-    ∙ ap (index_of rows) (get_or-map (end_dart rows v) (rotation rows v) i 0 (end_dart rows v 0) (omega (arith, ap length is)) ∙ ap (λ xs. end_dart rows v (slice_index xs i)) (sym is))
+    ∙ ap (index_of rows) (get_or-map (end_dart rows v) (rotation rows v) i 0 (end_dart rows v 0) (omega (arith, ap length is))
+    ∙ ap (λ xs. end_dart rows v (slice_index xs i)) (sym is))
 
-pub rotation_read : (rows : Rows) (v : ℕ) (around item : List ℕ) (read : List (List ℕ)) → v < length rows.rotations → around ≡ item → item ≡ get_or read v item → read ≡ rows.rotations → around ≡ rotation rows v
+pub rotation_read : (rows : Rows) (v : ℕ) (around item : List ℕ) (read : List (List ℕ)) → v < length rows.rotations → around ≡ item → item ≡ get_or read v item
+    → read ≡ rows.rotations → around ≡ rotation rows v
 rotation_read rows v around item read inside is at same = is ∙ at ∙ ap (λ xs. get_or xs v item) same ∙ get_or_default rows.rotations v item [] inside
 
 pub range_push_zero : (n : ℕ) → range_with_len 0 (n + 1) ≡ range_with_len 0 n ++ n ∷ []
 range_push_zero n = let e : 0 + n ≡ n = omega arith in range_push 0 n ∙ ap (λ k. range_with_len 0 n ++ k ∷ []) e
 
 -- the next crossing
-pub crossing_more : (rows : Rows) (i : ℕ) (row : CrossRow) (images now next : List ℕ) (crossings : List CrossRow) (round : List ℕ) → crossings ≡ rows.crossings → i < length crossings → row ≡ get_or crossings i row → round ≡ crossing_round rows row
+pub crossing_more : (rows : Rows) (i : ℕ) (row : CrossRow) (images now next : List ℕ) (crossings : List CrossRow) (round : List ℕ) → crossings ≡ rows.crossings
+    → i < length crossings → row ≡ get_or crossings i row → round ≡ crossing_round rows row
     → now ≡ written images (flat_map (λ x. links (crossing_round rows x)) (take i crossings)) → next ≡ written now (links round)
     → next ≡ written images (flat_map (λ x. links (crossing_round rows x)) (take (i + 1) crossings))
 crossing_more rows i row images now next crossings round same inside at is was step =
     linked_more (λ x. links (crossing_round rows x)) (take i crossings) row images now next was (step ∙ ap (λ r. written now (links r)) is)
-    ∙ ap (λ xs. written images (flat_map (λ x. links (crossing_round rows x)) xs)) (sym (take_more crossings i row inside ∙ ap (λ r. take i crossings ++ r ∷ []) (sym at)))
+    ∙ ap (λ xs. written images (flat_map (λ x. links (crossing_round rows x)) xs))
+    (sym (take_more crossings i row inside ∙ ap (λ r. take i crossings ++ r ∷ []) (sym at)))
 
 -- what is read of the crossing at a place
-pub crossing_read : (rows : Rows) (good : IsWellFormed rows) (numbers : List ℕ) → AreAhead rows numbers → (i : ℕ) (crossings : List CrossRow) (d : CrossRow) → crossings ≡ rows.crossings → i < length crossings
+pub crossing_read : (rows : Rows) (good : IsWellFormed rows) (numbers : List ℕ) → AreAhead rows numbers → (i : ℕ) (crossings : List CrossRow) (d : CrossRow)
+    → crossings ≡ rows.crossings → i < length crossings
     → AheadOf rows good (get_or crossings i d) (slice_index numbers (2 * i)) (slice_index numbers (2 * i + 1))
 crossing_read rows good numbers are i crossings d same inside =
     ahead_of_crossing rows good numbers are i (get_or crossings i d) (sym (ap (λ xs. slice_get xs i) same) ∙ slice_get-get_or crossings i d inside)

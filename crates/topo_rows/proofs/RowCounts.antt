@@ -36,7 +36,8 @@ without_length x (y ∷ ys) h =
       | inr e ↦
           let none : one (y == x) ≡ 0 = ap one e in
           let rest = without_length x ys (omega arith) in
-          let is : length (cond (y == x) ys (y ∷ without x ys)) ≡ length (y ∷ without x ys) = ap (λ (b : Bool). length (cond b ys (y ∷ without x ys))) e in omega arith
+          let is : length (cond (y == x) ys (y ∷ without x ys)) ≡ length (y ∷ without x ys) =
+          ap (λ (b : Bool). length (cond b ys (y ∷ without x ys))) e in omega arith
     ]
 
 without_counts : (k x : ℕ) (ys : List ℕ) → 1 ≤ occurrences x ys → occurrences k ys ≡ one (x == k) + occurrences k (without x ys)
@@ -50,7 +51,8 @@ without_counts k x (y ∷ ys) h =
       | inr e ↦
           let none : one (y == x) ≡ 0 = ap one e in
           let rest = without_counts k x ys (omega arith) in
-          let is : occurrences k (cond (y == x) ys (y ∷ without x ys)) ≡ occurrences k (y ∷ without x ys) = ap (λ (b : Bool). occurrences k (cond b ys (y ∷ without x ys))) e in
+          let is : occurrences k (cond (y == x) ys (y ∷ without x ys)) ≡ occurrences k (y ∷ without x ys) =
+          ap (λ (b : Bool). occurrences k (cond b ys (y ∷ without x ys))) e in
           let step_w = sum_by-cons (λ z. one (z == k)) y (without x ys) in omega arith
     ]
 
@@ -71,8 +73,10 @@ same_length (x ∷ xs) ys same =
 
 round_in : (w : ℕ) (rotations : List (List ℕ)) (v : ℕ) → length (slice_index_or rotations v []) ≤ length (rotation_pairs w rotations)
 round_in w [] v = omega arith
-round_in w (around ∷ rest) zero = omega (arith, length-append (map (λ e. e * 4294967296 + w) around) (rotation_pairs (w + 1) rest), length-map around (λ e. e * 4294967296 + w))
-round_in w (around ∷ rest) (suc v) = let more = round_in (w + 1) rest v in omega (arith, length-append (map (λ e. e * 4294967296 + w) around) (rotation_pairs (w + 1) rest))
+round_in w (around ∷ rest) zero =
+    omega (arith, length-append (map (λ e. e * 4294967296 + w) around) (rotation_pairs (w + 1) rest), length-map around (λ e. e * 4294967296 + w))
+round_in w (around ∷ rest) (suc v) = let more = round_in (w + 1) rest v in
+    omega (arith, length-append (map (λ e. e * 4294967296 + w) around) (rotation_pairs (w + 1) rest))
 
 two_ends_each : (edges : List EdgeRow) → length (end_pairs edges) ≡ 2 * length edges
 two_ends_each [] = refl
@@ -83,7 +87,8 @@ segments_most [] = omega arith
 segments_most (row ∷ edges) = let step = sum_by-cons segment_count row edges in let rest = segments_most edges in omega arith
 
 -- no vertex has more darts than all edges
-pub degree_most : (rows : Rows) → IsWellFormed rows → length rows.rotations < 4294967296 → (v : ℕ) → length (rotation rows v) ≤ 2 * sum_by segment_count rows.edges
+pub degree_most : (rows : Rows) → IsWellFormed rows → length rows.rotations < 4294967296 → (v : ℕ)
+    → length (rotation rows v) ≤ 2 * sum_by segment_count rows.edges
 degree_most rows good small v =
     let round = round_in 0 rows.rotations v in
     let same = same_length (rotation_pairs 0 rows.rotations) (end_pairs rows.edges) (agree_from_rotations rows good.paths small good.rotations) in
@@ -92,7 +97,9 @@ degree_most rows good small v =
 -- the paths name each crossing twice
 pub two_each : (rows : Rows) → IsWellFormed rows → rows.next_crossing ≤ 4294967296 → length (path_pairs rows.edges) ≡ 2 * length rows.crossings
 two_each rows good small =
-    same_length (path_pairs rows.edges) (crossing_pairs rows.crossings) (same_from_good rows good.paths small (left_true (rises_below rows.next_crossing (map (λ x. x.id) rows.crossings)) (list_all (is_good_crossing rows) rows.crossings) good.crossings) good.crossings)
+    same_length (path_pairs rows.edges) (crossing_pairs rows.crossings)
+    (same_from_good rows good.paths small (left_true (rises_below rows.next_crossing (map (λ x. x.id) rows.crossings))
+    (list_all (is_good_crossing rows) rows.crossings) good.crossings) good.crossings)
     ∙ two_pairs_each rows.crossings
 
 -- ---- Small pictures
@@ -110,5 +117,6 @@ picture_small limits rows is =
     let most = limits.crossings_in_range in
     let few = is.crossings in
     is_small limits rows
-    (all_three _ _ _ (le_test (length rows.rotations) limits.vertices is.vertices) (le_test rows.next_edge limits.edges is.edges) (le_test rows.next_crossing limits.crossings is.crossings))
+    (all_three _ _ _ (le_test (length rows.rotations) limits.vertices is.vertices) (le_test rows.next_edge limits.edges is.edges)
+    (le_test rows.next_crossing limits.crossings is.crossings))
     good.paths good.crossings (two_each rows good (omega arith))

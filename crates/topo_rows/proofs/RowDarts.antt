@@ -18,7 +18,8 @@ module _ (rows : Rows) (paths : has_good_paths rows ≡ true) where
 
   -- a dart of an edge that is there is one of the rows where its segment is
   pub dart_there : (d : Dart) (row : EdgeRow) → edge_row rows d.edge ≡ Some row → d.seg < segment_count row → has_dart (darts rows) d ≡ true
-  dart_there d row there less = listed_test rows paths d ∙ ap (λ (o : Option EdgeRow). is_some o && nat_lt d.seg (segment_count (edge_at rows d.edge))) there ∙ ap (λ (r : EdgeRow). nat_lt d.seg (segment_count r)) (edge_at_row rows d.edge row there) ∙ lt_is d.seg (segment_count row) less
+  dart_there d row there less = listed_test rows paths d ∙ ap (λ (o : Option EdgeRow). is_some o && nat_lt d.seg (segment_count (edge_at rows d.edge))) there
+      ∙ ap (λ (r : EdgeRow). nat_lt d.seg (segment_count r)) (edge_at_row rows d.edge row there) ∙ lt_is d.seg (segment_count row) less
 
 -- ---- Corners
 
@@ -27,6 +28,7 @@ map_get f [] p x e = cc
 map_get f (y ∷ xs) zero x e = let same : y ≡ x = cc in ap (λ y. Some (f y)) same
 map_get f (y ∷ xs) (suc p) x e = map_get f xs p x e
 
-pub corner_told : (rows : Rows) (v p e : ℕ) (around : List ℕ) → around ≡ rotation rows v → p < length around → e ≡ get_or around p 0 → corner rows v p ≡ Some (end_dart rows v e)
+pub corner_told : (rows : Rows) (v p e : ℕ) (around : List ℕ) → around ≡ rotation rows v → p < length around → e ≡ get_or around p 0
+    → corner rows v p ≡ Some (end_dart rows v e)
 corner_told rows v p e around is inside at =
     map_get (end_dart rows v) (rotation rows v) p e (ap (λ xs. slice_get xs p) (sym is) ∙ slice_get-get_or around p 0 inside ∙ ap Some (sym at))

@@ -62,7 +62,8 @@ three true true false h = cc
 le_of : (m n : ℕ) → nat_le m n ≡ true → m ≤ n
 le_of m n h = grind (arith, nat_tests)
 
-pub is_small : (limits : Limits) (rows : Rows) → fits limits rows ≡ true → has_good_paths rows ≡ true → has_good_crossings rows ≡ true → length (path_pairs rows.edges) ≡ 2 * length rows.crossings → IsSmall rows
+pub is_small : (limits : Limits) (rows : Rows) → fits limits rows ≡ true → has_good_paths rows ≡ true → has_good_crossings rows ≡ true
+    → length (path_pairs rows.edges) ≡ 2 * length rows.crossings → IsSmall rows
 is_small limits rows fit paths crossings two = grind (arith, three, le_of, few_rise, left_true, length-map, segments_by_pairs)
 
 -- ---- Euler's formula
@@ -70,12 +71,15 @@ is_small limits rows fit paths crossings two = grind (arith, three, le_of, few_r
 pub faces_at_most : (images : List ℕ) → faces_of images ≤ length images
 faces_at_most images = count_below-le (is_first (λ a b. is_met (face_next (map_of images)) (length images) a b)) (length images)
 
-pub genus_told : (rows : Rows) (images : List ℕ) (faces vertices crossings : ℕ) → images ≡ turn_images rows → faces ≡ faces_of images → vertices ≡ length rows.rotations → crossings ≡ length rows.crossings
+pub genus_told : (rows : Rows) (images : List ℕ) (faces vertices crossings : ℕ) → images ≡ turn_images rows → faces ≡ faces_of images
+    → vertices ≡ length rows.rotations → crossings ≡ length rows.crossings
     → (IsTrue (eqb (faces + (vertices + crossings)) (length images / 2 + 2)) ↔ HasGenusZero rows)
 genus_told rows images faces vertices crossings is counted v x =
     let total = images_total rows images is in
-    let same : faces ≡ faces_of (turn_images rows) = counted ∙ ap faces_of is in
-    (λ h. let e = eqb-true (faces + (vertices + crossings)) (length images / 2 + 2) h in omega arith, λ g. eq-eqb (faces + (vertices + crossings)) (length images / 2 + 2) (omega arith))
+    let same : faces ≡ faces_of (turn_images rows) = counted ∙ ap faces_of is in (
+      λ h. let e = eqb-true (faces + (vertices + crossings)) (length images / 2 + 2) h in omega arith,
+      λ g. eq-eqb (faces + (vertices + crossings)) (length images / 2 + 2) (omega arith),
+    )
 
 -- ---- Connectedness
 
@@ -88,7 +92,8 @@ four_around rows x = by_sign x.sign _ _ _ _ where
 
 no_bare_crossing : (rows : Rows) (crossings : List CrossRow) → list_any (λ around. length around == 0) (map (around_crossing rows) crossings) ≡ false
 no_bare_crossing rows [] = refl
-no_bare_crossing rows (x ∷ xs) = ap (λ b. b || list_any (λ around. length around == 0) (map (around_crossing rows) xs)) (four_around rows x) ∙ no_bare_crossing rows xs
+no_bare_crossing rows (x ∷ xs) = ap (λ b. b || list_any (λ around. length around == 0) (map (around_crossing rows) xs)) (four_around rows x)
+    ∙ no_bare_crossing rows xs
 
 -- the vertices from the one numbered v on are bare as the rest of the lists is empty
 bare_vertices : (rows : Rows) (v : ℕ) (lists : List (List ℕ)) → ((i : ℕ) → slice_index_or lists i [] ≡ rotation rows (v + i))
@@ -99,7 +104,8 @@ bare_vertices rows v (around ∷ lists) same =
     let here : around ≡ rotation rows v = same 0 ∙ ap (rotation rows) (sym place) in
     let long : length (around_vertex rows v) ≡ length around = length-map (rotation rows v) (end_dart rows v) ∙ ap length (sym here) in
     ap (λ n. n == 0 || list_any (λ around. length around == 0) (map (around_vertex rows) (range_with_len (v + 1) (length lists)))) long
-    ∙ ap (λ b. length around == 0 || b) (bare_vertices rows (v + 1) lists (λ i. let next : v + suc i ≡ (v + 1) + i = omega arith in same (suc i) ∙ ap (rotation rows) next))
+    ∙ ap (λ b. length around == 0 || b)
+    (bare_vertices rows (v + 1) lists (λ i. let next : v + suc i ≡ (v + 1) + i = omega arith in same (suc i) ∙ ap (rotation rows) next))
 
 -- a point is bare just when a vertex's list is empty
 pub bare_points : (rows : Rows) → list_any (λ around. length around == 0) (system rows) ≡ list_any (λ around. length around == 0) rows.rotations
@@ -117,5 +123,6 @@ pub not_whole : (rows : Rows) → list_any (λ around. length around == 0) rows.
 not_whole rows bare = (λ h. absurd (false≢true h), λ connected. sym (connected.no_bare_point) ∙ bare_points rows ∙ bare)
 
 -- and else the numbers tell whether it is connected
-pub whole_told : (rows : Rows) (images : List ℕ) (t : Bool) → IsWellFormed rows → images ≡ turn_images rows → list_any (λ around. length around == 0) rows.rotations ≡ false → (IsTrue t ↔ IsConnected images) → (IsTrue t ↔ Connected (system rows))
+pub whole_told : (rows : Rows) (images : List ℕ) (t : Bool) → IsWellFormed rows → images ≡ turn_images rows
+    → list_any (λ around. length around == 0) rows.rotations ≡ false → (IsTrue t ↔ IsConnected images) → (IsTrue t ↔ Connected (system rows))
 whole_told rows images t good is full tells = grind (arith, bare_points, darts_connected, numbers_connected)

@@ -17,7 +17,8 @@ abbrev pub FailsFirst : Limits → Rows → LoadFault → Type 0
 FailsFirst limits rows TooMany = fits limits rows ≡ false
 FailsFirst limits rows BadPath = (fits limits rows ≡ true) × (has_good_paths rows ≡ false)
 FailsFirst limits rows BadCrossing = (fits limits rows ≡ true) × (has_good_paths rows ≡ true) × (has_good_crossings rows ≡ false)
-FailsFirst limits rows BadRotation = (fits limits rows ≡ true) × (has_good_paths rows ≡ true) × (has_good_crossings rows ≡ true) × (has_good_rotations rows ≡ false)
+FailsFirst limits rows BadRotation = (fits limits rows ≡ true) × (has_good_paths rows ≡ true) × (has_good_crossings rows ≡ true)
+    × (has_good_rotations rows ≡ false)
 FailsFirst limits rows NotConnected = (fits limits rows ≡ true) × IsWellFormed rows × (Connected (system rows) → ⊥)
 FailsFirst limits rows NotPlanar = (fits limits rows ≡ true) × IsEmbedding rows × (HasGenusZero rows → ⊥)
 -- out of memory may come in place of any answer

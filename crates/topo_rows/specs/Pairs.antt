@@ -27,7 +27,8 @@ end_pairs edges = flat_map (λ row. pair row.id row.a ∷ pair row.id row.b ∷ 
 
 -- the ends of an edge are two of n vertices, its kind is known, and its path names these crossings alone
 abbrev pub is_valid_edge : ℕ → List ℕ → EdgeRow → Bool
-is_valid_edge n ids row = nat_lt row.a n && nat_lt row.b n && not (row.a == row.b) && nat_lt row.kind 64 && list_all (λ x. list_any (λ y. y == x) ids) row.crossings
+is_valid_edge n ids row =
+    nat_lt row.a n && nat_lt row.b n && not (row.a == row.b) && nat_lt row.kind 64 && list_all (λ x. list_any (λ y. y == x) ids) row.crossings
 
 -- the list begins with its least number
 abbrev pub begins_with_least : List ℕ → Bool

@@ -71,14 +71,17 @@ module _ {X : Type 0} (f other : X → X) (same : X → X → Bool) (told : (x y
   leads_joined zero a b h = record { moves = []; leads = told a b h }
   leads_joined (suc k) a b h = elim (cases_Bool (leads_in k (f a) b)) [
     | inl e ↦ let rest = leads_joined k (f a) b e in record { moves = rest.moves ++ Turn ∷ []; leads = along_last rest.moves Turn a ∙ rest.leads }
-    | inr e ↦ let rest = leads_joined k (other a) b (or_second (leads_in k (f a) b) (leads_in k (other a) b) e h) in record { moves = rest.moves ++ Cross ∷ []; leads = along_last rest.moves Cross a ∙ rest.leads }
+    | inr e ↦ let rest = leads_joined k (other a) b (or_second (leads_in k (f a) b) (leads_in k (other a) b) e h) in
+        record { moves = rest.moves ++ Cross ∷ []; leads = along_last rest.moves Cross a ∙ rest.leads }
   ]
 
   -- moves that lead from a to c, and a number of moves that leads from c to b
   leads_after : (moves : List Move) (k : ℕ) (a b : X) → leads_in k (along f other moves a) b ≡ true → (n : ℕ) × (leads_in n a b ≡ true)
   leads_after [] k a b h = (k, h)
-  leads_after (Turn ∷ moves) k a b h = leads_after moves (suc k) a b (or_left (leads_in k (f (along f other moves a)) b) (leads_in k (other (along f other moves a)) b) h)
-  leads_after (Cross ∷ moves) k a b h = leads_after moves (suc k) a b (or_right (leads_in k (f (along f other moves a)) b) (leads_in k (other (along f other moves a)) b) h)
+  leads_after (Turn ∷ moves) k a b h =
+      leads_after moves (suc k) a b (or_left (leads_in k (f (along f other moves a)) b) (leads_in k (other (along f other moves a)) b) h)
+  leads_after (Cross ∷ moves) k a b h =
+      leads_after moves (suc k) a b (or_right (leads_in k (f (along f other moves a)) b) (leads_in k (other (along f other moves a)) b) h)
 
   joined_leads : (a b : X) → Joined f other a b → (n : ℕ) × (leads_in n a b ≡ true)
   joined_leads a b j = leads_after j.moves 0 a b (ap (same (along f other j.moves a)) (sym j.leads) ∙ self (along f other j.moves a))
@@ -100,7 +103,8 @@ lawful_again rows merely = record {
     well_formed = well_formed_again rows merely;
     connected = record {
       no_bare_point = ∥∥₁_elim merely (Bool-set _ _) (λ l. l.embedding.connected.no_bare_point);
-      joined = λ c d hc hd. joined_again (turn (system rows)) dart_twin same_dart same_dart_true same_dart_self c d (∥∥₁_map merely (λ l. l.embedding.connected.joined c d hc hd));
+      joined = λ c d hc hd. joined_again (turn (system rows)) dart_twin same_dart same_dart_true same_dart_self c d
+          (∥∥₁_map merely (λ l. l.embedding.connected.joined c d hc hd));
     };
   };
   genus_zero = ∥∥₁_elim merely (ℕ_set _ _) (λ l. l.genus_zero);

@@ -35,7 +35,8 @@ impl Identified for CrossRow {
 /// The place of the row with an id, by a binary search. It halves what is left whatever it reads.
 fn searched_place<T: Identified>(rows: &[T], id: u32) -> Option<usize>
     requires { IdsRise (map T.id_of rows.now) }
-    ensures { MatchOption result (find (λ row. T.id_of row == id) rows.now ≡ None) (IsPlaceOf rows.now T.id_of id) }
+    ensures { MatchOption result (find (λ row. T.id_of row == id) rows.now ≡ None)
+        (IsPlaceOf rows.now T.id_of id) }
 {
     if rows.is_empty() {
         return None;
@@ -57,11 +58,12 @@ fn searched_place<T: Identified>(rows: &[T], id: u32) -> Option<usize>
     }
 }
 
-/// The place of the row with an id, where ids rise; none where there is no such row. One look finds it
-/// where it is expected; else a binary search does.
+/// The place of the row with an id, where ids rise; none where there is no such row. One look finds
+/// it where it is expected; else a binary search does.
 fn row_place<T: Identified>(rows: &[T], expected: usize, id: u32) -> Option<usize>
     requires { IdsRise (map T.id_of rows.now) }
-    ensures { MatchOption result (find (λ row. T.id_of row == id) rows.now ≡ None) (IsPlaceOf rows.now T.id_of id) }
+    ensures { MatchOption result (find (λ row. T.id_of row == id) rows.now ≡ None)
+        (IsPlaceOf rows.now T.id_of id) }
 {
     if expected < rows.len() && rows[expected].id() == id {
         return Some(expected);
@@ -72,7 +74,8 @@ fn row_place<T: Identified>(rows: &[T], expected: usize, id: u32) -> Option<usiz
 /// The place of the edge with an id, where ids rise; none where there is no such edge.
 pub fn edge_place(edges: &[EdgeRow], hints: &IdIndex, id: u32) -> Option<usize>
     requires { IdsRise (map (λ row. row.id) edges.now) }
-    ensures { MatchOption result (find (λ row. row.id == id) edges.now ≡ None) (IsPlaceOf edges.now (λ row. row.id) id) }
+    ensures { MatchOption result (find (λ row. row.id == id) edges.now ≡ None)
+        (IsPlaceOf edges.now (λ row. row.id) id) }
 {
     row_place(edges, hints.edge(id), id)
 }
@@ -80,7 +83,8 @@ pub fn edge_place(edges: &[EdgeRow], hints: &IdIndex, id: u32) -> Option<usize>
 /// The place of the crossing with an id, in the same way.
 pub fn crossing_place(crossings: &[CrossRow], hints: &IdIndex, id: u32) -> Option<usize>
     requires { IdsRise (map (λ row. row.id) crossings.now) }
-    ensures { MatchOption result (find (λ row. row.id == id) crossings.now ≡ None) (IsPlaceOf crossings.now (λ row. row.id) id) }
+    ensures { MatchOption result (find (λ row. row.id == id) crossings.now ≡ None)
+        (IsPlaceOf crossings.now (λ row. row.id) id) }
 {
     row_place(crossings, hints.crossing(id), id)
 }

@@ -1,12 +1,14 @@
 //! The tests of rows that say whether they are an embedding, each in little more than linear time.
 
-ghost use Rattle.std.specs.Prelude.{◌≡◌, ◌*◌, ◌^◌, ◌<◌, ◌==◌, ◌&&◌, ◌↔◌, ℕ, IfOk, IsTrue, true, not, length, map};
+ghost use Rattle.std.specs.Prelude.{◌≡◌, ◌*◌, ◌^◌, ◌<◌, ◌==◌, ◌&&◌, ◌↔◌, ℕ};
+ghost use Rattle.std.specs.Prelude.{IfOk, IsTrue, true, not, length, map};
 ghost use Rattle.std.specs.List.{list_any, list_all};
 ghost use Rattle.std.specs.List.Sorted.{IsNonDecreasing, IsPermutation};
 ghost use Rattle.topo_core.specs.Items.{occurrences, rises_below};
 ghost use Rattle.topo_core.specs.Lawful.{has_good_paths, has_good_crossings, has_good_rotations};
 ghost use Rattle.topo_rows.specs.Loading.{fits};
-ghost use Rattle.topo_rows.specs.Pairs.{begins_with_least, crossing_pairs, end_pairs, is_valid_edge, path_pairs, rotation_pairs};
+ghost use Rattle.topo_rows.specs.Pairs.{begins_with_least, crossing_pairs, end_pairs};
+ghost use Rattle.topo_rows.specs.Pairs.{is_valid_edge, path_pairs, rotation_pairs};
 
 use crate::id_index::IdIndex;
 use crate::pairs::{
@@ -55,8 +57,8 @@ fn has_numbers(numbers: &[u32], xs: &[u32]) -> bool
     xs.iter().all(|x| has_number(numbers, *x))
 }
 
-/// Whether an edge has two vertices for its ends, a kind that is known, and a path of crossings that
-/// are there.
+/// Whether an edge has two vertices for its ends, a kind that is known, and a path of crossings
+/// that are there.
 fn is_valid_edge(vertices: usize, ids: &[u32], row: &EdgeRow) -> bool
     requires { IsNonDecreasing ids.now }
     ensures { result ≡ is_valid_edge vertices ids.now row.now }
@@ -92,7 +94,8 @@ pub(crate) fn crossing_ids(alloc: Global, crossings: &[CrossRow]) -> Result<Vec<
 
 /// Whether the ids of edges rise and stay below the next.
 fn edge_ids_rise(alloc: Global, rows: &Rows) -> Result<bool, AllocError>
-    ensures { IfOk result (λ yes. yes ≡ rises_below rows.now.next_edge (map (λ row. row.id) rows.now.edges)) }
+    ensures { IfOk result
+        (λ yes. yes ≡ rises_below rows.now.next_edge (map (λ row. row.id) rows.now.edges)) }
 {
     let ids = edge_ids(alloc, rows.edges.as_slice())?;
     Ok(rise_below(rows.next_edge, ids.as_slice()))
@@ -101,7 +104,8 @@ fn edge_ids_rise(alloc: Global, rows: &Rows) -> Result<bool, AllocError>
 /// The ids of crossings, in order.
 fn sorted_ids(alloc: Global, crossings: &[CrossRow]) -> Result<Vec<u32>, AllocError>
     ensures sorted { IfOk result (λ ids. IsNonDecreasing ids.items) }
-    ensures permutation { IfOk result (λ ids. IsPermutation (map (λ x. x.id) crossings.now) ids.items) }
+    ensures permutation { IfOk result
+        (λ ids. IsPermutation (map (λ x. x.id) crossings.now) ids.items) }
 {
     let mut ids = crossing_ids(alloc, crossings)?;
     ids.sort_unstable();
@@ -129,7 +133,8 @@ fn differ(crossings: &[CrossRow]) -> bool
 
 /// Whether the ids of crossings rise and stay below the next, and each is of two different edges.
 fn rise_and_differ(alloc: Global, rows: &Rows) -> Result<bool, AllocError>
-    ensures { IfOk result (λ yes. yes ≡ (rises_below rows.now.next_crossing (map (λ x. x.id) rows.now.crossings)
+    ensures { IfOk result
+        (λ yes. yes ≡ (rises_below rows.now.next_crossing (map (λ x. x.id) rows.now.crossings)
         && list_all (λ x. not (x.crossed == x.newcomer)) rows.now.crossings)) }
 {
     let crossings = rows.crossings.as_slice();
@@ -144,8 +149,12 @@ fn paths_agree(
     crossings: &[CrossRow],
     hints: &IdIndex,
 ) -> Result<bool, AllocError>
-    ensures same { IfOk result (λ yes. IsTrue yes ↔ ((k : ℕ) → occurrences k (path_pairs edges.now) ≡ occurrences k (crossing_pairs crossings.now))) }
-    ensures as_many { IfOk result (λ yes. IsTrue yes → length (path_pairs edges.now) ≡ length (crossing_pairs crossings.now)) }
+    ensures same { IfOk result
+        (λ yes. IsTrue yes ↔ ((k : ℕ)
+        → occurrences k (path_pairs edges.now) ≡ occurrences k (crossing_pairs crossings.now))) }
+    ensures as_many { IfOk result
+        (λ yes. IsTrue yes → length (path_pairs edges.now)
+        ≡ length (crossing_pairs crossings.now)) }
 {
     let mut expected = crossing_pairs(alloc, crossings)?;
     let mut found = path_pairs(alloc, edges, expected.len())?;
@@ -161,7 +170,8 @@ pub(crate) fn are_crossings_good(
 ) -> Result<bool, AllocError>
     requires { has_good_paths rows.now ≡ true }
     ensures good { IfOk result (λ yes. yes ≡ has_good_crossings rows.now) }
-    ensures two_each { IfOk result (λ yes. IsTrue yes → length (path_pairs rows.now.edges) ≡ 2 * length rows.now.crossings) }
+    ensures two_each { IfOk result
+        (λ yes. IsTrue yes → length (path_pairs rows.now.edges) ≡ 2 * length rows.now.crossings) }
 {
     let _next = rows.next_crossing;
     if !rise_and_differ(alloc, rows)? {
@@ -200,7 +210,9 @@ fn rotations_agree(
     hints: &IdIndex,
 ) -> Result<bool, AllocError>
     requires { length rotations.now < 2 ^ 32 }
-    ensures { IfOk result (λ yes. IsTrue yes ↔ ((k : ℕ) → occurrences k (rotation_pairs 0 rotations.now) ≡ occurrences k (end_pairs edges.now))) }
+    ensures { IfOk result
+        (λ yes. IsTrue yes ↔ ((k : ℕ)
+        → occurrences k (rotation_pairs 0 rotations.now) ≡ occurrences k (end_pairs edges.now))) }
 {
     let mut expected = end_pairs(alloc, edges)?;
     let mut found = rotation_pairs(alloc, rotations, expected.len())?;

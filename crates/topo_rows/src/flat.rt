@@ -1,11 +1,16 @@
 //! The flat lists of a well-formed picture: its darts as numbers in canonical order.
 
-ghost use Rattle.std.specs.Prelude.{◌≡◌, ◌+◌, ◌*◌, ◌<◌, ◌≤◌, ◌^◌, ◌++◌, ◌==◌, ℕ, true, IfOk, OnOk, IsTrue, ◌↔◌, find, length, map, flat_map, replicate, sum_by, is_some, slice_index};
+ghost use Rattle.std.specs.Prelude.{◌≡◌, ◌+◌, ◌*◌, ◌<◌, ◌≤◌, ◌^◌, ◌++◌, ◌==◌, ℕ, true};
+ghost use Rattle.std.specs.Prelude.{IfOk, OnOk, IsTrue, ◌↔◌, find, length, map};
+ghost use Rattle.std.specs.Prelude.{flat_map, replicate, sum_by, is_some, slice_index};
 ghost use Rattle.std.specs.List.{list_all};
 ghost use Rattle.topo_core.specs.Lawful.{IsWellFormed, has_good_paths};
-ghost use Rattle.topo_core.specs.Picture.{segment_count, index_of, end_dart, edge_row, darts, rotation, vertices, turn_images};
+ghost use Rattle.topo_core.specs.Picture.{segment_count, index_of, end_dart, edge_row};
+ghost use Rattle.topo_core.specs.Picture.{darts, rotation, vertices, turn_images};
 ghost use Rattle.topo_rows.specs.Ids.{IdsRise};
-ghost use Rattle.topo_rows.specs.Flats.{begins_from, written, links, note_place, path_notes, notes_from, vertex_round, crossing_round, round_ahead, AreAhead, AreTurnsOf};
+ghost use Rattle.topo_rows.specs.Flats.{begins_from, written, links, note_place};
+ghost use Rattle.topo_rows.specs.Flats.{path_notes, notes_from, vertex_round};
+ghost use Rattle.topo_rows.specs.Flats.{crossing_round, round_ahead, AreAhead, AreTurnsOf};
 
 use crate::by_id::{place_of_crossing, place_of_edge};
 use crate::id_index::IdIndex;
@@ -13,8 +18,8 @@ use std::alloc::{AllocError, Global};
 use topo_core::darts::Sign;
 use topo_core::rows::{CrossRow, EdgeRow, Rows};
 
-/// Writes for each edge the number of its first dart, and last the number of all darts, over what the
-/// list held.
+/// Writes for each edge the number of its first dart, and last the number of all darts, over what
+/// the list held.
 pub fn fill_begins(begins: &mut Vec<u32>, edges: &[EdgeRow]) -> Result<(), AllocError>
     requires { 2 * sum_by segment_count edges.now < 2 ^ 32 }
     ensures { OnOk result (begins.new.items ≡ begins_from 0 edges.now) }
@@ -96,7 +101,8 @@ fn note_path(
 /// Notes that for each path.
 fn note_paths(ahead: &mut [u32], crossings: &[CrossRow], hints: &IdIndex, edges: &[EdgeRow])
     requires rise { IdsRise (map (λ c. c.id) crossings.now) }
-    requires known { list_all (λ row. list_all (λ x. is_some (find (λ c. c.id == x) crossings.now)) row.crossings) edges.now ≡ true }
+    requires known { list_all (λ row. list_all (λ x. is_some (find (λ c. c.id == x) crossings.now))
+        row.crossings) edges.now ≡ true }
     requires few { length crossings.now < 2 ^ 32 }
     requires fits { 2 * sum_by segment_count edges.now < 2 ^ 32 }
     requires room { length ahead.old ≡ 2 * length crossings.now }
@@ -174,7 +180,8 @@ fn link_vertices(images: &mut [u32], rows: &Rows, begins: &[u32], hints: &IdInde
     requires begins { begins.now ≡ begins_from 0 rows.now.edges }
     requires vertices { length rows.now.rotations < 2 ^ 32 }
     requires room { length images.old ≡ length (darts rows.now) }
-    ensures { images.new ≡ written images.old (flat_map (λ v. links (vertex_round rows.now v)) (vertices rows.now)) }
+    ensures { images.new
+        ≡ written images.old (flat_map (λ v. links (vertex_round rows.now v)) (vertices rows.now)) }
 {
     for v in 0..rows.rotations.as_slice().len() {
         link_vertex(images, rows, begins, hints, v as u32);
@@ -202,7 +209,9 @@ fn link_crossings(images: &mut [u32], rows: &Rows, ahead: &[u32])
     requires crossings { length rows.now.crossings < 2 ^ 32 }
     requires ahead { AreAhead rows.now ahead.now }
     requires room { length images.old ≡ length (darts rows.now) }
-    ensures { images.new ≡ written images.old (flat_map (λ x. links (crossing_round rows.now x)) rows.now.crossings) }
+    ensures { images.new
+        ≡ written images.old
+        (flat_map (λ x. links (crossing_round rows.now x)) rows.now.crossings) }
 {
     let crossings = rows.crossings.as_slice();
     for i in 0..crossings.len() {
@@ -233,8 +242,8 @@ pub(crate) fn dart_count(rows: &Rows, begins: &[u32]) -> usize
     begins[last] as usize
 }
 
-/// Writes the images of the turn in canonical numbers, where the darts of the edges begin as said, over
-/// what the list held. Another list is for the numbers of the darts ahead of the crossings.
+/// Writes the images of the turn in canonical numbers, where the darts of the edges begin as said,
+/// over what the list held. Another list is for the numbers of the darts ahead of the crossings.
 pub fn fill_turns(
     turns: &mut Vec<u32>,
     ahead: &mut Vec<u32>,

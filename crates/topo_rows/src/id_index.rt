@@ -7,8 +7,9 @@ use topo_core::rows::{EdgeRow, Rows};
 /// No places are noted for ids when more than this many ids were given for each row that is there.
 const MAX_IDS_PER_ROW: usize = 16;
 
-/// For the ids of edges and of crossings the places of their rows. It is a cache: each hit is checked,
-/// and a miss falls back to binary search. So no result depends on it, and nothing is claimed of it.
+/// For the ids of edges and of crossings the places of their rows. It is a cache: each hit is
+/// checked, and a miss falls back to binary search. So no result depends on it, and nothing is
+/// claimed of it.
 #[derive(Drop)]
 pub struct IdIndex {
     edges: Vec<u32>,

@@ -19,11 +19,11 @@ pub enum LoadFault {
     /// Edge ids do not rise or are not below the next, an end is no vertex, the ends are equal, a
     /// kind is above 63, or a path names a crossing that is not there.
     BadPath,
-    /// Crossing ids do not rise or are not below the next, the two edges are equal or not there, or a
-    /// crossing is not once in each of their paths and in no other.
+    /// Crossing ids do not rise or are not below the next, the two edges are equal or not there, or
+    /// a crossing is not once in each of their paths and in no other.
     BadCrossing,
-    /// An edge is not once in the list of each of its ends, a list has something else, or it does not
-    /// begin with its least id.
+    /// An edge is not once in the list of each of its ends, a list has something else, or it does
+    /// not begin with its least id.
     BadRotation,
     /// A point has no dart, or two darts are not joined.
     NotConnected,
@@ -81,7 +81,8 @@ impl fmt::Display for LoadFault {
     }
 }
 
-ghost use Rattle.std.specs.Prelude.{◌≡◌, ◌≢◌, ◌==◌, ◌+◌, ◌%◌, ◌<◌, ◌≤◌, ◌*◌, ◌^◌, ◌↔◌, IfErr, IfOk, IsTrue, length, sum_by};
+ghost use Rattle.std.specs.Prelude.{◌≡◌, ◌≢◌, ◌==◌, ◌+◌, ◌%◌, ◌<◌, ◌≤◌, ◌*◌, ◌^◌};
+ghost use Rattle.std.specs.Prelude.{◌↔◌, IfErr, IfOk, IsTrue, length, sum_by};
 ghost use Rattle.std.specs.List.{list_any};
 ghost use Rattle.topo_core.specs.Cycles.{IsPermutationList};
 ghost use Rattle.topo_core.specs.Lawful.{HasGenusZero, IsWellFormed};
@@ -141,15 +142,17 @@ fn has_genus_zero(alloc: Global, rows: &Rows, images: &[u32]) -> Result<bool, Al
     Ok(faces(alloc, images)? + points as u64 == segments as u64 + 2)
 }
 
-/// Tests rows. Answers their rotation system if they are a picture within the limits, and else the first
-/// test that they fail. Out of memory is an error, and no such test.
+/// Tests rows. Answers their rotation system if they are a picture within the limits, and else the
+/// first test that they fail. Out of memory is an error, and no such test.
 pub fn judge(
     alloc: Global,
     limits: &Limits,
     rows: &Rows,
 ) -> Result<Result<Turns, LoadFault>, AllocError>
     ensures picture { IfOk result (λ judged. IfOk judged (λ _. IsPicture limits.now rows.now)) }
-    ensures turns { IfOk result (λ judged. IfOk judged (λ turns. AreTurnsOf rows.now turns.begins.items turns.images.items)) }
+    ensures turns { IfOk result
+        (λ judged. IfOk judged
+        (λ turns. AreTurnsOf rows.now turns.begins.items turns.images.items)) }
     ensures first { IfOk result (λ judged. IfErr judged (FailsFirst limits.now rows.now)) }
     ensures no_memory { IfOk result (λ judged. IfErr judged (λ fault. fault ≢ LoadFault.Memory)) }
 {

@@ -27,7 +27,8 @@ all_own (y ∷ ys) all =
     let here : y.caller ≡ 0 = all 0 y (omega arith) in
     rw (eq-eqb y.caller 0 here) (ap (λ (es : List Entry). y ∷ es) (all_own ys (λ k d lt. all (suc k) d (omega arith))))
 
-pub run_alone : (price : Pricing) (limits : Limits) (p q : Rows) (list : List Command) (history : List Entry) → HasEntered list history → Replays price limits p history q
+pub run_alone : (price : Pricing) (limits : Limits) (p q : Rows) (list : List Command) (history : List Entry) → HasEntered list history
+    → Replays price limits p history q
     → IsRun price limits p (list ∷ []) history q
 run_alone price limits p q list history entered replayed = record {
   replayed = replayed;

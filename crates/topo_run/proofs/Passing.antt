@@ -1,5 +1,6 @@
 -- Passes that have carried lists out, and whose receipts are the whole history, make a run of the lists.
-use Rattle.std.proofs.Common.{◌≡◌, ℕ, zero, suc, ◌+◌, ◌<◌, ◌⊎◌, List, [], ◌∷◌, ◌++◌, All, Option, Result, Ok, Err, IfOk, map, length, take, get_or, slice_get, slice_index_or, Some, refl, sym, ap, subst, ◌∙◌, inl, inr, arith, length-append}
+use Rattle.std.proofs.Common.{◌≡◌, ℕ, zero, suc, ◌+◌, ◌<◌, ◌⊎◌, List, [], ◌∷◌, ◌++◌, All, Option, Result, Ok, Err, IfOk, map, length}
+use Rattle.std.proofs.Common.{take, get_or, slice_get, slice_index_or, Some, refl, sym, ap, subst, ◌∙◌, inl, inr, arith, length-append}
 use Rattle.std.proofs.lemmas.List.{get_or_append_left, get_or-append-add, take_all}
 use Rattle.topo_core.specs.declared.rows.Facts.{Facts}
 use Rattle.topo_core.specs.declared.rows.Rows.{Rows}
@@ -59,7 +60,8 @@ caller_at lists passes history worked whole entry there =
     let in_lists : i < length lists = omega (arith, worked.count) in
     omega (arith, (worked.each i no_pass in_lists).is_numbered, is)
 
-pub run_of_passes : (price : Pricing) (limits : Limits) (p q : Rows) (lists : List (List Command)) (passes : List PassState) (history : List Entry) → HaveWorked lists passes
+pub run_of_passes : (price : Pricing) (limits : Limits) (p q : Rows) (lists : List (List Command)) (passes : List PassState) (history : List Entry)
+    → HaveWorked lists passes
     → AreWhole history passes → Replays price limits p history q → IsRun price limits p lists history q
 run_of_passes price limits p q lists passes history worked whole replayed = record {
   replayed = replayed;
@@ -80,7 +82,8 @@ place_cases zero (suc n) h = inl (omega arith)
 place_cases (suc i) zero h = absurd (omega arith)
 place_cases (suc i) (suc n) h = elim (place_cases i n (omega arith)) [ inl e ↦ inl (omega arith) | inr e ↦ inr (omega arith) ]
 
-pub opened_push : (passes : List PassState) (pass : PassState) → AreOpened passes → pass.number ≡ length passes → pass.receipts ≡ [] → AreOpened (passes ++ pass ∷ [])
+pub opened_push : (passes : List PassState) (pass : PassState) → AreOpened passes → pass.number ≡ length passes → pass.receipts ≡ []
+    → AreOpened (passes ++ pass ∷ [])
 opened_push passes pass opened number receipts i d below = elim (place_cases i (length passes) (omega (arith, length-append passes (pass ∷ [])))) [
   | inl before ↦ rw (get_or_append_left passes (pass ∷ []) d i before) (opened i d before)
   | inr last ↦ rw (last, get_or-append-add passes (pass ∷ []) 0 d) (omega (arith, number), receipts)
@@ -91,21 +94,26 @@ opened_push passes pass opened number receipts i d below = elim (place_cases i (
 done_so : (old new : PassState) (list : List Command) (end : WorkerEnd) → end ≡ Done → HasEnded old new list end → HasDone old new list (length list)
 done_so old new list end is ended = subst (λ (e : WorkerEnd). HasEnded old new list e) is ended
 
-worked_one : (i : ℕ) (old new : PassState) (list : List Command) → old.number ≡ i → old.receipts ≡ [] → HasDone old new list (length list) → HasWorked i list new
+worked_one : (i : ℕ) (old new : PassState) (list : List Command) → old.number ≡ i → old.receipts ≡ [] → HasDone old new list (length list)
+    → HasWorked i list new
 worked_one i old new list number none done = record {
   is_numbered = done.same_number ∙ number;
-  calls = ap (map call_in) (done.receipts ∙ ap (λ (rs : List Receipt). rs ++ done.gained) none) ∙ done.calls ∙ ap (map call_of) (take_all (length list) list (omega arith));
+  calls = ap (map call_in) (done.receipts ∙ ap (λ (rs : List Receipt). rs ++ done.gained) none) ∙ done.calls
+      ∙ ap (map call_of) (take_all (length list) list (omega arith));
 }
 
-pub all_worked : (old new : List PassState) (lists : List (List Command)) (ends : List WorkerEnd) → AreOpened old → length old ≡ length lists → length new ≡ length lists
+pub all_worked : (old new : List PassState) (lists : List (List Command)) (ends : List WorkerEnd) → AreOpened old → length old ≡ length lists
+    → length new ≡ length lists
     → length ends ≡ length lists → All (λ end. end ≡ Done) ends
-    → ((i : ℕ) (p : PassState) (e : WorkerEnd) → i < length lists → HasEnded (get_or old i p) (get_or new i p) (slice_index_or lists i []) (get_or ends i e)) → HaveWorked lists new
+    → ((i : ℕ) (p : PassState) (e : WorkerEnd) → i < length lists → HasEnded (get_or old i p) (get_or new i p) (slice_index_or lists i []) (get_or ends i e))
+    → HaveWorked lists new
 all_worked old new lists ends opened as_many still one_each done ended = record {
   count = still;
   each = λ i p below.
       let open_pass = opened i p (omega (arith, as_many)) in
       worked_one i (get_or old i p) (get_or new i p) (slice_index_or lists i []) open_pass.0 open_pass.1
-      (done_so (get_or old i p) (get_or new i p) (slice_index_or lists i []) (get_or ends i Done) (done i Done (omega (arith, one_each))) (ended i p Done below));
+      (done_so (get_or old i p) (get_or new i p) (slice_index_or lists i []) (get_or ends i Done) (done i Done (omega (arith, one_each)))
+      (ended i p Done below));
 }
 
 pub take_before : (passes rest : List PassState) (n : ℕ) → n ≡ length passes → take n (passes ++ rest) ≡ passes
@@ -117,8 +125,10 @@ take_before (pass ∷ passes) rest (suc n) is = ap (λ (ps : List PassState). pa
 -- ---- The end of a service
 
 -- what a service that was closed has made of the lists
-pub served : {F : Type 0} (answers : F → Asking) (closure own : F) (first start : Shown) (picture : Rows) (lists : List (List Command)) (passes : List PassState) (history : List Entry)
-    → closure ≡ own → first ≡ start → HaveWorked lists passes → AreWhole history passes → Replays (prices_of (answers closure)) first.limits first.rows history picture
+pub served : {F : Type 0} (answers : F → Asking) (closure own : F) (first start : Shown) (picture : Rows) (lists : List (List Command))
+    (passes : List PassState) (history : List Entry)
+    → closure ≡ own → first ≡ start → HaveWorked lists passes → AreWhole history passes
+    → Replays (prices_of (answers closure)) first.limits first.rows history picture
     → IsRun (prices_of (answers own)) start.limits start.rows lists history picture
 served {F} answers closure own first start picture lists passes history same_closure same_start worked whole replayed =
     let begun : Replays (prices_of (answers closure)) start.limits start.rows history picture =
@@ -136,10 +146,12 @@ ok_both (Err e) P Q R f p q = p
 
 -- a run of copies of the lists, at the prices that a closure answers, is one of the lists at the script's prices, where it
 -- answers those
-pub own_run : (answers : Asking) (prices : List (Option ℕ)) (limits : Limits) (p q : Rows) (lists copies : List (List Command)) (history : List Entry) → AnswersPrices answers prices
+pub own_run : (answers : Asking) (prices : List (Option ℕ)) (limits : Limits) (p q : Rows) (lists copies : List (List Command)) (history : List Entry)
+    → AnswersPrices answers prices
     → copies ≡ lists → IsRun (prices_of answers) limits p copies history q → IsRun (priced prices) limits p lists history q
 own_run answers prices limits p q lists copies history own same run =
-    subst (λ (ls : List (List Command)). IsRun (priced prices) limits p ls history q) same (run_so (prices_of answers) (priced prices) own.only own.each limits p copies history q run)
+    subst (λ (ls : List (List Command)). IsRun (priced prices) limits p ls history q) same
+    (run_so (prices_of answers) (priced prices) own.only own.each limits p copies history q run)
 
 -- a closure that answers what a table of the script's prices has
 pub own_prices : (answers : Asking) (prices table : List (Option ℕ)) → table ≡ price_table prices

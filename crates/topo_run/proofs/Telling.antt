@@ -1,7 +1,8 @@
 -- What is told of a script whose service fails.
 use Rattle.topo_forms.specs.declared.scripts.Script.{Script}
 use Rattle.topo_settings.specs.declared.fault.RunFault.{RunFault}
-use Rattle.topo_settings.specs.declared.fault.RunFault.TheVariants.{Memory, Script as OfScript, BadLimits, Price, Load, NoSeat, Mismatch, WrongReply, WrongPicture, ReadFault, WriteFault}
+use Rattle.topo_settings.specs.declared.fault.RunFault.TheVariants.{Memory, Script as OfScript, BadLimits, Price, Load, NoSeat}
+use Rattle.topo_settings.specs.declared.fault.RunFault.TheVariants.{Mismatch, WrongReply, WrongPicture, ReadFault, WriteFault}
 use Rattle.topo_run.specs.Runs.{FailsRun, IsSoundScript}
 use Rattle.topo_run.specs.Working.{IsOfService}
 

@@ -13,7 +13,8 @@ use Rattle.topo_forms.specs.Scripts.{script_of}
 use Rattle.topo_price.specs.Prices.{Asking}
 use Rattle.topo_script.specs.ReportTexts.{report_text}
 use Rattle.topo_settings.specs.declared.fault.RunFault.{RunFault}
-use Rattle.topo_settings.specs.declared.fault.RunFault.TheVariants.{Memory, Script as OfScript, BadLimits, Price, Load, NoSeat, Mismatch, WrongReply, WrongPicture, ReadFault, WriteFault}
+use Rattle.topo_settings.specs.declared.fault.RunFault.TheVariants.{Memory, Script as OfScript, BadLimits, Price, Load, NoSeat}
+use Rattle.topo_settings.specs.declared.fault.RunFault.TheVariants.{Mismatch, WrongReply, WrongPicture, ReadFault, WriteFault}
 use Rattle.topo_settings.specs.Limiting.{AreLimits}
 use Rattle.topo_settings.specs.Reading.{Spells, SpellsNone}
 use Rattle.topo_settings.specs.Settings.{IsSound, IsUnsound, priced, start_of}

@@ -23,7 +23,8 @@ fn enter<F: PriceFn>(
     book: &mut Book<F>,
     command: Command,
 ) -> Result<Reply, AllocError>
-    ensures entered { IfOk result (λ reply. book.new.history ≡ book.old.history ++ record { caller = 0; call = call_of command; reply = reply } ∷ []) }
+    ensures entered { IfOk result (λ reply. book.new.history ≡ book.old.history
+        ++ record { caller = 0; call = call_of command; reply = reply } ∷ []) }
     ensures same_book { IsSameBook book.old book.new }
 {
     match command {
@@ -34,8 +35,8 @@ fn enter<F: PriceFn>(
     }
 }
 
-/// Carries a list out, each command between the gate's calls for it, until it is out of memory. Says
-/// whether all of it was carried out.
+/// Carries a list out, each command between the gate's calls for it, until it is out of memory.
+/// Says whether all of it was carried out.
 fn carry_out<F: PriceFn, T: Gate>(
     alloc: Global,
     book: &mut Book<F>,
@@ -65,7 +66,8 @@ pub(crate) fn outcome_alone<F: PriceFn + Drop, T: Gate>(
     list: &[Command],
     gate: &T,
 ) -> Result<RunOutcome, RunFault>
-    ensures run { IfOk result (λ outcome. IsRun (prices_of (F.may_return (arc_value tariff))) start.limits start.rows (list.now ∷ []) outcome.history outcome.picture) }
+    ensures run { IfOk result (λ outcome. IsRun (prices_of (F.may_return (arc_value tariff)))
+        start.limits start.rows (list.now ∷ []) outcome.history outcome.picture) }
     ensures fault { IfErr result IsOfService }
 {
     let Ok(mut book) = Book::new(alloc, start, tariff) else {

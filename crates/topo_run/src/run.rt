@@ -2,7 +2,8 @@
 
 ghost use Rattle.std.specs.Prelude.{◌≡◌, IfErr, IfOk, None, ◌++◌, ◌∷◌, [], string_bytes};
 ghost use Rattle.topo_price.specs.Prices.{first_bad};
-ghost use Rattle.topo_run.specs.Runs.{FailsBy, FailsRun, IsDone, IsFaultOfBytes, IsLineOfBytes, IsRunLine, ShowsRun};
+ghost use Rattle.topo_run.specs.Runs.{FailsBy, FailsRun, IsDone, IsFaultOfBytes};
+ghost use Rattle.topo_run.specs.Runs.{IsLineOfBytes, IsRunLine, ShowsRun};
 ghost use Rattle.topo_run.specs.Working.{IsOfService};
 ghost use Rattle.topo_script.specs.ReportTexts.{report_text};
 ghost use Rattle.topo_settings.specs.Settings.{price_table};
@@ -23,13 +24,14 @@ use topo_settings::reading::read_bytes;
 use topo_settings::settings::validate;
 use topo_settings::writing::write_text;
 
-/// Reads a script, carries out its lists on its start under its limits and at its prices, and writes the
-/// text of the report and a line feed. Each list has a thread of its own, or its turn where no thread can be
-/// made; one list alone is carried out in this thread. A command is carried out between the gate's calls for
-/// it. A refused command is entered and changes nothing, and the run goes on. The reader is read until its
-/// end, or until it has given one byte more than a script may have: in at most twice as many calls as a
-/// script may have bytes, and two; an interrupted call is one of them. ReadFault comes where a call fails
-/// otherwise or there are too few of them, WriteFault where a call of the writer fails.
+/// Reads a script, carries out its lists on its start under its limits and at its prices, and
+/// writes the text of the report and a line feed. Each list has a thread of its own, or its turn
+/// where no thread can be made; one list alone is carried out in this thread. A command is carried
+/// out between the gate's calls for it. A refused command is entered and changes nothing, and the
+/// run goes on. The reader is read until its end, or until it has given one byte more than a script
+/// may have: in at most twice as many calls as a script may have bytes, and two; an interrupted
+/// call is one of them. ReadFault comes where a call fails otherwise or there are too few of them,
+/// WriteFault where a call of the writer fails.
 pub fn run_io<R: Threads + Wait + Sync, I: Read, O: Write, T: Gate>(
     rt: &R,
     alloc: Global,
@@ -37,8 +39,10 @@ pub fn run_io<R: Threads + Wait + Sync, I: Read, O: Write, T: Gate>(
     writer: &mut O,
     gate: &T,
 ) -> Result<(), RunFault>
-    ensures done { IfOk result (λ _. IsDone (I.remaining reader.old) (I.remaining reader.new) (O.contents writer.old) (O.contents writer.new)) }
-    ensures fault { IfErr result (λ fault. FailsBy fault (I.remaining reader.old) (I.remaining reader.new) (O.contents writer.old) (O.contents writer.new)) }
+    ensures done { IfOk result (λ _. IsDone (I.remaining reader.old) (I.remaining reader.new)
+        (O.contents writer.old) (O.contents writer.new)) }
+    ensures fault { IfErr result (λ fault. FailsBy fault (I.remaining reader.old)
+        (I.remaining reader.new) (O.contents writer.old) (O.contents writer.new)) }
 {
     let bytes = read_bytes(alloc, MAX_SCRIPT_BYTES as u32, reader)?;
     let line = bytes_line(rt, alloc, bytes.as_slice(), gate)?;
@@ -61,8 +65,8 @@ fn bytes_line<R: Threads + Wait + Sync, T: Gate>(
     }
 }
 
-/// The line that shows the run of a script, or the first fault of its limits, its prices, its start and
-/// its service.
+/// The line that shows the run of a script, or the first fault of its limits, its prices, its start
+/// and its service.
 fn run_line<R: Threads + Wait + Sync, T: Gate>(
     rt: &R,
     alloc: Global,
@@ -88,7 +92,8 @@ fn priced_line<R: Threads + Wait + Sync, T: Gate>(
 ) -> Result<String, RunFault>
     requires own { table.now ≡ price_table script.now.prices }
     requires good { first_bad (price_table script.now.prices) ≡ None }
-    ensures line { IfOk result (λ line. ShowsRun script.now start.limits start.rows (string_bytes line)) }
+    ensures line { IfOk result
+        (λ line. ShowsRun script.now start.limits start.rows (string_bytes line)) }
     ensures fault { IfErr result IsOfService }
 {
     let report = priced_report(rt, alloc, script, start, table, gate)?;

@@ -24,15 +24,16 @@ use topo_service::Gate;
 use topo_settings::RunFault;
 use topo_settings::settings::validate;
 
-/// For programs that have a script as a value and a price closure of their own; no command calls it.
+/// For programs that have a script as a value and a price closure of their own; no command calls
+/// it.
 ///
-/// Carries out the lists of a script from its start, each list in a thread of its own, or in its turn
-/// where no thread can be made. The tariff answers the script's prices. A command is carried out between
-/// the gate's calls for it. A planned insertion plans on a version of the picture before it takes the
-/// lock. A refused command is entered and changes nothing, and the run goes on. The fault is the first of
-/// the script's limits, its prices and its start; then Memory if any of it was out of memory, also in
-/// one of the threads, NoSeat if there are more than `MAX_PASSES` lists, and Mismatch where a receipt is not in
-/// the history.
+/// Carries out the lists of a script from its start, each list in a thread of its own, or in its
+/// turn where no thread can be made. The tariff answers the script's prices. A command is carried
+/// out between the gate's calls for it. A planned insertion plans on a version of the picture
+/// before it takes the lock. A refused command is entered and changes nothing, and the run goes on.
+/// The fault is the first of the script's limits, its prices and its start; then Memory if any of
+/// it was out of memory, also in one of the threads, NoSeat if there are more than `MAX_PASSES`
+/// lists, and Mismatch where a receipt is not in the history.
 pub fn run_script<F: PriceFn + Drop + Send + Sync, R: Threads + Wait + Sync, T: Gate>(
     rt: &R,
     alloc: Global,

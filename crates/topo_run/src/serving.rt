@@ -1,6 +1,7 @@
 //! Lists of commands, carried out by the passes of one service.
 
-ghost use Rattle.std.specs.Prelude.{◌≡◌, ◌+◌, ◌<◌, ℕ, List, [], All, IfErr, IfOk, Some, length, map, true};
+ghost use Rattle.std.specs.Prelude.{◌≡◌, ◌+◌, ◌<◌, ℕ, List, [], All};
+ghost use Rattle.std.specs.Prelude.{IfErr, IfOk, Some, length, map, true};
 ghost use Rattle.std.specs.Arc.{arc_value};
 ghost use Rattle.topo_core.specs.History.{IsRun};
 ghost use Rattle.topo_price.specs.Prices.{prices_of};
@@ -121,7 +122,8 @@ fn run_all<
     }
 }
 
-/// Runs the lists on a new service from the start that K names: the history, and the picture at the end.
+/// Runs the lists on a new service from the start that K names: the history, and the picture at the
+/// end.
 fn serve<
     F: PriceFn + Drop + Send + Sync,
     K: ServiceBrand<F> + Send + Sync,
@@ -141,7 +143,8 @@ fn serve<
     requires list { fresh.log.seen.book ≡ K.book }
     requires start { start ≡ K.start }
     requires prices { K.closure ≡ Some (arc_value tariff) }
-    ensures run { IfOk result (λ outcome. IsRun (prices_of (F.may_return (arc_value tariff))) start.limits start.rows (map commands lists.now) outcome.history outcome.picture) }
+    ensures run { IfOk result (λ outcome. IsRun (prices_of (F.may_return (arc_value tariff)))
+        start.limits start.rows (map commands lists.now) outcome.history outcome.picture) }
     ensures fault { IfErr result IsOfService }
 {
     let places = lists.len().max(1).min(MAX_PASSES as usize) as u32;
@@ -163,8 +166,8 @@ fn serve<
     }
 }
 
-/// What the lists lead to from a start, each carried out by a thread of its own. One list alone is carried
-/// out on a book.
+/// What the lists lead to from a start, each carried out by a thread of its own. One list alone is
+/// carried out on a book.
 pub(crate) fn run_lists<F: PriceFn + Drop + Send + Sync, R: Threads + Wait + Sync, T: Gate>(
     rt: &R,
     alloc: Global,
@@ -173,7 +176,8 @@ pub(crate) fn run_lists<F: PriceFn + Drop + Send + Sync, R: Threads + Wait + Syn
     lists: &[Vec<Command>],
     gate: &T,
 ) -> Result<RunOutcome, RunFault>
-    ensures run { IfOk result (λ outcome. IsRun (prices_of (F.may_return (arc_value tariff))) start.limits start.rows (map commands lists.now) outcome.history outcome.picture) }
+    ensures run { IfOk result (λ outcome. IsRun (prices_of (F.may_return (arc_value tariff)))
+        start.limits start.rows (map commands lists.now) outcome.history outcome.picture) }
     ensures fault { IfErr result IsOfService }
 {
     match lists {

@@ -1,5 +1,6 @@
 -- The value of a report is read as that report.
-use Rattle.std.proofs.Common.{◌≡◌, ℕ, suc, ◌^◌, ◌<◌, ◌≤◌, nat_le, Bool, true, false, List, [], ◌∷◌, map, length, Option, Some, None, Ok, refl, ap, ◌∙◌, lt-ltb, le-leb, lit<, if◌then◌else◌}
+use Rattle.std.proofs.Common.{◌≡◌, ℕ, suc, ◌^◌, ◌<◌, ◌≤◌, nat_le, Bool, true, false, List, [], ◌∷◌, map, length}
+use Rattle.std.proofs.Common.{Option, Some, None, Ok, refl, ap, ◌∙◌, lt-ltb, le-leb, lit<, if◌then◌else◌}
 use Rattle.std.specs.List.{AllByRecursion}
 use Rattle.serde_json.specs.Data.{Data}
 use Rattle.serde_json.specs.Events.{items_len}
@@ -26,10 +27,12 @@ use Rattle.topo_script.specs.Pictures.{number_data, list_data}
 use Rattle.topo_forms.specs.Prices.{without_ones}
 use Rattle.topo_script.specs.Ranges.{LimitsFit, PriceFits, CallFits, DartFits, InsertedFits, RefusalFits, ReplyFits, EntryFits, ReportFits}
 use Rattle.topo_forms.specs.Reads.{Read, and_then, passes, element_count, number_below, number_form, long_form, list_form, has_keys, element}
-use Rattle.topo_script.specs.ReportTexts.{limits_data, price_data, prices_data, has_null, version_of, way_data, dart_data, call_data, refusal_data, inserted_data, reply_data, entry_data, report_data}
+use Rattle.topo_script.specs.ReportTexts.{limits_data, price_data, prices_data, has_null, version_of, way_data, dart_data}
+use Rattle.topo_script.specs.ReportTexts.{call_data, refusal_data, inserted_data, reply_data, entry_data, report_data}
 use Rattle.topo_forms.specs.RowForms.{rows_form}
 use Rattle.topo_forms.specs.CallForms.{call_form, grow_form, insert_form, delete_form}
-use Rattle.topo_forms.specs.ReplyForms.{way_form, dart_form, plain_refusal, cut_form, refusal_form, deleted_form, refused_form, grown_form, inserted_form, reply_form, entry_form}
+use Rattle.topo_forms.specs.ReplyForms.{way_form, dart_form, plain_refusal, cut_form, refusal_form, deleted_form}
+use Rattle.topo_forms.specs.ReplyForms.{refused_form, grown_form, inserted_form, reply_form, entry_form}
 use Rattle.topo_forms.specs.Scripts.{limits_form, nulls_of, nulls_in, some_price, price_form, prices_form, report_form}
 use Rattle.topo_forms.proofs.Steps.{went}
 use Rattle.topo_script.proofs.RowsBack.{short_back, list_back, member_back, all_map, rows_back}
@@ -53,11 +56,13 @@ limits_back : (path : Path) (limits : LimitRows) → LimitsFit limits → limits
 unfolding limits_form
 limits_back path limits h =
     went _ _ tt (limits_keys path limits)
-    ∙ went _ _ limits.crossings (member_back number_form path key.Crossings (limits_data limits) _ limits.crossings refl (short_back _ limits.crossings h.crossings))
+    ∙ went _ _ limits.crossings
+    (member_back number_form path key.Crossings (limits_data limits) _ limits.crossings refl (short_back _ limits.crossings h.crossings))
     ∙ went _ _ limits.edges (member_back number_form path key.Edges (limits_data limits) _ limits.edges refl (short_back _ limits.edges h.edges))
     ∙ went _ _ limits.vertices (member_back number_form path key.Vertices (limits_data limits) _ limits.vertices refl (short_back _ limits.vertices h.vertices))
 
-grow_back : (path : Path) (u position kind : ℕ) → CallFits (Grow u position kind) → grow_form path (call_data (Grow u position kind)) ≡ Ok (Grow u position kind)
+grow_back : (path : Path) (u position kind : ℕ) → CallFits (Grow u position kind)
+    → grow_form path (call_data (Grow u position kind)) ≡ Ok (Grow u position kind)
 unfolding grow_form
 grow_back path u position kind h =
     let d = call_data (Grow u position kind) in
@@ -118,7 +123,8 @@ deleted_keys path edge = refl
 
 deleted_back : (path : Path) (edge : ℕ) → edge < 2 ^ 32 → deleted_form path (reply_data (Deleted edge)) ≡ Ok (Deleted edge)
 unfolding deleted_form
-deleted_back path edge h = went _ _ tt (deleted_keys path edge) ∙ went _ _ edge (member_back number_form path key.Deleted (reply_data (Deleted edge)) _ edge refl (short_back _ edge h))
+deleted_back path edge h = went _ _ tt (deleted_keys path edge)
+    ∙ went _ _ edge (member_back number_form path key.Deleted (reply_data (Deleted edge)) _ edge refl (short_back _ edge h))
 
 refused_keys : (path : Path) (why : Refusal) → has_keys path (key.Refused ∷ []) [] (reply_data (Refused why)) ≡ Ok tt
 unfolding has_keys and_then
@@ -126,7 +132,8 @@ refused_keys path why = refl
 
 refused_back : (path : Path) (why : Refusal) → RefusalFits why → refused_form path (reply_data (Refused why)) ≡ Ok (Refused why)
 unfolding refused_form
-refused_back path why h = went _ _ tt (refused_keys path why) ∙ went _ _ why (member_back refusal_form path key.Refused (reply_data (Refused why)) _ why refl (refusal_back _ why h))
+refused_back path why h = went _ _ tt (refused_keys path why)
+    ∙ went _ _ why (member_back refusal_form path key.Refused (reply_data (Refused why)) _ why refl (refusal_back _ why h))
 
 grown_keys : (path : Path) (vertex edge : ℕ) → has_keys path (key.Edge ∷ key.Vertex ∷ []) [] (reply_data (Grown vertex edge)) ≡ Ok tt
 unfolding has_keys and_then
@@ -148,7 +155,8 @@ unfolding inserted_form
 inserted_back path made h =
     let darts = all_map DartFits (λ d. (p : Path) → dart_form p (dart_data d) ≡ Ok d) made.route.crossed (λ d k p. dart_back p d k) h.crossed in
     went _ _ tt (inserted_keys path made)
-    ∙ went _ _ made.route.crossed (member_back (list_form dart_form) path key.Crossed (inserted_data made) _ made.route.crossed refl (list_back dart_form dart_data _ made.route.crossed darts))
+    ∙ went _ _ made.route.crossed (member_back (list_form dart_form) path key.Crossed (inserted_data made) _ made.route.crossed refl
+    (list_back dart_form dart_data _ made.route.crossed darts))
     ∙ went _ _ made.id (member_back number_form path key.Edge (inserted_data made) _ made.id refl (short_back _ made.id h.id))
     ∙ went _ _ made.route.end (member_back number_form path key.End (inserted_data made) _ made.route.end refl (short_back _ made.route.end h.end))
     ∙ went _ _ made.price (member_back long_form path key.Price (inserted_data made) _ made.price refl (long_back _ made.price h.price))
@@ -199,22 +207,27 @@ price_back nulls path None stands h = rw stands
 price_back true path (Some n) stands h = some_price_back path n h
 price_back false path (Some n) stands h = some_price_back path n h
 
-both_map : (nulls : Bool) (prices : List (Option ℕ)) → AllByRecursion (MayStand nulls) prices → AllByRecursion PriceFits prices → AllByRecursion (λ price. (p : Path) → price_form nulls p (price_data price) ≡ Ok price) prices
+both_map : (nulls : Bool) (prices : List (Option ℕ)) → AllByRecursion (MayStand nulls) prices → AllByRecursion PriceFits prices
+    → AllByRecursion (λ price. (p : Path) → price_form nulls p (price_data price) ≡ Ok price) prices
 both_map nulls [] h k = tt
 both_map nulls (price ∷ prices) h k = (λ p. price_back nulls p price h.0 k.0, both_map nulls prices h.1 k.1)
 
 few : (path : Path) (prices : List (Option ℕ)) → length prices ≤ 64 → passes (BadShape path) (nat_le (element_count (list_data price_data prices)) 64) ≡ Ok tt
 few path prices h = rw (items_len-items_of price_data prices, le-leb (length prices) 64 h)
 
-kept_back : (nulls : Bool) (path : Path) (prices : List (Option ℕ)) → AllByRecursion (MayStand nulls) prices → AllByRecursion PriceFits prices → length prices ≤ 64
+kept_back : (nulls : Bool) (path : Path) (prices : List (Option ℕ)) → AllByRecursion (MayStand nulls) prices → AllByRecursion PriceFits prices
+    → length prices ≤ 64
     → prices_form nulls path (list_data price_data prices) ≡ Ok (without_ones prices)
 unfolding prices_form
-kept_back nulls path prices stand fit short = went _ _ tt (few path prices short) ∙ went _ _ prices (list_back (price_form nulls) price_data path prices (both_map nulls prices stand fit))
+kept_back nulls path prices stand fit short = went _ _ tt (few path prices short)
+    ∙ went _ _ prices (list_back (price_form nulls) price_data path prices (both_map nulls prices stand fit))
 
-prices_back : (nulls : Bool) (path : Path) (prices : List (Option ℕ)) → without_ones prices ≡ prices → AllByRecursion (MayStand nulls) prices → AllByRecursion PriceFits prices → length prices ≤ 64
+prices_back : (nulls : Bool) (path : Path) (prices : List (Option ℕ)) → without_ones prices ≡ prices → AllByRecursion (MayStand nulls) prices
+    → AllByRecursion PriceFits prices → length prices ≤ 64
     → prices_form nulls path (prices_data prices) ≡ Ok prices
 prices_back nulls path prices kept stand fit short =
-    ap (λ (ps : List (Option ℕ)). prices_form nulls path (list_data price_data ps)) kept ∙ kept_back nulls path prices stand fit short ∙ ap (λ (ps : List (Option ℕ)). Ok ps) kept
+    ap (λ (ps : List (Option ℕ)). prices_form nulls path (list_data price_data ps)) kept ∙ kept_back nulls path prices stand fit short
+    ∙ ap (λ (ps : List (Option ℕ)). Ok ps) kept
 
 -- ---- The whole
 
@@ -231,7 +244,8 @@ nulls_back : (r : Report) → nulls_in (report_data r) ≡ Ok (has_null r.prices
 unfolding nulls_in
 nulls_back r =
     went _ _ tt refl
-    ∙ went _ _ (version_of r.prices) (member_back number_form whole key.Version (report_data r) _ (version_of r.prices) refl (short_back _ (version_of r.prices) (small_version (has_null r.prices))))
+    ∙ went _ _ (version_of r.prices) (member_back number_form whole key.Version (report_data r) _ (version_of r.prices) refl
+    (short_back _ (version_of r.prices) (small_version (has_null r.prices))))
     ∙ version_back (has_null r.prices)
 
 report_keys : (r : Report) → has_keys whole (key.History ∷ key.Limits ∷ key.Picture ∷ key.Prices ∷ key.Start ∷ key.Version ∷ []) [] (report_data r) ≡ Ok tt
@@ -241,12 +255,15 @@ report_keys r = refl
 pub report_back : (r : Report) → ReportFits r → length r.prices ≤ 64 → without_ones r.prices ≡ r.prices → report_form (report_data r) ≡ Ok r
 unfolding report_form
 report_back r h short kept =
-    let entries = all_map EntryFits (λ entry. (p : Path) → entry_form p (entry_data entry) ≡ Ok entry) r.history (λ entry k p. entry_back p entry k) h.history in
+    let entries = all_map EntryFits (λ entry. (p : Path) → entry_form p (entry_data entry) ≡ Ok entry) r.history
+    (λ entry k p. entry_back p entry k) h.history in
     let nulls = has_null r.prices in
     went _ _ nulls (nulls_back r)
     ∙ went _ _ tt (report_keys r)
-    ∙ went _ _ r.history (member_back (list_form entry_form) whole key.History (report_data r) _ r.history refl (list_back entry_form entry_data _ r.history entries))
+    ∙ went _ _ r.history
+    (member_back (list_form entry_form) whole key.History (report_data r) _ r.history refl (list_back entry_form entry_data _ r.history entries))
     ∙ went _ _ r.limits (member_back limits_form whole key.Limits (report_data r) _ r.limits refl (limits_back _ r.limits h.limits))
     ∙ went _ _ r.picture (member_back rows_form whole key.Picture (report_data r) _ r.picture refl (rows_back _ r.picture h.picture))
-    ∙ went _ _ r.prices (member_back (prices_form nulls) whole key.Prices (report_data r) _ r.prices refl (prices_back nulls _ r.prices kept (nulls_stand nulls r.prices (λ e. e)) h.prices short))
+    ∙ went _ _ r.prices (member_back (prices_form nulls) whole key.Prices (report_data r) _ r.prices refl
+    (prices_back nulls _ r.prices kept (nulls_stand nulls r.prices (λ e. e)) h.prices short))
     ∙ went _ _ r.start (member_back rows_form whole key.Start (report_data r) _ r.start refl (rows_back _ r.start h.start))

@@ -1,5 +1,6 @@
 -- The text of a report is read as that report.
-use Rattle.std.proofs.Common.{◌≡◌, ℕ, ◌^◌, ◌<◌, ◌≤◌, Bool, true, false, List, length, Option, Some, None, Ok, refl, sym, ap, ◌∙◌, arith, IsUtf8, lit<, if◌then◌else◌, subst}
+use Rattle.std.proofs.Common.{◌≡◌, ℕ, ◌^◌, ◌<◌, ◌≤◌, Bool, true, false, List, length, Option, Some}
+use Rattle.std.proofs.Common.{None, Ok, refl, sym, ap, ◌∙◌, arith, IsUtf8, lit<, if◌then◌else◌, subst}
 use Rattle.std.specs.List.{AllByRecursion}
 use Rattle.serde_json.specs.Data.{Data, no_items, item}
 use Rattle.topo_core.specs.declared.calls.Call.{Call}
@@ -18,10 +19,12 @@ use Rattle.topo_forms.specs.declared.reports.Report.{Report}
 use Rattle.topo_script.specs.Pictures.{list_data}
 use Rattle.topo_forms.specs.Prices.{without_ones}
 use Rattle.topo_script.specs.Ranges.{LimitsFit, PriceFits, CallFits, DartFits, InsertedFits, RefusalFits, ReplyFits, EntryFits, ReportFits}
-use Rattle.topo_script.specs.ReportTexts.{limits_data, price_data, prices_data, has_null, version_of, way_data, dart_data, call_data, pair_data, refusal_data, inserted_data, reply_data, entry_data, report_data, report_text}
+use Rattle.topo_script.specs.ReportTexts.{limits_data, price_data, prices_data, has_null, version_of, way_data, dart_data, call_data}
+use Rattle.topo_script.specs.ReportTexts.{pair_data, refusal_data, inserted_data, reply_data, entry_data, report_data, report_text}
 use Rattle.topo_forms.specs.Scripts.{report_of}
 use Rattle.topo_forms.proofs.Steps.{went}
-use Rattle.topo_script.proofs.Texts.{IsPlain, ArePlainItems, plain_number, plain_string, plain_null, plain_list, plain_array, no_plain_items, one_plain_item, plain_object, no_plain_members, one_plain_member}
+use Rattle.topo_script.proofs.Texts.{IsPlain, ArePlainItems, plain_number, plain_string, plain_null, plain_list, plain_array}
+use Rattle.topo_script.proofs.Texts.{no_plain_items, one_plain_item, plain_object, no_plain_members, one_plain_member}
 use Rattle.topo_script.proofs.RowsBack.{all_map, plain_short, plain_rows, deeper, text_value}
 use Rattle.topo_script.proofs.ReportBack.{report_back}
 
@@ -46,8 +49,10 @@ plain_dart : (d : Dart) → DartFits d → IsPlain 1 (dart_data d)
 plain_dart d h = plain_array 0 _ (three_plain 0 _ _ _ (plain_short 0 d.edge h.edge) (plain_short 0 d.seg h.seg) (plain_way d.way))
 
 plain_call : (call : Call) → CallFits call → IsPlain 1 (call_data call)
-plain_call (Grow u position kind) h = plain_array 0 _ (one_plain_item 0 _ _ (plain_string 0 _) (three_plain 0 _ _ _ (plain_short 0 u h.0) (plain_short 0 position h.1) (plain_short 0 kind h.2)))
-plain_call (Insert u v kind) h = plain_array 0 _ (one_plain_item 0 _ _ (plain_string 0 _) (three_plain 0 _ _ _ (plain_short 0 u h.0) (plain_short 0 v h.1) (plain_short 0 kind h.2)))
+plain_call (Grow u position kind) h =
+    plain_array 0 _ (one_plain_item 0 _ _ (plain_string 0 _) (three_plain 0 _ _ _ (plain_short 0 u h.0) (plain_short 0 position h.1) (plain_short 0 kind h.2)))
+plain_call (Insert u v kind) h =
+    plain_array 0 _ (one_plain_item 0 _ _ (plain_string 0 _) (three_plain 0 _ _ _ (plain_short 0 u h.0) (plain_short 0 v h.1) (plain_short 0 kind h.2)))
 plain_call (Delete edge) h = plain_array 0 _ (one_plain_item 0 _ _ (plain_string 0 _) (one_plain_item 0 _ _ (plain_short 0 edge h) (no_plain_items 0)))
 
 plain_pair : (n : ℕ) (name : List ℕ) → n < 2 ^ 32 → IsPlain 1 (pair_data n name)
@@ -66,14 +71,16 @@ plain_refusal NoRoute h = plain_pair 9 _ (lit< tt)
 
 plain_inserted : (made : Made) → InsertedFits made → IsPlain 3 (inserted_data made)
 plain_inserted made h = plain_object 2 _ refl
-    (one_plain_member 2 _ _ _ (plain_list 1 dart_data made.route.crossed (all_map DartFits (λ d. IsPlain 1 (dart_data d)) made.route.crossed plain_dart h.crossed))
+    (one_plain_member 2 _ _ _
+    (plain_list 1 dart_data made.route.crossed (all_map DartFits (λ d. IsPlain 1 (dart_data d)) made.route.crossed plain_dart h.crossed))
     (one_plain_member 2 _ _ _ (plain_short 2 made.id h.id)
     (one_plain_member 2 _ _ _ (plain_short 2 made.route.end h.end)
     (one_plain_member 2 _ _ _ (plain_number 2 made.price h.price)
     (one_plain_member 2 _ _ _ (plain_short 2 made.route.start h.start) (no_plain_members 2))))))
 
 plain_reply : (reply : Reply) → ReplyFits reply → IsPlain 3 (reply_data reply)
-plain_reply (Grown vertex edge) h = plain_object 2 _ refl (one_plain_member 2 _ _ _ (plain_short 2 edge h.1) (one_plain_member 2 _ _ _ (plain_short 2 vertex h.0) (no_plain_members 2)))
+plain_reply (Grown vertex edge) h =
+    plain_object 2 _ refl (one_plain_member 2 _ _ _ (plain_short 2 edge h.1) (one_plain_member 2 _ _ _ (plain_short 2 vertex h.0) (no_plain_members 2)))
 plain_reply (Inserted made) h = plain_inserted made h
 plain_reply (Deleted edge) h = plain_object 2 _ refl (one_plain_member 2 _ _ _ (plain_short 2 edge h) (no_plain_members 2))
 plain_reply (Refused why) h = plain_object 2 _ refl (one_plain_member 2 _ _ _ (deeper 1 2 _ (omega arith) (plain_refusal why h)) (no_plain_members 2))
@@ -90,7 +97,8 @@ small_version false = lit< tt
 
 plain_prices : (prices : List (Option ℕ)) → without_ones prices ≡ prices → AllByRecursion PriceFits prices → IsPlain 1 (prices_data prices)
 plain_prices prices kept h =
-    subst (λ (ps : List (Option ℕ)). IsPlain 1 (list_data price_data ps)) (sym kept) (plain_list 0 price_data prices (all_map PriceFits (λ price. IsPlain 0 (price_data price)) prices plain_price h))
+    subst (λ (ps : List (Option ℕ)). IsPlain 1 (list_data price_data ps)) (sym kept)
+    (plain_list 0 price_data prices (all_map PriceFits (λ price. IsPlain 0 (price_data price)) prices plain_price h))
 
 plain_report : (r : Report) → ReportFits r → without_ones r.prices ≡ r.prices → IsPlain 6 (report_data r)
 plain_report r h kept = plain_object 5 _ refl
@@ -101,11 +109,13 @@ plain_report r h kept = plain_object 5 _ refl
     (one_plain_member 5 _ _ _ (deeper 4 5 _ (omega arith) (plain_rows r.start h.start))
     (one_plain_member 5 _ _ _ (plain_short 5 (version_of r.prices) (small_version (has_null r.prices))) (no_plain_members 5)))))))
 
-report_read_back : (r : Report) → ReportFits r → length r.prices ≤ 64 → without_ones r.prices ≡ r.prices → IsUtf8 (report_text r) → length (report_text r) ≤ 268435456 → report_of (report_text r) ≡ Ok r
+report_read_back : (r : Report) → ReportFits r → length r.prices ≤ 64 → without_ones r.prices ≡ r.prices → IsUtf8 (report_text r)
+    → length (report_text r) ≤ 268435456 → report_of (report_text r) ≡ Ok r
 unfolding report_of report_text
 report_read_back r h few kept utf8 short =
     went _ _ (report_data r) (text_value 268435456 6 (report_data r) (plain_report r h kept) (omega arith) utf8 short) ∙ report_back r h few kept
 
-pub report_text_read_back : (r : Report) (text : List ℕ) → text ≡ report_text r → IsUtf8 text → ReportFits r → length r.prices ≤ 64 → without_ones r.prices ≡ r.prices → length text ≤ 268435456 → report_of text ≡ Ok r
+pub report_text_read_back : (r : Report) (text : List ℕ) → text ≡ report_text r → IsUtf8 text → ReportFits r → length r.prices ≤ 64
+    → without_ones r.prices ≡ r.prices → length text ≤ 268435456 → report_of text ≡ Ok r
 report_text_read_back r text e utf8 h few kept short =
     ap report_of e ∙ report_read_back r h few kept (subst IsUtf8 e utf8) (subst (λ (t : List ℕ). length t ≤ 268435456) e short)

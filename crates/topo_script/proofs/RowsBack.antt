@@ -11,7 +11,8 @@ use Rattle.topo_core.specs.declared.rows.Rows.{Rows}
 use Rattle.topo_core.specs.declared.rows.EdgeRow.{EdgeRow}
 use Rattle.topo_core.specs.declared.rows.CrossRow.{CrossRow}
 use Rattle.topo_forms.specs.declared.path.Key.{Key}
-use Rattle.topo_forms.specs.declared.path.Key.TheVariants.{A, B, Crossed, Crossings, Edges, Id, Kind, Newcomer, NextCrossing, NextEdge, Rotations, Sign as SignKey}
+use Rattle.topo_forms.specs.declared.path.Key.TheVariants.{A, B, Crossed, Crossings, Edges, Id, Kind, Newcomer}
+use Rattle.topo_forms.specs.declared.path.Key.TheVariants.{NextCrossing, NextEdge, Rotations, Sign as SignKey}
 use Rattle.topo_forms.specs.declared.path.Path.{Path}
 use Rattle.topo_forms.specs.Paths.{key_name, member_of, element_of, whole}
 use Rattle.topo_script.specs.Pictures.{number_data, list_data, sign_data, edge_data, crossing_data, rows_data, rows_text}
@@ -32,7 +33,8 @@ items_back : {X : Type 0} (form : Path → Data → Read X) (f : X → Data) (pa
     → AllByRecursion (λ x. (p : Path) → form p (f x) ≡ Ok x) xs → items_from form path i (items_of (map f xs)) ≡ Ok xs
 items_back form f path i [] h = refl
 items_back {X = X} form f path i (x ∷ xs) h =
-    went (form (element_of path i) (f x)) (λ (y : X). and_then (items_from form path (i + 1) (items_of (map f xs))) (λ ys. Ok (y ∷ ys))) x (h.0 (element_of path i))
+    went (form (element_of path i) (f x)) (λ (y : X). and_then (items_from form path (i + 1) (items_of (map f xs))) (λ ys. Ok (y ∷ ys))) x
+    (h.0 (element_of path i))
     ∙ went _ (λ (ys : List X). Ok (x ∷ ys)) xs (items_back form f path (i + 1) xs h.1)
 
 pub list_back : {X : Type 0} (form : Path → Data → Read X) (f : X → Data) (path : Path) (xs : List X)
@@ -50,7 +52,9 @@ all_map P Q [] f h = tt
 all_map P Q (x ∷ xs) f h = (f x h.0, all_map P Q xs f h.1)
 
 pub shorts_back : (path : Path) (ns : List ℕ) → AreShort ns → list_form number_form path (list_data number_data ns) ≡ Ok ns
-shorts_back path ns h = list_back number_form number_data path ns (all_map (λ n. n < 2 ^ 32) (λ n. (p : Path) → number_form p (number_data n) ≡ Ok n) ns (λ n k p. short_back p n k) h)
+shorts_back path ns h =
+    list_back number_form number_data path ns
+    (all_map (λ n. n < 2 ^ 32) (λ n. (p : Path) → number_form p (number_data n) ≡ Ok n) ns (λ n k p. short_back p n k) h)
 
 sign_back : (path : Path) (s : Sign) → sign_form path (sign_data s) ≡ Ok s
 unfolding sign_form
@@ -91,15 +95,20 @@ rows_keys path rows = refl
 pub rows_back : (path : Path) (rows : Rows) → RowsFit rows → rows_form path (rows_data rows) ≡ Ok rows
 unfolding rows_form
 rows_back path rows h =
-    let crossings = all_map CrossingFits (λ x. (p : Path) → crossing_form p (crossing_data x) ≡ Ok x) rows.crossings (λ x k p. crossing_back p x k) h.crossings in
+    let crossings = all_map CrossingFits (λ x. (p : Path) → crossing_form p (crossing_data x) ≡ Ok x) rows.crossings
+    (λ x k p. crossing_back p x k) h.crossings in
     let edges = all_map EdgeFits (λ row. (p : Path) → edge_form p (edge_data row) ≡ Ok row) rows.edges (λ row k p. edge_back p row k) h.edges in
-    let rotations = all_map AreShort (λ ns. (p : Path) → list_form number_form p (list_data number_data ns) ≡ Ok ns) rows.rotations (λ ns k p. shorts_back p ns k) h.rotations in
+    let rotations = all_map AreShort (λ ns. (p : Path) → list_form number_form p (list_data number_data ns) ≡ Ok ns) rows.rotations
+    (λ ns k p. shorts_back p ns k) h.rotations in
     went _ _ tt (rows_keys path rows)
-    ∙ went _ _ rows.crossings (member_back (list_form crossing_form) path Crossings (rows_data rows) _ rows.crossings refl (list_back crossing_form crossing_data _ rows.crossings crossings))
+    ∙ went _ _ rows.crossings (member_back (list_form crossing_form) path Crossings (rows_data rows) _ rows.crossings refl
+    (list_back crossing_form crossing_data _ rows.crossings crossings))
     ∙ went _ _ rows.edges (member_back (list_form edge_form) path Edges (rows_data rows) _ rows.edges refl (list_back edge_form edge_data _ rows.edges edges))
-    ∙ went _ _ rows.next_crossing (member_back number_form path NextCrossing (rows_data rows) _ rows.next_crossing refl (short_back _ rows.next_crossing h.next_crossing))
+    ∙ went _ _ rows.next_crossing
+    (member_back number_form path NextCrossing (rows_data rows) _ rows.next_crossing refl (short_back _ rows.next_crossing h.next_crossing))
     ∙ went _ _ rows.next_edge (member_back number_form path NextEdge (rows_data rows) _ rows.next_edge refl (short_back _ rows.next_edge h.next_edge))
-    ∙ went _ _ rows.rotations (member_back (list_form (list_form number_form)) path Rotations (rows_data rows) _ rows.rotations refl (list_back (list_form number_form) (list_data number_data) _ rows.rotations rotations))
+    ∙ went _ _ rows.rotations (member_back (list_form (list_form number_form)) path Rotations (rows_data rows) _ rows.rotations refl
+    (list_back (list_form number_form) (list_data number_data) _ rows.rotations rotations))
 
 -- ---- The texts of values
 
@@ -133,15 +142,18 @@ deeper n m d le h = record { same = h.same; numbers = h.numbers; shallow = omega
 
 pub plain_rows : (rows : Rows) → RowsFit rows → IsPlain 4 (rows_data rows)
 plain_rows rows h = plain_object 3 _ refl
-    (one_plain_member 3 _ _ _ (deeper 2 3 _ (omega arith) (plain_list 1 crossing_data rows.crossings (all_map CrossingFits (λ x. IsPlain 1 (crossing_data x)) rows.crossings plain_crossing h.crossings)))
+    (one_plain_member 3 _ _ _ (deeper 2 3 _ (omega arith)
+    (plain_list 1 crossing_data rows.crossings (all_map CrossingFits (λ x. IsPlain 1 (crossing_data x)) rows.crossings plain_crossing h.crossings)))
     (one_plain_member 3 _ _ _ (plain_list 2 edge_data rows.edges (all_map EdgeFits (λ row. IsPlain 2 (edge_data row)) rows.edges plain_edge h.edges))
     (one_plain_member 3 _ _ _ (plain_short 3 rows.next_crossing h.next_crossing)
     (one_plain_member 3 _ _ _ (plain_short 3 rows.next_edge h.next_edge)
-    (one_plain_member 3 _ _ _ (plain_list 2 (list_data number_data) rows.rotations (all_map AreShort (λ ns. IsPlain 2 (list_data number_data ns)) rows.rotations (λ ns k. plain_shorts 1 ns k) h.rotations)) (no_plain_members 3))))))
+    (one_plain_member 3 _ _ _ (plain_list 2 (list_data number_data) rows.rotations
+    (all_map AreShort (λ ns. IsPlain 2 (list_data number_data ns)) rows.rotations (λ ns k. plain_shorts 1 ns k) h.rotations)) (no_plain_members 3))))))
 
 -- ---- The whole
 
-pub text_value : (limit n : ℕ) (d : Data) → IsPlain n d → n ≤ 127 → IsUtf8 (compact_text d) → length (compact_text d) ≤ limit → value_of limit (compact_text d) ≡ Ok d
+pub text_value : (limit n : ℕ) (d : Data) → IsPlain n d → n ≤ 127 → IsUtf8 (compact_text d) → length (compact_text d) ≤ limit
+    → value_of limit (compact_text d) ≡ Ok d
 text_value limit n d h small utf8 short = within limit (compact_text d) (Some d) short (json_of-read (compact_text d) d utf8 (read_back n d h small))
 
 pub rows_read_back : (rows : Rows) → RowsFit rows → IsUtf8 (rows_text rows) → length (rows_text rows) ≤ 268435456 → rows_of (rows_text rows) ≡ Ok rows

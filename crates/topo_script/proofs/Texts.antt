@@ -81,7 +81,8 @@ one_plain_member n k d ms h hs = record {
 }
 
 pub plain_object : (n : ℕ) (ms : Members) → put_all ms no_members ≡ ms → ArePlainMembers n ms → IsPlain (suc n) (object ms)
-plain_object n ms sorted hs = record { same = ap (option_map object) (hs.same no_members ∙ ap (λ m. Some m) sorted); numbers = hs.numbers; shallow = omega (arith, hs.shallow) }
+plain_object n ms sorted hs =
+    record { same = ap (option_map object) (hs.same no_members ∙ ap (λ m. Some m) sorted); numbers = hs.numbers; shallow = omega (arith, hs.shallow) }
 
 -- ---- The whole
 
@@ -92,5 +93,6 @@ pub read_back : (n : ℕ) (d : Data) → IsPlain n d → n ≤ 127 → read (com
 read_back n d h small =
     let ts = tree.json_tokens (outline d) in
     ap (λ text. read text) (sym (print-outline d))
-    ∙ ap whole (ap (json.value max_depth) (tokens-print ts (ArePrintable-json_tokens (outline d) h.numbers) ∙ sym (append-nil ts)) ∙ value-json_tokens (outline d) max_depth [] (omega (arith, h.shallow)))
+    ∙ ap whole (ap (json.value max_depth) (tokens-print ts (ArePrintable-json_tokens (outline d) h.numbers) ∙ sym (append-nil ts))
+    ∙ value-json_tokens (outline d) max_depth [] (omega (arith, h.shallow)))
     ∙ h.same

@@ -1,8 +1,8 @@
 //! The JSON forms of the project: scripts, pictures and reports, read and written.
 //!
-//! The readers are those of `topo_forms`. `picture_text` and `report` write: compact, keys in the order
-//! of their bytes, nothing else. What is written is read back as what was written. `docs/FORMATS.md`
-//! has the forms in words.
+//! The readers are those of `topo_forms`. `picture_text` and `report` write: compact, keys in the
+//! order of their bytes, nothing else. What is written is read back as what was written.
+//! `docs/FORMATS.md` has the forms in words.
 #![tactic(auto)]
 
 pub mod report_text;
@@ -22,7 +22,8 @@ use topo_core::rows::Rows;
 /// The text of a picture's rows, on one line and without a line feed.
 pub fn picture_text(alloc: Global, rows: &Rows) -> Result<String, AllocError>
     ensures text { IfOk result (λ text. string_bytes text ≡ rows_text rows.now) }
-    ensures reads_back { IfOk result (λ text. RowsFit rows.now → length (string_bytes text) ≤ 268435456
+    ensures reads_back { IfOk result
+        (λ text. RowsFit rows.now → length (string_bytes text) ≤ 268435456
         → rows_of (string_bytes text) ≡ Ok rows.now) }
 {
     let mut text = String::new(alloc);

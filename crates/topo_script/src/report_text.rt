@@ -10,7 +10,10 @@ ghost use Rattle.topo_script.specs.Pictures.{number_data};
 ghost use Rattle.topo_forms.specs.Prices.{without_ones};
 ghost use Rattle.topo_script.specs.Ranges.{ReportFits};
 ghost use Rattle.topo_forms.specs.Scripts.{report_of};
-ghost use Rattle.topo_script.specs.ReportTexts.{limits_data, price_data, prices_data, has_null, version_of, way_data, dart_data, call_data, refusal_data, inserted_data, reply_data, entry_data, report_data, report_text};
+ghost use Rattle.topo_script.specs.ReportTexts.{limits_data, price_data, prices_data, has_null};
+ghost use Rattle.topo_script.specs.ReportTexts.{version_of, way_data, dart_data, call_data};
+ghost use Rattle.topo_script.specs.ReportTexts.{refusal_data, inserted_data, reply_data};
+ghost use Rattle.topo_script.specs.ReportTexts.{entry_data, report_data, report_text};
 
 use crate::written::{Written, write_after, write_list};
 use std::alloc::{AllocError, Global};
@@ -83,7 +86,8 @@ impl Written for Dart {
 }
 
 fn write_grow(out: &mut String, u: u32, position: u32, kind: u32) -> Result<(), AllocError>
-    ensures { OnOk result (string_bytes out.new ≡ string_bytes out.old ++ compact_text (call_data (Grow u position kind))) }
+    ensures { OnOk result (string_bytes out.new ≡ string_bytes out.old
+        ++ compact_text (call_data (Grow u position kind))) }
 {
     write_after(out, "[\"grow\",", &u)?;
     write_after(out, ",", &position)?;
@@ -92,7 +96,9 @@ fn write_grow(out: &mut String, u: u32, position: u32, kind: u32) -> Result<(), 
 }
 
 fn write_insert(out: &mut String, u: u32, v: u32, kind: u32) -> Result<(), AllocError>
-    ensures { OnOk result (string_bytes out.new ≡ string_bytes out.old ++ compact_text (call_data (Insert u v kind))) }
+    ensures { OnOk result
+        (string_bytes out.new ≡ string_bytes out.old
+        ++ compact_text (call_data (Insert u v kind))) }
 {
     write_after(out, "[\"insert\",", &u)?;
     write_after(out, ",", &v)?;
@@ -101,7 +107,8 @@ fn write_insert(out: &mut String, u: u32, v: u32, kind: u32) -> Result<(), Alloc
 }
 
 fn write_delete(out: &mut String, edge: u32) -> Result<(), AllocError>
-    ensures { OnOk result (string_bytes out.new ≡ string_bytes out.old ++ compact_text (call_data (Delete edge))) }
+    ensures { OnOk result
+        (string_bytes out.new ≡ string_bytes out.old ++ compact_text (call_data (Delete edge))) }
 {
     write_after(out, "[\"delete\",", &edge)?;
     out.push_str("]")
@@ -120,7 +127,8 @@ impl Written for Call {
 }
 
 fn write_cut(out: &mut String, segment: u32) -> Result<(), AllocError>
-    ensures { OnOk result (string_bytes out.new ≡ string_bytes out.old ++ compact_text (refusal_data (Cut segment))) }
+    ensures { OnOk result
+        (string_bytes out.new ≡ string_bytes out.old ++ compact_text (refusal_data (Cut segment))) }
 {
     write_after(out, "[6,\"Cut\",", &segment)?;
     out.push_str("]")
@@ -158,7 +166,9 @@ impl Written for Inserted {
 }
 
 fn write_grown(out: &mut String, vertex: VertexId, edge: EdgeId) -> Result<(), AllocError>
-    ensures { OnOk result (string_bytes out.new ≡ string_bytes out.old ++ compact_text (reply_data (Grown vertex edge))) }
+    ensures { OnOk result
+        (string_bytes out.new ≡ string_bytes out.old
+        ++ compact_text (reply_data (Grown vertex edge))) }
 {
     write_after(out, "{\"edge\":", &edge)?;
     write_after(out, ",\"vertex\":", &vertex)?;
@@ -166,14 +176,16 @@ fn write_grown(out: &mut String, vertex: VertexId, edge: EdgeId) -> Result<(), A
 }
 
 fn write_deleted(out: &mut String, edge: EdgeId) -> Result<(), AllocError>
-    ensures { OnOk result (string_bytes out.new ≡ string_bytes out.old ++ compact_text (reply_data (Deleted edge))) }
+    ensures { OnOk result
+        (string_bytes out.new ≡ string_bytes out.old ++ compact_text (reply_data (Deleted edge))) }
 {
     write_after(out, "{\"deleted\":", &edge)?;
     out.push_str("}")
 }
 
 fn write_refused(out: &mut String, why: Refusal) -> Result<(), AllocError>
-    ensures { OnOk result (string_bytes out.new ≡ string_bytes out.old ++ compact_text (reply_data (Refused why))) }
+    ensures { OnOk result
+        (string_bytes out.new ≡ string_bytes out.old ++ compact_text (reply_data (Refused why))) }
 {
     write_after(out, "{\"refused\":", &why)?;
     out.push_str("}")
@@ -209,7 +221,8 @@ fn write_prices(
     before: &str,
     prices: &Listed<Option<u32>>,
 ) -> Result<(), AllocError>
-    ensures { OnOk result (string_bytes out.new ≡ string_bytes out.old ++ (before.now ++ compact_text (prices_data prices.now))) }
+    ensures { OnOk result (string_bytes out.new ≡ string_bytes out.old
+        ++ (before.now ++ compact_text (prices_data prices.now))) }
 {
     let prices = prices.as_slice();
     out.push_str(before)?;
@@ -222,7 +235,8 @@ fn write_version(
     before: &str,
     prices: &Listed<Option<u32>>,
 ) -> Result<(), AllocError>
-    ensures { OnOk result (string_bytes out.new ≡ string_bytes out.old ++ (before.now ++ compact_text (number_data (version_of prices.now)))) }
+    ensures { OnOk result (string_bytes out.new ≡ string_bytes out.old
+        ++ (before.now ++ compact_text (number_data (version_of prices.now)))) }
 {
     let version = version_of(prices.as_slice());
     write_after(out, before, &version)
@@ -258,7 +272,8 @@ impl Written for Report {
 /// left out, and its version is 2 exactly where a price is null.
 pub fn report(alloc: Global, report: &Report) -> Result<String, AllocError>
     ensures text { IfOk result (λ text. string_bytes text ≡ report_text report.now) }
-    ensures reads_back { IfOk result (λ text. ReportFits report.now → length report.now.prices ≤ 64 → without_ones report.now.prices ≡ report.now.prices
+    ensures reads_back { IfOk result (λ text. ReportFits report.now → length report.now.prices ≤ 64
+        → without_ones report.now.prices ≡ report.now.prices
         → length (string_bytes text) ≤ 268435456 → report_of (string_bytes text) ≡ Ok report.now) }
 {
     let mut text = String::new(alloc);

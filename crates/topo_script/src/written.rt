@@ -17,7 +17,8 @@ pub trait Written {
 
     /// Writes the compact text of the value at the end of `out`.
     fn write(&self, out: &mut String) -> Result<(), AllocError>
-        ensures { OnOk result (string_bytes out.new ≡ string_bytes out.old ++ compact_text (value self.now)) };
+        ensures { OnOk result
+            (string_bytes out.new ≡ string_bytes out.old ++ compact_text (value self.now)) };
 }
 
 impl Written for u32 {
@@ -48,7 +49,8 @@ impl<T: Written> Written for Listed<T> {
 
 /// Writes an array of the items.
 pub fn write_list<T: Written>(out: &mut String, items: &[T]) -> Result<(), AllocError>
-    ensures { OnOk result (string_bytes out.new ≡ string_bytes out.old ++ compact_text (array (items_of (map T.value items.now)))) }
+    ensures { OnOk result (string_bytes out.new ≡ string_bytes out.old
+        ++ compact_text (array (items_of (map T.value items.now)))) }
 {
     out.push_str("[")?;
     for (i, item) in items.iter().enumerate() {
@@ -66,7 +68,8 @@ fn comma(i: usize) -> &'static str
 
 /// Writes the text before an item, and then the item.
 pub fn write_after<T: Written>(out: &mut String, before: &str, item: &T) -> Result<(), AllocError>
-    ensures { OnOk result (string_bytes out.new ≡ string_bytes out.old ++ (before.now ++ compact_text (T.value item.now))) }
+    ensures { OnOk result (string_bytes out.new ≡ string_bytes out.old
+        ++ (before.now ++ compact_text (T.value item.now))) }
 {
     out.push_str(before)?;
     item.write(out)

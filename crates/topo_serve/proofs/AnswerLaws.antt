@@ -20,16 +20,20 @@ use Rattle.topo_serve.specs.Sessions.{AreAnswered, command_before, commands_of}
 
 -- ---- One line more
 
-pub answered_snoc : (price : Pricing) (limits : Limits) (lines texts : List (List ℕ)) (line text : List ℕ) (old mid new : Standing) → AreAnswered price limits lines texts old mid
+pub answered_snoc : (price : Pricing) (limits : Limits) (lines texts : List (List ℕ)) (line text : List ℕ) (old mid new : Standing)
+    → AreAnswered price limits lines texts old mid
     → Answers price limits (request_of line) text mid new → AreAnswered price limits (lines ++ line ∷ []) (texts ++ text ∷ []) old new
-answered_snoc price limits [] [] line text old mid new is more = (new, subst (λ (s : Standing). Answers price limits (request_of line) text s new) is more, refl)
+answered_snoc price limits [] [] line text old mid new is more =
+    (new, subst (λ (s : Standing). Answers price limits (request_of line) text s new) is more, refl)
 answered_snoc price limits [] (t ∷ texts) line text old mid new is more = absurd is
 answered_snoc price limits (l ∷ lines) [] line text old mid new is more = absurd is
-answered_snoc price limits (l ∷ lines) (t ∷ texts) line text old mid new is more = (is.0, is.1, answered_snoc price limits lines texts line text is.0 mid new is.2 more)
+answered_snoc price limits (l ∷ lines) (t ∷ texts) line text old mid new is more =
+    (is.0, is.1, answered_snoc price limits lines texts line text is.0 mid new is.2 more)
 
 -- ---- Other prices that ask for the same
 
-answers_so : (a b : Pricing) → Allows a b → Allows b a → (limits : Limits) (asked : Read Request) (text : List ℕ) (old new : Standing) → Answers a limits asked text old new → Answers b limits asked text old new
+answers_so : (a b : Pricing) → Allows a b → Allows b a → (limits : Limits) (asked : Read Request) (text : List ℕ) (old new : Standing)
+    → Answers a limits asked text old new → Answers b limits asked text old new
 answers_so a b there back limits (Ok (Carry command)) text old new is = record {
   reply = is.reply;
   next = is.next;
@@ -42,7 +46,8 @@ answers_so a b there back limits (Ok Picture) text old new is = is
 answers_so a b there back limits (Ok Report) text old new is = is
 answers_so a b there back limits (Err fault) text old new is = is
 
-pub answered_so : (a b : Pricing) → Allows a b → Allows b a → (limits : Limits) (lines texts : List (List ℕ)) (old new : Standing) → AreAnswered a limits lines texts old new → AreAnswered b limits lines texts old new
+pub answered_so : (a b : Pricing) → Allows a b → Allows b a → (limits : Limits) (lines texts : List (List ℕ)) (old new : Standing)
+    → AreAnswered a limits lines texts old new → AreAnswered b limits lines texts old new
 answered_so a b there back limits [] [] old new is = is
 answered_so a b there back limits [] (t ∷ texts) old new is = is
 answered_so a b there back limits (l ∷ lines) [] old new is = is
@@ -72,10 +77,12 @@ makes_none price limits old new same = record {
   own = tt;
 }
 
-makes_so : (price : Pricing) (limits : Limits) (commands : List Command) (old mid new : Standing) → mid ≡ old → Makes price limits commands mid new → Makes price limits commands old new
+makes_so : (price : Pricing) (limits : Limits) (commands : List Command) (old mid new : Standing) → mid ≡ old → Makes price limits commands mid new
+    → Makes price limits commands old new
 makes_so price limits commands old mid new same is = subst (λ (s : Standing). Makes price limits commands s new) same is
 
-makes_one : (price : Pricing) (limits : Limits) (command : Command) (commands : List Command) (text : List ℕ) (old mid new : Standing) → CarriesOut price limits command text old mid
+makes_one : (price : Pricing) (limits : Limits) (command : Command) (commands : List Command) (text : List ℕ) (old mid new : Standing)
+    → CarriesOut price limits command text old mid
     → Makes price limits commands mid new → Makes price limits (command ∷ commands) old new
 makes_one price limits command commands text old mid new one is =
     let entry : Entry = record { caller = 0; call = call_of command; reply = one.reply } in
@@ -89,7 +96,8 @@ makes_one price limits command commands text old mid new one is =
       own = (refl, is.own);
     }
 
-makes_before : (price : Pricing) (limits : Limits) (asked : Read Request) (commands : List Command) (text : List ℕ) (old mid new : Standing) → Answers price limits asked text old mid
+makes_before : (price : Pricing) (limits : Limits) (asked : Read Request) (commands : List Command) (text : List ℕ) (old mid new : Standing)
+    → Answers price limits asked text old mid
     → Makes price limits commands mid new → Makes price limits (command_before asked commands) old new
 makes_before price limits (Ok (Carry command)) commands text old mid new one is = makes_one price limits command commands text old mid new one is
 makes_before price limits (Ok Counts) commands text old mid new one is = makes_so price limits commands old mid new one.1 is
@@ -97,7 +105,8 @@ makes_before price limits (Ok Picture) commands text old mid new one is = makes_
 makes_before price limits (Ok Report) commands text old mid new one is = makes_so price limits commands old mid new one.1 is
 makes_before price limits (Err fault) commands text old mid new one is = makes_so price limits commands old mid new one.1 is
 
-makes_all : (price : Pricing) (limits : Limits) (lines texts : List (List ℕ)) (old new : Standing) → AreAnswered price limits lines texts old new → Makes price limits (commands_of lines) old new
+makes_all : (price : Pricing) (limits : Limits) (lines texts : List (List ℕ)) (old new : Standing) → AreAnswered price limits lines texts old new
+    → Makes price limits (commands_of lines) old new
 makes_all price limits [] [] old new is = makes_none price limits old new is
 makes_all price limits [] (t ∷ texts) old new is = absurd is
 makes_all price limits (l ∷ lines) [] old new is = absurd is
@@ -115,7 +124,8 @@ each_own [] own e there = absurd there
 each_own (y ∷ ys) own e (inl is) = ap (λ (e : Entry). e.caller) is ∙ own.0
 each_own (y ∷ ys) own e (inr later) = each_own ys own.1 e later
 
-pub answered_run : (price : Pricing) (limits : Limits) (lines texts : List (List ℕ)) (old new : Standing) → AreAnswered price limits lines texts old new → old.history ≡ []
+pub answered_run : (price : Pricing) (limits : Limits) (lines texts : List (List ℕ)) (old new : Standing) → AreAnswered price limits lines texts old new
+    → old.history ≡ []
     → IsRun price limits old.picture (commands_of lines ∷ []) new.history new.picture
 answered_run price limits lines texts old new answered empty =
     let made = makes_all price limits lines texts old new answered in

@@ -4,7 +4,8 @@ use Rattle.json.specs.Lex.{lex, punctuate}
 use Rattle.serde_json.specs.Read.{read}
 use Rattle.std.specs.Prelude.{nat_lt}
 use Rattle.std.specs.Str.{is_utf8}
-use Rattle.std.proofs.Common.{◌≡◌, ℕ, Bool, true, false, if◌then◌else◌, None, [], List, Err, take, length, suc, ◌<◌, inl, inr, refl, sym, ap, ◌∙◌, arith, lt-ltb}
+use Rattle.std.proofs.Common.{◌≡◌, ℕ, Bool, true, false, if◌then◌else◌, None, [], List, Err, take}
+use Rattle.std.proofs.Common.{length, suc, ◌<◌, inl, inr, refl, sym, ap, ◌∙◌, arith, lt-ltb}
 use Rattle.std.proofs.lemmas.Bool.Decides.{leb_tells}
 use Rattle.std.proofs.lemmas.List.{length-take, length-take-le, take_all}
 use Rattle.topo_forms.specs.declared.fault.ScriptFault.TheVariants.{NotJson, TooLong}
@@ -18,7 +19,8 @@ value_long limit bytes long = rw (lt-ltb limit (length bytes) long) refl
 value_kept : (limit : ℕ) (bytes : List ℕ) → value_of limit (take (suc limit) bytes) ≡ value_of limit bytes
 value_kept limit bytes = elim (leb_tells (length bytes) limit) [
   | inl (_, short) ↦ ap (value_of limit) (take_all (suc limit) bytes (omega arith))
-  | inr (_, long) ↦ value_long limit (take (suc limit) bytes) (omega (arith, length-take-le (suc limit) bytes (omega arith))) ∙ sym (value_long limit bytes long)
+  | inr (_, long) ↦ value_long limit (take (suc limit) bytes) (omega (arith, length-take-le (suc limit) bytes (omega arith)))
+      ∙ sym (value_long limit bytes long)
 ]
 
 pub request_kept : (line kept : List ℕ) → kept ≡ take 65537 line → request_of kept ≡ request_of line

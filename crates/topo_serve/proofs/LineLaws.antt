@@ -1,5 +1,6 @@
 -- Laws of lines.
-use Rattle.std.proofs.Common.{◌≡◌, ℕ, zero, suc, ◌+◌, ◌-◌, ◌<◌, ◌≤◌, List, [], ◌∷◌, ◌++◌, length, take, drop, min, refl, sym, ap, ◌∙◌, subst, length-drop, inl, inr, arith, append_assoc, append-nil}
+use Rattle.std.proofs.Common.{◌≡◌, ℕ, zero, suc, ◌+◌, ◌-◌, ◌<◌, ◌≤◌, List, [], ◌∷◌, ◌++◌, length, take, drop, min}
+use Rattle.std.proofs.Common.{refl, sym, ap, ◌∙◌, subst, length-drop, inl, inr, arith, append_assoc, append-nil}
 use Rattle.std.proofs.lemmas.List.{drop-drop, drop_all, take_all, take_rest}
 use Rattle.std.proofs.lemmas.Bool.{ne_eqb}
 use Rattle.std.proofs.lemmas.Bool.Decides.{eqb_tells}
@@ -83,7 +84,8 @@ line_alone b (c ∷ line) p = rw (ne_eqb b 10 p.0) (ap (before_first b) (line_al
 pub lines_closed : (lines : List (List ℕ)) (rest : List ℕ) → ArePlain lines → lines_of (closed lines ++ rest) ≡ lines ++ lines_of rest
 lines_closed [] rest p = refl
 lines_closed (line ∷ lines) rest p =
-    ap lines_of (append_assoc line (10 ∷ closed lines) rest) ∙ line_then line (closed lines ++ rest) p.0 ∙ ap (λ (ls : List (List ℕ)). line ∷ ls) (lines_closed lines rest p.1)
+    ap lines_of (append_assoc line (10 ∷ closed lines) rest) ∙ line_then line (closed lines ++ rest) p.0
+    ∙ ap (λ (ls : List (List ℕ)). line ∷ ls) (lines_closed lines rest p.1)
 
 -- ---- What is kept of a line
 
@@ -91,7 +93,8 @@ take_same : (m n : ℕ) (bs : List ℕ) → n ≡ min (length bs) m → take m b
 take_same zero n [] is = rw is refl
 take_same (suc m) n [] is = let none : n ≡ 0 = omega (arith, is) in rw none refl
 take_same zero n (b ∷ bs) is = let none : n ≡ 0 = omega (arith, is) in rw none refl
-take_same (suc m) n (b ∷ bs) is = let one : n ≡ suc (min (length bs) m) = omega (arith, is) in rw one (ap (λ (t : List ℕ). b ∷ t) (take_same m (min (length bs) m) bs refl))
+take_same (suc m) n (b ∷ bs) is = let one : n ≡ suc (min (length bs) m) = omega (arith, is) in
+    rw one (ap (λ (t : List ℕ). b ∷ t) (take_same m (min (length bs) m) bs refl))
 
 take_behind : (most : ℕ) (line bs : List ℕ) → length line ≤ most → take most (line ++ bs) ≡ line ++ take (most - length line) bs
 take_behind most [] bs within = let all : most - 0 ≡ most = omega arith in rw all refl
@@ -107,7 +110,8 @@ take_more (suc most) (x ∷ a) b = ap (λ (t : List ℕ). x ∷ t) (take_more mo
 
 -- ---- What is ahead
 
-pub kept_part : (most n : ℕ) (line more : List ℕ) → length line ≤ most → n ≡ min (length more) (most - length line) → line ++ take n more ≡ take most (line ++ more)
+pub kept_part : (most n : ℕ) (line more : List ℕ) → length line ≤ most → n ≡ min (length more) (most - length line)
+    → line ++ take n more ≡ take most (line ++ more)
 kept_part most n line more within is = ap (λ (t : List ℕ). line ++ t) (sym (take_same (most - length line) n more is)) ∙ sym (take_behind most line more within)
 
 -- what is ahead, as it is lent
@@ -123,7 +127,8 @@ ahead_fed items shown at n same len below =
     let next = suc (length (first_line rest)) in
     let past : at + next ≡ at + (n + 1) = omega (arith, len) in
     let behind : drop next rest ≡ drop (at + (n + 1)) items = ap (drop next) is ∙ drop-drop next at items ∙ ap (λ (k : ℕ). drop k items) past in
-    sym is ∙ first_fed rest (omega (arith, len)) ∙ ap (λ (t : List ℕ). (first_line rest ++ 10 ∷ []) ++ t) behind ∙ ap (λ (t : List ℕ). (t ++ 10 ∷ []) ++ drop (at + (n + 1)) items) (sym first)
+    sym is ∙ first_fed rest (omega (arith, len)) ∙ ap (λ (t : List ℕ). (first_line rest ++ 10 ∷ []) ++ t) behind
+    ∙ ap (λ (t : List ℕ). (t ++ 10 ∷ []) ++ drop (at + (n + 1)) items) (sym first)
 
 pub ahead_all : (items shown : List ℕ) (at n : ℕ) → shown ≡ items → at ≤ length shown → n ≡ length (first_line (lent shown at)) → length (lent shown at) ≤ n
     → drop at items ≡ (take n (lent shown at) ++ []) ++ drop (at + n) items
@@ -133,7 +138,8 @@ ahead_all items shown at n same there len above =
     let all : take n rest ≡ rest = take_all n rest above in
     let counted : length rest ≡ length items - at = ap length is ∙ length-drop at items in
     let none : drop (at + n) items ≡ [] = drop_all (at + n) items (omega (arith, counted, ap length same)) in
-    sym is ∙ sym (append-nil rest) ∙ sym (append-nil (rest ++ [])) ∙ ap (λ (t : List ℕ). (rest ++ []) ++ t) (sym none) ∙ ap (λ (t : List ℕ). (t ++ []) ++ drop (at + n) items) (sym all)
+    sym is ∙ sym (append-nil rest) ∙ sym (append-nil (rest ++ [])) ∙ ap (λ (t : List ℕ). (rest ++ []) ++ t) (sym none)
+    ∙ ap (λ (t : List ℕ). (t ++ []) ++ drop (at + n) items) (sym all)
 
 pub part_plain : (rest : List ℕ) (n : ℕ) → n ≡ length (first_line rest) → IsPlain (take n rest)
 part_plain rest n len = subst IsPlain (sym (ap (λ (k : ℕ). take k rest) len ∙ first_taken rest)) (first_plain rest)

@@ -1,5 +1,6 @@
 -- The first line of a session, and the session behind it.
-use Rattle.std.proofs.Common.{◌≡◌, ℕ, Bool, true, false, List, [], ◌∷◌, ◌++◌, Option, Result, Ok, Err, IfOk, take, length, ◌<◌, inl, inr, refl, sym, ap, subst, ◌∙◌, arith, append_assoc, append-nil, length-append, ltb-true}
+use Rattle.std.proofs.Common.{◌≡◌, ℕ, Bool, true, false, List, [], ◌∷◌, ◌++◌, Option, Result, Ok, Err, IfOk, take, length, ◌<◌}
+use Rattle.std.proofs.Common.{inl, inr, refl, sym, ap, subst, ◌∙◌, arith, append_assoc, append-nil, length-append, ltb-true}
 use Rattle.std.specs.Io.KnownBytes.{Appends, Consumes, IsAtEnd}
 use Rattle.std.proofs.KnownBytes.{Appends-trans, Consumes-trans, Keeps-refl}
 use Rattle.std.proofs.lemmas.Bool.{false≢true}
@@ -10,16 +11,19 @@ use Rattle.topo_forms.specs.declared.sessions.Opening.{Opening}
 use Rattle.topo_forms.specs.Reads.{IsFirstFault, Read, and_then}
 use Rattle.topo_forms.specs.Sessions.{opening_of}
 use Rattle.topo_settings.specs.declared.fault.RunFault.{RunFault}
-use Rattle.topo_settings.specs.declared.fault.RunFault.TheVariants.{Memory, Script, BadLimits, Price, Load, NoSeat, Mismatch, WrongReply, WrongPicture, ReadFault, WriteFault}
+use Rattle.topo_settings.specs.declared.fault.RunFault.TheVariants.{Memory, Script, BadLimits, Price, Load, NoSeat, Mismatch}
+use Rattle.topo_settings.specs.declared.fault.RunFault.TheVariants.{WrongReply, WrongPicture, ReadFault, WriteFault}
 use Rattle.topo_settings.specs.Settings.{IsSound, IsUnsound, priced, start_of}
 use Rattle.topo_settings.proofs.Pricing.{Allows}
 use Rattle.topo_serve.specs.declared.ahead.Part.{Part}
 use Rattle.topo_serve.specs.declared.ahead.Part.TheVariants.{More}
 use Rattle.topo_serve.specs.Answers.{Standing, TellsCounts}
 use Rattle.topo_serve.specs.Lines.{IsPlain, closed, first_line, lines_of}
-use Rattle.topo_serve.specs.Sessions.{AreAnswered, AreRead, IsCutShort, IsFaultOfOpening, IsFirstRead, IsPartlyServed, IsServed, IsSession, OpensNone, ServeFailsBy, beginning}
+use Rattle.topo_serve.specs.Sessions.{AreAnswered, AreRead, IsCutShort, IsFaultOfOpening, IsFirstRead}
+use Rattle.topo_serve.specs.Sessions.{IsPartlyServed, IsServed, IsSession, OpensNone, ServeFailsBy, beginning}
 use Rattle.topo_serve.specs.Taking.{OverUnless, Takes, TakesFirst, feed_if}
-use Rattle.topo_serve.specs.Turns.{BeginFailsBy, BeginsAll, BeginsPart, BeginsSome, LinesFailBy, OpenFailsBy, Opens, OpensNoneBy, RestServed, ServesAll, ServesPart, ServesSome, Streams, streams}
+use Rattle.topo_serve.specs.Turns.{BeginFailsBy, BeginsAll, BeginsPart, BeginsSome, LinesFailBy, OpenFailsBy, Opens}
+use Rattle.topo_serve.specs.Turns.{OpensNoneBy, RestServed, ServesAll, ServesPart, ServesSome, Streams, streams}
 use Rattle.topo_serve.proofs.KeptLines.{json_none, kept_long, opening_kept, value_long, value_none}
 use Rattle.topo_serve.proofs.AnswerLaws.{answered_run, answered_so}
 use Rattle.topo_serve.proofs.SessionLaws.{keeps_appends}
@@ -44,12 +48,14 @@ no_opening opening e =
 
 module _ (old_left new_left : Option (List ℕ)) (ahead line : List ℕ) (plain : IsPlain line) where
   -- the first line of what was read
-  first_read : (has_feed : Bool) (t : Takes old_left new_left [] ahead (line ++ feed_if has_feed)) → OverUnless has_feed new_left ahead → first_line t.read ≡ line
+  first_read : (has_feed : Bool) (t : Takes old_left new_left [] ahead (line ++ feed_if has_feed)) → OverUnless has_feed new_left ahead
+      → first_line t.read ≡ line
   first_read true t over = ap first_line (t.parted ∙ append_assoc line (10 ∷ []) ahead) ∙ first_of_line line ahead plain
   first_read false t over =
       ap first_line (t.parted ∙ ap (λ (e : List ℕ). (line ++ []) ++ e) over.1 ∙ append-nil (line ++ []) ∙ append-nil line) ∙ first_of_plain line plain
 
-  first_whole : (has_feed : Bool) (t : Takes old_left new_left [] ahead (line ++ feed_if has_feed)) → OverUnless has_feed new_left ahead → IsFirstRead t.read new_left
+  first_whole : (has_feed : Bool) (t : Takes old_left new_left [] ahead (line ++ feed_if has_feed)) → OverUnless has_feed new_left ahead
+      → IsFirstRead t.read new_left
   first_whole true t over = inl (record {
     plain = (subst IsPlain (sym (first_read true t over)) plain, tt);
     rest = ahead;
@@ -57,7 +63,8 @@ module _ (old_left new_left : Option (List ℕ)) (ahead line : List ℕ) (plain 
   })
   first_whole false t over = inr (inl over.0)
 
-  pub line_none : (fault : RunFault) (has_feed : Bool) → Takes old_left new_left [] ahead (line ++ feed_if has_feed) → OverUnless has_feed new_left ahead → IsFaultOfOpening line fault
+  pub line_none : (fault : RunFault) (has_feed : Bool) → Takes old_left new_left [] ahead (line ++ feed_if has_feed) → OverUnless has_feed new_left ahead
+      → IsFaultOfOpening line fault
       → OpensNone old_left new_left fault
   line_none fault has_feed t over first = record {
     input = t.read;
@@ -77,7 +84,8 @@ module _ (old_left new_left : Option (List ℕ)) (ahead line : List ℕ) (plain 
         first = opening_long (first_line t.read) longer;
       }
 
-pub first_so : (old_left new_left : Option (List ℕ)) (old ahead kept : List ℕ) (part q : Part) → part ≡ q → TakesFirst 268435457 old_left new_left old ahead kept part
+pub first_so : (old_left new_left : Option (List ℕ)) (old ahead kept : List ℕ) (part q : Part) → part ≡ q
+    → TakesFirst 268435457 old_left new_left old ahead kept part
     → TakesFirst 268435457 old_left new_left old ahead kept q
 first_so ol nl old ahead kept part q is t = subst (TakesFirst 268435457 ol nl old ahead kept) is t
 
@@ -94,7 +102,8 @@ module _ (old_left new_left : Option (List ℕ)) (old ahead kept : List ℕ) (no
       long_none old_left new_left ahead u.line u.plain (subst (λ (o : List ℕ). Takes old_left new_left o ahead (u.line ++ [])) none u.takes)
       (kept_long 268435457 268435456 kept u.line u.is_kept u.ends (ltb-true 268435456 268435457 refl))
 
-  module _ (has_feed : Bool) (line : List ℕ) (plain : IsPlain line) (takes : Takes old_left new_left old ahead (line ++ feed_if has_feed)) (over : OverUnless has_feed new_left ahead)
+  module _ (has_feed : Bool) (line : List ℕ) (plain : IsPlain line) (takes : Takes old_left new_left old ahead (line ++ feed_if has_feed))
+      (over : OverUnless has_feed new_left ahead)
       (is_kept : kept ≡ take 268435457 line) where
     taken : Takes old_left new_left [] ahead (line ++ feed_if has_feed)
     taken = subst (λ (o : List ℕ). Takes old_left new_left o ahead (line ++ feed_if has_feed)) none takes
@@ -110,7 +119,8 @@ module _ (old_left new_left : Option (List ℕ)) (old ahead kept : List ℕ) (no
 
     pub none_so : (fault : RunFault) → OpensNoneBy kept fault → OpenFailsBy fault old_left new_left
     none_so Memory is = absurd is
-    none_so (Script fault) is = line_none old_left new_left ahead line plain (Script fault) has_feed taken over (subst (λ (r : Read Opening). IsFirstFault r fault) (opening_kept line kept is_kept) is)
+    none_so (Script fault) is = line_none old_left new_left ahead line plain (Script fault) has_feed taken over
+        (subst (λ (r : Read Opening). IsFirstFault r fault) (opening_kept line kept is_kept) is)
     none_so BadLimits is = absurd is
     none_so (Price fault) is = absurd is
     none_so (Load fault) is = absurd is
@@ -122,13 +132,17 @@ module _ (old_left new_left : Option (List ℕ)) (old ahead kept : List ℕ) (no
     none_so WriteFault is = absurd is
 
 -- a first line that spells an opening with this fault
-pub unsound_none : (old_left new_left held : Option (List ℕ)) (ahead : List ℕ) (opening : Opening) (has_feed : Bool) (fault : RunFault) → Opens old_left new_left ahead opening has_feed
+pub unsound_none : (old_left new_left held : Option (List ℕ)) (ahead : List ℕ) (opening : Opening) (has_feed : Bool) (fault : RunFault)
+    → Opens old_left new_left ahead opening has_feed
     → IsUnsound opening.limits opening.prices opening.start fault → ServeFailsBy fault old_left new_left held held
 unsound_none ol nl held ahead opening has_feed Memory o is = inl (Keeps-refl held)
 unsound_none ol nl held ahead opening has_feed (Script fault) o is = absurd is
-unsound_none ol nl held ahead opening has_feed BadLimits o is = (line_none ol nl ahead o.line o.plain BadLimits has_feed o.takes o.over (record { opening = opening; opens = o.opens; fails = is }), Keeps-refl held)
-unsound_none ol nl held ahead opening has_feed (Price fault) o is = (line_none ol nl ahead o.line o.plain (Price fault) has_feed o.takes o.over (record { opening = opening; opens = o.opens; fails = is }), Keeps-refl held)
-unsound_none ol nl held ahead opening has_feed (Load fault) o is = (line_none ol nl ahead o.line o.plain (Load fault) has_feed o.takes o.over (record { opening = opening; opens = o.opens; fails = is }), Keeps-refl held)
+unsound_none ol nl held ahead opening has_feed BadLimits o is =
+    (line_none ol nl ahead o.line o.plain BadLimits has_feed o.takes o.over (record { opening = opening; opens = o.opens; fails = is }), Keeps-refl held)
+unsound_none ol nl held ahead opening has_feed (Price fault) o is =
+    (line_none ol nl ahead o.line o.plain (Price fault) has_feed o.takes o.over (record { opening = opening; opens = o.opens; fails = is }), Keeps-refl held)
+unsound_none ol nl held ahead opening has_feed (Load fault) o is =
+    (line_none ol nl ahead o.line o.plain (Load fault) has_feed o.takes o.over (record { opening = opening; opens = o.opens; fails = is }), Keeps-refl held)
 unsound_none ol nl held ahead opening has_feed NoSeat o is = absurd is
 unsound_none ol nl held ahead opening has_feed (Mismatch list i) o is = absurd is
 unsound_none ol nl held ahead opening has_feed (WrongReply i) o is = absurd is
@@ -228,7 +242,8 @@ module _ (a b : Pricing) (there : Allows a b) (back : Allows b a) (limits : Limi
 
 -- ---- The session behind an opening
 
-module _ (old_left mid_left new_left old_held new_held : Option (List ℕ)) (ahead last : List ℕ) (opening : Opening) (limits : Limits) (sound : IsSound opening.limits opening.prices opening.start limits) where
+module _ (old_left mid_left new_left old_held new_held : Option (List ℕ)) (ahead last : List ℕ) (opening : Opening) (limits : Limits)
+    (sound : IsSound opening.limits opening.prices opening.start limits) where
   abbrev price : Pricing
   price = priced opening.prices
 
@@ -238,7 +253,8 @@ module _ (old_left mid_left new_left old_held new_held : Option (List ℕ)) (ahe
   abbrev new : Streams
   new = streams new_left last new_held
 
-  session_of : (has_feed : Bool) (o : Opens old_left mid_left ahead opening has_feed) (counts : List ℕ) (others answers : List (List ℕ)) (to : Standing) → TellsCounts (start_of opening.start) counts
+  session_of : (has_feed : Bool) (o : Opens old_left mid_left ahead opening has_feed) (counts : List ℕ) (others answers : List (List ℕ)) (to : Standing)
+      → TellsCounts (start_of opening.start) counts
       → AreAnswered price limits others answers (beginning opening) to → IsSession (o.line ∷ others) (counts ∷ answers)
   session_of has_feed o counts others answers to counted answered = record {
     first = o.line;
@@ -272,13 +288,17 @@ module _ (old_left mid_left new_left old_held new_held : Option (List ℕ)) (ahe
 
   only_lines : (o : Opens old_left mid_left ahead opening false) → lines_of o.takes.read ≡ o.line ∷ []
   only_lines o =
-      ap lines_of (o.takes.parted ∙ ap (λ (e : List ℕ). (o.line ++ []) ++ e) o.over.1 ∙ append-nil (o.line ++ []) ∙ append-nil o.line) ∙ only_line o.line o.plain o.opens
+      ap lines_of (o.takes.parted ∙ ap (λ (e : List ℕ). (o.line ++ []) ++ e) o.over.1 ∙ append-nil (o.line ++ []) ∙ append-nil o.line)
+      ∙ only_line o.line o.plain o.opens
 
-  written_first : (held : Option (List ℕ)) (counts : List ℕ) (texts : List (List ℕ)) (after : Option (List ℕ)) → Appends old_held held (counts ++ 10 ∷ []) → Appends held after (closed texts)
+  written_first : (held : Option (List ℕ)) (counts : List ℕ) (texts : List (List ℕ)) (after : Option (List ℕ)) → Appends old_held held (counts ++ 10 ∷ [])
+      → Appends held after (closed texts)
       → Appends old_held after (closed (counts ∷ texts))
-  written_first held counts texts after p q = subst (Appends old_held after) (append_assoc counts (10 ∷ []) (closed texts)) (Appends-trans old_held held after _ _ p q)
+  written_first held counts texts after p q =
+      subst (Appends old_held after) (append_assoc counts (10 ∷ []) (closed texts)) (Appends-trans old_held held after _ _ p q)
 
-  pub served : (has_feed : Bool) → Opens old_left mid_left ahead opening has_feed → BeginsAll has_feed price limits old new (beginning opening) → IsServed old_left new_left old_held new_held
+  pub served : (has_feed : Bool) → Opens old_left mid_left ahead opening has_feed → BeginsAll has_feed price limits old new (beginning opening)
+      → IsServed old_left new_left old_held new_held
   served true o is = record {
     input = o.takes.read ++ is.rest.read;
     consumed = Consumes-trans old_left mid_left new_left _ _ o.takes.consumed is.rest.consumed;
@@ -300,7 +320,8 @@ module _ (old_left mid_left new_left old_held new_held : Option (List ℕ)) (ahe
     written = keeps_appends old_held is.held new_held (is.counts ++ 10 ∷ []) is.first is.rest.1;
   }
 
-  more_read : (o : Opens old_left mid_left ahead opening true) (read : List ℕ) (lines : List (List ℕ)) → AreRead (ahead ++ read) new_left lines → AreRead (o.takes.read ++ read) new_left (o.line ∷ lines)
+  more_read : (o : Opens old_left mid_left ahead opening true) (read : List ℕ) (lines : List (List ℕ)) → AreRead (ahead ++ read) new_left lines
+      → AreRead (o.takes.read ++ read) new_left (o.line ∷ lines)
   more_read o read lines (inl begins) = inl (record {
     plain = (o.plain, begins.plain);
     rest = begins.rest;
@@ -308,8 +329,10 @@ module _ (old_left mid_left new_left old_held new_held : Option (List ℕ)) (ahe
   })
   more_read o read lines (inr whole) = inr (whole.0, ap (λ (ls : List (List ℕ)). o.line ∷ ls) whole.1 ∙ sym (fed_lines o read))
 
-  cut_short : (has_feed : Bool) → Opens old_left mid_left ahead opening has_feed → has_feed ≡ true → (counts : List ℕ) → TellsCounts (start_of opening.start) counts → (held : Option (List ℕ))
-      → Appends old_held held (counts ++ 10 ∷ []) → ServesSome price limits (streams mid_left ahead held) new (beginning opening) → IsCutShort old_left new_left old_held new_held
+  cut_short : (has_feed : Bool) → Opens old_left mid_left ahead opening has_feed → has_feed ≡ true → (counts : List ℕ)
+      → TellsCounts (start_of opening.start) counts → (held : Option (List ℕ))
+      → Appends old_held held (counts ++ 10 ∷ []) → ServesSome price limits (streams mid_left ahead held) new (beginning opening)
+      → IsCutShort old_left new_left old_held new_held
   cut_short false o fed counts counted held first rest = absurd (false≢true fed)
   cut_short true o fed counts counted held first rest = record {
     input = o.takes.read ++ rest.read;
@@ -321,8 +344,10 @@ module _ (old_left mid_left new_left old_held new_held : Option (List ℕ)) (ahe
     written = written_first held counts rest.texts new_held first rest.written;
   }
 
-  cut_later : (has_feed : Bool) → Opens old_left mid_left ahead opening has_feed → has_feed ≡ true → (counts : List ℕ) → TellsCounts (start_of opening.start) counts → (held : Option (List ℕ))
-      → Appends old_held held (counts ++ 10 ∷ []) → ServesPart price limits (streams mid_left ahead held) new (beginning opening) → IsPartlyServed old_left new_left old_held new_held
+  cut_later : (has_feed : Bool) → Opens old_left mid_left ahead opening has_feed → has_feed ≡ true → (counts : List ℕ)
+      → TellsCounts (start_of opening.start) counts → (held : Option (List ℕ))
+      → Appends old_held held (counts ++ 10 ∷ []) → ServesPart price limits (streams mid_left ahead held) new (beginning opening)
+      → IsPartlyServed old_left new_left old_held new_held
   cut_later false o fed counts counted held first rest = absurd (false≢true fed)
   cut_later true o fed counts counted held first rest = record {
     input = o.takes.read ++ rest.read;
@@ -339,7 +364,8 @@ module _ (old_left mid_left new_left old_held new_held : Option (List ℕ)) (ahe
       rest = rest.written.rest;
       split = rest.written.split;
       appended =
-          subst (Appends old_held new_held) (append_assoc counts (10 ∷ []) (closed rest.written.given ++ rest.written.part) ∙ sym (append_assoc counts (10 ∷ closed rest.written.given) rest.written.part))
+          subst (Appends old_held new_held) (append_assoc counts (10 ∷ []) (closed rest.written.given ++ rest.written.part)
+          ∙ sym (append_assoc counts (10 ∷ closed rest.written.given) rest.written.part))
           (Appends-trans old_held held new_held _ _ first rest.written.appended);
     };
   }
@@ -348,7 +374,8 @@ module _ (old_left mid_left new_left old_held new_held : Option (List ℕ)) (ahe
   first_line_read true o same = inl (record { plain = (o.plain, tt); rest = ahead; joined = o.takes.parted })
   first_line_read false o same = inr (subst IsAtEnd (sym same) o.over.0, sym (only_lines o))
 
-  cut_first : (has_feed : Bool) → Opens old_left mid_left ahead opening has_feed → BeginsPart old new (beginning opening) → IsPartlyServed old_left new_left old_held new_held
+  cut_first : (has_feed : Bool) → Opens old_left mid_left ahead opening has_feed → BeginsPart old new (beginning opening)
+      → IsPartlyServed old_left new_left old_held new_held
   cut_first has_feed o is = record {
     input = o.takes.read;
     consumed = subst (λ (l : Option (List ℕ)). Consumes old_left l o.takes.read) (sym is.unread) o.takes.consumed;
@@ -367,7 +394,8 @@ module _ (old_left mid_left new_left old_held new_held : Option (List ℕ)) (ahe
     };
   }
 
-  pub fails : (fault : RunFault) (has_feed : Bool) → Opens old_left mid_left ahead opening has_feed → BeginFailsBy fault has_feed price limits old new (beginning opening)
+  pub fails : (fault : RunFault) (has_feed : Bool) → Opens old_left mid_left ahead opening has_feed
+      → BeginFailsBy fault has_feed price limits old new (beginning opening)
       → ServeFailsBy fault old_left new_left old_held new_held
   fails Memory has_feed o (inl kept) = inl kept
   fails Memory has_feed o (inr is) = inr (cut_short has_feed o is.fed is.counts is.counted is.held is.first is.rest)
@@ -384,7 +412,8 @@ module _ (old_left mid_left new_left old_held new_held : Option (List ℕ)) (ahe
   fails WriteFault has_feed o (inr is) = cut_later has_feed o is.fed is.counts is.counted is.held is.first is.rest
 
 -- a first line that could not be read, or is no opening
-pub open_fails : (fault : RunFault) (old_left new_left held : Option (List ℕ)) → OpenFailsBy fault old_left new_left → ServeFailsBy fault old_left new_left held held
+pub open_fails : (fault : RunFault) (old_left new_left held : Option (List ℕ)) → OpenFailsBy fault old_left new_left
+    → ServeFailsBy fault old_left new_left held held
 open_fails Memory old_left new_left held is = inl (Keeps-refl held)
 open_fails (Script fault) old_left new_left held is = (is, Keeps-refl held)
 open_fails BadLimits old_left new_left held is = absurd is

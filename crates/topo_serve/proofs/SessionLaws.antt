@@ -1,11 +1,13 @@
 -- Laws of sessions.
-use Rattle.std.proofs.Common.{◌≡◌, ◌==◌, ℕ, Bool, true, false, List, [], ◌∷◌, ◌++◌, Option, None, Some, take, length, suc, inl, inr, refl, sym, ap, subst, ◌∙◌, append_assoc, append-nil}
+use Rattle.std.proofs.Common.{◌≡◌, ◌==◌, ℕ, Bool, true, false, List, [], ◌∷◌, ◌++◌, Option, None, Some, take}
+use Rattle.std.proofs.Common.{length, suc, inl, inr, refl, sym, ap, subst, ◌∙◌, append_assoc, append-nil}
 use Rattle.std.specs.Io.KnownBytes.{Appends, Consumes, Keeps}
 use Rattle.std.proofs.KnownBytes.{Appends-nil, Appends-trans, Consumes-trans}
 use Rattle.topo_core.specs.declared.limits.Limits.{Limits}
 use Rattle.topo_core.specs.Routes.{Pricing}
 use Rattle.topo_settings.specs.declared.fault.RunFault.{RunFault}
-use Rattle.topo_settings.specs.declared.fault.RunFault.TheVariants.{Memory, Script, BadLimits, Price, Load, NoSeat, Mismatch, WrongReply, WrongPicture, ReadFault, WriteFault}
+use Rattle.topo_settings.specs.declared.fault.RunFault.TheVariants.{Memory, Script, BadLimits, Price, Load, NoSeat, Mismatch}
+use Rattle.topo_settings.specs.declared.fault.RunFault.TheVariants.{WrongReply, WrongPicture, ReadFault, WriteFault}
 use Rattle.topo_book.specs.Books.{BookState, IsSameBook}
 use Rattle.topo_forms.specs.declared.sessions.Opening.{Opening}
 use Rattle.topo_forms.specs.declared.sessions.Request.{Request}
@@ -16,7 +18,9 @@ use Rattle.topo_serve.specs.Answers.{Answers, Standing, standing_of}
 use Rattle.topo_serve.specs.Lines.{IsPlain, closed, lines_of}
 use Rattle.topo_serve.specs.Sessions.{AreAnswered, AreRead}
 use Rattle.topo_serve.specs.Taking.{IsOver, OverUnless, Takes, TakesLine, feed_if}
-use Rattle.topo_serve.specs.Turns.{AnswerFailsBy, BeginFailsBy, BeginsAll, BeginsSome, HasServed, IsAnsweredBy, IsCutBy, IsOpened, IsTurn, LineFailsBy, LinesFailBy, OfLine, OpenedFailsBy, RestServed, ServesAll, ServesPart, ServesSome, Stays, Stops, Streams, TurnFailsBy, begins_at}
+use Rattle.topo_serve.specs.Turns.{AnswerFailsBy, BeginFailsBy, BeginsAll, BeginsSome, HasServed, IsAnsweredBy, IsCutBy}
+use Rattle.topo_serve.specs.Turns.{IsOpened, IsTurn, LineFailsBy, LinesFailBy, OfLine, OpenedFailsBy, RestServed}
+use Rattle.topo_serve.specs.Turns.{ServesAll, ServesPart, ServesSome, Stays, Stops, Streams, TurnFailsBy, begins_at}
 use Rattle.topo_serve.proofs.AnswerLaws.{answered_snoc}
 use Rattle.topo_serve.proofs.LineLaws.{closed_snoc, line_alone, lines_closed, plain_snoc}
 use Rattle.topo_serve.proofs.KeptLines.{request_kept}
@@ -54,13 +58,16 @@ module _ (price : Pricing) (limits : Limits) (old mid new : Streams) (from now :
     takes = subst (Takes old.left new.left old.ahead new.ahead) (sym (closed_snoc is.lines turn.line)) (taken_more (turn.line ++ 10 ∷ []) turn.takes);
     texts = is.texts ++ turn.told.text ∷ [];
     answered = answered_snoc price limits is.lines is.texts turn.line turn.told.text from now to is.answered turn.told.answers;
-    written = subst (Appends old.held new.held) (sym (closed_snoc is.texts turn.told.text)) (Appends-trans old.held mid.held new.held _ _ is.written turn.told.written);
+    written = subst (Appends old.held new.held) (sym (closed_snoc is.texts turn.told.text))
+        (Appends-trans old.held mid.held new.held _ _ is.written turn.told.written);
   }
 
   -- all lines, where what is taken is all
-  all_lines : (last : List ℕ) (t : Takes old.left new.left old.ahead new.ahead (closed is.lines ++ last)) → new.ahead ≡ [] → lines_of (old.ahead ++ t.read) ≡ is.lines ++ lines_of last
+  all_lines : (last : List ℕ) (t : Takes old.left new.left old.ahead new.ahead (closed is.lines ++ last)) → new.ahead ≡ []
+      → lines_of (old.ahead ++ t.read) ≡ is.lines ++ lines_of last
   all_lines last t empty =
-      ap lines_of (t.parted ∙ ap (λ (e : List ℕ). (closed is.lines ++ last) ++ e) empty ∙ append-nil (closed is.lines ++ last)) ∙ lines_closed is.lines last is.plain
+      ap lines_of (t.parted ∙ ap (λ (e : List ℕ). (closed is.lines ++ last) ++ e) empty ∙ append-nil (closed is.lines ++ last))
+      ∙ lines_closed is.lines last is.plain
 
   -- the turn at the end of the input
   ends_with : (to : Standing) (line : List ℕ) → IsPlain line → Takes mid.left new.left mid.ahead new.ahead (line ++ []) → IsOver new.left new.ahead
@@ -73,7 +80,8 @@ module _ (price : Pricing) (limits : Limits) (old mid new : Streams) (from now :
         whole = over.0;
         texts = is.texts;
         to = now;
-        answered = subst (λ (ls : List (List ℕ)). AreAnswered price limits ls is.texts from now) (sym (all_lines [] t over.1 ∙ append-nil is.lines)) is.answered;
+        answered = subst (λ (ls : List (List ℕ)). AreAnswered price limits ls is.texts from now)
+            (sym (all_lines [] t over.1 ∙ append-nil is.lines)) is.answered;
         written = keeps_appends old.held mid.held new.held (closed is.texts) is.written told.1;
       }
   ends_with to (b ∷ line) plain takes over told =
@@ -89,7 +97,8 @@ module _ (price : Pricing) (limits : Limits) (old mid new : Streams) (from now :
         answered =
             subst (λ (ls : List (List ℕ)). AreAnswered price limits ls (is.texts ++ told.text ∷ []) from to) (sym all)
             (answered_snoc price limits is.lines is.texts (b ∷ line) told.text from now to is.answered told.answers);
-        written = subst (Appends old.held new.held) (sym (closed_snoc is.texts told.text)) (Appends-trans old.held mid.held new.held _ _ is.written told.written);
+        written = subst (Appends old.held new.held) (sym (closed_snoc is.texts told.text))
+            (Appends-trans old.held mid.held new.held _ _ is.written told.written);
       }
 
   pub turn_last : (to : Standing) → IsTurn price limits mid new now to false → ServesAll price limits old new from
@@ -140,7 +149,8 @@ module _ (price : Pricing) (limits : Limits) (old mid new : Streams) (from now :
     };
   }
 
-  breaks : (has_feed : Bool) (line : List ℕ) → IsPlain line → Takes mid.left new.left mid.ahead new.ahead (line ++ feed_if has_feed) → OverUnless has_feed new.left new.ahead
+  breaks : (has_feed : Bool) (line : List ℕ) → IsPlain line → Takes mid.left new.left mid.ahead new.ahead (line ++ feed_if has_feed)
+      → OverUnless has_feed new.left new.ahead
       → OfLine has_feed line (IsCutBy price limits line mid.held new.held now) ⊥ → ServesPart price limits old new from
   breaks true line plain takes over told =
       let t = taken_more (line ++ 10 ∷ []) takes in
@@ -174,7 +184,8 @@ module _ (price : Pricing) (limits : Limits) (old mid new : Streams) (from now :
 -- ---- The answer to the opening
 
 module _ (has_feed : Bool) (price : Pricing) (limits : Limits) (old new : Streams) (from : Standing) where
-  pub first_fails : (fault : RunFault) → new.left ≡ old.left → OpenedFailsBy fault from.picture old.held new.held → BeginFailsBy fault has_feed price limits old new from
+  pub first_fails : (fault : RunFault) → new.left ≡ old.left → OpenedFailsBy fault from.picture old.held new.held
+      → BeginFailsBy fault has_feed price limits old new from
   first_fails Memory unread is = inl is
   first_fails (Script fault) unread is = absurd is
   first_fails BadLimits unread is = absurd is
@@ -206,10 +217,12 @@ module _ (has_feed : Bool) (price : Pricing) (limits : Limits) (old new : Stream
       rest = subst (λ (b : Bool). RestServed b price limits (record old { held = held }) new from) (sym fed) all;
     }
 
-    then_some : (fault : RunFault) → has_feed ≡ true → LinesFailBy fault price limits (record old { held = held }) new from → BeginsSome fault has_feed price limits old new from
+    then_some : (fault : RunFault) → has_feed ≡ true → LinesFailBy fault price limits (record old { held = held }) new from
+        → BeginsSome fault has_feed price limits old new from
     then_some fault fed rest = record { fed = fed; counts = is.counts; counted = is.counted; held = held; first = is.first; rest = rest }
 
-    pub then_fails : (fault : RunFault) → has_feed ≡ true → LinesFailBy fault price limits (record old { held = held }) new from → BeginFailsBy fault has_feed price limits old new from
+    pub then_fails : (fault : RunFault) → has_feed ≡ true → LinesFailBy fault price limits (record old { held = held }) new from
+        → BeginFailsBy fault has_feed price limits old new from
     then_fails Memory fed some = inr (then_some Memory fed some)
     then_fails (Script fault) fed some = absurd some
     then_fails BadLimits fed some = absurd some
@@ -236,12 +249,14 @@ of_some false (b ∷ line) some none not s = s
 pub of_none : (has_feed : Bool) (line : List ℕ) (some none : Type 0) → has_feed ≡ false → line ≡ [] → none → OfLine has_feed line some none
 of_none has_feed line some none unfed empty n = rw (unfed, empty) n
 
-of_kept : (n : ℕ) (has_feed : Bool) (line kept : List ℕ) (some other none : Type 0) → kept ≡ take (suc n) line → (some → other) → OfLine has_feed kept some none → OfLine has_feed line other none
+of_kept : (n : ℕ) (has_feed : Bool) (line kept : List ℕ) (some other none : Type 0) → kept ≡ take (suc n) line → (some → other) → OfLine has_feed kept some none
+    → OfLine has_feed line other none
 of_kept n true line kept some other none is f told = f told
 of_kept n false [] kept some other none is f told = rw is at told
 of_kept n false (b ∷ line) kept some other none is f told = f (rw is at told)
 
-module _ (price : Pricing) (limits : Limits) (old new : Streams) (from : Standing) (has_feed : Bool) (kept : List ℕ) (t : TakesLine 65537 old.left new.left old.ahead new.ahead kept has_feed) where
+module _ (price : Pricing) (limits : Limits) (old new : Streams) (from : Standing) (has_feed : Bool) (kept : List ℕ)
+    (t : TakesLine 65537 old.left new.left old.ahead new.ahead kept has_feed) where
   answered_kept : (to : Standing) → IsAnsweredBy price limits kept old.held new.held from to → IsAnsweredBy price limits t.line old.held new.held from to
   answered_kept to a = record {
     text = a.text;
@@ -257,7 +272,8 @@ module _ (price : Pricing) (limits : Limits) (old new : Streams) (from : Standin
     written = a.written;
   }
 
-  pub turn_made : (to : Standing) → OfLine has_feed kept (IsAnsweredBy price limits kept old.held new.held from to) (Stays old.held new.held from to) → IsTurn price limits old new from to has_feed
+  pub turn_made : (to : Standing) → OfLine has_feed kept (IsAnsweredBy price limits kept old.held new.held from to) (Stays old.held new.held from to)
+      → IsTurn price limits old new from to has_feed
   turn_made to told = record {
     line = t.line;
     plain = t.plain;
@@ -286,8 +302,10 @@ module _ (price : Pricing) (limits : Limits) (old new : Streams) (from : Standin
     told = of_kept 65536 has_feed t.line kept _ _ _ t.is_kept cut_kept is;
   }
 
-pub line_fails : (fault : RunFault) (has_feed : Bool) (price : Pricing) (limits : Limits) (line : List ℕ) (old_held new_held : Option (List ℕ)) (from : Standing)
-    → ((some : Type 0) → some → OfLine has_feed line some ⊥) → AnswerFailsBy fault price limits line old_held new_held from → LineFailsBy fault has_feed price limits line old_held new_held from
+pub line_fails : (fault : RunFault) (has_feed : Bool) (price : Pricing) (limits : Limits) (line : List ℕ) (old_held new_held : Option (List ℕ))
+    (from : Standing)
+    → ((some : Type 0) → some → OfLine has_feed line some ⊥) → AnswerFailsBy fault price limits line old_held new_held from
+    → LineFailsBy fault has_feed price limits line old_held new_held from
 line_fails Memory has_feed price limits line oh nh from of is = is
 line_fails (Script fault) has_feed price limits line oh nh from of is = absurd is
 line_fails BadLimits has_feed price limits line oh nh from of is = absurd is
@@ -302,10 +320,12 @@ line_fails WriteFault has_feed price limits line oh nh from of is = of _ is
 
 -- ---- The same book
 
-pub book_so : {F : Type 0} (P : F → Limits → Type 0) (old new : BookState F) → IsSameBook old new → P new.tariff new.picture.limits → P old.tariff old.picture.limits
+pub book_so : {F : Type 0} (P : F → Limits → Type 0) (old new : BookState F) → IsSameBook old new → P new.tariff new.picture.limits
+    → P old.tariff old.picture.limits
 book_so P old new same p = subst (λ t. P t old.picture.limits) same.0 (subst (λ (l : Limits). P new.tariff l) same.2 p)
 
-pub begun_so : {F : Type 0} (P : F → Limits → Standing → Type 0) (book : BookState F) (ask : F) (start : Shown) (opening : Opening) → book.tariff ≡ ask → book.start ≡ start → book.history ≡ []
+pub begun_so : {F : Type 0} (P : F → Limits → Standing → Type 0) (book : BookState F) (ask : F) (start : Shown) (opening : Opening) → book.tariff ≡ ask
+    → book.start ≡ start → book.history ≡ []
     → book.picture ≡ start → P book.tariff book.picture.limits (standing_of opening book) → P ask start.limits (begins_at opening start.rows)
 begun_so P book ask start opening tariff begin empty picture p =
     let at : standing_of opening book ≡ begins_at opening start.rows = rw (begin, empty, picture) refl in

@@ -34,7 +34,8 @@ no_end_ends Feed left ahead is = tt
 no_end_ends More left ahead is = tt
 no_end_ends End left ahead is = absurd is
 
-pub part_there : (most : ℕ) (a : Option (List ℕ)) (old new line after : List ℕ) (part : Part) → PartsAhead most old new line after part → TakesPart most a a old new line after part
+pub part_there : (most : ℕ) (a : Option (List ℕ)) (old new line after : List ℕ) (part : Part) → PartsAhead most old new line after part
+    → TakesPart most a a old new line after part
 part_there most a old new line after part p = record {
   more = p.more;
   plain = p.plain;
@@ -43,7 +44,8 @@ part_there most a old new line after part p = record {
   ended = no_end_ends part a new p.no_end;
 }
 
-pub part_read : (most : ℕ) (a b : Option (List ℕ)) (old mid new line after : List ℕ) (part : Part) → old ≡ [] → Consumes a b mid → PartsAhead most mid new line after part
+pub part_read : (most : ℕ) (a b : Option (List ℕ)) (old mid new line after : List ℕ) (part : Part) → old ≡ [] → Consumes a b mid
+    → PartsAhead most mid new line after part
     → TakesPart most a b old new line after part
 part_read most a b old mid new line after part none consumed p = record {
   more = p.more;
@@ -53,7 +55,8 @@ part_read most a b old mid new line after part none consumed p = record {
   ended = no_end_ends part b new p.no_end;
 }
 
-pub part_over : (most : ℕ) (a b : Option (List ℕ)) (old new line : List ℕ) → length line ≤ most → old ≡ [] → Consumes a b new → IsAtEnd b → new ≡ [] → TakesPart most a b old new line line End
+pub part_over : (most : ℕ) (a b : Option (List ℕ)) (old new line : List ℕ) → length line ≤ most → old ≡ [] → Consumes a b new → IsAtEnd b → new ≡ []
+    → TakesPart most a b old new line line End
 part_over most a b old new line within none consumed over empty = record {
   more = [];
   plain = tt;
@@ -76,7 +79,8 @@ pub record GoesOn (most : ℕ) (old_left left : Option (List ℕ)) (old_ahead ah
   pub takes : Takes old_left left old_ahead ahead so_far
   pub kept : line ≡ take most so_far
 
-module _ (most : ℕ) (a b c : Option (List ℕ)) (old mid new line after so_far : List ℕ) (is : GoesOn most a b old mid line so_far) (part : Part) (p : TakesPart most b c mid new line after part) where
+module _ (most : ℕ) (a b c : Option (List ℕ)) (old mid new line after so_far : List ℕ) (is : GoesOn most a b old mid line so_far) (part : Part)
+    (p : TakesPart most b c mid new line after part) where
   all_plain : IsPlain (so_far ++ p.more)
   all_plain = plain_append so_far p.more is.plain p.plain
 
@@ -84,7 +88,8 @@ module _ (most : ℕ) (a b c : Option (List ℕ)) (old mid new line after so_far
   all_kept = p.kept ∙ ap (λ (t : List ℕ). take most (t ++ p.more)) is.kept ∙ take_more most so_far p.more
 
   all_taken : Takes a c old new ((so_far ++ p.more) ++ feed_of part)
-  all_taken = subst (Takes a c old new) (sym (append_assoc so_far p.more (feed_of part))) (takes_trans a b c old mid new so_far (p.more ++ feed_of part) is.takes p.takes)
+  all_taken = subst (Takes a c old new) (sym (append_assoc so_far p.more (feed_of part)))
+      (takes_trans a b c old mid new so_far (p.more ++ feed_of part) is.takes p.takes)
 
   pub line_fed : part ≡ Feed → TakesLine most a c old new after true
   line_fed fed = record {
@@ -107,7 +112,8 @@ module _ (most : ℕ) (a b c : Option (List ℕ)) (old mid new line after so_far
   pub line_on : part ≡ More → GoesOn most a c old new after (so_far ++ p.more)
   line_on more = record {
     plain = all_plain;
-    takes = subst (Takes a c old new) (append-nil (so_far ++ p.more)) (subst (λ (q : Part). Takes a c old new ((so_far ++ p.more) ++ feed_of q)) more all_taken);
+    takes = subst (Takes a c old new) (append-nil (so_far ++ p.more))
+        (subst (λ (q : Part). Takes a c old new ((so_far ++ p.more) ++ feed_of q)) more all_taken);
     kept = all_kept;
   }
 

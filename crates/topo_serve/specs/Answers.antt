@@ -47,7 +47,8 @@ numbered_answer fault = codes "{\"fault\":[" ++ (decimal (fault_number fault) ++
 
 -- a fault with its number, its name and its path
 abbrev pub placed_answer : ScriptFault → Path → List ℕ
-placed_answer fault path = codes "{\"fault\":[" ++ (decimal (fault_number fault) ++ (codes ",\"" ++ (fault_name fault ++ (codes "\",\"" ++ (path_text path ++ codes "\"]}")))))
+placed_answer fault path =
+    codes "{\"fault\":[" ++ (decimal (fault_number fault) ++ (codes ",\"" ++ (fault_name fault ++ (codes "\",\"" ++ (path_text path ++ codes "\"]}")))))
 
 -- the answer to a line that is of no form
 abbrev pub fault_answer : ScriptFault → List ℕ
@@ -76,7 +77,8 @@ pub record Standing : Type 0 where
 
 -- where a session with this opening and this book stands
 abbrev pub standing_of : {F : Type 0} → Opening → BookState F → Standing
-standing_of opening book = record { numbers = opening.limits; prices = opening.prices; start = book.start.rows; history = book.history; picture = book.picture.rows }
+standing_of opening book =
+    record { numbers = opening.limits; prices = opening.prices; start = book.start.rows; history = book.history; picture = book.picture.rows }
 
 -- the report so far
 abbrev pub report_so_far : Standing → Report

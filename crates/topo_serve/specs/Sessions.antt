@@ -11,7 +11,8 @@ use Rattle.topo_forms.specs.declared.sessions.Request.TheVariants.{Carry, Counts
 use Rattle.topo_forms.specs.Reads.{IsFirstFault, Read}
 use Rattle.topo_forms.specs.Sessions.{opening_of, request_of}
 use Rattle.topo_settings.specs.declared.fault.RunFault.{RunFault}
-use Rattle.topo_settings.specs.declared.fault.RunFault.TheVariants.{Memory, Script, BadLimits, Price, Load, NoSeat, Mismatch, WrongReply, WrongPicture, ReadFault, WriteFault}
+use Rattle.topo_settings.specs.declared.fault.RunFault.TheVariants.{Memory, Script, BadLimits, Price, Load, NoSeat, Mismatch}
+use Rattle.topo_settings.specs.declared.fault.RunFault.TheVariants.{WrongReply, WrongPicture, ReadFault, WriteFault}
 use Rattle.topo_settings.specs.Settings.{IsSound, IsUnsound, priced, start_of}
 use Rattle.topo_serve.specs.Answers.{Answers, Standing, TellsCounts}
 use Rattle.topo_serve.specs.Lines.{BeginsWith, closed, first_line, lines_of}

@@ -1,6 +1,7 @@
 //! Lines of a reader.
 
-ghost use Rattle.std.specs.Prelude.{◌≡◌, ◌≤◌, ◌++◌, IfErr, IfOk, OnErr, OnOk, IsTrue, [], length, take, vec_len};
+ghost use Rattle.std.specs.Prelude.{◌≡◌, ◌≤◌, ◌++◌, IfErr, IfOk, OnErr};
+ghost use Rattle.std.specs.Prelude.{OnOk, IsTrue, [], length, take, vec_len};
 ghost use Rattle.std.specs.Io.KnownBytes.{Consumes, IsAtEnd};
 ghost use Rattle.topo_serve.specs.Lines.{first_line};
 ghost use Rattle.topo_serve.specs.Taking.{Consumed, PartsAhead, TakesFirst, TakesLine, TakesPart};
@@ -20,7 +21,8 @@ pub struct Ahead {
     at: usize,
 }
 
-// Written out, so that it is proved once: a derived one is proved anew in each function that lets such a value go.
+// Written out, so that it is proved once: a derived one is proved anew in each function that lets
+// such a value go.
 impl Drop for Ahead {
     fn drop(self) {
         let Ahead { bytes, at: _ } = self;
@@ -89,7 +91,8 @@ impl Ahead {
 
     /// One call of `read`, and whether it found the end. An interrupted call gives nothing.
     fn refill<R: Read>(&mut self, reader: &mut R) -> Result<bool, RunFault>
-        ensures read { OnOk result (Consumes (R.remaining reader.old) (R.remaining reader.new) self.new) }
+        ensures read { OnOk result
+            (Consumes (R.remaining reader.old) (R.remaining reader.new) self.new) }
         ensures end { IfOk result (λ ended. IsTrue ended → IsAtEnd (R.remaining reader.new)) }
         ensures empty { IfOk result (λ ended. IsTrue ended → self.new ≡ []) }
         ensures some { OnErr result (Consumed (R.remaining reader.old) (R.remaining reader.new)) }
@@ -112,11 +115,12 @@ impl Ahead {
         }
     }
 
-    /// Takes what is ahead up to the first line feed, if there is one. Of the line at most so many bytes are
-    /// kept.
+    /// Takes what is ahead up to the first line feed, if there is one. Of the line at most so many
+    /// bytes are kept.
     fn take_ahead(&mut self, most: usize, line: &mut Vec<u8>) -> Result<Part, RunFault>
         requires { vec_len line.old ≤ most }
-        ensures parts { IfOk result (PartsAhead most self.old self.new line.old.items line.new.items) }
+        ensures parts { IfOk result
+            (PartsAhead most self.old self.new line.old.items line.new.items) }
         ensures within { OnOk result (vec_len line.new ≤ most) }
         ensures err { IfErr result IsOfReading }
     {
@@ -133,8 +137,8 @@ impl Ahead {
         }
     }
 
-    /// Takes a part of a line. What is ahead is taken first, and where nothing is, there is one call of
-    /// `read`.
+    /// Takes a part of a line. What is ahead is taken first, and where nothing is, there is one
+    /// call of `read`.
     fn take_part<R: Read>(
         &mut self,
         most: usize,
@@ -142,7 +146,8 @@ impl Ahead {
         line: &mut Vec<u8>,
     ) -> Result<Part, RunFault>
         requires { vec_len line.old ≤ most }
-        ensures part { IfOk result (TakesPart most (R.remaining reader.old) (R.remaining reader.new) self.old self.new line.old.items line.new.items) }
+        ensures part { IfOk result (TakesPart most (R.remaining reader.old)
+            (R.remaining reader.new) self.old self.new line.old.items line.new.items) }
         ensures within { OnOk result (vec_len line.new ≤ most) }
         ensures some { OnErr result (Consumed (R.remaining reader.old) (R.remaining reader.new)) }
         ensures err { IfErr result IsOfReading }
@@ -158,15 +163,16 @@ impl Ahead {
         Ok(part)
     }
 
-    /// Takes a line, and says whether it has a line feed: without one it is what stands before the end, and
-    /// may be empty. `line` gets at most so many bytes of it.
+    /// Takes a line, and says whether it has a line feed: without one it is what stands before the
+    /// end, and may be empty. `line` gets at most so many bytes of it.
     pub fn take_line<R: Read>(
         &mut self,
         most: usize,
         reader: &mut R,
         line: &mut Vec<u8>,
     ) -> Result<bool, RunFault>
-        ensures line { IfOk result (TakesLine most (R.remaining reader.old) (R.remaining reader.new) self.old self.new line.new.items) }
+        ensures line { IfOk result (TakesLine most (R.remaining reader.old)
+            (R.remaining reader.new) self.old self.new line.new.items) }
         ensures some { OnErr result (Consumed (R.remaining reader.old) (R.remaining reader.new)) }
         ensures err { IfErr result IsOfReading }
     {
@@ -181,15 +187,16 @@ impl Ahead {
         Err(RunFault::ReadFault)
     }
 
-    /// As `take_line`, but no further than until `line` has as many bytes as it gets at most, which is
-    /// told by `More`.
+    /// As `take_line`, but no further than until `line` has as many bytes as it gets at most, which
+    /// is told by `More`.
     pub fn take_first<R: Read>(
         &mut self,
         most: usize,
         reader: &mut R,
         line: &mut Vec<u8>,
     ) -> Result<Part, RunFault>
-        ensures line { IfOk result (TakesFirst most (R.remaining reader.old) (R.remaining reader.new) self.old self.new line.new.items) }
+        ensures line { IfOk result (TakesFirst most (R.remaining reader.old)
+            (R.remaining reader.new) self.old self.new line.new.items) }
         ensures err { IfErr result IsOfReading }
     {
         line.clear();

@@ -12,7 +12,8 @@ ghost use Rattle.topo_script.specs.Pictures.{rows_text};
 ghost use Rattle.serde_json.specs.Written.{compact_text};
 ghost use Rattle.topo_script.specs.ReportTexts.{reply_data, report_text};
 ghost use Rattle.topo_forms.specs.declared.sessions.Opening.{Opening};
-ghost use Rattle.topo_serve.specs.Answers.{Answers, CarriesOut, TellsCounts, counts_text, fault_answer, report_so_far, standing_of};
+ghost use Rattle.topo_serve.specs.Answers.{Answers, CarriesOut, TellsCounts, counts_text};
+ghost use Rattle.topo_serve.specs.Answers.{fault_answer, report_so_far, standing_of};
 
 use std::alloc::{AllocError, Global};
 use topo_book::Book;
@@ -25,16 +26,19 @@ use topo_price::tariff::PriceFn;
 use topo_script::written::{Written, write_after};
 use topo_script::{picture_text, report};
 
-/// Answers a line, which stands here without its line feed: a command by its reply, after it was carried out,
-/// and another request by its text. A line that is of no form is answered by its first fault, and changes
-/// nothing. The answer has no line feed.
+/// Answers a line, which stands here without its line feed: a command by its reply, after it was
+/// carried out, and another request by its text. A line that is of no form is answered by its first
+/// fault, and changes nothing. The answer has no line feed.
 pub fn answer_line<F: PriceFn>(
     alloc: Global,
     opening: &Opening,
     book: &mut Book<F>,
     line: &[u8],
 ) -> Result<String, AllocError>
-    ensures answer { IfOk result (λ text. Answers (prices_of (F.may_return book.old.tariff)) book.old.picture.limits (request_of line.now) (string_bytes text) (standing_of opening.now book.old) (standing_of opening.now book.new)) }
+    ensures answer { IfOk result
+        (λ text. Answers (prices_of (F.may_return book.old.tariff)) book.old.picture.limits
+        (request_of line.now) (string_bytes text) (standing_of opening.now book.old)
+        (standing_of opening.now book.new)) }
     ensures same_book { IsSameBook book.old book.new }
 {
     match read_request(alloc, line) {
@@ -53,8 +57,11 @@ fn enter<F: PriceFn>(
     book: &mut Book<F>,
     command: Command,
 ) -> Result<Reply, AllocError>
-    ensures step { IfOk result (λ reply. Step (prices_of (F.may_return book.old.tariff)) book.old.picture.limits book.old.picture.rows (call_of command) reply book.new.picture.rows) }
-    ensures entered { IfOk result (λ reply. book.new.history ≡ book.old.history ++ record { caller = 0; call = call_of command; reply = reply } ∷ []) }
+    ensures step { IfOk result (λ reply. Step (prices_of (F.may_return book.old.tariff))
+        book.old.picture.limits book.old.picture.rows (call_of command)
+        reply book.new.picture.rows) }
+    ensures entered { IfOk result (λ reply. book.new.history ≡ book.old.history
+        ++ record { caller = 0; call = call_of command; reply = reply } ∷ []) }
     ensures same_book { IsSameBook book.old book.new }
 {
     match command {
@@ -71,7 +78,10 @@ fn answer_command<F: PriceFn>(
     book: &mut Book<F>,
     command: Command,
 ) -> Result<String, AllocError>
-    ensures carried { IfOk result (λ text. (h : Opening) → CarriesOut (prices_of (F.may_return book.old.tariff)) book.old.picture.limits command (string_bytes text) (standing_of h book.old) (standing_of h book.new)) }
+    ensures carried { IfOk result
+        (λ text. (h : Opening)
+        → CarriesOut (prices_of (F.may_return book.old.tariff)) book.old.picture.limits command
+        (string_bytes text) (standing_of h book.old) (standing_of h book.new)) }
     ensures same_book { IsSameBook book.old book.new }
 {
     let reply = enter(alloc, book, command)?;
@@ -161,7 +171,9 @@ fn report_answer<F: PriceFn>(
     opening: &Opening,
     book: &Book<F>,
 ) -> Result<String, AllocError>
-    ensures { IfOk result (λ text. string_bytes text ≡ report_text (report_so_far (standing_of opening.now book.now))) }
+    ensures { IfOk result
+        (λ text. string_bytes text
+        ≡ report_text (report_so_far (standing_of opening.now book.now))) }
 {
     let made = report_of(alloc, opening, book)?;
     report(alloc, &made)
@@ -169,14 +181,17 @@ fn report_answer<F: PriceFn>(
 
 /// The text of a fault with its number and its name.
 fn numbered_answer(alloc: Global, number: u32, name: &str) -> Result<String, AllocError>
-    ensures { IfOk result (λ text. string_bytes text ≡ codes "{\"fault\":[" ++ (decimal number ++ (codes ",\"" ++ (name.now ++ codes "\"]}")))) }
+    ensures { IfOk result (λ text. string_bytes text
+        ≡ codes "{\"fault\":[" ++ (decimal number ++ (codes ",\"" ++ (name.now ++ codes "\"]}")))) }
 {
     format!(in alloc; "{{\"fault\":[{number},\"{name}\"]}}")
 }
 
 /// The text of a fault with its number, its name and its path.
 fn placed_answer(alloc: Global, number: u32, name: &str, path: Path) -> Result<String, AllocError>
-    ensures { IfOk result (λ text. string_bytes text ≡ codes "{\"fault\":[" ++ (decimal number ++ (codes ",\"" ++ (name.now ++ (codes "\",\"" ++ (path_text path ++ codes "\"]}")))))) }
+    ensures { IfOk result
+        (λ text. string_bytes text ≡ codes "{\"fault\":[" ++ (decimal number
+        ++ (codes ",\"" ++ (name.now ++ (codes "\",\"" ++ (path_text path ++ codes "\"]}")))))) }
 {
     format!(in alloc; "{{\"fault\":[{number},\"{name}\",\"{path}\"]}}")
 }

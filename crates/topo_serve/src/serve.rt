@@ -1,6 +1,7 @@
 //! The command `serve`.
 
-ghost use Rattle.std.specs.Prelude.{◌≡◌, ◌≤◌, ℕ, List, Option, [], IfErr, IfOk, IfSome, None, Ok, Some, slice_get, option_copied, string_bytes, ◌++◌, ◌∷◌};
+ghost use Rattle.std.specs.Prelude.{◌≡◌, ◌≤◌, ℕ, List, Option, [], IfErr, IfOk, IfSome, None};
+ghost use Rattle.std.specs.Prelude.{Ok, Some, slice_get, option_copied, string_bytes, ◌++◌, ◌∷◌};
 ghost use Rattle.std.specs.Io.KnownBytes.{Appends, Keeps};
 ghost use Rattle.topo_book.specs.Books.{IsSameBook};
 ghost use Rattle.topo_forms.specs.Sessions.{opening_of};
@@ -10,7 +11,10 @@ ghost use Rattle.topo_settings.specs.Writing.{AppendsPart};
 ghost use Rattle.topo_serve.specs.Answers.{standing_of};
 ghost use Rattle.topo_serve.specs.Sessions.{IsServed, ServeFailsBy};
 ghost use Rattle.topo_serve.specs.Taking.{OverUnless};
-ghost use Rattle.topo_serve.specs.Turns.{AnswerFailsBy, BeginFailsBy, BeginsAll, IsAnsweredBy, IsOpened, IsTurn, LineFailsBy, LinesFailBy, OfLine, OpenedFailsBy, OpenFailsBy, Opens, OpensNoneBy, ServesAll, Stays, TurnFailsBy, WriteFailsBy, begins_at, streams};
+ghost use Rattle.topo_serve.specs.Turns.{AnswerFailsBy, BeginFailsBy, BeginsAll, IsAnsweredBy};
+ghost use Rattle.topo_serve.specs.Turns.{IsOpened, IsTurn, LineFailsBy, LinesFailBy, OfLine};
+ghost use Rattle.topo_serve.specs.Turns.{OpenedFailsBy, OpenFailsBy, Opens, OpensNoneBy, ServesAll};
+ghost use Rattle.topo_serve.specs.Turns.{Stays, TurnFailsBy, WriteFailsBy, begins_at, streams};
 
 use crate::ahead::{Ahead, Part};
 use crate::answers::{answer_line, counts_answer};
@@ -29,17 +33,20 @@ use topo_settings::RunFault;
 use topo_settings::settings::validate;
 use topo_settings::writing::write_text;
 
-/// Reads the line that opens a session, and answers it by the counts of its start; then reads one line after
-/// another until the input ends, and answers each before it reads the next. An answer is one line, which the
-/// writer is let pass on. A planned insertion is looked for as any other. ReadFault comes where a call of the
-/// reader fails, but for an interrupted one, and WriteFault where a call of the writer fails.
+/// Reads the line that opens a session, and answers it by the counts of its start; then reads one
+/// line after another until the input ends, and answers each before it reads the next. An answer is
+/// one line, which the writer is let pass on. A planned insertion is looked for as any other.
+/// ReadFault comes where a call of the reader fails, but for an interrupted one, and WriteFault
+/// where a call of the writer fails.
 pub fn serve_io<I: Read, O: Write>(
     alloc: Global,
     reader: &mut I,
     writer: &mut O,
 ) -> Result<(), RunFault>
-    ensures done { IfOk result (λ _. IsServed (I.remaining reader.old) (I.remaining reader.new) (O.contents writer.old) (O.contents writer.new)) }
-    ensures fault { IfErr result (λ fault. ServeFailsBy fault (I.remaining reader.old) (I.remaining reader.new) (O.contents writer.old) (O.contents writer.new)) }
+    ensures done { IfOk result (λ _. IsServed (I.remaining reader.old) (I.remaining reader.new)
+        (O.contents writer.old) (O.contents writer.new)) }
+    ensures fault { IfErr result (λ fault. ServeFailsBy fault (I.remaining reader.old)
+        (I.remaining reader.new) (O.contents writer.old) (O.contents writer.new)) }
 {
     let mut ahead = Ahead::new(alloc);
     let ended = serve_from(alloc, &mut ahead, reader, writer);
@@ -55,8 +62,10 @@ fn serve_from<I: Read, O: Write>(
     writer: &mut O,
 ) -> Result<(), RunFault>
     requires { ahead.old ≡ [] }
-    ensures done { IfOk result (λ _. IsServed (I.remaining reader.old) (I.remaining reader.new) (O.contents writer.old) (O.contents writer.new)) }
-    ensures fault { IfErr result (λ fault. ServeFailsBy fault (I.remaining reader.old) (I.remaining reader.new) (O.contents writer.old) (O.contents writer.new)) }
+    ensures done { IfOk result (λ _. IsServed (I.remaining reader.old) (I.remaining reader.new)
+        (O.contents writer.old) (O.contents writer.new)) }
+    ensures fault { IfErr result (λ fault. ServeFailsBy fault (I.remaining reader.old)
+        (I.remaining reader.new) (O.contents writer.old) (O.contents writer.new)) }
 {
     let (opening, has_feed) = open(alloc, ahead, reader)?;
     let ended = serve_opening(alloc, &opening, ahead, has_feed, reader, writer);
@@ -73,8 +82,14 @@ fn serve_opening<I: Read, O: Write>(
     reader: &mut I,
     writer: &mut O,
 ) -> Result<(), RunFault>
-    ensures done { IfOk result (λ _. (left : Option (List ℕ)) → Opens left (I.remaining reader.old) ahead.old opening.now has_feed → IsServed left (I.remaining reader.new) (O.contents writer.old) (O.contents writer.new)) }
-    ensures fault { IfErr result (λ fault. (left : Option (List ℕ)) → Opens left (I.remaining reader.old) ahead.old opening.now has_feed → ServeFailsBy fault left (I.remaining reader.new) (O.contents writer.old) (O.contents writer.new)) }
+    ensures done { IfOk result
+        (λ _. (left : Option (List ℕ))
+        → Opens left (I.remaining reader.old) ahead.old opening.now has_feed
+        → IsServed left (I.remaining reader.new) (O.contents writer.old) (O.contents writer.new)) }
+    ensures fault { IfErr result (λ fault. (left : Option (List ℕ))
+        → Opens left (I.remaining reader.old) ahead.old opening.now has_feed
+        → ServeFailsBy fault left (I.remaining reader.new) (O.contents writer.old)
+        (O.contents writer.new)) }
 {
     let (table, start) = set(alloc, opening)?;
     serve_priced(
@@ -89,8 +104,10 @@ fn open<I: Read>(
     reader: &mut I,
 ) -> Result<(Opening, bool), RunFault>
     requires { ahead.old ≡ [] }
-    ensures opens { IfOk result (λ made. Opens (I.remaining reader.old) (I.remaining reader.new) ahead.new made.0 made.1) }
-    ensures fault { IfErr result (λ fault. OpenFailsBy fault (I.remaining reader.old) (I.remaining reader.new)) }
+    ensures opens { IfOk result
+        (λ made. Opens (I.remaining reader.old) (I.remaining reader.new) ahead.new made.0 made.1) }
+    ensures fault { IfErr result
+        (λ fault. OpenFailsBy fault (I.remaining reader.old) (I.remaining reader.new)) }
 {
     let mut line = Vec::new(alloc);
     match ahead.take_first(MAX_PICTURE_BYTES + 1, reader, &mut line)? {
@@ -115,9 +132,11 @@ fn read_first(alloc: Global, line: &[u8], has_feed: bool) -> Result<(Opening, bo
 /// The prices of all kinds and the picture that an opening sets.
 fn set(alloc: Global, opening: &Opening) -> Result<(PriceTable, Picture), RunFault>
     ensures prices { IfOk result (λ made. made.0 ≡ price_table opening.now.prices) }
-    ensures sound { IfOk result (λ made. IsSound opening.now.limits opening.now.prices opening.now.start made.1.limits) }
+    ensures sound { IfOk result
+        (λ made. IsSound opening.now.limits opening.now.prices opening.now.start made.1.limits) }
     ensures rows { IfOk result (λ made. made.1.rows ≡ start_of opening.now.start) }
-    ensures fault { IfErr result (IsUnsound opening.now.limits opening.now.prices opening.now.start) }
+    ensures fault { IfErr result
+        (IsUnsound opening.now.limits opening.now.prices opening.now.start) }
 {
     let prices = opening.prices.as_slice();
     validate(alloc, opening.limits, prices, opening.start.as_ref())
@@ -136,8 +155,16 @@ fn serve_priced<I: Read, O: Write>(
 ) -> Result<(), RunFault>
     requires own { table.now ≡ price_table opening.now.prices }
     requires good { first_bad (price_table opening.now.prices) ≡ None }
-    ensures done { IfOk result (λ _. BeginsAll has_feed (priced opening.now.prices) start.limits (streams (I.remaining reader.old) ahead.old (O.contents writer.old)) (streams (I.remaining reader.new) ahead.new (O.contents writer.new)) (begins_at opening.now start.rows)) }
-    ensures fault { IfErr result (λ fault. BeginFailsBy fault has_feed (priced opening.now.prices) start.limits (streams (I.remaining reader.old) ahead.old (O.contents writer.old)) (streams (I.remaining reader.new) ahead.new (O.contents writer.new)) (begins_at opening.now start.rows)) }
+    ensures done { IfOk result
+        (λ _. BeginsAll has_feed (priced opening.now.prices) start.limits
+        (streams (I.remaining reader.old) ahead.old (O.contents writer.old))
+        (streams (I.remaining reader.new) ahead.new (O.contents writer.new))
+        (begins_at opening.now start.rows)) }
+    ensures fault { IfErr result
+        (λ fault. BeginFailsBy fault has_feed (priced opening.now.prices) start.limits
+        (streams (I.remaining reader.old) ahead.old (O.contents writer.old))
+        (streams (I.remaining reader.new) ahead.new (O.contents writer.new))
+        (begins_at opening.now start.rows)) }
 {
     serve_asked(
         alloc,
@@ -167,8 +194,15 @@ fn serve_asked<F: PriceFn + Drop, I: Read, O: Write>(
 ) -> Result<(), RunFault>
     requires callable { F.is_callable ask }
     requires promise { IsPromise (F.may_return ask) }
-    ensures done { IfOk result (λ _. BeginsAll has_feed (prices_of (F.may_return ask)) start.limits (streams (I.remaining reader.old) ahead.old (O.contents writer.old)) (streams (I.remaining reader.new) ahead.new (O.contents writer.new)) (begins_at opening.now start.rows)) }
-    ensures fault { IfErr result (λ fault. BeginFailsBy fault has_feed (prices_of (F.may_return ask)) start.limits (streams (I.remaining reader.old) ahead.old (O.contents writer.old)) (streams (I.remaining reader.new) ahead.new (O.contents writer.new)) (begins_at opening.now start.rows)) }
+    ensures done { IfOk result (λ _. BeginsAll has_feed (prices_of (F.may_return ask)) start.limits
+        (streams (I.remaining reader.old) ahead.old (O.contents writer.old))
+        (streams (I.remaining reader.new) ahead.new (O.contents writer.new))
+        (begins_at opening.now start.rows)) }
+    ensures fault { IfErr result
+        (λ fault. BeginFailsBy fault has_feed (prices_of (F.may_return ask)) start.limits
+        (streams (I.remaining reader.old) ahead.old (O.contents writer.old))
+        (streams (I.remaining reader.new) ahead.new (O.contents writer.new))
+        (begins_at opening.now start.rows)) }
 {
     let Ok(mut book) = begin(alloc, start, ask) else {
         return Err(RunFault::Memory);
@@ -186,8 +220,15 @@ fn serve_book<F: PriceFn, I: Read, O: Write>(
     reader: &mut I,
     writer: &mut O,
 ) -> Result<(), RunFault>
-    ensures done { IfOk result (λ _. BeginsAll has_feed (prices_of (F.may_return book.old.tariff)) book.old.picture.limits (streams (I.remaining reader.old) ahead.old (O.contents writer.old)) (streams (I.remaining reader.new) ahead.new (O.contents writer.new)) (standing_of opening.now book.old)) }
-    ensures fault { IfErr result (λ fault. BeginFailsBy fault has_feed (prices_of (F.may_return book.old.tariff)) book.old.picture.limits (streams (I.remaining reader.old) ahead.old (O.contents writer.old)) (streams (I.remaining reader.new) ahead.new (O.contents writer.new)) (standing_of opening.now book.old)) }
+    ensures done { IfOk result (λ _. BeginsAll has_feed (prices_of (F.may_return book.old.tariff))
+        book.old.picture.limits (streams (I.remaining reader.old) ahead.old (O.contents writer.old))
+        (streams (I.remaining reader.new) ahead.new (O.contents writer.new))
+        (standing_of opening.now book.old)) }
+    ensures fault { IfErr result
+        (λ fault. BeginFailsBy fault has_feed (prices_of (F.may_return book.old.tariff))
+        book.old.picture.limits (streams (I.remaining reader.old) ahead.old (O.contents writer.old))
+        (streams (I.remaining reader.new) ahead.new (O.contents writer.new))
+        (standing_of opening.now book.old)) }
 {
     answer_opening(alloc, book.picture(), writer)?;
     if has_feed {
@@ -202,8 +243,10 @@ fn answer_opening<O: Write>(
     picture: &Picture,
     writer: &mut O,
 ) -> Result<(), RunFault>
-    ensures answered { IfOk result (λ _. IsOpened picture.now.rows (O.contents writer.old) (O.contents writer.new)) }
-    ensures fault { IfErr result (λ fault. OpenedFailsBy fault picture.now.rows (O.contents writer.old) (O.contents writer.new)) }
+    ensures answered { IfOk result
+        (λ _. IsOpened picture.now.rows (O.contents writer.old) (O.contents writer.new)) }
+    ensures fault { IfErr result (λ fault. OpenedFailsBy fault picture.now.rows
+        (O.contents writer.old) (O.contents writer.new)) }
 {
     match counts_answer(alloc, picture) {
         Ok(text) => write_answer(writer, text),
@@ -233,8 +276,16 @@ fn serve_lines<F: PriceFn, I: Read, O: Write>(
     reader: &mut I,
     writer: &mut O,
 ) -> Result<(), RunFault>
-    ensures done { IfOk result (λ _. ServesAll (prices_of (F.may_return book.old.tariff)) book.old.picture.limits (streams (I.remaining reader.old) ahead.old (O.contents writer.old)) (streams (I.remaining reader.new) ahead.new (O.contents writer.new)) (standing_of opening.now book.old)) }
-    ensures fault { IfErr result (λ fault. LinesFailBy fault (prices_of (F.may_return book.old.tariff)) book.old.picture.limits (streams (I.remaining reader.old) ahead.old (O.contents writer.old)) (streams (I.remaining reader.new) ahead.new (O.contents writer.new)) (standing_of opening.now book.old)) }
+    ensures done { IfOk result
+        (λ _. ServesAll (prices_of (F.may_return book.old.tariff)) book.old.picture.limits
+        (streams (I.remaining reader.old) ahead.old (O.contents writer.old))
+        (streams (I.remaining reader.new) ahead.new (O.contents writer.new))
+        (standing_of opening.now book.old)) }
+    ensures fault { IfErr result
+        (λ fault. LinesFailBy fault (prices_of (F.may_return book.old.tariff))
+        book.old.picture.limits (streams (I.remaining reader.old) ahead.old (O.contents writer.old))
+        (streams (I.remaining reader.new) ahead.new (O.contents writer.new))
+        (standing_of opening.now book.old)) }
 {
     let mut line = Vec::new(alloc);
     for _ in 0..u64::MAX {
@@ -255,8 +306,16 @@ fn serve_line<F: PriceFn, I: Read, O: Write>(
     reader: &mut I,
     writer: &mut O,
 ) -> Result<bool, RunFault>
-    ensures turn { IfOk result (IsTurn (prices_of (F.may_return book.old.tariff)) book.old.picture.limits (streams (I.remaining reader.old) ahead.old (O.contents writer.old)) (streams (I.remaining reader.new) ahead.new (O.contents writer.new)) (standing_of opening.now book.old) (standing_of opening.now book.new)) }
-    ensures fault { IfErr result (λ fault. TurnFailsBy fault (prices_of (F.may_return book.old.tariff)) book.old.picture.limits (streams (I.remaining reader.old) ahead.old (O.contents writer.old)) (streams (I.remaining reader.new) ahead.new (O.contents writer.new)) (standing_of opening.now book.old)) }
+    ensures turn { IfOk result
+        (IsTurn (prices_of (F.may_return book.old.tariff)) book.old.picture.limits
+        (streams (I.remaining reader.old) ahead.old (O.contents writer.old))
+        (streams (I.remaining reader.new) ahead.new (O.contents writer.new))
+        (standing_of opening.now book.old) (standing_of opening.now book.new)) }
+    ensures fault { IfErr result
+        (λ fault. TurnFailsBy fault (prices_of (F.may_return book.old.tariff))
+        book.old.picture.limits (streams (I.remaining reader.old) ahead.old (O.contents writer.old))
+        (streams (I.remaining reader.new) ahead.new (O.contents writer.new))
+        (standing_of opening.now book.old)) }
     ensures same_book { IsSameBook book.old book.new }
 {
     let has_feed = ahead.take_line(MAX_LINE_BYTES + 1, reader, line)?;
@@ -273,8 +332,16 @@ fn answer_if<F: PriceFn, O: Write>(
     line: &[u8],
     writer: &mut O,
 ) -> Result<(), RunFault>
-    ensures told { IfOk result (λ _. OfLine has_feed line.now (IsAnsweredBy (prices_of (F.may_return book.old.tariff)) book.old.picture.limits line.now (O.contents writer.old) (O.contents writer.new) (standing_of opening.now book.old) (standing_of opening.now book.new)) (Stays (O.contents writer.old) (O.contents writer.new) (standing_of opening.now book.old) (standing_of opening.now book.new))) }
-    ensures fault { IfErr result (λ fault. LineFailsBy fault has_feed (prices_of (F.may_return book.old.tariff)) book.old.picture.limits line.now (O.contents writer.old) (O.contents writer.new) (standing_of opening.now book.old)) }
+    ensures told { IfOk result
+        (λ _. OfLine has_feed line.now
+        (IsAnsweredBy (prices_of (F.may_return book.old.tariff)) book.old.picture.limits line.now
+        (O.contents writer.old) (O.contents writer.new) (standing_of opening.now book.old)
+        (standing_of opening.now book.new)) (Stays (O.contents writer.old) (O.contents writer.new)
+        (standing_of opening.now book.old) (standing_of opening.now book.new))) }
+    ensures fault { IfErr result
+        (λ fault. LineFailsBy fault has_feed (prices_of (F.may_return book.old.tariff))
+        book.old.picture.limits line.now (O.contents writer.old) (O.contents writer.new)
+        (standing_of opening.now book.old)) }
     ensures same_book { IsSameBook book.old book.new }
 {
     if has_feed {
@@ -294,8 +361,14 @@ fn answer<F: PriceFn, O: Write>(
     line: &[u8],
     writer: &mut O,
 ) -> Result<(), RunFault>
-    ensures answered { IfOk result (λ _. IsAnsweredBy (prices_of (F.may_return book.old.tariff)) book.old.picture.limits line.now (O.contents writer.old) (O.contents writer.new) (standing_of opening.now book.old) (standing_of opening.now book.new)) }
-    ensures fault { IfErr result (λ fault. AnswerFailsBy fault (prices_of (F.may_return book.old.tariff)) book.old.picture.limits line.now (O.contents writer.old) (O.contents writer.new) (standing_of opening.now book.old)) }
+    ensures answered { IfOk result
+        (λ _. IsAnsweredBy (prices_of (F.may_return book.old.tariff)) book.old.picture.limits
+        line.now (O.contents writer.old) (O.contents writer.new) (standing_of opening.now book.old)
+        (standing_of opening.now book.new)) }
+    ensures fault { IfErr result
+        (λ fault. AnswerFailsBy fault (prices_of (F.may_return book.old.tariff))
+        book.old.picture.limits line.now (O.contents writer.old) (O.contents writer.new)
+        (standing_of opening.now book.old)) }
     ensures same_book { IsSameBook book.old book.new }
 {
     match answer_line(alloc, opening, book, line) {
@@ -306,8 +379,11 @@ fn answer<F: PriceFn, O: Write>(
 
 /// Writes an answer and a line feed.
 fn write_answer<O: Write>(writer: &mut O, mut text: String) -> Result<(), RunFault>
-    ensures written { IfOk result (λ _. Appends (O.contents writer.old) (O.contents writer.new) (string_bytes text ++ 10 ∷ [])) }
-    ensures fault { IfErr result (λ fault. WriteFailsBy fault (O.contents writer.old) (O.contents writer.new) (string_bytes text ++ 10 ∷ [])) }
+    ensures written { IfOk result
+        (λ _. Appends (O.contents writer.old) (O.contents writer.new)
+        (string_bytes text ++ 10 ∷ [])) }
+    ensures fault { IfErr result (λ fault. WriteFailsBy fault (O.contents writer.old)
+        (O.contents writer.new) (string_bytes text ++ 10 ∷ [])) }
 {
     if text.push_str("\n").is_err() {
         return Err(RunFault::Memory);

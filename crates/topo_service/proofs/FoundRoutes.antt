@@ -20,20 +20,25 @@ use Rattle.topo_service.specs.Found.{FoundState, IsFoundRoute, IsHeldBy}
 use Rattle.topo_service.proofs.Versions.{is_version}
 
 -- accepted entries lead to one picture
-one_version : (price : Pricing) (limits : Limits) (start q r : Rows) (entries : List Entry) → IsVersion price limits start entries q → IsVersion price limits start entries r → q ≡ r
+one_version : (price : Pricing) (limits : Limits) (start q r : Rows) (entries : List Entry) → IsVersion price limits start entries q
+    → IsVersion price limits start entries r → q ≡ r
 one_version price limits start q r entries one other = one_replay price limits entries start q r one.replayed other.replayed
 
 -- at one start and at one pricing
-still_first : (price : Pricing) (start : Shown) (history : List Entry) (picture : Rows) (found : FoundState) → Replays price start.limits start.rows history picture → IsFoundRoute price start found
+still_first : (price : Pricing) (start : Shown) (history : List Entry) (picture : Rows) (found : FoundState)
+    → Replays price start.limits start.rows history picture → IsFoundRoute price start found
     → found.entries ≡ versions history → IsFirst price picture found.u found.v found.route found.price
 still_first price start history picture found way was same =
     let now = is_version price start.limits start.rows picture history way in
     let then = subst (λ (es : List Entry). IsVersion price start.limits start.rows es was.picture) same was.replayed in
-    subst (λ (p : Rows). IsFirst price p found.u found.v found.route found.price) (one_version price start.limits start.rows was.picture picture (versions history) then now) was.first
+    subst (λ (p : Rows). IsFirst price p found.u found.v found.route found.price)
+    (one_version price start.limits start.rows was.picture picture (versions history) then now) was.first
 
 -- at the prices and the start that are named
-pub first_now : {F : Type 0} (answers : F → Asking) (closure : Option F) (start from : Shown) (tariff : F) (history : List Entry) (picture : Rows) (found : FoundState) (u v : ℕ)
-    → closure ≡ Some tariff → from ≡ start → Replays (prices_of (answers tariff)) from.limits from.rows history picture → IsFoundRoute (prices_named answers closure) start found
+pub first_now : {F : Type 0} (answers : F → Asking) (closure : Option F) (start from : Shown) (tariff : F) (history : List Entry) (picture : Rows)
+    (found : FoundState) (u v : ℕ)
+    → closure ≡ Some tariff → from ≡ start → Replays (prices_of (answers tariff)) from.limits from.rows history picture
+    → IsFoundRoute (prices_named answers closure) start found
     → found.entries ≡ versions history → found.u ≡ u → found.v ≡ v → IsFirst (prices_of (answers tariff)) picture u v found.route found.price
 first_now answers closure start from tariff history picture found u v named begins way was same is_u is_v =
     let at_tariff = subst (λ (o : Option _). IsFoundRoute (prices_named answers o) start found) named was in
@@ -42,12 +47,17 @@ first_now answers closure start from tariff history picture found u v named begi
     rw (← is_u, ← is_v) first
 
 -- a route that outlives the calls since it was found, at the prices and the start that are named
-pub still_first_now : {F : Type 0} (answers : F → Asking) (closure : Option F) (start from : Shown) (tariff : F) (history entries : List Entry) (before : Shown) (now : Rows) (region : RegionState)
-    (u v : ℕ) (r : Route) (p accepted : ℕ) → closure ≡ Some tariff → from ≡ start → ReplaysLawfully (prices_of (answers tariff)) from.limits from.rows history now
-    → IsVersionFrom (prices_named answers closure) start entries before → IsPrefix entries (versions history) → length (versions history) ≡ length entries + accepted
-    → HaveSpared before.rows region history accepted → IsHeldBy (prices_named answers closure) before.rows u v r p region → IsFirst (prices_of (answers tariff)) now u v r p
+pub still_first_now : {F : Type 0} (answers : F → Asking) (closure : Option F) (start from : Shown) (tariff : F) (history entries : List Entry) (before : Shown)
+    (now : Rows) (region : RegionState)
+    (u v : ℕ) (r : Route) (p accepted : ℕ) → closure ≡ Some tariff → from ≡ start
+    → ReplaysLawfully (prices_of (answers tariff)) from.limits from.rows history now
+    → IsVersionFrom (prices_named answers closure) start entries before → IsPrefix entries (versions history)
+    → length (versions history) ≡ length entries + accepted
+    → HaveSpared before.rows region history accepted → IsHeldBy (prices_named answers closure) before.rows u v r p region
+    → IsFirst (prices_of (answers tariff)) now u v r p
 still_first_now answers closure start from tariff history entries before now region u v r p accepted named begins way was prefix count spared held =
     let was_named = subst (λ (o : Option _). IsVersionFrom (prices_named answers o) start entries before) named was in
     let was_here = subst (λ (s : Shown). IsVersionFrom (prices_of (answers tariff)) s entries before) (sym begins) was_named in
     let held_here = subst (λ (o : Option _). IsHeldBy (prices_named answers o) before.rows u v r p region) named held in
-    outlives (prices_of (answers tariff)) from.limits from.rows before.rows now history entries region u v r p accepted way was_here.replayed prefix count spared was_here.lawful.lawful held_here.0 held_here.1
+    outlives (prices_of (answers tariff)) from.limits from.rows before.rows now history entries region u v r p accepted way was_here.replayed prefix count
+    spared was_here.lawful.lawful held_here.0 held_here.1

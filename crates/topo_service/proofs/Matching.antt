@@ -1,5 +1,6 @@
 -- Receipts and the entries of their caller.
-use Rattle.std.proofs.Common.{◌≡◌, ℕ, zero, suc, ◌+◌, ◌<◌, ◌≤◌, ◌==◌, Bool, true, false, List, [], ◌∷◌, ◌++◌, length, take, drop, get_or, map, inl, inr, Option, Some, None, refl, ap, sym, ◌∙◌, subst, arith, append_assoc}
+use Rattle.std.proofs.Common.{◌≡◌, ℕ, zero, suc, ◌+◌, ◌<◌, ◌≤◌, ◌==◌, Bool, true, false, List, [], ◌∷◌, ◌++◌, length, take}
+use Rattle.std.proofs.Common.{drop, get_or, map, inl, inr, Option, Some, None, refl, ap, sym, ◌∙◌, subst, arith, append_assoc}
 use Rattle.std.specs.Prelude.{slice_get, option_map}
 use Rattle.std.proofs.lemmas.List.{append-nil, take_more, map-append, length-take-le}
 use Rattle.std.proofs.lemmas.List.Elements.{filter-append}
@@ -59,7 +60,8 @@ agreed history n k r agrees =
 -- the first of the receipts that are due agree
 pub first_agree : (history : List Entry) (n : ℕ) (rs : List Receipt) → AreFirst history n rs → AllAgree history n rs
 first_agree history n rs first k r there =
-    let due : slice_get (receipts_due n history) k ≡ Some r = subst (λ (l : List Receipt). slice_get l k ≡ Some r) (sym first.1) (at_first rs first.0 k r there) in
+    let due : slice_get (receipts_due n history) k ≡ Some r =
+    subst (λ (l : List Receipt). slice_get l k ≡ Some r) (sym first.1) (at_first rs first.0 k r there) in
     let found = due_at (slice_get (entries_of n history) k) r (sym (slice_get-map receipt_in (entries_of n history) k) ∙ due) in
     record {
       entry = found.0;
@@ -71,9 +73,11 @@ first_agree history n rs first k r there =
 -- ---- Going through a history
 
 -- an entry of another caller, or of one with no receipt left
-pub found_other : (n : ℕ) (rs : List Receipt) (es : List Entry) (k : ℕ) (e : Entry) (b : Bool) → (e.caller == n) ≡ b → (b ≡ true → length rs ≤ k) → AreFound es n rs k → AreFound (es ++ e ∷ []) n rs k
+pub found_other : (n : ℕ) (rs : List Receipt) (es : List Entry) (k : ℕ) (e : Entry) (b : Bool) → (e.caller == n) ≡ b → (b ≡ true → length rs ≤ k)
+    → AreFound es n rs k → AreFound (es ++ e ∷ []) n rs k
 found_other n rs es k e false is past h =
-    let same : receipts_due n (es ++ e ∷ []) ≡ receipts_due n es = due_append n es (e ∷ []) ∙ ap (λ l. receipts_due n es ++ l) (due_other n e is) ∙ append-nil (receipts_due n es) in
+    let same : receipts_due n (es ++ e ∷ []) ≡ receipts_due n es = due_append n es (e ∷ []) ∙ ap (λ l. receipts_due n es ++ l) (due_other n e is)
+    ∙ append-nil (receipts_due n es) in
     record { within = h.within; first = (h.first.0, same ∙ h.first.1); all = λ lt. same ∙ h.all lt }
 found_other n rs es k e true is past h =
     let more = receipt_in e ∷ [] in
@@ -85,32 +89,38 @@ found_other n rs es k e true is past h =
     }
 
 -- the next receipt is the entry
-pub found_one : (n : ℕ) (rs : List Receipt) (es : List Entry) (k : ℕ) (e : Entry) → (e.caller == n) ≡ true → k < length rs → (r : Receipt) → r ≡ get_or rs k r → r ≡ receipt_in e → AreFound es n rs k
+pub found_one : (n : ℕ) (rs : List Receipt) (es : List Entry) (k : ℕ) (e : Entry) → (e.caller == n) ≡ true → k < length rs → (r : Receipt) → r ≡ get_or rs k r
+    → r ≡ receipt_in e → AreFound es n rs k
     → AreFound (es ++ e ∷ []) n rs (k + 1)
 found_one n rs es k e is lt r at eq h =
     let more = receipt_in e ∷ [] in
     let same = due_append n es (e ∷ []) ∙ ap (λ l. receipts_due n es ++ l) (due_own n e [] is) in
-    let whole : receipts_due n (es ++ e ∷ []) ≡ take (k + 1) rs = same ∙ ap (λ l. l ++ more) (h.all lt) ∙ ap (λ x. take k rs ++ x ∷ []) (sym eq ∙ at) ∙ sym (take_more rs k r lt) in
+    let whole : receipts_due n (es ++ e ∷ []) ≡ take (k + 1) rs = same ∙ ap (λ l. l ++ more) (h.all lt) ∙ ap (λ x. take k rs ++ x ∷ []) (sym eq ∙ at)
+    ∙ sym (take_more rs k r lt) in
     record { within = omega (arith, lt); first = ([], whole ∙ sym (append-nil (take (k + 1) rs))); all = λ _. whole }
 
 -- the next receipt is not the entry
-pub differs_here : (n : ℕ) (rs : List Receipt) (before after : List Entry) (k : ℕ) (e : Entry) (r : Receipt) → (e.caller == n) ≡ true → k < length rs → slice_get rs k ≡ Some r → (r ≡ receipt_in e → ⊥)
+pub differs_here : (n : ℕ) (rs : List Receipt) (before after : List Entry) (k : ℕ) (e : Entry) (r : Receipt) → (e.caller == n) ≡ true → k < length rs
+    → slice_get rs k ≡ Some r → (r ≡ receipt_in e → ⊥)
     → AreFound before n rs k → Differs (before ++ e ∷ after) n rs k
 differs_here n rs before after k e r is lt there other h = record {
   receipt = r;
   there = there;
   differs = λ agrees.
-      let same : receipts_due n (before ++ e ∷ after) ≡ take k rs ++ receipt_in e ∷ receipts_due n after = due_append n before (e ∷ after) ∙ ap (λ l. receipts_due n before ++ l) (due_own n e after is)
+      let same : receipts_due n (before ++ e ∷ after) ≡ take k rs ++ receipt_in e ∷ receipts_due n after = due_append n before (e ∷ after)
+      ∙ ap (λ l. receipts_due n before ++ l) (due_own n e after is)
       ∙ ap (λ l. l ++ receipt_in e ∷ receipts_due n after) (h.all lt) in
       let len : length (take k rs) ≡ k = length-take-le k rs (omega (arith, lt)) in
       let here : slice_get (receipts_due n (before ++ e ∷ after)) k ≡ Some (receipt_in e) = ap (λ l. slice_get l k) same
-      ∙ subst (λ (i : ℕ). slice_get (take k rs ++ receipt_in e ∷ receipts_due n after) i ≡ Some (receipt_in e)) len (at_seam (take k rs) (receipt_in e) (receipts_due n after)) in
+      ∙ subst (λ (i : ℕ). slice_get (take k rs ++ receipt_in e ∷ receipts_due n after) i ≡ Some (receipt_in e)) len
+      (at_seam (take k rs) (receipt_in e) (receipts_due n after)) in
       let both : Some r ≡ Some (receipt_in e) = sym (agreed (before ++ e ∷ after) n k r agrees) ∙ here in
       other cc;
 }
 
 -- no entry is left, but a receipt
-pub differs_at_end : (n : ℕ) (rs : List Receipt) (history : List Entry) (k : ℕ) (r : Receipt) → k < length rs → slice_get rs k ≡ Some r → AreFound history n rs k → Differs history n rs k
+pub differs_at_end : (n : ℕ) (rs : List Receipt) (history : List Entry) (k : ℕ) (r : Receipt) → k < length rs → slice_get rs k ≡ Some r
+    → AreFound history n rs k → Differs history n rs k
 differs_at_end n rs history k r lt there h = record {
   receipt = r;
   there = there;

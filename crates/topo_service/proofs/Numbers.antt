@@ -1,5 +1,6 @@
 -- Which numbers the passes have.
-use Rattle.std.proofs.Common.{◌≡◌, ℕ, zero, suc, ◌+◌, ◌<◌, ◌≤◌, List, [], ◌∷◌, ◌++◌, ◌⊎◌, inl, inr, length, get_or, refl, ap, sym, ◌∙◌, subst, arith, append_assoc, length-append}
+use Rattle.std.proofs.Common.{◌≡◌, ℕ, zero, suc, ◌+◌, ◌<◌, ◌≤◌, List, [], ◌∷◌, ◌++◌, ◌⊎◌, inl, inr, length}
+use Rattle.std.proofs.Common.{get_or, refl, ap, sym, ◌∙◌, subst, arith, append_assoc, length-append}
 use Rattle.topo_service.specs.Passes.{PassState}
 use Rattle.topo_service.specs.Receipts.{HasNumber}
 
@@ -69,6 +70,7 @@ pub apart : (g : ℕ) (ps : List PassState) → ((n : ℕ) → n < g → HasNumb
 apart g ps f le = apart_behind g [] ps f le
 
 -- the parts of the ledger that are joined are all
-pub all_parts : (parts rest given len res all : ℕ) → rest + given ≡ parts → all ≡ parts → res ≡ rest + len → (0 < len → res ≤ all) → given ≤ len → (res ≡ all) × (len ≤ given)
+pub all_parts : (parts rest given len res all : ℕ) → rest + given ≡ parts → all ≡ parts → res ≡ rest + len → (0 < len → res ≤ all) → given ≤ len
+    → (res ≡ all) × (len ≤ given)
 all_parts parts rest given zero res all a b c d e = (omega (arith, a, b, c, e), omega arith)
 all_parts parts rest given (suc len) res all a b c d e = let f : res ≤ all = d (omega arith) in (omega (arith, a, b, c, e, f), omega (arith, a, b, c, e, f))

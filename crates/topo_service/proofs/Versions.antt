@@ -1,5 +1,6 @@
 -- The accepted entries of a history are a version.
-use Rattle.std.proofs.Common.{◌≡◌, ◌≤◌, Bool, true, false, List, [], ◌∷◌, ◌++◌, Option, Some, None, IfSome, length, refl, ap, sym, subst, ◌∙◌, arith, append_assoc, length-append, if◌then◌else◌, Bor}
+use Rattle.std.proofs.Common.{◌≡◌, ◌≤◌, Bool, true, false, List, [], ◌∷◌, ◌++◌, Option, Some, None, IfSome, length}
+use Rattle.std.proofs.Common.{refl, ap, sym, subst, ◌∙◌, arith, append_assoc, length-append, if◌then◌else◌, Bor}
 use Rattle.std.specs.Prelude.{is_some}
 use Rattle.std.specs.Option.{option_copied}
 use Rattle.std.proofs.lemmas.List.{append-nil}
@@ -24,8 +25,10 @@ versions_again (e ∷ es) = by_reply (is_accepted e.reply) refl (versions_again 
   by_reply true on rest = rw (on, on) (ap (λ l. e ∷ l) rest)
   by_reply false off rest = rw off rest
 
-pub is_version : (price : Pricing) (limits : Limits) (start picture : Rows) (history : List Entry) → Replays price limits start history picture → IsVersion price limits start (versions history) picture
-is_version price limits start picture history way = record { accepted = versions_again history; replayed = versions_replay price limits history start picture way }
+pub is_version : (price : Pricing) (limits : Limits) (start picture : Rows) (history : List Entry) → Replays price limits start history picture
+    → IsVersion price limits start (versions history) picture
+is_version price limits start picture history way =
+    record { accepted = versions_again history; replayed = versions_replay price limits history start picture way }
 
 -- the versions of a history with one entry more
 pub versions_go_on : (es : List Entry) (e : Entry) → versions (es ++ e ∷ []) ≡ (if is_accepted e.reply then versions es ++ e ∷ [] else versions es)
@@ -59,7 +62,8 @@ versions_length (e ∷ es) = by_reply (is_accepted e.reply) refl (versions_lengt
   by_reply false off rest = rw off (omega (arith, rest))
 
 -- a picture that is lent is lawful where what was lent is
-pub copied_lawful : (lent : Option (Bor Shown)) → IfSome lent (λ p. IsPicture p.now.limits p.now.rows) → IfSome (option_copied lent) (λ p. IsPicture p.limits p.rows)
+pub copied_lawful : (lent : Option (Bor Shown)) → IfSome lent (λ p. IsPicture p.now.limits p.now.rows)
+    → IfSome (option_copied lent) (λ p. IsPicture p.limits p.rows)
 copied_lawful None _ = tt
 copied_lawful (Some p) lawful = lawful
 
@@ -68,41 +72,55 @@ copied_there None = refl
 copied_there (Some p) = refl
 
 -- a replay with one accepted entry more is a version, one step on
-version_on : (price : Pricing) (start : Shown) (history : List Entry) (picture next : Shown) (entry : Entry) → Replays price start.limits start.rows history picture.rows
-    → is_accepted entry.reply ≡ true → Step price start.limits picture.rows entry.call entry.reply next.rows → next.limits ≡ start.limits → IsPicture next.limits next.rows
+version_on : (price : Pricing) (start : Shown) (history : List Entry) (picture next : Shown) (entry : Entry)
+    → Replays price start.limits start.rows history picture.rows
+    → is_accepted entry.reply ≡ true → Step price start.limits picture.rows entry.call entry.reply next.rows → next.limits ≡ start.limits
+    → IsPicture next.limits next.rows
     → IsVersionFrom price start (versions history ++ entry ∷ []) next
 version_on price start history picture next entry way on step same good = record {
   replayed = record {
     accepted = versions_on (versions history) entry on ∙ ap (λ l. l ++ entry ∷ []) (versions_again history);
-    replayed = replays_on price start.limits (versions history) start.rows picture.rows next.rows entry (versions_replay price start.limits history start.rows picture.rows way) step;
+    replayed = replays_on price start.limits (versions history) start.rows picture.rows next.rows entry
+        (versions_replay price start.limits history start.rows picture.rows way) step;
   };
   same_limits = same;
   lawful = good;
 }
 
-module _ {F : Type 0} (answers : F → Asking) (closure : Option F) (start : Shown) (old new : BookState F) (next : NextState) (named : closure ≡ Some old.tariff) (from : old.start ≡ start)
-    (unchanged : IsUnchanged old new) (same_book : IsSameBook old new) (limits : old.picture.limits ≡ old.start.limits) (ready : CanFollow (prices_of (answers new.tariff)) new next) where
+module _ {F : Type 0} (answers : F → Asking) (closure : Option F) (start : Shown) (old new : BookState F) (next : NextState) (named : closure ≡ Some old.tariff)
+    (from : old.start ≡ start)
+    (unchanged : IsUnchanged old new) (same_book : IsSameBook old new) (limits : old.picture.limits ≡ old.start.limits)
+    (ready : CanFollow (prices_of (answers new.tariff)) new next) where
   -- what was made ready is a step from the picture before, by the prices that are named
-  old_step : Step (prices_of (answers old.tariff)) old.start.limits old.picture.rows next.entry.call next.entry.reply (picture_after next.picture old.picture).rows
+  old_step : Step (prices_of (answers old.tariff)) old.start.limits old.picture.rows next.entry.call next.entry.reply
+      (picture_after next.picture old.picture).rows
   old_step =
       let call = next.entry.call in
       let reply = next.entry.reply in
-      let one = subst (λ (t : F). Step (prices_of (answers t)) new.picture.limits new.picture.rows call reply (picture_after next.picture new.picture).rows) same_book.0 ready.step in
+      let one = subst (λ (t : F). Step (prices_of (answers t)) new.picture.limits new.picture.rows call reply (picture_after next.picture new.picture).rows)
+      same_book.0 ready.step in
       let two = subst (λ (s : Shown). Step (prices_of (answers old.tariff)) s.limits s.rows call reply (picture_after next.picture s).rows) unchanged.1 one in
       subst (λ (l : Limits). Step (prices_of (answers old.tariff)) l old.picture.rows call reply (picture_after next.picture old.picture).rows) limits two
 
-  pub named_step : Step (prices_named answers closure) start.limits old.picture.rows next.entry.call next.entry.reply (picture_after next.picture old.picture).rows
+  pub named_step : Step (prices_named answers closure) start.limits old.picture.rows next.entry.call next.entry.reply
+      (picture_after next.picture old.picture).rows
   named_step =
-      subst (λ (o : Option F). Step (prices_named answers o) start.limits old.picture.rows next.entry.call next.entry.reply (picture_after next.picture old.picture).rows) (sym named)
-      (subst (λ (s : Shown). Step (prices_of (answers old.tariff)) s.limits old.picture.rows next.entry.call next.entry.reply (picture_after next.picture old.picture).rows) from old_step)
+      subst (λ (o : Option F). Step (prices_named answers o) start.limits old.picture.rows next.entry.call next.entry.reply
+      (picture_after next.picture old.picture).rows) (sym named)
+      (subst (λ (s : Shown). Step (prices_of (answers old.tariff)) s.limits old.picture.rows next.entry.call next.entry.reply
+      (picture_after next.picture old.picture).rows) from old_step)
 
   -- and where it is accepted, the versions and its entry lead to its picture
-  pub version_ready : Replays (prices_of (answers old.tariff)) old.start.limits old.start.rows old.history old.picture.rows → (picture : Shown) → next.picture ≡ Some picture
-      → is_accepted next.entry.reply ≡ true → IsPicture picture.limits picture.rows → IsVersionFrom (prices_named answers closure) start (versions old.history ++ next.entry ∷ []) picture
+  pub version_ready : Replays (prices_of (answers old.tariff)) old.start.limits old.start.rows old.history old.picture.rows → (picture : Shown)
+      → next.picture ≡ Some picture
+      → is_accepted next.entry.reply ≡ true → IsPicture picture.limits picture.rows
+      → IsVersionFrom (prices_named answers closure) start (versions old.history ++ next.entry ∷ []) picture
   version_ready way picture is on good =
       let price = prices_of (answers old.tariff) in
-      let step = subst (λ (o : Option Shown). Step price old.start.limits old.picture.rows next.entry.call next.entry.reply (picture_after o old.picture).rows) is old_step in
-      let same : picture.limits ≡ old.start.limits = sym (ap (λ (o : Option Shown). (picture_after o new.picture).limits) is) ∙ ready.same_limits ∙ ap (λ (s : Shown). s.limits) unchanged.1 ∙ limits in
+      let step = subst (λ (o : Option Shown). Step price old.start.limits old.picture.rows next.entry.call next.entry.reply (picture_after o old.picture).rows)
+      is old_step in
+      let same : picture.limits ≡ old.start.limits = sym (ap (λ (o : Option Shown). (picture_after o new.picture).limits) is) ∙ ready.same_limits
+      ∙ ap (λ (s : Shown). s.limits) unchanged.1 ∙ limits in
       let there = version_on price old.start old.history old.picture picture next.entry way on step same good in
       subst (λ (o : Option F). IsVersionFrom (prices_named answers o) start (versions old.history ++ next.entry ∷ []) picture) (sym named)
       (subst (λ (s : Shown). IsVersionFrom price s (versions old.history ++ next.entry ∷ []) picture) from there)

@@ -1,5 +1,6 @@
 -- Receipts that are as many as the entries are all of them.
-use Rattle.std.proofs.Common.{◌≡◌, ℕ, zero, suc, ◌+◌, ◌<◌, ◌≤◌, ◌==◌, Bool, true, false, List, [], ◌∷◌, ◌++◌, ◌⊎◌, inl, inr, ⊎_elim, length, map, refl, ap, sym, ◌∙◌, subst, arith, length-append, All}
+use Rattle.std.proofs.Common.{◌≡◌, ℕ, zero, suc, ◌+◌, ◌<◌, ◌≤◌, ◌==◌, Bool, true, false, List, [], ◌∷◌, ◌++◌, ◌⊎◌}
+use Rattle.std.proofs.Common.{inl, inr, ⊎_elim, length, map, refl, ap, sym, ◌∙◌, subst, arith, length-append, All}
 use Rattle.std.proofs.lemmas.List.{append-nil, length-map}
 use Rattle.std.proofs.lemmas.List.Sums.{sum_by-cons}
 use Rattle.std.proofs.lemmas.List.Elements.{All-head, All-tail, All-cons}
@@ -25,7 +26,8 @@ others n (e ∷ es) = put_unless (e.caller == n) e (others n es)
 split : (n : ℕ) (es : List Entry) → length es ≡ length (entries_of n es) + length (others n es)
 split n [] = refl
 split n (e ∷ es) = by_caller (e.caller == n) refl (split n es) where
-  by_caller : (b : Bool) → (e.caller == n) ≡ b → length es ≡ length (entries_of n es) + length (others n es) → length (e ∷ es) ≡ length (entries_of n (e ∷ es)) + length (others n (e ∷ es))
+  by_caller : (b : Bool) → (e.caller == n) ≡ b → length es ≡ length (entries_of n es) + length (others n es)
+      → length (e ∷ es) ≡ length (entries_of n (e ∷ es)) + length (others n (e ∷ es))
   by_caller true own rest = rw own (omega (arith, rest))
   by_caller false other rest = rw other (omega (arith, rest))
 
@@ -33,7 +35,8 @@ split n (e ∷ es) = by_caller (e.caller == n) refl (split n es) where
 keeps : (n m : ℕ) → (m ≡ n → ⊥) → (es : List Entry) → entries_of m (others n es) ≡ entries_of m es
 keeps n m apart [] = refl
 keeps n m apart (e ∷ es) = by_caller (e.caller == n) refl (e.caller == m) refl (keeps n m apart es) where
-  by_caller : (b : Bool) → (e.caller == n) ≡ b → (a : Bool) → (e.caller == m) ≡ a → entries_of m (others n es) ≡ entries_of m es → entries_of m (others n (e ∷ es)) ≡ entries_of m (e ∷ es)
+  by_caller : (b : Bool) → (e.caller == n) ≡ b → (a : Bool) → (e.caller == m) ≡ a → entries_of m (others n es) ≡ entries_of m es
+      → entries_of m (others n (e ∷ es)) ≡ entries_of m (e ∷ es)
   by_caller true own true both rest = absurd (apart (grind (arith, nat_tests, own, both)))
   by_caller true own false not_m rest = rw (own, not_m) rest
   by_caller false other true is_m rest = rw (other, is_m) (ap (λ l. e ∷ l) rest)
@@ -76,7 +79,8 @@ count_cons p ps = sum_by-cons (λ (pass : PassState). length pass.receipts) p ps
 -- receipts are at most as many as entries
 at_most : (es : List Entry) (ps : List PassState) → Apart ps → Fits es ps → receipt_count ps ≤ length es
 at_most es [] apart fits = omega arith
-at_most es (p ∷ ps) apart fits = omega (arith, split p.number es, fits.0, at_most (others p.number es) ps apart.1 (fits_others p.number es ps apart.0 fits.1), count_cons p ps)
+at_most es (p ∷ ps) apart fits =
+    omega (arith, split p.number es, fits.0, at_most (others p.number es) ps apart.1 (fits_others p.number es ps apart.0 fits.1), count_cons p ps)
 
 -- where they are as many, each pass has as many as its caller has entries
 fills : (es : List Entry) (ps : List PassState) → Apart ps → Fits es ps → length es ≤ receipt_count ps → Fills es ps
@@ -97,7 +101,8 @@ known es (p ∷ ps) apart fits le x there =
     let n = p.number in
     let fewer = fits_others n es ps apart.0 fits.1 in
     ⊎_elim (λ own. inl (sym own))
-    (λ other. inr (known (others n es) ps apart.1 fewer (omega (arith, split n es, count_cons p ps, le, fits.0, at_most (others n es) ps apart.1 fewer)) x other))
+    (λ other. inr (known (others n es) ps apart.1 fewer
+    (omega (arith, split n es, count_cons p ps, le, fits.0, at_most (others n es) ps apart.1 fewer)) x other))
     (of_either n es x there)
 
 -- ---- Receipts that are the first of those due
@@ -115,7 +120,8 @@ all_fit history (p ∷ ps) firsts =
     let P : PassState → Type 0 = λ q. AreFirst history q.number q.receipts in
     (first_fits history p.number p.receipts (All-head P p ps firsts), all_fit history ps (All-tail P p ps firsts))
 
-first_is_all : (history : List Entry) (n : ℕ) (rs : List Receipt) → AreFirst history n rs → length rs ≡ length (entries_of n history) → receipts_due n history ≡ rs
+first_is_all : (history : List Entry) (n : ℕ) (rs : List Receipt) → AreFirst history n rs → length rs ≡ length (entries_of n history)
+    → receipts_due n history ≡ rs
 first_is_all history n rs (more, is) len =
     let all : length rs + length more ≡ length rs = sym (length-append rs more) ∙ sym (ap length is) ∙ length-map (entries_of n history) receipt_in ∙ sym len in
     nothing_more more is (omega (arith, all)) where
@@ -123,7 +129,8 @@ first_is_all history n rs (more, is) len =
       nothing_more [] is none = is ∙ append-nil rs
       nothing_more (r ∷ more) is none = absurd (omega (arith, none))
 
-all_own : (history : List Entry) (ps : List PassState) → AreAllFirst history ps → Fills history ps → All (λ (p : PassState). receipts_due p.number history ≡ p.receipts) ps
+all_own : (history : List Entry) (ps : List PassState) → AreAllFirst history ps → Fills history ps
+    → All (λ (p : PassState). receipts_due p.number history ≡ p.receipts) ps
 all_own history [] firsts filled = λ k d lt. absurd (omega (arith, lt))
 all_own history (p ∷ ps) firsts filled =
     let P : PassState → Type 0 = λ q. AreFirst history q.number q.receipts in

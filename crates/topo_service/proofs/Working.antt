@@ -7,9 +7,11 @@ use Rattle.topo_service.specs.Commands.{HasDone, HasEnded, HasMade, end_by}
 use Rattle.topo_service.specs.Passes.{PassState}
 
 -- how the work ended, by the receipts gained
-pub ended : (old new : PassState) (list : List Command) (e : WorkerEnd) → HasMade old new list → e ≡ end_by (length new.receipts - length old.receipts) (length list) → HasEnded old new list e
+pub ended : (old new : PassState) (list : List Command) (e : WorkerEnd) → HasMade old new list
+    → e ≡ end_by (length new.receipts - length old.receipts) (length list) → HasEnded old new list e
 ended old new list e h is =
-    let gained : length new.receipts - length old.receipts ≡ h.count = omega (arith, ap length h.made.receipts, length-append old.receipts h.made.gained, h.made.count) in
+    let gained : length new.receipts - length old.receipts ≡ h.count =
+    omega (arith, ap length h.made.receipts, length-append old.receipts h.made.gained, h.made.count) in
     subst (HasEnded old new list) (sym (is ∙ ap (λ n. end_by n (length list)) gained)) (by_test (h.count == length list) refl)
   where
     by_test : (b : Bool) → (h.count == length list) ≡ b → HasEnded old new list (end_by h.count (length list))

@@ -31,4 +31,5 @@ end_name (Mismatch number place) = codes "Mismatch"
 -- the number, the name, the number of the pass, and the place of a receipt
 abbrev pub end_text : EndFault → List ℕ
 end_text (PassMissing number) = decimal (end_number (PassMissing number)) ++ (codes " " ++ (end_name (PassMissing number) ++ (codes " " ++ decimal number)))
-end_text (Mismatch number place) = decimal (end_number (Mismatch number place)) ++ (codes " " ++ (end_name (Mismatch number place) ++ (codes " " ++ (decimal number ++ (codes " " ++ decimal place)))))
+end_text (Mismatch number place) = decimal (end_number (Mismatch number place))
+    ++ (codes " " ++ (end_name (Mismatch number place) ++ (codes " " ++ (decimal number ++ (codes " " ++ decimal place)))))

@@ -1,10 +1,12 @@
 //! What the end of a service tests.
 
-ghost use Rattle.std.specs.Prelude.{◌≡◌, ◌↔◌, IsTrue, ◌+◌, ◌<◌, ◌≤◌, ◌∷◌, ◌++◌, [], ℕ, List, length, true, false, All, vec_len, IfNone, IfSome};
+ghost use Rattle.std.specs.Prelude.{◌≡◌, ◌↔◌, IsTrue, ◌+◌, ◌<◌, ◌≤◌, ◌∷◌, ◌++◌, [], ℕ, List};
+ghost use Rattle.std.specs.Prelude.{length, true, false, All, vec_len, IfNone, IfSome};
 ghost use Rattle.topo_core.specs.declared.calls.Entry.{Entry};
 ghost use Rattle.topo_core.specs.History.{IsPrefix, versions};
 ghost use Rattle.topo_service.specs.Faults.{HasDifference, IsEndFault};
-ghost use Rattle.topo_service.specs.Receipts.{AreFirst, AreFound, Differs, HasNumber, receipt_count, receipt_in};
+ghost use Rattle.topo_service.specs.Receipts.{AreFirst, AreFound, Differs};
+ghost use Rattle.topo_service.specs.Receipts.{HasNumber, receipt_count, receipt_in};
 
 use crate::faults::EndFault;
 use crate::locked_state::LockedState;
@@ -37,7 +39,9 @@ fn first_missing<F: PriceFn, K: ServiceBrand<F>, G: VersionReader<F, K>>(
     passes: &[PassOver<F, K, G>],
 ) -> Option<u32>
     ensures none { IfNone result ((n : ℕ) → n < given → HasNumber n passes.now) }
-    ensures some { IfSome result (λ n. (n < given) × (HasNumber n passes.now → ⊥) × ((m : ℕ) → m < n → HasNumber m passes.now)) }
+    ensures some { IfSome result
+        (λ n. (n < given) × (HasNumber n passes.now → ⊥)
+        × ((m : ℕ) → m < n → HasNumber m passes.now)) }
 {
     for number in 0..given {
         if !is_there(number, passes) {
@@ -54,12 +58,15 @@ fn is_of(receipt: &Receipt, entry: &Entry) -> bool
     receipt.call == entry.call && receipt.reply.equals(&entry.reply)
 }
 
-/// How many receipts are found after one entry more; none where the entry is the caller's, and the next
-/// receipt is not this entry.
+/// How many receipts are found after one entry more; none where the entry is the caller's, and the
+/// next receipt is not this entry.
 fn found_after(number: u32, receipts: &[Receipt], entry: &Entry, k: usize) -> Option<usize>
     requires { k ≤ length receipts.now }
-    ensures some { IfSome result (λ j. (before : List Entry) → AreFound before number receipts.now k → AreFound (before ++ entry.now ∷ []) number receipts.now j) }
-    ensures none { IfNone result ((before after : List Entry) → AreFound before number receipts.now k → Differs (before ++ entry.now ∷ after) number receipts.now k) }
+    ensures some { IfSome result (λ j. (before : List Entry) → AreFound before number receipts.now k
+        → AreFound (before ++ entry.now ∷ []) number receipts.now j) }
+    ensures none { IfNone result
+        ((before after : List Entry) → AreFound before number receipts.now k
+        → Differs (before ++ entry.now ∷ after) number receipts.now k) }
 {
     if entry.caller != number {
         return Some(k);

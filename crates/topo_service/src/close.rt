@@ -52,7 +52,8 @@ impl FreshService {
     }
 }
 
-/// The store of versions of a service whose book is new, for so many readers: the first version is the start.
+/// The store of versions of a service whose book is new, for so many readers: the first version is
+/// the start.
 fn writer_of<F: PriceFn + Drop, K: ServiceBrand<F>>(
     alloc: Global,
     book: &Book<F>,
@@ -128,8 +129,8 @@ fn state_of<F: PriceFn + Drop, K: ServiceBrand<F>>(
 pub type Service<F, K> = ServiceOver<F, K, StoreWriter<F, K>>;
 
 impl<F: PriceFn + Drop, K: ServiceBrand<F>> Service<F, K> {
-    /// Begins a service of `MAX_PASSES` passes at most, at the start and with the closure that K names, with no entry
-    /// and no pass.
+    /// Begins a service of `MAX_PASSES` passes at most, at the start and with the closure that K
+    /// names, with no entry and no pass.
     pub fn new(
         alloc: Global,
         fresh: FreshService,
@@ -148,8 +149,8 @@ impl<F: PriceFn + Drop, K: ServiceBrand<F>> Service<F, K> {
         Self::with_places(alloc, fresh, start, tariff, MAX_PASSES)
     }
 
-    /// As `new`, for so many passes at most. An accepted call visits the place of each of them twice, so a
-    /// service of few passes takes less time.
+    /// As `new`, for so many passes at most. An accepted call visits the place of each of them
+    /// twice, so a service of few passes takes less time.
     pub fn with_places(
         alloc: Global,
         fresh: FreshService,
@@ -185,10 +186,11 @@ impl<F: PriceFn + Drop, K: ServiceBrand<F>> Service<F, K> {
 }
 
 impl<F: PriceFn + Drop, K: ServiceBrand<F>, W: VersionWriter<F, K>> ServiceOver<F, K, W> {
-    /// Ends the service. Where each pass that was given out is there and every receipt agrees with the
-    /// history, the book is handed back: its history is one thread's, from the start to its picture, and
-    /// the receipts of the passes are all of it. Else the fault names the least number of a pass that is
-    /// not there, and where none is missing, a receipt that differs. It takes no memory.
+    /// Ends the service. Where each pass that was given out is there and every receipt agrees with
+    /// the history, the book is handed back: its history is one thread's, from the start to its
+    /// picture, and the receipts of the passes are all of it. Else the fault names the least number
+    /// of a pass that is not there, and where none is missing, a receipt that differs. It takes no
+    /// memory.
     pub fn close<G: VersionReader<F, K>, R: Wait>(
         self,
         rt: &R,
@@ -196,22 +198,30 @@ impl<F: PriceFn + Drop, K: ServiceBrand<F>, W: VersionWriter<F, K>> ServiceOver<
     ) -> Result<Book<F>, CloseFault<F, K, G>>
         ensures tariff { IfOk result (λ b. b.tariff ≡ self.tariff) }
         ensures start { IfOk result (λ b. b.start ≡ K.start) }
-        ensures legal { IfOk result (λ b. Replays (prices_of (F.may_return b.tariff)) b.start.limits b.start.rows b.history b.picture.rows) }
-        ensures lawful { IfOk result (λ b. ReplaysLawfully (prices_of (F.may_return b.tariff)) b.start.limits b.start.rows b.history b.picture.rows) }
+        ensures legal { IfOk result (λ b. Replays (prices_of (F.may_return b.tariff))
+            b.start.limits b.start.rows b.history b.picture.rows) }
+        ensures lawful { IfOk result (λ b. ReplaysLawfully (prices_of (F.may_return b.tariff))
+            b.start.limits b.start.rows b.history b.picture.rows) }
         ensures same_limits { IfOk result (λ b. b.picture.limits ≡ b.start.limits) }
 
         ensures all_there { OnOk result ((n : ℕ) → n < self.given → HasNumber n passes.items) }
-        ensures agree { IfOk result (λ b. All (λ p. AllAgree b.history p.number p.receipts) passes.items) }
+        ensures agree { IfOk result
+            (λ b. All (λ p. AllAgree b.history p.number p.receipts) passes.items) }
         ensures counted { IfOk result (λ b. length b.history ≡ receipt_count passes.items) }
         ensures whole { IfOk result (λ b. AreWhole b.history passes.items) }
-        ensures seen { IfOk result (λ b. All (λ p. IsPrefix p.seen (versions b.history)) passes.items) }
+        ensures seen { IfOk result
+            (λ b. All (λ p. IsPrefix p.seen (versions b.history)) passes.items) }
 
-        ensures fault { IfErr result (λ e. IsEndFault self.given e.book.history passes.items e.fault) }
+        ensures fault { IfErr result
+            (λ e. IsEndFault self.given e.book.history passes.items e.fault) }
         ensures fault_passes { IfErr result (λ e. e.passes ≡ passes) }
         ensures fault_tariff { IfErr result (λ e. e.book.tariff ≡ self.tariff) }
         ensures fault_start { IfErr result (λ e. e.book.start ≡ K.start) }
-        ensures fault_legal { IfErr result (λ e. Replays (prices_of (F.may_return e.book.tariff)) e.book.start.limits e.book.start.rows e.book.history e.book.picture.rows) }
-        ensures fault_lawful { IfErr result (λ e. ReplaysLawfully (prices_of (F.may_return e.book.tariff)) e.book.start.limits e.book.start.rows e.book.history e.book.picture.rows) }
+        ensures fault_legal { IfErr result (λ e. Replays (prices_of (F.may_return e.book.tariff))
+            e.book.start.limits e.book.start.rows e.book.history e.book.picture.rows) }
+        ensures fault_lawful { IfErr result
+            (λ e. ReplaysLawfully (prices_of (F.may_return e.book.tariff))
+            e.book.start.limits e.book.start.rows e.book.history e.book.picture.rows) }
     {
         let ServiceOver {
             alloc: _,

@@ -1,7 +1,8 @@
 //! What refuses a pass, a view, a plan, or the end of a service.
 
 ghost use Rattle.std.specs.Prelude.{◌≡◌, Some};
-ghost use Rattle.topo_service.specs.FaultTexts.{end_name, end_text, pass_name, pass_text, service_name, service_text};
+ghost use Rattle.topo_service.specs.FaultTexts.{end_name, end_text, pass_name};
+ghost use Rattle.topo_service.specs.FaultTexts.{pass_text, service_name, service_text};
 ghost use Rattle.topo_service.specs.Faults.{end_number, pass_number};
 
 use std::fmt;
@@ -43,7 +44,8 @@ impl fmt::Display for ServiceFault {
     }
 }
 
-/// Why a pass gave no view, or no plan. It is printed as its number and its name, a refusal as that itself.
+/// Why a pass gave no view, or no plan. It is printed as its number and its name, a refusal as that
+/// itself.
 #[derive(Clone, Copy, Debug, Drop, PartialEq, Eq, Error)]
 pub enum PassFault {
     /// 42: the reader's call, or a further share of the version, is refused.
@@ -92,7 +94,8 @@ impl fmt::Display for PassFault {
 pub enum EndFault {
     /// 43: the pass of this number was given out and is not there; the least such number.
     PassMissing(u32),
-    /// 40: of the pass of this number, the receipt at this place is not its caller's entry at the place.
+    /// 40: of the pass of this number, the receipt at this place is not its caller's entry at the
+    /// place.
     Mismatch(u32, usize),
 }
 

@@ -22,10 +22,10 @@ use topo_route::search::first_route_seen;
 use topo_route::workspace::Workspace;
 use topo_versions::{LogPrefix, ServiceBrand, Version, VersionReader};
 
-/// The first of the cheapest routes between two vertices at the service's prices, as it was found on one
-/// version. It holds that version, and remembers what the search has seen of it. So the service takes the
-/// route with no search if that version is still the newest, and also if the calls since then have changed
-/// nothing that the search has seen.
+/// The first of the cheapest routes between two vertices at the service's prices, as it was found
+/// on one version. It holds that version, and remembers what the search has seen of it. So the
+/// service takes the route with no search if that version is still the newest, and also if the
+/// calls since then have changed nothing that the search has seen.
 pub struct FoundRoute<F: PriceFn, K: ServiceBrand<F>> {
     u: u32,
     v: u32,
@@ -35,7 +35,8 @@ pub struct FoundRoute<F: PriceFn, K: ServiceBrand<F>> {
     version: Version<F, K>,
 }
 
-// Written out, so that it is proved once: a derived one is proved anew in each function that lets such a value go.
+// Written out, so that it is proved once: a derived one is proved anew in each function that lets
+// such a value go.
 impl<F: PriceFn, K: ServiceBrand<F>> Drop for FoundRoute<F, K> {
     fn drop(self) {
         let FoundRoute {
@@ -59,10 +60,18 @@ impl<F: PriceFn, K: ServiceBrand<F>> Model for FoundRoute<F, K> {
 
     ghost Value = { FoundState };
 
-    ghost view = { λ f. record { u = f.u; v = f.v; route = f.first.route; price = f.first.price; entries = f.version.entries } };
+    ghost view = { λ f. record {
+      u = f.u;
+      v = f.v;
+      route = f.first.route;
+      price = f.first.price;
+      entries = f.version.entries;
+    } };
 
-    ghost invariant = { λ f. IsFirst (prices_named F.may_return K.closure) f.version.picture.rows f.u f.v f.first.route f.first.price
-        × IfSome f.region (IsHeldBy (prices_named F.may_return K.closure) f.version.picture.rows f.u f.v f.first.route f.first.price) };
+    ghost invariant = { λ f. IsFirst (prices_named F.may_return K.closure)
+        f.version.picture.rows f.u f.v f.first.route f.first.price
+        × IfSome f.region (IsHeldBy (prices_named F.may_return K.closure)
+        f.version.picture.rows f.u f.v f.first.route f.first.price) };
 }
 
 impl<F: PriceFn, K: ServiceBrand<F>> FoundRoute<F, K> {
@@ -100,13 +109,15 @@ impl<F: PriceFn, K: ServiceBrand<F>> FoundRoute<F, K> {
         self.version.prefix().same_as(prefix)
     }
 
-    /// Whether it is still the first on the picture of a book with these accepted entries, since the calls
-    /// since it was found have changed nothing that its search has seen. No price is asked.
+    /// Whether it is still the first on the picture of a book with these accepted entries, since
+    /// the calls since it was found have changed nothing that its search has seen. No price is
+    /// asked.
     pub(crate) fn outlives(&self, book: &Book<F>, prefix: &LogPrefix<F, K>) -> bool
         requires begun { book.now.start ≡ K.start }
         requires named { K.closure ≡ Some book.now.tariff }
         requires entries { prefix.now ≡ versions book.now.history }
-        ensures { result ≡ true → IsFirst (prices_of (F.may_return book.now.tariff)) book.now.picture.rows self.now.u self.now.v self.now.route self.now.price }
+        ensures { result ≡ true → IsFirst (prices_of (F.may_return book.now.tariff))
+            book.now.picture.rows self.now.u self.now.v self.now.route self.now.price }
     {
         // For the proof: what the type keeps.
         book.history();
@@ -131,7 +142,9 @@ impl<F: PriceFn, K: ServiceBrand<F>> FoundRoute<F, K> {
         ensures u { IfOk result (λ f. f.u ≡ ends.0) }
         ensures v { IfOk result (λ f. f.v ≡ ends.1) }
         ensures entries { IfOk result (λ f. f.entries ≡ version.entries) }
-        ensures refused { IfErr result (IsPlanRefusal (prices_named F.may_return K.closure) version.picture.rows ends.0 ends.1) }
+        ensures refused { IfErr result
+            (IsPlanRefusal (prices_named F.may_return K.closure)
+            version.picture.rows ends.0 ends.1) }
     {
         let SeenRoute { first, region } = first_on(
             alloc,
@@ -151,8 +164,8 @@ impl<F: PriceFn, K: ServiceBrand<F>> FoundRoute<F, K> {
     }
 }
 
-/// The first of the cheapest routes on a picture, or the first reason why there is none. What the search
-/// writes on is made where there is none yet, and kept.
+/// The first of the cheapest routes on a picture, or the first reason why there is none. What the
+/// search writes on is made where there is none yet, and kept.
 #[tactic(auto, using(crate::proofs::Refusals::ends_refused))]
 fn first_on<A: PriceFn>(
     alloc: Global,
@@ -162,9 +175,13 @@ fn first_on<A: PriceFn>(
     v: u32,
     work: &mut Option<Workspace>,
 ) -> Result<SeenRoute, Refusal>
-    ensures first { IfOk result (λ r. IsFirst (prices_of (A.may_return tariff.now)) picture.now.rows u v r.first.route r.first.price) }
-    ensures region { IfOk result (λ r. IfSome r.region (IsHeldBy (prices_of (A.may_return tariff.now)) picture.now.rows u v r.first.route r.first.price)) }
-    ensures refused { IfErr result (IsPlanRefusal (prices_of (A.may_return tariff.now)) picture.now.rows u v) }
+    ensures first { IfOk result (λ r. IsFirst (prices_of (A.may_return tariff.now))
+        picture.now.rows u v r.first.route r.first.price) }
+    ensures region { IfOk result
+        (λ r. IfSome r.region (IsHeldBy (prices_of (A.may_return tariff.now))
+        picture.now.rows u v r.first.route r.first.price)) }
+    ensures refused { IfErr result
+        (IsPlanRefusal (prices_of (A.may_return tariff.now)) picture.now.rows u v) }
     ensures there { OnOk result (HasVertices picture.now.rows u v) }
     ensures apart { OnOk result (u ≢ v) }
 {
@@ -186,9 +203,10 @@ fn first_on<A: PriceFn>(
 }
 
 impl<F: PriceFn, K: ServiceBrand<F>, G: VersionReader<F, K>> PassOver<F, K, G> {
-    /// The first of the cheapest routes from `u` to `v` at the service's prices on the version of now. It
-    /// copies nothing of the picture, and waits for nobody. NoView comes first, then NoVertex, then
-    /// SameEnds, by the picture of that version, then NoRoute; Memory if the search is out of memory.
+    /// The first of the cheapest routes from `u` to `v` at the service's prices on the version of
+    /// now. It copies nothing of the picture, and waits for nobody. NoView comes first, then
+    /// NoVertex, then SameEnds, by the picture of that version, then NoRoute; Memory if the search
+    /// is out of memory.
     pub fn find(
         &mut self,
         alloc: Global,
@@ -204,7 +222,8 @@ impl<F: PriceFn, K: ServiceBrand<F>, G: VersionReader<F, K>> PassOver<F, K, G> {
         ensures v { IfOk result (λ f. f.v ≡ v) }
         ensures seen { IfOk result (λ f. f.entries ≡ self.new.seen) }
         ensures found { IfOk result (IsFoundRoute (prices_named F.may_return K.closure) K.start) }
-        ensures fault { IfErr result (IsPlanFault (prices_named F.may_return K.closure) (prices_named F.may_return K.closure) K.start self.new.seen u v) }
+        ensures fault { IfErr result (IsPlanFault (prices_named F.may_return K.closure)
+            (prices_named F.may_return K.closure) K.start self.new.seen u v) }
     {
         let version = self.view()?;
         let found = match FoundRoute::on(alloc, version, tariff, (u, v), &mut self.work) {

@@ -1,11 +1,12 @@
 //! A picture that threads share under one lock, with versions for readers that do not wait.
 //!
-//! A `Service` holds a book under a lock. Each caller has a `Pass`: a call of the service carries it
-//! through the lock, enters what was answered, publishes the version after an accepted call, and leaves
-//! a receipt in the pass. `Pass::view` takes the version of now, and `Pass::find` and `Pass::plan` search on
-//! it, all without waiting. `Service::close` takes all passes back, compares every receipt with the history, and
-//! hands the book out: its Ok says that the history is one thread's, and has as many calls as the passes
-//! have receipts. `run_workers` runs lists of commands, each with a pass in a thread of its own.
+//! A `Service` holds a book under a lock. Each caller has a `Pass`: a call of the service carries
+//! it through the lock, enters what was answered, publishes the version after an accepted call, and
+//! leaves a receipt in the pass. `Pass::view` takes the version of now, and `Pass::find` and
+//! `Pass::plan` search on it, all without waiting. `Service::close` takes all passes back, compares
+//! every receipt with the history, and hands the book out: its Ok says that the history is one
+//! thread's, and has as many calls as the passes have receipts. `run_workers` runs lists of
+//! commands, each with a pass in a thread of its own.
 //!
 //! A caller, in a thread with a pass of its own (`planar_editors` is a whole program):
 //!

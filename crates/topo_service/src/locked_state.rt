@@ -1,6 +1,7 @@
 //! What lies under the lock.
 
-ghost use Rattle.std.specs.Prelude.{◌≡◌, ◌≢◌, ◌+◌, ◌<◌, ◌^◌, ◌∷◌, ◌++◌, [], length, is_ok, if◌then◌else◌, IfOk, IfSome, OnOk, OnErr, Some, true};
+ghost use Rattle.std.specs.Prelude.{◌≡◌, ◌≢◌, ◌+◌, ◌<◌, ◌^◌, ◌∷◌, ◌++◌, [], length, is_ok};
+ghost use Rattle.std.specs.Prelude.{if◌then◌else◌, IfOk, IfSome, OnOk, OnErr, Some, true};
 ghost use Rattle.topo_core.specs.History.{IsVersion, Replays, is_accepted, versions};
 ghost use Rattle.topo_core.specs.Routes.{IsFirst};
 ghost use Rattle.topo_core.specs.Steps.{Step};
@@ -29,8 +30,8 @@ use topo_versions::{
 
 /// The book, the number of its calls, and the versions. Contracts see the book.
 ///
-/// At all times the book begins with the start and has the prices that K names, the ledger's total is the
-/// length of the history, and what is published are the accepted entries of the history.
+/// At all times the book begins with the start and has the prices that K names, the ledger's total
+/// is the length of the history, and what is published are the accepted entries of the history.
 pub struct LockedState<F: PriceFn, K: ServiceBrand<F>, W: VersionWriter<F, K>> {
     book: Book<F>,
     calls: Tally<K>,
@@ -51,8 +52,10 @@ impl<F: PriceFn, K: ServiceBrand<F>, W: VersionWriter<F, K>> Model for LockedSta
 
     ghost view = { λ d. d.book };
 
-    ghost invariant = { λ d. (d.book.start ≡ K.start) × (K.closure ≡ Some d.book.tariff) × (d.calls.total ≡ length d.book.history)
-        × (d.prefix ≡ versions d.book.history) × (W.published d.writer ≡ Some (versions d.book.history)) };
+    ghost invariant = { λ d. (d.book.start ≡ K.start) × (K.closure ≡ Some d.book.tariff)
+        × (d.calls.total ≡ length d.book.history)
+        × (d.prefix ≡ versions d.book.history)
+        × (W.published d.writer ≡ Some (versions d.book.history)) };
 }
 
 /// Makes a call ready, with what is known of its route.
@@ -63,13 +66,15 @@ fn prepare_call<F: PriceFn>(
     call: Call,
     source: RouteSource<PricedRoute>,
 ) -> Result<Next, AllocError>
-    requires { IsSourceFor (prices_of (F.may_return book.old.tariff)) book.old.picture.rows call source }
+    requires { IsSourceFor (prices_of (F.may_return book.old.tariff))
+        book.old.picture.rows call source }
     ensures caller { IfOk result (λ n. n.entry.caller ≡ caller) }
     ensures call { IfOk result (λ n. n.entry.call ≡ call) }
     ensures ready { IfOk result (CanFollow (prices_of (F.may_return book.new.tariff)) book.new) }
     ensures unchanged { IsUnchanged book.old book.new }
     ensures same_book { IsSameBook book.old book.new }
-    ensures legal { Replays (prices_of (F.may_return book.old.tariff)) book.old.start.limits book.old.start.rows book.old.history book.old.picture.rows }
+    ensures legal { Replays (prices_of (F.may_return book.old.tariff))
+        book.old.start.limits book.old.start.rows book.old.history book.old.picture.rows }
     ensures same_limits { book.old.picture.limits ≡ book.old.start.limits }
     ensures room { length book.old.history + 1 < 2 ^ 64 }
 {
@@ -79,8 +84,8 @@ fn prepare_call<F: PriceFn>(
     book.prepare_from(alloc, caller, call, source)
 }
 
-/// Adds a call that was made ready to the accepted entries, and publishes the version after it, where it is
-/// accepted. Out of memory, nothing has changed.
+/// Adds a call that was made ready to the accepted entries, and publishes the version after it,
+/// where it is accepted. Out of memory, nothing has changed.
 fn show<F: PriceFn, K: ServiceBrand<F>, W: VersionWriter<F, K>, R: Wait>(
     rt: &R,
     log_length: &LogLength<K>,
@@ -90,10 +95,14 @@ fn show<F: PriceFn, K: ServiceBrand<F>, W: VersionWriter<F, K>, R: Wait>(
 ) -> Result<(), AllocError>
     requires room { length prefix.old + 1 < 2 ^ 64 }
     requires whole { W.published writer.old ≡ Some prefix.old }
-    requires follows { IfSome next.now.picture (λ picture. IsVersionFrom (prices_named F.may_return K.closure) K.start (prefix.old ++ next.now.entry ∷ []) picture) }
-    ensures prefix { OnOk result (prefix.new ≡ (if is_accepted next.now.entry.reply then prefix.old ++ next.now.entry ∷ [] else prefix.old)) }
+    requires follows { IfSome next.now.picture (λ picture. IsVersionFrom
+        (prices_named F.may_return K.closure) K.start (prefix.old ++ next.now.entry ∷ []) picture) }
+    ensures prefix { OnOk result
+        (prefix.new ≡ (if is_accepted next.now.entry.reply then prefix.old ++ next.now.entry
+        ∷ [] else prefix.old)) }
     ensures published { OnOk result (W.published writer.new ≡ Some prefix.new) }
-    ensures err { OnErr result ((prefix.new ≡ prefix.old) × (W.published writer.new ≡ W.published writer.old)) }
+    ensures err { OnErr result
+        ((prefix.new ≡ prefix.old) × (W.published writer.new ≡ W.published writer.old)) }
 {
     let Some(picture) = next.shared() else {
         return Ok(());
@@ -106,8 +115,8 @@ fn show<F: PriceFn, K: ServiceBrand<F>, W: VersionWriter<F, K>, R: Wait>(
     Ok(())
 }
 
-/// The answer to a call that was made ready, once the version after it is published where it is accepted.
-/// Out of memory, nothing has changed.
+/// The answer to a call that was made ready, once the version after it is published where it is
+/// accepted. Out of memory, nothing has changed.
 fn answer_ready<F: PriceFn, K: ServiceBrand<F>, W: VersionWriter<F, K>, R: Wait>(
     rt: &R,
     alloc: Global,
@@ -118,11 +127,15 @@ fn answer_ready<F: PriceFn, K: ServiceBrand<F>, W: VersionWriter<F, K>, R: Wait>
 ) -> Result<ReplyPair, AllocError>
     requires room { length prefix.old + 1 < 2 ^ 64 }
     requires whole { W.published writer.old ≡ Some prefix.old }
-    requires follows { IfSome next.now.picture (λ picture. IsVersionFrom (prices_named F.may_return K.closure) K.start (prefix.old ++ next.now.entry ∷ []) picture) }
+    requires follows { IfSome next.now.picture (λ picture. IsVersionFrom
+        (prices_named F.may_return K.closure) K.start (prefix.old ++ next.now.entry ∷ []) picture) }
     ensures reply { IfOk result (λ pair. pair.reply ≡ next.now.entry.reply) }
-    ensures prefix { OnOk result (prefix.new ≡ (if is_accepted next.now.entry.reply then prefix.old ++ next.now.entry ∷ [] else prefix.old)) }
+    ensures prefix { OnOk result
+        (prefix.new ≡ (if is_accepted next.now.entry.reply then prefix.old ++ next.now.entry
+        ∷ [] else prefix.old)) }
     ensures published { OnOk result (W.published writer.new ≡ Some prefix.new) }
-    ensures err { OnErr result ((prefix.new ≡ prefix.old) × (W.published writer.new ≡ W.published writer.old)) }
+    ensures err { OnErr result
+        ((prefix.new ≡ prefix.old) × (W.published writer.new ≡ W.published writer.old)) }
 {
     let pair = ReplyPair::of(alloc, &next.entry().reply)?;
     show::<F, K, W, R>(rt, log_length, prefix, writer, next)?;
@@ -157,10 +170,12 @@ impl<F: PriceFn, K: ServiceBrand<F>, W: VersionWriter<F, K>> LockedState<F, K, W
         self.was_known
     }
 
-    /// Whether the route is known to be the first between these ends on the picture of now: it was found on
-    /// the version that is published, or nothing that its search has seen was changed since.
+    /// Whether the route is known to be the first between these ends on the picture of now: it was
+    /// found on the version that is published, or nothing that its search has seen was changed
+    /// since.
     fn stands(&self, found: &FoundRoute<F, K>, u: u32, v: u32) -> bool
-        ensures { result ≡ true → IsFirst (prices_of (F.may_return self.now.tariff)) self.now.picture.rows u v found.now.route found.now.price }
+        ensures { result ≡ true → IsFirst (prices_of (F.may_return self.now.tariff))
+            self.now.picture.rows u v found.now.route found.now.price }
     {
         // For the proof: what the type keeps.
         self.book.history();
@@ -169,14 +184,15 @@ impl<F: PriceFn, K: ServiceBrand<F>, W: VersionWriter<F, K>> LockedState<F, K, W
             && (found.is_of(&self.prefix) || found.outlives(&self.book, &self.prefix))
     }
 
-    /// What is known of the route of a call now, by what the caller hands over: a route that was found counts
-    /// only while it stands.
+    /// What is known of the route of a call now, by what the caller hands over: a route that was
+    /// found counts only while it stands.
     fn known<'a>(
         &self,
         call: Call,
         source: RouteSource<'a, FoundRoute<F, K>>,
     ) -> RouteSource<'a, PricedRoute>
-        ensures { IsSourceFor (prices_of (F.may_return self.now.tariff)) self.now.picture.rows call result }
+        ensures { IsSourceFor (prices_of (F.may_return self.now.tariff))
+            self.now.picture.rows call result }
     {
         match (call, source) {
             (Call::Insert { .. }, RouteSource::Plan(plan)) => RouteSource::Plan(plan),
@@ -200,10 +216,13 @@ impl<F: PriceFn, K: ServiceBrand<F>, W: VersionWriter<F, K>> LockedState<F, K, W
     ) -> Result<ReplyPair, AllocError>
         requires { 0 < mine.old.parts }
         ensures parts { mine.new.parts ≡ mine.old.parts }
-        ensures amount { mine.new.amount ≡ (if is_ok result then mine.old.amount + 1 else mine.old.amount) }
+        ensures amount { mine.new.amount
+            ≡ (if is_ok result then mine.old.amount + 1 else mine.old.amount) }
         ensures same_book { IsSameBook self.old self.new }
-        ensures entered { IfOk result (λ pair. self.new.history ≡ self.old.history ++ entry_of caller call pair.reply ∷ []) }
-        ensures step { IfOk result (λ pair. Step (prices_named F.may_return K.closure) K.start.limits self.old.picture.rows call pair.reply self.new.picture.rows) }
+        ensures entered { IfOk result
+            (λ pair. self.new.history ≡ self.old.history ++ entry_of caller call pair.reply ∷ []) }
+        ensures step { IfOk result (λ pair. Step (prices_named F.may_return K.closure)
+            K.start.limits self.old.picture.rows call pair.reply self.new.picture.rows) }
         ensures no_memory { IfOk result (λ pair. pair.reply ≢ Refused Memory) }
         ensures unchanged { OnErr result (IsUnchanged self.old self.new) }
     {
@@ -228,7 +247,8 @@ impl<F: PriceFn, K: ServiceBrand<F>, W: VersionWriter<F, K>> LockedState<F, K, W
     /// The accepted entries.
     pub(crate) fn prefix(&self) -> &LogPrefix<F, K>
         ensures now { result.now ≡ versions self.now.history }
-        ensures replayed { IsVersion (prices_named F.may_return K.closure) K.start.limits K.start.rows result.now self.now.picture.rows }
+        ensures replayed { IsVersion (prices_named F.may_return K.closure)
+            K.start.limits K.start.rows result.now self.now.picture.rows }
     {
         // For the proof: what the type keeps.
         self.book.history();
@@ -255,8 +275,10 @@ impl<F: PriceFn, K: ServiceBrand<F>, W: VersionWriter<F, K>> LockedState<F, K, W
         ensures same { result ≡ self }
         ensures start { result.start ≡ K.start }
         ensures named { K.closure ≡ Some result.tariff }
-        ensures legal { Replays (prices_of (F.may_return result.tariff)) result.start.limits result.start.rows result.history result.picture.rows }
-        ensures lawful { ReplaysLawfully (prices_of (F.may_return result.tariff)) result.start.limits result.start.rows result.history result.picture.rows }
+        ensures legal { Replays (prices_of (F.may_return result.tariff))
+            result.start.limits result.start.rows result.history result.picture.rows }
+        ensures lawful { ReplaysLawfully (prices_of (F.may_return result.tariff))
+            result.start.limits result.start.rows result.history result.picture.rows }
         ensures same_limits { result.picture.limits ≡ result.start.limits }
     {
         let LockedState {

@@ -3,9 +3,10 @@
 /// So many planned insertions in a row are made as plain ones at most.
 const MAX_PAUSE: u32 = 63;
 
-/// Whether a planned insertion is worth looking ahead for. A route that is found ahead is lost work if others
-/// change what its search has seen; so after such a route the pass makes some planned insertions as plain
-/// ones, and twice as many after the next. It is speed alone: no answer depends on it.
+/// Whether a planned insertion is worth looking ahead for. A route that is found ahead is lost work
+/// if others change what its search has seen; so after such a route the pass makes some planned
+/// insertions as plain ones, and twice as many after the next. It is speed alone: no answer depends
+/// on it.
 #[derive(Clone, Copy, Debug, Drop)]
 pub(crate) struct Lookahead {
     pause: u32,
@@ -27,7 +28,8 @@ impl Lookahead {
         false
     }
 
-    /// Takes note, if a call brought a route that was found ahead, of whether it was taken without a search.
+    /// Takes note, if a call brought a route that was found ahead, of whether it was taken without
+    /// a search.
     pub(crate) fn note(&mut self, is_found: bool, is_taken: bool) {
         if is_found && is_taken {
             self.pause = 0;

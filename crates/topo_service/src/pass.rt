@@ -30,8 +30,8 @@ pub struct Receipt {
     pub reply: Reply,
 }
 
-/// A caller's number, its receipts, its share of the ledger, its reader of versions and the accepted entries
-/// that it has seen. Contracts see its number, its receipts and these entries.
+/// A caller's number, its receipts, its share of the ledger, its reader of versions and the
+/// accepted entries that it has seen. Contracts see its number, its receipts and these entries.
 #[derive(Drop)]
 pub struct PassOver<F: PriceFn, K: ServiceBrand<F>, G: VersionReader<F, K>> {
     pub(crate) number: u32,
@@ -59,13 +59,17 @@ impl<F: PriceFn, K: ServiceBrand<F>, G: VersionReader<F, K>> Model for PassOver<
 
     ghost Value = { PassState };
 
-    ghost view = { λ p. record { number = p.number; receipts = p.receipts.items; seen = p.prefix } };
+    ghost view = { λ p. record {
+      number = p.number;
+      receipts = p.receipts.items;
+      seen = p.prefix;
+    } };
 
     ghost invariant = { λ p. (p.share.parts ≡ 1) × (p.share.amount ≡ length p.receipts.items) };
 }
 
-/// Whether a route may be looked for between these on a picture: both are vertices, and not the same. That it
-/// is no vertex comes first.
+/// Whether a route may be looked for between these on a picture: both are vertices, and not the
+/// same. That it is no vertex comes first.
 pub(crate) fn admit_ends(picture: &Picture, u: u32, v: u32) -> Result<(), Refusal>
     ensures there { OnOk result (HasVertices picture.now.rows u v) }
     ensures apart { OnOk result (u ≢ v) }
@@ -91,8 +95,10 @@ fn plan_in<A: PriceFn>(
 ) -> Result<Plan, Refusal>
     requires there { HasVertices frozen.now.rows u v }
     requires apart { u ≢ v }
-    ensures planned { IfOk result (IsPlan (prices_of (A.may_return tariff.now)) frozen.now.rows u v) }
-    ensures refused { IfErr result (IsPlanRefusal (prices_of (A.may_return tariff.now)) frozen.now.rows u v) }
+    ensures planned { IfOk result
+        (IsPlan (prices_of (A.may_return tariff.now)) frozen.now.rows u v) }
+    ensures refused { IfErr result
+        (IsPlanRefusal (prices_of (A.may_return tariff.now)) frozen.now.rows u v) }
 {
     match search(alloc, frozen, tariff, u, v) {
         Ok(Some(plan)) => Ok(plan),
@@ -110,8 +116,10 @@ fn plan_on<A: PriceFn>(
     u: u32,
     v: u32,
 ) -> Result<Plan, Refusal>
-    ensures planned { IfOk result (IsPlan (prices_of (A.may_return tariff.now)) picture.now.rows u v) }
-    ensures refused { IfErr result (IsPlanRefusal (prices_of (A.may_return tariff.now)) picture.now.rows u v) }
+    ensures planned { IfOk result
+        (IsPlan (prices_of (A.may_return tariff.now)) picture.now.rows u v) }
+    ensures refused { IfErr result
+        (IsPlanRefusal (prices_of (A.may_return tariff.now)) picture.now.rows u v) }
 {
     admit_ends(picture, u, v)?;
     match picture.freeze(alloc) {
@@ -128,7 +136,8 @@ impl<F: PriceFn, K: ServiceBrand<F>, G: VersionReader<F, K>> PassOver<F, K, G> {
         self.number
     }
 
-    /// Its calls that were answered otherwise than by out of memory, with the replies, the oldest first.
+    /// Its calls that were answered otherwise than by out of memory, with the replies, the oldest
+    /// first.
     pub fn receipts(&self) -> &[Receipt]
         ensures { result.now ≡ self.now.receipts }
     {
@@ -150,15 +159,16 @@ impl<F: PriceFn, K: ServiceBrand<F>, G: VersionReader<F, K>> PassOver<F, K, G> {
         self.lookahead.is_due()
     }
 
-    /// The version of now: the picture after accepted entries that begin with all that the pass has seen,
-    /// and that it has seen from then on. It takes no memory and waits for nobody. NoView is answered
-    /// where the service has ended or no further share of the version is left.
+    /// The version of now: the picture after accepted entries that begin with all that the pass has
+    /// seen, and that it has seen from then on. It takes no memory and waits for nobody. NoView is
+    /// answered where the service has ended or no further share of the version is left.
     pub fn view(&mut self) -> Result<View<F, K>, PassFault>
         ensures number { self.new.number ≡ self.old.number }
         ensures receipts { self.new.receipts ≡ self.old.receipts }
         ensures later { IsPrefix self.old.seen self.new.seen }
         ensures seen { IfOk result (λ v. v.entries ≡ self.new.seen) }
-        ensures version { IfOk result (λ v. IsVersionFrom (prices_named F.may_return K.closure) K.start v.entries v.picture) }
+        ensures version { IfOk result
+            (λ v. IsVersionFrom (prices_named F.may_return K.closure) K.start v.entries v.picture) }
         ensures fault { IfErr result (λ e. e ≡ PassFault.NoView) }
     {
         let Some(version) = self.reader.current() else {
@@ -173,9 +183,10 @@ impl<F: PriceFn, K: ServiceBrand<F>, G: VersionReader<F, K>> PassOver<F, K, G> {
         Ok(version)
     }
 
-    /// The first cheapest route from `u` to `v` at these prices on the version of now, with its price and
-    /// the least heights. It waits for nobody. NoView comes first, then NoVertex, then SameEnds, by the
-    /// picture of that version, then NoRoute; Memory if the search is out of memory.
+    /// The first cheapest route from `u` to `v` at these prices on the version of now, with its
+    /// price and the least heights. It waits for nobody. NoView comes first, then NoVertex, then
+    /// SameEnds, by the picture of that version, then NoRoute; Memory if the search is out of
+    /// memory.
     pub fn plan<A: PriceFn>(
         &mut self,
         alloc: Global,
@@ -186,9 +197,11 @@ impl<F: PriceFn, K: ServiceBrand<F>, G: VersionReader<F, K>> PassOver<F, K, G> {
         ensures number { self.new.number ≡ self.old.number }
         ensures receipts { self.new.receipts ≡ self.old.receipts }
         ensures later { IsPrefix self.old.seen self.new.seen }
-        ensures planned { IfOk result (λ plan. (picture : Shown) × IsVersionFrom (prices_named F.may_return K.closure) K.start self.new.seen picture
+        ensures planned { IfOk result (λ plan. (picture : Shown)
+            × IsVersionFrom (prices_named F.may_return K.closure) K.start self.new.seen picture
             × IsPlan (prices_of (A.may_return tariff.now)) picture.rows u v plan) }
-        ensures fault { IfErr result (IsPlanFault (prices_named F.may_return K.closure) (prices_of (A.may_return tariff.now)) K.start self.new.seen u v) }
+        ensures fault { IfErr result (IsPlanFault (prices_named F.may_return K.closure)
+            (prices_of (A.may_return tariff.now)) K.start self.new.seen u v) }
     {
         let version = self.view()?;
         match plan_on(alloc, version.picture(), tariff, u, v) {

@@ -1,6 +1,7 @@
 //! The locked service.
 
-ghost use Rattle.std.specs.Prelude.{◌≡◌, ◌≢◌, ◌+◌, ◌<◌, ◌≤◌, ◌++◌, ◌∷◌, [], true, false, IfOk, IsErr, OnErr, Some};
+ghost use Rattle.std.specs.Prelude.{◌≡◌, ◌≢◌, ◌+◌, ◌<◌, ◌≤◌, ◌++◌, ◌∷◌, []};
+ghost use Rattle.std.specs.Prelude.{true, false, IfOk, IsErr, OnErr, Some};
 ghost use Rattle.topo_core.specs.History.{IsPrefix, is_accepted};
 ghost use Rattle.topo_core.specs.declared.calls.Call.TheVariants.{Grow, Insert, Delete};
 ghost use Rattle.topo_core.specs.declared.calls.Refusal.TheVariants.{Memory};
@@ -32,8 +33,8 @@ use topo_versions::{
 /// A service has at most so many passes.
 pub const MAX_PASSES: u32 = 16;
 
-/// One lock round a book, with the passes that were given out. Contracts see what answers its prices, how
-/// many passes it gives out at most, and how many it has given out.
+/// One lock round a book, with the passes that were given out. Contracts see what answers its
+/// prices, how many passes it gives out at most, and how many it has given out.
 pub struct ServiceOver<F: PriceFn, K: ServiceBrand<F>, W: VersionWriter<F, K>> {
     pub(crate) alloc: Global,
     pub(crate) tariff: Arc<Tariff<F>>,
@@ -54,9 +55,14 @@ impl<F: PriceFn, K: ServiceBrand<F>, W: VersionWriter<F, K>> Model for ServiceOv
 
     ghost Value = { ServiceState F };
 
-    ghost view = { λ s. record { tariff = arc_value s.tariff; places = s.places; given = s.given } };
+    ghost view = { λ s. record {
+      tariff = arc_value s.tariff;
+      places = s.places;
+      given = s.given;
+    } };
 
-    ghost invariant = { λ s. (K.closure ≡ Some (arc_value s.tariff)) × (K.parts ≡ MAX_PASSES) × (s.places ≤ MAX_PASSES) × (s.nothing ≡ []) };
+    ghost invariant = { λ s. (K.closure ≡ Some (arc_value s.tariff)) × (K.parts ≡ MAX_PASSES)
+        × (s.places ≤ MAX_PASSES) × (s.nothing ≡ []) };
 }
 
 impl<F: PriceFn, K: ServiceBrand<F>, W: VersionWriter<F, K>> ServiceOver<F, K, W> {
@@ -68,15 +74,16 @@ impl<F: PriceFn, K: ServiceBrand<F>, W: VersionWriter<F, K>> ServiceOver<F, K, W
         &self.tariff
     }
 
-    /// The next pass, with no receipt. NoSeat is answered where as many were given out as there may be, or
-    /// the version store has no place for a reader. It waits for nobody.
+    /// The next pass, with no receipt. NoSeat is answered where as many were given out as there may
+    /// be, or the version store has no place for a reader. It waits for nobody.
     pub fn pass<G: VersionReader<F, K>>(&mut self) -> Result<PassOver<F, K, G>, ServiceFault>
     where
         W: ReaderFactory<F, K, G>,
         ensures number { IfOk result (λ p. p.number ≡ self.old.given) }
         ensures receipts { IfOk result (λ p. p.receipts ≡ []) }
         ensures seen { IfOk result (λ p. p.seen ≡ []) }
-        ensures given { IfOk result (λ p. (self.old.given < self.old.places) × (self.new.given ≡ self.old.given + 1)) }
+        ensures given { IfOk result
+            (λ p. (self.old.given < self.old.places) × (self.new.given ≡ self.old.given + 1)) }
         ensures refused { OnErr result (self.new.given ≡ self.old.given) }
         ensures at_most { self.old.places ≤ MAX_PASSES }
         ensures same { (self.new.tariff ≡ self.old.tariff) × (self.new.places ≡ self.old.places) }
@@ -104,10 +111,10 @@ impl<F: PriceFn, K: ServiceBrand<F>, W: VersionWriter<F, K>> ServiceOver<F, K, W
         })
     }
 
-    /// Inserts an edge of this kind from `u` to `v` along the first of the cheapest routes, or answers
-    /// the first reason why not, under the lock. The pass gains a receipt, and has then seen the version
-    /// of its call. Out of memory may stand in place of any answer; nothing was published then, and the
-    /// pass is as it was.
+    /// Inserts an edge of this kind from `u` to `v` along the first of the cheapest routes, or
+    /// answers the first reason why not, under the lock. The pass gains a receipt, and has then
+    /// seen the version of its call. Out of memory may stand in place of any answer; nothing was
+    /// published then, and the pass is as it was.
     pub fn insert<G: VersionReader<F, K>, R: Wait>(
         &self,
         rt: &R,
@@ -117,10 +124,15 @@ impl<F: PriceFn, K: ServiceBrand<F>, W: VersionWriter<F, K>> ServiceOver<F, K, W
         kind: u32,
     ) -> Result<Reply, AllocError>
         ensures number { pass.new.number ≡ pass.old.number }
-        ensures receipt { IfOk result (λ reply. pass.new.receipts ≡ pass.old.receipts ++ receipt_of (Insert u v kind) reply ∷ []) }
+        ensures receipt { IfOk result (λ reply. pass.new.receipts ≡ pass.old.receipts
+            ++ receipt_of (Insert u v kind) reply ∷ []) }
         ensures later { IsPrefix pass.old.seen pass.new.seen }
-        ensures accepted { IfOk result (λ reply. is_accepted reply ≡ true → HasSeenOwn pass.old pass.new (Insert u v kind) reply) }
-        ensures refused { IfOk result (λ reply. is_accepted reply ≡ false → IsDueAfter (prices_named F.may_return K.closure) K.start pass.new.seen (Insert u v kind) reply) }
+        ensures accepted { IfOk result
+            (λ reply. is_accepted reply ≡ true
+            → HasSeenOwn pass.old pass.new (Insert u v kind) reply) }
+        ensures refused { IfOk result (λ reply. is_accepted reply ≡ false
+            → IsDueAfter (prices_named F.may_return K.closure) K.start pass.new.seen
+            (Insert u v kind) reply) }
         ensures legal { AreLegal (prices_named F.may_return K.closure) K.start pass.new.seen }
         ensures no_memory { IfOk result (λ reply. reply ≢ Refused Memory) }
         ensures unchanged { OnErr result (pass.new ≡ pass.old) }
@@ -128,8 +140,8 @@ impl<F: PriceFn, K: ServiceBrand<F>, W: VersionWriter<F, K>> ServiceOver<F, K, W
         self.call(rt, pass, Call::Insert { u, v, kind }, RouteSource::Search)
     }
 
-    /// As `insert`, whatever the plan: its route is taken where the plan passes the check on the picture
-    /// of now, which spares the search, and else the route is looked for.
+    /// As `insert`, whatever the plan: its route is taken where the plan passes the check on the
+    /// picture of now, which spares the search, and else the route is looked for.
     pub fn insert_planned<G: VersionReader<F, K>, R: Wait>(
         &self,
         rt: &R,
@@ -140,10 +152,15 @@ impl<F: PriceFn, K: ServiceBrand<F>, W: VersionWriter<F, K>> ServiceOver<F, K, W
         plan: &Plan,
     ) -> Result<Reply, AllocError>
         ensures number { pass.new.number ≡ pass.old.number }
-        ensures receipt { IfOk result (λ reply. pass.new.receipts ≡ pass.old.receipts ++ receipt_of (Insert u v kind) reply ∷ []) }
+        ensures receipt { IfOk result (λ reply. pass.new.receipts ≡ pass.old.receipts
+            ++ receipt_of (Insert u v kind) reply ∷ []) }
         ensures later { IsPrefix pass.old.seen pass.new.seen }
-        ensures accepted { IfOk result (λ reply. is_accepted reply ≡ true → HasSeenOwn pass.old pass.new (Insert u v kind) reply) }
-        ensures refused { IfOk result (λ reply. is_accepted reply ≡ false → IsDueAfter (prices_named F.may_return K.closure) K.start pass.new.seen (Insert u v kind) reply) }
+        ensures accepted { IfOk result
+            (λ reply. is_accepted reply ≡ true
+            → HasSeenOwn pass.old pass.new (Insert u v kind) reply) }
+        ensures refused { IfOk result (λ reply. is_accepted reply ≡ false
+            → IsDueAfter (prices_named F.may_return K.closure) K.start pass.new.seen
+            (Insert u v kind) reply) }
         ensures legal { AreLegal (prices_named F.may_return K.closure) K.start pass.new.seen }
         ensures no_memory { IfOk result (λ reply. reply ≢ Refused Memory) }
         ensures unchanged { OnErr result (pass.new ≡ pass.old) }
@@ -152,8 +169,8 @@ impl<F: PriceFn, K: ServiceBrand<F>, W: VersionWriter<F, K>> ServiceOver<F, K, W
         self.call(rt, pass, Call::Insert { u, v, kind }, planned)
     }
 
-    /// As `insert` between the ends of a route that was found: the route is taken as it is where it was
-    /// found on the version of now, and else the route is looked for.
+    /// As `insert` between the ends of a route that was found: the route is taken as it is where it
+    /// was found on the version of now, and else the route is looked for.
     pub fn insert_found<G: VersionReader<F, K>, R: Wait>(
         &self,
         rt: &R,
@@ -162,10 +179,14 @@ impl<F: PriceFn, K: ServiceBrand<F>, W: VersionWriter<F, K>> ServiceOver<F, K, W
         found: &FoundRoute<F, K>,
     ) -> Result<Reply, AllocError>
         ensures number { pass.new.number ≡ pass.old.number }
-        ensures receipt { IfOk result (λ reply. pass.new.receipts ≡ pass.old.receipts ++ receipt_of (Insert found.now.u found.now.v kind) reply ∷ []) }
+        ensures receipt { IfOk result (λ reply. pass.new.receipts ≡ pass.old.receipts
+            ++ receipt_of (Insert found.now.u found.now.v kind) reply ∷ []) }
         ensures later { IsPrefix pass.old.seen pass.new.seen }
-        ensures accepted { IfOk result (λ reply. is_accepted reply ≡ true → HasSeenOwn pass.old pass.new (Insert found.now.u found.now.v kind) reply) }
-        ensures refused { IfOk result (λ reply. is_accepted reply ≡ false → IsDueAfter (prices_named F.may_return K.closure) K.start pass.new.seen (Insert found.now.u found.now.v kind) reply) }
+        ensures accepted { IfOk result (λ reply. is_accepted reply ≡ true
+            → HasSeenOwn pass.old pass.new (Insert found.now.u found.now.v kind) reply) }
+        ensures refused { IfOk result (λ reply. is_accepted reply ≡ false
+            → IsDueAfter (prices_named F.may_return K.closure) K.start pass.new.seen
+            (Insert found.now.u found.now.v kind) reply) }
         ensures legal { AreLegal (prices_named F.may_return K.closure) K.start pass.new.seen }
         ensures no_memory { IfOk result (λ reply. reply ≢ Refused Memory) }
         ensures unchanged { OnErr result (pass.new ≡ pass.old) }
@@ -183,10 +204,15 @@ impl<F: PriceFn, K: ServiceBrand<F>, W: VersionWriter<F, K>> ServiceOver<F, K, W
         edge: u32,
     ) -> Result<Reply, AllocError>
         ensures number { pass.new.number ≡ pass.old.number }
-        ensures receipt { IfOk result (λ reply. pass.new.receipts ≡ pass.old.receipts ++ receipt_of (Delete edge) reply ∷ []) }
+        ensures receipt { IfOk result
+            (λ reply. pass.new.receipts ≡ pass.old.receipts
+            ++ receipt_of (Delete edge) reply ∷ []) }
         ensures later { IsPrefix pass.old.seen pass.new.seen }
-        ensures accepted { IfOk result (λ reply. is_accepted reply ≡ true → HasSeenOwn pass.old pass.new (Delete edge) reply) }
-        ensures refused { IfOk result (λ reply. is_accepted reply ≡ false → IsDueAfter (prices_named F.may_return K.closure) K.start pass.new.seen (Delete edge) reply) }
+        ensures accepted { IfOk result
+            (λ reply. is_accepted reply ≡ true → HasSeenOwn pass.old pass.new (Delete edge) reply) }
+        ensures refused { IfOk result (λ reply. is_accepted reply ≡ false
+            → IsDueAfter (prices_named F.may_return K.closure) K.start pass.new.seen
+            (Delete edge) reply) }
         ensures legal { AreLegal (prices_named F.may_return K.closure) K.start pass.new.seen }
         ensures no_memory { IfOk result (λ reply. reply ≢ Refused Memory) }
         ensures unchanged { OnErr result (pass.new ≡ pass.old) }
@@ -194,8 +220,8 @@ impl<F: PriceFn, K: ServiceBrand<F>, W: VersionWriter<F, K>> ServiceOver<F, K, W
         self.call(rt, pass, Call::Delete { edge }, RouteSource::Search)
     }
 
-    /// Puts a new vertex on a new edge of this kind into the corner at `position` of `u`, or answers the
-    /// first reason why not; in all else as `insert`.
+    /// Puts a new vertex on a new edge of this kind into the corner at `position` of `u`, or
+    /// answers the first reason why not; in all else as `insert`.
     pub fn grow<G: VersionReader<F, K>, R: Wait>(
         &self,
         rt: &R,
@@ -205,10 +231,14 @@ impl<F: PriceFn, K: ServiceBrand<F>, W: VersionWriter<F, K>> ServiceOver<F, K, W
         kind: u32,
     ) -> Result<Reply, AllocError>
         ensures number { pass.new.number ≡ pass.old.number }
-        ensures receipt { IfOk result (λ reply. pass.new.receipts ≡ pass.old.receipts ++ receipt_of (Grow u position kind) reply ∷ []) }
+        ensures receipt { IfOk result (λ reply. pass.new.receipts ≡ pass.old.receipts
+            ++ receipt_of (Grow u position kind) reply ∷ []) }
         ensures later { IsPrefix pass.old.seen pass.new.seen }
-        ensures accepted { IfOk result (λ reply. is_accepted reply ≡ true → HasSeenOwn pass.old pass.new (Grow u position kind) reply) }
-        ensures refused { IfOk result (λ reply. is_accepted reply ≡ false → IsDueAfter (prices_named F.may_return K.closure) K.start pass.new.seen (Grow u position kind) reply) }
+        ensures accepted { IfOk result (λ reply. is_accepted reply ≡ true
+            → HasSeenOwn pass.old pass.new (Grow u position kind) reply) }
+        ensures refused { IfOk result (λ reply. is_accepted reply ≡ false
+            → IsDueAfter (prices_named F.may_return K.closure) K.start pass.new.seen
+            (Grow u position kind) reply) }
         ensures legal { AreLegal (prices_named F.may_return K.closure) K.start pass.new.seen }
         ensures no_memory { IfOk result (λ reply. reply ≢ Refused Memory) }
         ensures unchanged { OnErr result (pass.new ≡ pass.old) }
@@ -226,10 +256,13 @@ impl<F: PriceFn, K: ServiceBrand<F>, W: VersionWriter<F, K>> ServiceOver<F, K, W
         source: RouteSource<'a, FoundRoute<F, K>>,
     ) -> Result<Reply, AllocError>
         ensures number { pass.new.number ≡ pass.old.number }
-        ensures receipt { IfOk result (λ reply. pass.new.receipts ≡ pass.old.receipts ++ receipt_of call reply ∷ []) }
+        ensures receipt { IfOk result
+            (λ reply. pass.new.receipts ≡ pass.old.receipts ++ receipt_of call reply ∷ []) }
         ensures later { IsPrefix pass.old.seen pass.new.seen }
-        ensures accepted { IfOk result (λ reply. is_accepted reply ≡ true → HasSeenOwn pass.old pass.new call reply) }
-        ensures refused { IfOk result (λ reply. is_accepted reply ≡ false → IsDueAfter (prices_named F.may_return K.closure) K.start pass.new.seen call reply) }
+        ensures accepted { IfOk result
+            (λ reply. is_accepted reply ≡ true → HasSeenOwn pass.old pass.new call reply) }
+        ensures refused { IfOk result (λ reply. is_accepted reply ≡ false
+            → IsDueAfter (prices_named F.may_return K.closure) K.start pass.new.seen call reply) }
         ensures legal { AreLegal (prices_named F.may_return K.closure) K.start pass.new.seen }
         ensures no_memory { IfOk result (λ reply. reply ≢ Refused Memory) }
         ensures unchanged { OnErr result (pass.new ≡ pass.old) }

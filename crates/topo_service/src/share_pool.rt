@@ -56,9 +56,9 @@ impl<K: LogBrand> Rest<K> {
     }
 }
 
-/// The parts that were not given out. They lie in a lock that nobody takes: threads share the service, and
-/// a share of a ledger may not be shared. Only the owner of a pool takes parts from it: a reference to it,
-/// which is what the calls of a service have, gives nothing.
+/// The parts that were not given out. They lie in a lock that nobody takes: threads share the
+/// service, and a share of a ledger may not be shared. Only the owner of a pool takes parts from
+/// it: a reference to it, which is what the calls of a service have, gives nothing.
 #[derive(Drop)]
 pub struct SharePool<K: LogBrand> {
     rest: Mutex<Rest<K>>,

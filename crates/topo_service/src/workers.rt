@@ -1,6 +1,7 @@
 //! Lists of commands, each with a pass in a thread of its own.
 
-ghost use Rattle.std.specs.Prelude.{◌≡◌, ◌<◌, ◌≤◌, ◌-◌, ◌++◌, ◌∷◌, ℕ, [], length, map, IfOk, OnErr, slice_index_or, vec_capacity};
+ghost use Rattle.std.specs.Prelude.{◌≡◌, ◌<◌, ◌≤◌, ◌-◌, ◌++◌, ◌∷◌, ℕ, [], length};
+ghost use Rattle.std.specs.Prelude.{map, IfOk, OnErr, slice_index_or, vec_capacity};
 ghost use Rattle.topo_core.specs.History.{IsPrefix, call_of};
 ghost use Rattle.topo_core.specs.declared.calls.Call.TheVariants.{Insert};
 ghost use Rattle.topo_service.specs.Commands.{HasEnded, HasMade, commands, end_by, receipts_of};
@@ -35,8 +36,8 @@ pub enum WorkerEnd {
     OutOfMemory(usize),
 }
 
-/// Inserts an edge whose route is looked for on a view first, without the lock. If that finds none, it is an
-/// insertion.
+/// Inserts an edge whose route is looked for on a view first, without the lock. If that finds none,
+/// it is an insertion.
 fn insert_ahead<
     F: PriceFn,
     K: ServiceBrand<F>,
@@ -53,7 +54,9 @@ fn insert_ahead<
     kind: u32,
 ) -> Result<Reply, AllocError>
     ensures number { pass.new.number ≡ pass.old.number }
-    ensures receipt { IfOk result (λ reply. pass.new.receipts ≡ pass.old.receipts ++ receipt_of (Insert u v kind) reply ∷ []) }
+    ensures receipt { IfOk result
+        (λ reply. pass.new.receipts ≡ pass.old.receipts
+        ++ receipt_of (Insert u v kind) reply ∷ []) }
     ensures later { IsPrefix pass.old.seen pass.new.seen }
     ensures unchanged { OnErr result (pass.new.receipts ≡ pass.old.receipts) }
 {
@@ -63,8 +66,8 @@ fn insert_ahead<
     }
 }
 
-/// Carries a command out. A planned insertion looks for its route ahead, unless the routes that the pass found
-/// last came too late.
+/// Carries a command out. A planned insertion looks for its route ahead, unless the routes that the
+/// pass found last came too late.
 fn carry_out<
     F: PriceFn,
     K: ServiceBrand<F>,
@@ -79,7 +82,9 @@ fn carry_out<
     command: Command,
 ) -> Result<Reply, AllocError>
     ensures number { pass.new.number ≡ pass.old.number }
-    ensures receipt { IfOk result (λ reply. pass.new.receipts ≡ pass.old.receipts ++ receipt_of (call_of command) reply ∷ []) }
+    ensures receipt { IfOk result
+        (λ reply. pass.new.receipts ≡ pass.old.receipts
+        ++ receipt_of (call_of command) reply ∷ []) }
     ensures later { IsPrefix pass.old.seen pass.new.seen }
     ensures unchanged { OnErr result (pass.new.receipts ≡ pass.old.receipts) }
 {
@@ -140,8 +145,12 @@ fn run_each<
     gate: &T,
 )
     requires { length passes.old ≡ length lists.now }
-    ensures made { (i : ℕ) (p : PassState) → i < length lists.now → HasMade (slice_index_or passes.old i p) (slice_index_or passes.new i p) (slice_index_or (map commands lists.now) i []) }
-    ensures legal { (i : ℕ) (p : PassState) → i < length lists.now → AreLegal (prices_named F.may_return K.closure) K.start (slice_index_or passes.new i p).seen }
+    ensures made { (i : ℕ) (p : PassState) → i < length lists.now
+        → HasMade (slice_index_or passes.old i p) (slice_index_or passes.new i p)
+        (slice_index_or (map commands lists.now) i []) }
+    ensures legal { (i : ℕ) (p : PassState) → i < length lists.now
+        → AreLegal (prices_named F.may_return K.closure) K.start
+        (slice_index_or passes.new i p).seen }
 {
     if passes.is_empty() {
         return;
@@ -153,8 +162,10 @@ fn run_each<
         threads,
         &|i, pass: &mut PassOver<F, K, G>|
             requires { i < length lists.now }
-            ensures made { HasMade pass.entry.now pass.exit.now (slice_index_or (map commands lists.entry.now) i []) }
-            ensures legal { AreLegal (prices_named F.may_return K.closure) K.start pass.exit.now.seen }
+            ensures made { HasMade pass.entry.now pass.exit.now
+                (slice_index_or (map commands lists.entry.now) i []) }
+            ensures legal { AreLegal (prices_named F.may_return K.closure)
+                K.start pass.exit.now.seen }
         {
             work(rt, alloc, service, pass, i, lists[i].as_slice(), gate);
             // For the proof: what the type keeps.
@@ -200,20 +211,23 @@ fn tell_ends<F: PriceFn, K: ServiceBrand<F>, G: VersionReader<F, K>>(
     requires room { length passes.now ≤ vec_capacity ends.old }
     requires befores { length before.now ≡ length passes.now }
     requires as_many { length passes.now ≡ length lists.now }
-    requires risen { (i : ℕ) (p : PassState) → i < length passes.now → slice_index_or before.now i 0 ≤ receipts_of (slice_index_or passes.now i p) }
+    requires risen { (i : ℕ) (p : PassState) → i < length passes.now
+        → slice_index_or before.now i 0 ≤ receipts_of (slice_index_or passes.now i p) }
     ensures one_each { length ends.new.items ≡ length lists.now }
     ensures told { (i : ℕ) (p : PassState) (e : WorkerEnd) → i < length passes.now
-        → slice_index_or ends.new.items i e ≡ end_by (receipts_of (slice_index_or passes.now i p) - slice_index_or before.now i 0) (length (slice_index_or (map commands lists.now) i [])) }
+        → slice_index_or ends.new.items i e
+        ≡ end_by (receipts_of (slice_index_or passes.now i p) - slice_index_or before.now i 0)
+        (length (slice_index_or (map commands lists.now) i [])) }
 {
     for i in 0..passes.len() {
         ends.push_reserved(end_of(before[i], passes[i].receipts().len(), lists[i].len()));
     }
 }
 
-/// Runs each list with the pass at its place, in a thread of its own, or in its turn where no thread can
-/// be made. A command is carried out between the gate's calls for it. The answer says of each list
-/// whether it was carried out, or where it was out of memory; its room is taken first, and where that is
-/// refused, no pass has changed.
+/// Runs each list with the pass at its place, in a thread of its own, or in its turn where no
+/// thread can be made. A command is carried out between the gate's calls for it. The answer says of
+/// each list whether it was carried out, or where it was out of memory; its room is taken first,
+/// and where that is refused, no pass has changed.
 pub fn run_workers<
     F: PriceFn + Drop + Send + Sync,
     K: ServiceBrand<F> + Send + Sync,
@@ -231,9 +245,13 @@ pub fn run_workers<
 ) -> Result<Vec<WorkerEnd>, AllocError>
     requires { length passes.old ≡ length lists.now }
     ensures one_each { IfOk result (λ ends. length ends.items ≡ length lists.now) }
-    ensures ended { IfOk result (λ ends. (i : ℕ) (p : PassState) (e : WorkerEnd) → i < length lists.now
-        → HasEnded (slice_index_or passes.old i p) (slice_index_or passes.new i p) (slice_index_or (map commands lists.now) i []) (slice_index_or ends.items i e)) }
-    ensures legal { IfOk result (λ ends. (i : ℕ) (p : PassState) → i < length lists.now → AreLegal (prices_named F.may_return K.closure) K.start (slice_index_or passes.new i p).seen) }
+    ensures ended { IfOk result
+        (λ ends. (i : ℕ) (p : PassState) (e : WorkerEnd) → i < length lists.now
+        → HasEnded (slice_index_or passes.old i p) (slice_index_or passes.new i p)
+        (slice_index_or (map commands lists.now) i []) (slice_index_or ends.items i e)) }
+    ensures legal { IfOk result (λ ends. (i : ℕ) (p : PassState) → i < length lists.now
+        → AreLegal (prices_named F.may_return K.closure) K.start
+        (slice_index_or passes.new i p).seen) }
     ensures unchanged { OnErr result (passes.new ≡ passes.old) }
 {
     let before = receipt_counts(alloc, passes)?;

@@ -1,5 +1,6 @@
 -- Two prices that agree on every edge allow the same runs.
-use Rattle.std.proofs.Common.{◌≡◌, ℕ, ◌≤◌, ◌<◌, List, [], ◌∷◌, Option, Some, None, sym, ap, subst, ◌∙◌, inl, inr, arith, get_or, length, slice_get, Result, Ok, Err, IfOk, IfErr, IfSome}
+use Rattle.std.proofs.Common.{◌≡◌, ℕ, ◌≤◌, ◌<◌, List, [], ◌∷◌, Option, Some, None, sym, ap, subst, ◌∙◌, inl}
+use Rattle.std.proofs.Common.{inr, arith, get_or, length, slice_get, Result, Ok, Err, IfOk, IfErr, IfSome}
 use Rattle.std.proofs.lemmas.List.FromFn.{get_or-map-range_with_len, length-map-range_with_len}
 use Rattle.std.proofs.lemmas.Option.{get_or_from_slice_get, slice_get-get_or}
 use Rattle.topo_core.specs.declared.darts.Dart.{Dart}
@@ -77,7 +78,8 @@ module _ (a b : Pricing) (allows : Allows a b) (back : Allows b a) where
   replays_so limits p [] q is = is
   replays_so limits p (entry ∷ history) q is = (is.0, step_so limits p entry.call entry.reply is.0 is.1, replays_so limits is.0 history q is.2)
 
-  pub run_so : (limits : Limits) (p : Rows) (lists : List (List Command)) (history : List Entry) (q : Rows) → IsRun a limits p lists history q → IsRun b limits p lists history q
+  pub run_so : (limits : Limits) (p : Rows) (lists : List (List Command)) (history : List Entry) (q : Rows) → IsRun a limits p lists history q
+      → IsRun b limits p lists history q
   run_so limits p lists history q is = record {
     replayed = replays_so limits p history q is.replayed;
     calls = is.calls;
@@ -86,7 +88,8 @@ module _ (a b : Pricing) (allows : Allows a b) (back : Allows b a) where
 
 -- ---- The prices of all kinds
 
-pub table_price : (prices table : List (Option ℕ)) (kind : ℕ) (answer : Option ℕ) → table ≡ price_table prices → kind < 64 → slice_get table kind ≡ Some answer → answer ≡ price_of_kind prices kind
+pub table_price : (prices table : List (Option ℕ)) (kind : ℕ) (answer : Option ℕ) → table ≡ price_table prices → kind < 64 → slice_get table kind ≡ Some answer
+    → answer ≡ price_of_kind prices kind
 unfolding price_table
 table_price prices table kind answer is below there =
     sym (get_or_from_slice_get table kind answer answer there) ∙ ap (λ (ps : List (Option ℕ)). get_or ps kind answer) is
@@ -109,11 +112,13 @@ module _ (price : Pricing) (prices table : List (Option ℕ)) (is : table ≡ pr
   pub back : Allows (priced prices) price
   back facts n h = told facts n (price_there prices table facts.kind is facts.known_kind ∙ ap Some h)
 
-  pub replays_by_table : (limits : Limits) (p : Rows) (history : List Entry) (q : Rows) → Replays price limits p history q → Replays (priced prices) limits p history q
+  pub replays_by_table : (limits : Limits) (p : Rows) (history : List Entry) (q : Rows) → Replays price limits p history q
+      → Replays (priced prices) limits p history q
   replays_by_table = replays_so price (priced prices) there back
 
 -- a price of a table without a bad one
-pub good_there : (prices table : List (Option ℕ)) (kind n : ℕ) → table ≡ price_table prices → first_bad (price_table prices) ≡ None → slice_get table kind ≡ Some (Some n) → (1 ≤ n) × (n ≤ 1000)
+pub good_there : (prices table : List (Option ℕ)) (kind n : ℕ) → table ≡ price_table prices → first_bad (price_table prices) ≡ None
+    → slice_get table kind ≡ Some (Some n) → (1 ≤ n) × (n ≤ 1000)
 good_there prices table kind n is good there =
     subst (λ (o : Option ℕ). IfSome o (λ n. (1 ≤ n) × (n ≤ 1000))) (get_or_from_slice_get table kind (Some n) None there)
     (price_in_range table (subst (λ (ps : List (Option ℕ)). first_bad ps ≡ None) (sym is) good) kind)

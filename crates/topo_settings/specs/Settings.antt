@@ -14,7 +14,8 @@ use Rattle.topo_price.specs.declared.table.PriceFault.TheVariants.{BadPrice}
 use Rattle.topo_price.specs.Prices.{first_bad}
 use Rattle.topo_forms.specs.declared.scripts.LimitRows.{LimitRows}
 use Rattle.topo_settings.specs.declared.fault.RunFault.{RunFault}
-use Rattle.topo_settings.specs.declared.fault.RunFault.TheVariants.{Memory, Script, BadLimits, Price, Load, NoSeat, Mismatch, WrongReply, WrongPicture, ReadFault, WriteFault}
+use Rattle.topo_settings.specs.declared.fault.RunFault.TheVariants.{Memory, Script, BadLimits, Price, Load, NoSeat, Mismatch}
+use Rattle.topo_settings.specs.declared.fault.RunFault.TheVariants.{WrongReply, WrongPicture, ReadFault, WriteFault}
 use Rattle.topo_settings.specs.Limiting.{AreLimits}
 
 -- ---- Prices

@@ -4,7 +4,8 @@ use Rattle.topo_forms.specs.FaultTexts.{fault_name as script_name, fault_number 
 use Rattle.topo_rows.specs.FaultTexts.{fault_name as load_name, fault_number as load_number, fault_text as load_text}
 use Rattle.topo_price.specs.FaultTexts.{fault_name as price_name, fault_number as price_number, fault_text as price_text}
 use Rattle.topo_settings.specs.declared.fault.RunFault.{RunFault}
-use Rattle.topo_settings.specs.declared.fault.RunFault.TheVariants.{Memory, Script, BadLimits, Price, Load, NoSeat, Mismatch, WrongReply, WrongPicture, ReadFault, WriteFault}
+use Rattle.topo_settings.specs.declared.fault.RunFault.TheVariants.{Memory, Script, BadLimits, Price, Load, NoSeat, Mismatch}
+use Rattle.topo_settings.specs.declared.fault.RunFault.TheVariants.{WrongReply, WrongPicture, ReadFault, WriteFault}
 
 abbrev pub fault_number : RunFault → ℕ
 fault_number Memory = 8
@@ -43,7 +44,8 @@ fault_text BadLimits = numbered BadLimits
 fault_text (Price fault) = price_text fault
 fault_text (Load fault) = load_text fault
 fault_text NoSeat = numbered NoSeat
-fault_text (Mismatch list place) = decimal (fault_number (Mismatch list place)) ++ (codes " " ++ (fault_name (Mismatch list place) ++ (codes " " ++ (decimal list ++ (codes " " ++ decimal place)))))
+fault_text (Mismatch list place) = decimal (fault_number (Mismatch list place))
+    ++ (codes " " ++ (fault_name (Mismatch list place) ++ (codes " " ++ (decimal list ++ (codes " " ++ decimal place)))))
 fault_text (WrongReply place) = decimal (fault_number (WrongReply place)) ++ (codes " " ++ (fault_name (WrongReply place) ++ (codes " " ++ decimal place)))
 fault_text WrongPicture = numbered WrongPicture
 fault_text ReadFault = numbered ReadFault

@@ -22,14 +22,14 @@ pub enum RunFault {
     Price(PriceFault),
     /// The rows are no picture within the limits.
     Load(LoadFault),
-    /// No place was left for a list of the script: there are more than 16 lists, or the store of versions
-    /// gives no further reader.
+    /// No place was left for a list of the script: there are more than 16 lists, or the store of
+    /// versions gives no further reader.
     NoSeat,
-    /// The receipt at this place, counted from 0, of the list at the first place is not the entry of its
-    /// call.
+    /// The receipt at this place, counted from 0, of the list at the first place is not the entry
+    /// of its call.
     Mismatch(u32, usize),
-    /// The entry of the report's history at this place, counted from 0, is the first whose reply is not
-    /// the one due.
+    /// The entry of the report's history at this place, counted from 0, is the first whose reply is
+    /// not the one due.
     WrongReply(usize),
     /// The history of the report leads to another picture than the report's.
     WrongPicture,
@@ -78,7 +78,8 @@ impl RunFault {
         }
     }
 
-    /// The status that the program ends with: 3 for out of memory, in each of its forms, and else 1.
+    /// The status that the program ends with: 3 for out of memory, in each of its forms, and else
+    /// 1.
     pub fn status(&self) -> u8
         ensures { result ≡ status_of self.now }
     {

@@ -1,5 +1,5 @@
-//! What the commands of the program share: reading bytes up to a limit, writing a text, the faults that
-//! a command is answered with, and what a script or a report sets beside its calls.
+//! What the commands of the program share: reading bytes up to a limit, writing a text, the faults
+//! that a command is answered with, and what a script or a report sets beside its calls.
 #![tactic(auto)]
 
 pub mod fault;

@@ -12,10 +12,12 @@ use std::io::{ErrorKind, Read};
 const CHUNK_BYTES: usize = 8192;
 
 /// Reads until the end, or until there is one byte more than the limit. There are at most twice as
-/// many calls of `read` as the limit, and two; an interrupted call is one of them. ReadFault comes where
-/// a call fails otherwise or there are too few of them, Memory where a growth of memory was refused.
+/// many calls of `read` as the limit, and two; an interrupted call is one of them. ReadFault comes
+/// where a call fails otherwise or there are too few of them, Memory where a growth of memory was
+/// refused.
 pub fn read_bytes<R: Read>(alloc: Global, limit: u32, reader: &mut R) -> Result<Vec<u8>, RunFault>
-    ensures read { IfOk result (λ bytes. IsRead limit (R.remaining reader.old) (R.remaining reader.new) bytes.items) }
+    ensures read { IfOk result
+        (λ bytes. IsRead limit (R.remaining reader.old) (R.remaining reader.new) bytes.items) }
     ensures err { IfErr result IsOfReading }
 {
     let most = limit as usize;
@@ -32,7 +34,9 @@ pub fn read_bytes<R: Read>(alloc: Global, limit: u32, reader: &mut R) -> Result<
 fn read_more<R: Read>(limit: usize, reader: &mut R, bytes: &mut Vec<u8>) -> Result<bool, RunFault>
     requires few { limit < 2 ^ 32 }
     requires room { vec_len bytes.old ≤ limit }
-    ensures more { OnOk result (ReadsMore (R.remaining reader.old) (R.remaining reader.new) bytes.old.items bytes.new.items) }
+    ensures more { OnOk result
+        (ReadsMore (R.remaining reader.old)
+        (R.remaining reader.new) bytes.old.items bytes.new.items) }
     ensures end { IfOk result (λ ended. IsTrue ended → IsAtEnd (R.remaining reader.new)) }
     ensures within { OnOk result (length bytes.new.items ≤ limit + 1) }
     ensures err { IfErr result IsOfReading }

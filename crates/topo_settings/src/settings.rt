@@ -1,7 +1,9 @@
-//! What a script or a report sets beside its calls: limits, prices, and the picture that it starts with.
+//! What a script or a report sets beside its calls: limits, prices, and the picture that it starts
+//! with.
 
 ghost use Rattle.std.specs.Prelude.{◌≡◌, IfOk, IfErr, None, option_copied};
-ghost use Rattle.topo_settings.specs.Settings.{IsBadPrice, IsSound, IsUnsound, price_of_kind, price_table, start_of};
+ghost use Rattle.topo_settings.specs.Settings.{IsBadPrice, IsSound, IsUnsound};
+ghost use Rattle.topo_settings.specs.Settings.{price_of_kind, price_table, start_of};
 ghost use Rattle.topo_price.specs.Prices.{first_bad};
 
 use crate::fault::RunFault;
@@ -12,8 +14,8 @@ use topo_forms::LimitRows;
 use topo_picture::Picture;
 use topo_price::table::{PriceFault, PriceTable};
 
-/// The prices of all kinds and the picture that is started with, or the first fault of the limits, the
-/// prices and the start.
+/// The prices of all kinds and the picture that is started with, or the first fault of the limits,
+/// the prices and the start.
 pub fn validate(
     alloc: Global,
     numbers: LimitRows,
@@ -21,7 +23,8 @@ pub fn validate(
     start: Option<&Rows>,
 ) -> Result<(PriceTable, Picture), RunFault>
     ensures prices { IfOk result (λ set. set.0 ≡ price_table prices.now) }
-    ensures sound { IfOk result (λ set. IsSound numbers prices.now (option_copied start.entry) set.1.limits) }
+    ensures sound { IfOk result
+        (λ set. IsSound numbers prices.now (option_copied start.entry) set.1.limits) }
     ensures rows { IfOk result (λ set. set.1.rows ≡ start_of (option_copied start.entry)) }
     ensures fault { IfErr result (IsUnsound numbers prices.now (option_copied start.entry)) }
 {

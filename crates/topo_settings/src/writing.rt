@@ -7,11 +7,12 @@ ghost use Rattle.topo_settings.specs.Writing.{AppendsPart, IsOfWriting};
 use crate::fault::RunFault;
 use std::io::{ErrorKind, Write};
 
-/// Writes all of a text, and lets the writer pass it on. WriteFault comes where a call of the writer
-/// fails or `write` takes nothing; an interrupted `write` is tried again.
+/// Writes all of a text, and lets the writer pass it on. WriteFault comes where a call of the
+/// writer fails or `write` takes nothing; an interrupted `write` is tried again.
 pub fn write_text<W: Write>(writer: &mut W, text: &str) -> Result<(), RunFault>
     ensures all { OnOk result (Appends (W.contents writer.old) (W.contents writer.new) text.now) }
-    ensures part { OnErr result (AppendsPart (W.contents writer.old) (W.contents writer.new) text.now) }
+    ensures part { OnErr result
+        (AppendsPart (W.contents writer.old) (W.contents writer.new) text.now) }
     ensures err { IfErr result IsOfWriting }
 {
     let mut rest = text.as_bytes();
@@ -28,7 +29,8 @@ pub fn write_text<W: Write>(writer: &mut W, text: &str) -> Result<(), RunFault>
 /// One call of `write`, and how many bytes it took. An interrupted call takes none.
 fn write_more<W: Write>(writer: &mut W, bytes: &[u8]) -> Result<usize, RunFault>
     ensures within { IfOk result (λ n. n ≤ length bytes.now) }
-    ensures taken { IfOk result (λ n. Appends (W.contents writer.old) (W.contents writer.new) (take n bytes.now)) }
+    ensures taken { IfOk result
+        (λ n. Appends (W.contents writer.old) (W.contents writer.new) (take n bytes.now)) }
     ensures kept { OnErr result (Appends (W.contents writer.old) (W.contents writer.new) []) }
     ensures err { IfErr result IsOfWriting }
 {

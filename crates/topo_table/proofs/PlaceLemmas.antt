@@ -1,6 +1,7 @@
 -- What the places of a table hold, after each change that a table makes.
 use native.Mathlib.Numerals.{unary_clauses}
-use Rattle.std.proofs.Common.{◌≡◌, ℕ, zero, suc, ◌+◌, ◌<◌, ◌≤◌, ◌&&◌, Bool, true, false, eqb, ltb, List, [], ◌∷◌, ◌++◌, length, get_or, map, position, filter, Option, Some, None, is_some, slice_get, refl, sym, ap, subst, ◌∙◌, arith, rules, add-one}
+use Rattle.std.proofs.Common.{◌≡◌, ℕ, zero, suc, ◌+◌, ◌<◌, ◌≤◌, ◌&&◌, Bool, true, false, eqb, ltb, List, [], ◌∷◌, ◌++◌, length, get_or, map}
+use Rattle.std.proofs.Common.{position, filter, Option, Some, None, is_some, slice_get, refl, sym, ap, subst, ◌∙◌, arith, rules, add-one}
 use Rattle.std.specs.List.{AllPairs, AllZip, list_all}
 use Rattle.std.specs.List.Sorted.{IsStrictlyIncreasing}
 use Rattle.std.specs.Map.{values_of, lookup}
@@ -28,8 +29,10 @@ IsBelowAll-from_index x (y ∷ ys) h = (h 0 (omega arith), IsBelowAll-from_index
 
 Rises-from_pairs : (xs : List ℕ) → AllPairs (λ x y. x < y) xs → Rises xs
 Rises-from_pairs [] h = tt
-Rises-from_pairs (x ∷ xs) h =
-    (IsBelowAll-from_index x xs (λ k lt. h 0 (suc k) 0 (omega arith) (omega arith)), Rises-from_pairs xs (λ i j d lt within. h (suc i) (suc j) d (omega arith) (omega arith)))
+Rises-from_pairs (x ∷ xs) h = (
+  IsBelowAll-from_index x xs (λ k lt. h 0 (suc k) 0 (omega arith) (omega arith)),
+  Rises-from_pairs xs (λ i j d lt within. h (suc i) (suc j) d (omega arith) (omega arith)),
+)
 
 pub Rises-from_increasing : (xs : List ℕ) → IsStrictlyIncreasing xs → Rises xs
 Rises-from_increasing xs h = Rises-from_pairs xs (AllPairs-from_increasing xs h)
@@ -38,7 +41,8 @@ pub IsStrictlyIncreasing-from_Rises : (xs : List ℕ) → Rises xs → IsStrictl
 IsStrictlyIncreasing-from_Rises [] h k lt = absurd (omega arith)
 IsStrictlyIncreasing-from_Rises (x ∷ []) h k lt = absurd (omega arith)
 IsStrictlyIncreasing-from_Rises (x ∷ y ∷ ys) h zero lt = h.0.0
-IsStrictlyIncreasing-from_Rises (x ∷ y ∷ ys) h (suc k) lt = let next = IsStrictlyIncreasing-from_Rises (y ∷ ys) h.1 k (omega arith) in simp unary_clauses (simp unary_clauses at next)
+IsStrictlyIncreasing-from_Rises (x ∷ y ∷ ys) h (suc k) lt = let next = IsStrictlyIncreasing-from_Rises (y ∷ ys) h.1 k (omega arith) in
+    simp unary_clauses (simp unary_clauses at next)
 
 -- a number that is below all is none of them
 at_below : (x : ℕ) (xs : List ℕ) (k : ℕ) → IsBelowAll x xs → k < length xs → x < get_or xs k 0
@@ -104,7 +108,8 @@ module _ {V : Type 0} where
   value_of-present id [] h = refl
   value_of-present id ((i, w) ∷ slots) h = by w (eqb id i) refl (value_of-present id slots h.1)
     where
-      by : (w : Option V) (b : Bool) → eqb id i ≡ b → value_of id (present slots) ≡ option_flatten (lookup (eqb id) slots) → value_of id (present ((i, w) ∷ slots)) ≡ option_flatten (lookup (eqb id) ((i, w) ∷ slots))
+      by : (w : Option V) (b : Bool) → eqb id i ≡ b → value_of id (present slots) ≡ option_flatten (lookup (eqb id) slots)
+          → value_of id (present ((i, w) ∷ slots)) ≡ option_flatten (lookup (eqb id) ((i, w) ∷ slots))
       by (Some v) true p rest =
           let q : eqb i id ≡ true = grind (arith, nat_tests) in rw (p, q)
       by None true p rest =
@@ -114,11 +119,13 @@ module _ {V : Type 0} where
           let q : eqb i id ≡ false = grind (arith, nat_tests) in rw (p, q) rest
       by None false p rest = rw p rest
 
-  pub value_of-found : (id : ℕ) (slots : List (ℕ × Option V)) → IsStrictlyIncreasing (ids_of slots) → value_of id (present slots) ≡ option_flatten (lookup (eqb id) slots)
+  pub value_of-found : (id : ℕ) (slots : List (ℕ × Option V)) → IsStrictlyIncreasing (ids_of slots)
+      → value_of id (present slots) ≡ option_flatten (lookup (eqb id) slots)
   value_of-found id slots h = value_of-present id slots (Rises-from_increasing _ h)
 
   -- a place that is written as it was
-  pub set_value_at-same : (slots : List (ℕ × Option V)) (place : ℕ) (w : Option V) → slice_get (values_of slots) place ≡ Some w → set_value_at slots place w ≡ slots
+  pub set_value_at-same : (slots : List (ℕ × Option V)) (place : ℕ) (w : Option V) → slice_get (values_of slots) place ≡ Some w
+      → set_value_at slots place w ≡ slots
   set_value_at-same [] place w h = refl
   set_value_at-same (s ∷ slots) zero w h = ap (λ x. (s.0, x) ∷ slots) (search (rules, h))
   set_value_at-same (s ∷ slots) (suc place) w h = ap (λ l. s ∷ l) (set_value_at-same slots place w h)
@@ -129,7 +136,8 @@ module _ {V : Type 0} where
   ids_of-set_value_at (s ∷ slots) (suc place) w = ap (λ l. s.0 ∷ l) (ids_of-set_value_at slots place w)
 
   -- what is left once a place with a value is empty
-  below_later : (i id : ℕ) (slots : List (ℕ × Option V)) (place : ℕ) (w : Option V) → IsBelowAll i (ids_of slots) → slice_get slots place ≡ Some (id, w) → i < id
+  below_later : (i id : ℕ) (slots : List (ℕ × Option V)) (place : ℕ) (w : Option V) → IsBelowAll i (ids_of slots)
+      → slice_get slots place ≡ Some (id, w) → i < id
   below_later i id [] place w h at = absurd (search (rules, at))
   below_later i id (s ∷ slots) zero w h at = let e : s.0 ≡ id = cc in omega arith
   below_later i id (s ∷ slots) (suc place) w h at = below_later i id slots place w h.1 at
@@ -141,12 +149,15 @@ module _ {V : Type 0} where
       (rw q (sym (without_id-none id (present slots) (value_of-below id (present slots) (IsBelowAll-present id slots h.0)))), omega arith)
 
   pub present-emptied : (slots : List (ℕ × Option V)) (place id : ℕ) (v : V) → Rises (ids_of slots) → slice_get slots place ≡ Some (id, Some v)
-      → (present (set_value_at slots place None) ≡ without_id id (present slots)) × (length (present (set_value_at slots place None)) + 1 ≡ length (present slots))
+      → (present (set_value_at slots place None) ≡ without_id id (present slots))
+      × (length (present (set_value_at slots place None)) + 1 ≡ length (present slots))
   present-emptied [] place id v h at = absurd (search (rules, at))
   present-emptied ((i, w) ∷ slots) zero id v h at = by (i, w) (option_some_same at) h
     where
-      by : (s : ℕ × Option V) → s ≡ (id, Some v) → Rises (ids_of (s ∷ slots)) → (present slots ≡ without_id id (present (s ∷ slots))) × (length (present slots) + 1 ≡ length (present (s ∷ slots)))
-      by s e h = subst (λ s. Rises (ids_of (s ∷ slots)) → (present slots ≡ without_id id (present (s ∷ slots))) × (length (present slots) + 1 ≡ length (present (s ∷ slots)))) (sym e) (present-first id v slots) h
+      by : (s : ℕ × Option V) → s ≡ (id, Some v) → Rises (ids_of (s ∷ slots)) → (present slots ≡ without_id id (present (s ∷ slots)))
+          × (length (present slots) + 1 ≡ length (present (s ∷ slots)))
+      by s e h = subst (λ s. Rises (ids_of (s ∷ slots)) → (present slots ≡ without_id id (present (s ∷ slots)))
+          × (length (present slots) + 1 ≡ length (present (s ∷ slots)))) (sym e) (present-first id v slots) h
   present-emptied ((i, Some x) ∷ slots) (suc place) id v h at =
       let lt = below_later i id slots place (Some v) h.0 at in
       let rest = present-emptied slots place id v h.1 at in
@@ -154,7 +165,8 @@ module _ {V : Type 0} where
       (rw q (ap (λ l. (i, x) ∷ l) rest.0), omega arith)
   present-emptied ((i, None) ∷ slots) (suc place) id v h at = present-emptied slots place id v h.1 at
 
-  slot_by : (id place : ℕ) (w : Option V) (slots : List (ℕ × Option V)) → eqb id (get_or (ids_of slots) place 0) ≡ true → slice_get (values_of slots) place ≡ Some w → slice_get slots place ≡ Some (id, w)
+  slot_by : (id place : ℕ) (w : Option V) (slots : List (ℕ × Option V)) → eqb id (get_or (ids_of slots) place 0) ≡ true
+      → slice_get (values_of slots) place ≡ Some w → slice_get slots place ≡ Some (id, w)
   slot_by id place w [] test at = absurd (is_none_not (sym at))
   slot_by id zero w (s ∷ slots) test at =
       let e : s.0 ≡ id = grind (arith, nat_tests) in
@@ -163,7 +175,8 @@ module _ {V : Type 0} where
   slot_by id (suc place) w (s ∷ slots) test at = slot_by id place w slots test at
 
   -- the place that was found for an id, with what it holds
-  pub slot_found : (id place : ℕ) (w : Option V) (slots : List (ℕ × Option V)) → Some place ≡ position (eqb id) (ids_of slots) → slice_get (values_of slots) place ≡ Some w → slice_get slots place ≡ Some (id, w)
+  pub slot_found : (id place : ℕ) (w : Option V) (slots : List (ℕ × Option V)) → Some place ≡ position (eqb id) (ids_of slots)
+      → slice_get (values_of slots) place ≡ Some w → slice_get slots place ≡ Some (id, w)
   slot_found id place w slots found at = slot_by id place w slots (position-Some (eqb id) (ids_of slots) place 0 (sym found)).1 at
 
   -- a place that was found and holds a value: the table without that value
@@ -175,7 +188,8 @@ module _ {V : Type 0} where
     pub ids : ids_of new ≡ ids_of old
 
   pub emptied : (id place : ℕ) (v : V) (slots : List (ℕ × Option V)) → IsStrictlyIncreasing (ids_of slots) → Some place ≡ position (eqb id) (ids_of slots)
-      → slice_get (values_of slots) place ≡ Some (Some v) → slice_get (values_of slots) place ≡ lookup (eqb id) slots → Emptied id v slots (set_value_at slots place None)
+      → slice_get (values_of slots) place ≡ Some (Some v) → slice_get (values_of slots) place ≡ lookup (eqb id) slots
+      → Emptied id v slots (set_value_at slots place None)
   emptied id place v slots up found at looked =
       let ids = ids_of-set_value_at slots place None in
       let both = present-emptied slots place id v (Rises-from_increasing _ up) (slot_found id place (Some v) slots found at) in
@@ -211,7 +225,8 @@ module _ {V : Type 0} where
 
   pub AreBelow-kept : (limit : ℕ) (slots : List (ℕ × Option V)) → AreBelow limit slots → AreBelow limit (kept slots)
   AreBelow-kept limit [] h = refl
-  AreBelow-kept limit ((id, Some v) ∷ slots) h = let parts = both_true {a = ltb id limit} {b = list_all (λ x. ltb x limit) (ids_of slots)} h in rw parts.0 (AreBelow-kept limit slots parts.1)
+  AreBelow-kept limit ((id, Some v) ∷ slots) h = let parts = both_true {a = ltb id limit} {b = list_all (λ x. ltb x limit) (ids_of slots)} h in
+      rw parts.0 (AreBelow-kept limit slots parts.1)
   AreBelow-kept limit ((id, None) ∷ slots) h = AreBelow-kept limit slots (both_true {a = ltb id limit} {b = list_all (λ x. ltb x limit) (ids_of slots)} h).1
 
   -- one more value behind the others
@@ -234,7 +249,8 @@ module _ {V : Type 0} where
       let lt : s.0 < id = grind (arith, nat_tests) in
       (IsBelowAll-push s.0 id v slots lt h.0, Rises-push id v slots parts.1 h.1)
 
-  pub IsStrictlyIncreasing-push : (id : ℕ) (v : V) (slots : List (ℕ × Option V)) → AreBelow id slots → IsStrictlyIncreasing (ids_of slots) → IsStrictlyIncreasing (ids_of (slots ++ (id, Some v) ∷ []))
+  pub IsStrictlyIncreasing-push : (id : ℕ) (v : V) (slots : List (ℕ × Option V)) → AreBelow id slots → IsStrictlyIncreasing (ids_of slots)
+      → IsStrictlyIncreasing (ids_of (slots ++ (id, Some v) ∷ []))
   IsStrictlyIncreasing-push id v slots below h = IsStrictlyIncreasing-from_Rises _ (Rises-push id v slots below (Rises-from_increasing _ h))
 
   pub present-push : (id : ℕ) (v : V) (slots : List (ℕ × Option V)) → present (slots ++ (id, Some v) ∷ []) ≡ present slots ++ (id, v) ∷ []
@@ -250,20 +266,23 @@ module _ {V : Type 0} where
   IsCopiedTo zero (x ∷ xs) (y ∷ ys) = (x.0 ≡ y.0) × IsCopiedTo zero xs ys
   IsCopiedTo (suc n) (x ∷ xs) (y ∷ ys) = (x ≡ y) × IsCopiedTo n xs ys
 
-  pub IsCopiedTo-clone : (D : Option V → Option V → Type 0) (old new : List (ℕ × Option V)) → AllZip (λ p q. (q.0 ≡ p.0) × D p.1 q.1) old new → IsCopiedTo 0 new old
+  pub IsCopiedTo-clone : (D : Option V → Option V → Type 0) (old new : List (ℕ × Option V)) → AllZip (λ p q. (q.0 ≡ p.0) × D p.1 q.1) old new
+      → IsCopiedTo 0 new old
   IsCopiedTo-clone D [] [] h = tt
   IsCopiedTo-clone D [] (y ∷ ys) h = absurd h
   IsCopiedTo-clone D (x ∷ xs) [] h = absurd h
   IsCopiedTo-clone D (x ∷ xs) (y ∷ ys) h = (h.0.0, IsCopiedTo-clone D xs ys h.1)
 
-  copied_step : (n : ℕ) (w : Option V) (new old : List (ℕ × Option V)) → IsCopiedTo n new old → slice_get (values_of old) n ≡ Some w → IsCopiedTo (suc n) (set_value_at new n w) old
+  copied_step : (n : ℕ) (w : Option V) (new old : List (ℕ × Option V)) → IsCopiedTo n new old → slice_get (values_of old) n ≡ Some w
+      → IsCopiedTo (suc n) (set_value_at new n w) old
   copied_step n w [] [] h at = tt
   copied_step n w [] (y ∷ ys) h at = absurd h
   copied_step n w (x ∷ xs) [] h at = absurd h
   copied_step zero w (x ∷ xs) (y ∷ ys) h at = let v = option_some_same at in ((λ j. (h.0 j, sym v j)), h.1)
   copied_step (suc n) w (x ∷ xs) (y ∷ ys) h at = (h.0, copied_step n w xs ys h.1 at)
 
-  pub IsCopiedTo-more : (n : ℕ) (w : Option V) (new old : List (ℕ × Option V)) → IsCopiedTo n new old → slice_get (values_of old) n ≡ Some w → IsCopiedTo (n + 1) (set_value_at new n w) old
+  pub IsCopiedTo-more : (n : ℕ) (w : Option V) (new old : List (ℕ × Option V)) → IsCopiedTo n new old → slice_get (values_of old) n ≡ Some w
+      → IsCopiedTo (n + 1) (set_value_at new n w) old
   IsCopiedTo-more n w new old h at = rw add-one (copied_step n w new old h at)
 
   pub length_copied : (n : ℕ) (new old : List (ℕ × Option V)) → IsCopiedTo n new old → length new ≡ length old

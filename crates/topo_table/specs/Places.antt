@@ -11,7 +11,8 @@ pub record Places (V : Type 0) : Type 0 where
   pub room : ℕ
 
 abbrev pub places_code : {V : Type 0} → Coded V → Coded (Places V)
-places_code {V} v = code_by (List (ℕ × Option V) × ℕ) (coded× (coded_list (coded× coded_ℕ (coded_option v))) coded_ℕ) (λ p. (p.slots, p.room)) (λ p. record { slots = p.0; room = p.1 }) (λ _. refl)
+places_code {V} v = code_by (List (ℕ × Option V) × ℕ) (coded× (coded_list (coded× coded_ℕ (coded_option v))) coded_ℕ) (λ p. (p.slots, p.room))
+    (λ p. record { slots = p.0; room = p.1 }) (λ _. refl)
 
 module _ {V : Type 0} where
   -- what is at a place

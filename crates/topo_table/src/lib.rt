@@ -1,8 +1,8 @@
 //! Values by ids, kept in rising order of the ids.
 //!
-//! A value is found by its id in one look. Taking one out leaves its place empty, so it costs its own
-//! time; once half of the places are empty they are closed up. The caller below puts in two values and
-//! takes one out again.
+//! A value is found by its id in one look. Taking one out leaves its place empty, so it costs its
+//! own time; once half of the places are empty they are closed up. The caller below puts in two
+//! values and takes one out again.
 //!
 //! ```
 //! let mut names = Table::new(alloc);

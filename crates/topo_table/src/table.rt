@@ -1,20 +1,23 @@
 //! A table of values by ids that rise.
 
-ghost use Rattle.std.specs.Prelude.{◌≡◌, ◌+◌, ◌<◌, ◌≤◌, ◌++◌, ◌∷◌, [], ℕ, true, IfNone, IfOk, IfSome, None, OnOk, Some, is_some, length, option_copied, slice_get};
+ghost use Rattle.std.specs.Prelude.{◌≡◌, ◌+◌, ◌<◌, ◌≤◌, ◌++◌, ◌∷◌, [], ℕ, true};
+ghost use Rattle.std.specs.Prelude.{IfNone, IfOk, IfSome, None, OnOk, Some};
+ghost use Rattle.std.specs.Prelude.{is_some, length, option_copied, slice_get};
 ghost use Rattle.topo_table.specs.Places.{AreBelow, EntriesRise, entries, value_of, without_id};
 
 use indexmap::IndexMap;
 use std::alloc::{AllocError, Global};
 use std::marker::Model;
 
-/// Values by ids, in rising order of the ids. A place whose value was taken out stays, empty, until half of
-/// them are; then they are closed up.
+/// Values by ids, in rising order of the ids. A place whose value was taken out stays, empty, until
+/// half of them are; then they are closed up.
 pub struct Table<V> {
     slots: IndexMap<u32, Option<V>>,
     live: usize,
 }
 
-// Written out, so that it is proved once: a derived one is proved anew in each function that lets such a value go.
+// Written out, so that it is proved once: a derived one is proved anew in each function that lets
+// such a value go.
 impl<V: Drop> Drop for Table<V> {
     fn drop(self) {
         let Table { slots, live: _ } = self;
@@ -34,7 +37,8 @@ impl<V> Model for Table<V> {
 
     ghost view = { λ t. record { slots = t.slots.entries; room = spare t.slots } };
 
-    ghost invariant = { λ t. IsStrictlyIncreasing (ids_of t.slots.entries) × (t.live ≡ length (present t.slots.entries)) };
+    ghost invariant = { λ t. IsStrictlyIncreasing (ids_of t.slots.entries)
+        × (t.live ≡ length (present t.slots.entries)) };
 }
 
 impl<V> Table<V> {
@@ -66,8 +70,10 @@ impl<V> Table<V> {
     /// The id and the value at a place; none where it is empty.
     pub fn at(&self, place: usize) -> Option<(u32, &V)>
         requires { place < length self.now.slots }
-        ensures there { IfSome result (λ e. slice_get self.now.slots place ≡ Some (e.0, Some e.1.now)) }
-        ensures empty { IfNone result ((id : ℕ) × slice_get self.now.slots place ≡ Some (id, None)) }
+        ensures there { IfSome result
+            (λ e. slice_get self.now.slots place ≡ Some (e.0, Some e.1.now)) }
+        ensures empty { IfNone result
+            ((id : ℕ) × slice_get self.now.slots place ≡ Some (id, None)) }
     {
         let (id, value) = self.slots.get_index(place)?;
         match value {
@@ -94,7 +100,8 @@ impl<V> Table<V> {
         }
     }
 
-    /// Puts a value behind the others, and answers its place. There is room for it, so it takes no memory.
+    /// Puts a value behind the others, and answers its place. There is room for it, so it takes no
+    /// memory.
     pub fn push(&mut self, id: u32, value: V) -> usize
     where
         V: Drop,
@@ -118,7 +125,8 @@ impl<V> Table<V> {
         ensures { IfOk result (λ copy. copy.slots ≡ self.now.slots) }
     {
         let mut slots = self.slots.clone()?;
-        // A clone of a value need not be equal to it, a copy is: each value is written over by its copy.
+        // A clone of a value need not be equal to it, a copy is: each value is written over by its
+        // copy.
         for place in 0..self.slots.len() {
             slots[place] = self.slots[place];
         }
@@ -128,14 +136,15 @@ impl<V> Table<V> {
         })
     }
 
-    /// Takes out the value with an id, if there is one. It takes no memory, and time that grows with nothing
-    /// but for the closing up, which each value that was taken out pays in part.
+    /// Takes out the value with an id, if there is one. It takes no memory, and time that grows
+    /// with nothing but for the closing up, which each value that was taken out pays in part.
     pub fn remove(&mut self, id: u32) -> Option<V>
     where
         V: Drop,
         ensures value { result ≡ value_of id (entries self.old) }
         ensures entries { entries self.new ≡ without_id id (entries self.old) }
-        ensures below { (limit : ℕ) → AreBelow limit self.old.slots → AreBelow limit self.new.slots }
+        ensures below { (limit : ℕ) → AreBelow limit self.old.slots
+            → AreBelow limit self.new.slots }
     {
         let place = self.slots.get_index_of(&id)?;
         let value = self.slots[place].take()?;
@@ -149,7 +158,8 @@ impl<V> Table<V> {
     where
         V: Drop,
         ensures entries { entries self.new ≡ entries self.old }
-        ensures below { (limit : ℕ) → AreBelow limit self.old.slots → AreBelow limit self.new.slots }
+        ensures below { (limit : ℕ) → AreBelow limit self.old.slots
+            → AreBelow limit self.new.slots }
     {
         if self.live < self.slots.len() / 2 {
             self.slots.retain(

@@ -173,8 +173,8 @@ fn next_text(alloc: Global, next: &Next, entries: usize) -> Result<String, Alloc
     format!(in alloc; "{:?} {has_picture} after {entries}", next.entry())
 }
 
-/// Makes a growth in the corner of vertex 0 ready, and enters it. The text says what it is made ready as, and
-/// how many entries the book has before it is entered.
+/// Makes a growth in the corner of vertex 0 ready, and enters it. The text says what it is made
+/// ready as, and how many entries the book has before it is entered.
 fn enter<F: PriceFn>(alloc: Global, book: &mut Book<F>, caller: u32) -> Result<String, AllocError> {
     let grow = Call::Grow {
         u: 0,

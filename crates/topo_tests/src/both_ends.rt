@@ -36,7 +36,8 @@ const PAIRS: usize = 8;
 /// How many calls lead from the first picture of a run to its last.
 const CALLS: u32 = 40;
 
-/// How many runs each test has, with numbers of their own. With all pairs these are 25,600 insertions a test.
+/// How many runs each test has, with numbers of their own. With all pairs these are 25,600
+/// insertions a test.
 const RUNS: u32 = 16;
 
 /// The two searches of a pair find the same.

@@ -93,8 +93,8 @@ fn edit(
     }
 }
 
-/// What was built from turns: at each place a half that turns to the one at the place that its turn names, beside
-/// its twin, on the edge of the two.
+/// What was built from turns: at each place a half that turns to the one at the place that its turn
+/// names, beside its twin, on the edge of the two.
 fn are_built(
     rt: &impl Abort,
     embedding: &Embedding,

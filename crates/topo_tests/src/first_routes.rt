@@ -206,8 +206,8 @@ fn a_near_end_asks_little(rt: HostRuntime) -> Result<(), Fail> {
     told
 }
 
-/// Whether a search on a kept workspace and one from nothing found the same: the same route at the same
-/// price, or none.
+/// Whether a search on a kept workspace and one from nothing found the same: the same route at the
+/// same price, or none.
 fn is_same(found: &Option<PricedRoute>, plan: &Option<Plan>) -> bool {
     match (found, plan) {
         (Some(found), Some(plan)) => {

@@ -84,8 +84,8 @@ fn is_deleted(
     Ok(shows(alloc, picture, wanted)? && deleted)
 }
 
-/// Whether the rows are those from before an insertion once its edge is taken out of a copy, but for
-/// the ids that are used.
+/// Whether the rows are those from before an insertion once its edge is taken out of a copy, but
+/// for the ids that are used.
 fn is_taken_back(
     alloc: Global,
     picture: &Picture,
@@ -99,8 +99,8 @@ fn is_taken_back(
     deleted
 }
 
-/// Whether the picture is what the reply says, where that is seen without knowing the routes. A cut is
-/// an edge without which the rows are not connected.
+/// Whether the picture is what the reply says, where that is seen without knowing the routes. A cut
+/// is an edge without which the rows are not connected.
 fn is_meant(
     alloc: Global,
     picture: &Picture,
@@ -167,8 +167,8 @@ fn go_on<F: PriceFn>(
     told
 }
 
-/// Whether a reply is of the sort with this number: grown, put in across no edge, put in across some,
-/// deleted, cut, full.
+/// Whether a reply is of the sort with this number: grown, put in across no edge, put in across
+/// some, deleted, cut, full.
 fn is_of(reply: &Reply, sort: u32) -> bool {
     match reply {
         Reply::Grown { .. } => sort == 0,

@@ -1,6 +1,6 @@
-//! Tests of what no row of a script, a report or a picture can show: calls of the libraries, invented plans,
-//! counted questions. The rows are those of `topo_examples`; the program's streams are those of
-//! `topo_cli_tests`.
+//! Tests of what no row of a script, a report or a picture can show: calls of the libraries,
+//! invented plans, counted questions. The rows are those of `topo_examples`; the program's streams
+//! are those of `topo_cli_tests`.
 #![tactic(auto)]
 
 #[cfg(test)]

@@ -34,8 +34,8 @@ fn star(alloc: Global) -> Result<Frozen, Fail> {
     star
 }
 
-/// A plan that crosses the first edge from its left so many times. From the twin of that dart the face goes
-/// all the way round the star until it comes to the dart again.
+/// A plan that crosses the first edge from its left so many times. From the twin of that dart the
+/// face goes all the way round the star until it comes to the dart again.
 fn crossing_again(alloc: Global, price: u64) -> Result<Plan, AllocError> {
     let mut crossed = Vec::new(alloc);
     for _times in 0..CROSSED {

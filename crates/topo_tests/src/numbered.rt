@@ -12,8 +12,8 @@ use topo_picture::Picture;
 use topo_route::dual::{Dual, has_number};
 use topo_route::face_graph::FaceGraph;
 
-/// How many darts a picture has, the number of a dart, where the last dart starts, and which comes next
-/// along its face.
+/// How many darts a picture has, the number of a dart, where the last dart starts, and which comes
+/// next along its face.
 type Seen = (u32, Option<u32>, Option<Point>, Option<u32>);
 
 /// What a picture answers, whatever the lists held.
@@ -42,8 +42,8 @@ fn seen_of(
     Ok(seen?)
 }
 
-/// How many darts a picture has, the number of a dart, at which vertex the last dart starts, and which comes
-/// next along its face.
+/// How many darts a picture has, the number of a dart, at which vertex the last dart starts, and
+/// which comes next along its face.
 type Due = (u32, Option<u32>, u32, u32);
 
 /// What the picture of a text answers is what is due.
@@ -65,7 +65,8 @@ fn is_seen<R: Abort + AllocGlobal>(
 const PICTURES: &[(&str, u32, Due)] = &[
     // the last dart goes from vertex 2 to vertex 4, and the one after it to vertex 1
     (BIPYRAMID, 0, (18, Some(3), 2, 14)),
-    // edge 1 has one segment alone; the last dart goes from vertex 1 to vertex 0, and back along edge 0
+    // edge 1 has one segment alone; the last dart goes from vertex 1 to vertex 0, and back along
+    // edge 0
     (PARALLEL, 1, (8, None, 1, 0)),
     // the last dart goes from vertex 4 to the crossing, and the one after it to vertex 2
     (JOINED, 1, (24, Some(5), 4, 4)),

@@ -1,5 +1,5 @@
-//! What is seen of rows without knowing the routes: whether a picture can be loaded again, and whether it falls
-//! apart without an edge, found by loading what is left.
+//! What is seen of rows without knowing the routes: whether a picture can be loaded again, and
+//! whether it falls apart without an edge, found by loading what is left.
 
 use std::alloc::{AllocError, Global};
 use std::test::Fail;

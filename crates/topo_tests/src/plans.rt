@@ -20,7 +20,8 @@ use topo_price::tariff::PriceFn;
 use topo_route::check::check;
 use topo_route::plan::Plan;
 
-/// The plan of the search between the apexes at prices 5, 2 and 9, and three that nobody searched for.
+/// The plan of the search between the apexes at prices 5, 2 and 9, and three that nobody searched
+/// for.
 const PLANS: &[((u32, u32, Way, u32, u64), &[u64])] = &[
     ((2, 1, Way::Back, 2, 2), &LEAST),
     ((1, 0, Way::Back, 0, 5), &LEAST),

@@ -6,8 +6,8 @@ use std::test::Fail;
 use topo_forms::{read_report, read_rows};
 use topo_script::{picture_text, report};
 
-/// `JOINED` with the keys in other orders, blanks between its tokens, an escape in a key and a key that
-/// comes twice.
+/// `JOINED` with the keys in other orders, blanks between its tokens, an escape in a key and a key
+/// that comes twice.
 const OTHERWISE: &str =
     r#" { "next_edge":10, "next_crossing":7, "crossings":[{"id":0,"crossed":1,"sign":"rtl","newcomer":9}],
     "rotations" : [ [0,3,2,6],[0,7,1,4],[1,8,2,5],[3,4,9,5],[6,8,9,7] ],

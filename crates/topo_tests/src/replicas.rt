@@ -1,5 +1,5 @@
-//! Versions that readers hold while a book goes on, and books whose calls are made ready first beside
-//! books that make the same calls in place.
+//! Versions that readers hold while a book goes on, and books whose calls are made ready first
+//! beside books that make the same calls in place.
 
 ghost use Rattle.topo_price.specs.Prices.{IsPromise};
 
@@ -57,8 +57,8 @@ fn let_go<F: PriceFn>(alloc: Global, book: &mut Book<F>, call: Call) -> Result<(
     Ok(())
 }
 
-/// Makes a call ready, drops that, makes it ready again and enters it. Its version is held. The answer is
-/// the reply as text.
+/// Makes a call ready, drops that, makes it ready again and enters it. Its version is held. The
+/// answer is the reply as text.
 fn enter<F: PriceFn>(
     alloc: Global,
     book: &mut Book<F>,
@@ -152,8 +152,8 @@ fn call_of(alloc: Global, numbers: &mut Numbers, picture: &Picture) -> Result<Ca
     Ok(next_call(numbers, picture.counts().vertices, next_edge))
 }
 
-/// The versions that are held are as they were. Where they are more than so many, the one held longest is
-/// dropped.
+/// The versions that are held are as they were. Where they are more than so many, the one held
+/// longest is dropped.
 fn keep_most(
     rt: &impl Abort,
     alloc: Global,
@@ -168,8 +168,8 @@ fn keep_most(
     Ok(())
 }
 
-/// Makes a call of both books that the generator makes, every fifth in place. The versions that are held stay
-/// as they were. Where they are more than so many, the one held longest is dropped.
+/// Makes a call of both books that the generator makes, every fifth in place. The versions that are
+/// held stay as they were. Where they are more than so many, the one held longest is dropped.
 fn go_on<F: PriceFn>(
     rt: &impl Abort,
     alloc: Global,
@@ -216,8 +216,8 @@ fn have_one_history<F: PriceFn>(
     has_history(rt, alloc, second, wanted.as_str())
 }
 
-/// Makes calls of both books, with so many versions held of the second. Each is held until as many came
-/// after it.
+/// Makes calls of both books, with so many versions held of the second. Each is held until as many
+/// came after it.
 fn go_on_often<F: PriceFn>(
     rt: &impl Abort,
     alloc: Global,

@@ -478,7 +478,8 @@ pub(crate) const LEAST: [u64; 18] = [0, 3, 0, 2, 0, 3, 3, 3, 3, 2, 2, 3, 0, 0, 0
 /// The heights where all edges of the triangle cost 4.
 const EVEN: [u64; 18] = [0, 4, 0, 4, 0, 4, 4, 4, 4, 4, 4, 4, 0, 0, 0, 0, 0, 0];
 
-/// Prices, a route as (start, crossed edge and direction, end, price), heights, and what the check says.
+/// Prices, a route as (start, crossed edge and direction, end, price), heights, and what the check
+/// says.
 type Judgement = (
     &'static [(usize, Option<u32>)],
     (u32, u32, Way, u32, u64),

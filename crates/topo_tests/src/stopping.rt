@@ -1,5 +1,5 @@
-//! How far a search goes on a large grid: the prices that an insertion asks for, between near and between far
-//! vertices. A search that went over the whole picture would ask for thousands.
+//! How far a search goes on a large grid: the prices that an insertion asks for, between near and
+//! between far vertices. A search that went over the whole picture would ask for thousands.
 
 ghost use Rattle.topo_price.specs.Prices.{IsPromise};
 
@@ -119,8 +119,9 @@ fn picture(rt: &impl Abort, alloc: Global) -> Result<Picture, Fail> {
     Ok(picture?)
 }
 
-/// An insertion: its ends by row and column, how many edges it crosses, and how many prices it asks for at
-/// most. On a grid as wide as this one a search over the whole picture asks for more than two thousand.
+/// An insertion: its ends by row and column, how many edges it crosses, and how many prices it asks
+/// for at most. On a grid as wide as this one a search over the whole picture asks for more than
+/// two thousand.
 struct Insertion {
     from: (u8, u8),
     to: (u8, u8),

@@ -1,6 +1,7 @@
-//! The log of accepted entries: a list that only grows, and its prefixes that were seen. Of any two prefixes
-//! one is a prefix of the other.
-ghost use Rattle.std.specs.Prelude.{◌≡◌, ◌+◌, ◌==◌, ◌<◌, ◌≤◌, ◌^◌, ◌++◌, ◌∷◌, [], if◌then◌else◌, length, true, MatchBool};
+//! The log of accepted entries: a list that only grows, and its prefixes that were seen. Of any two
+//! prefixes one is a prefix of the other.
+ghost use Rattle.std.specs.Prelude.{◌≡◌, ◌+◌, ◌==◌, ◌<◌, ◌≤◌, ◌^◌, ◌++◌, ◌∷◌};
+ghost use Rattle.std.specs.Prelude.{[], if◌then◌else◌, length, true, MatchBool};
 ghost use Rattle.topo_core.specs.History.{IsPrefix};
 ghost use Rattle.topo_versions.specs.Listing.{head_of};
 ghost use Rattle.topo_versions.specs.Names.{prices_named};
@@ -104,15 +105,16 @@ pub struct LogLength<K: LogBrand> {
     ghost head_is: { word ≡ head_of K.book },
 }
 
-/// A prefix of the log that was seen: accepted entries that lead by steps from the start, at the prices that
-/// K names. Contracts see it as its entries.
+/// A prefix of the log that was seen: accepted entries that lead by steps from the start, at the
+/// prices that K names. Contracts see it as its entries.
 pub struct LogPrefix<F: PriceFn, K: ServiceBrand<F>> {
     len: u64,
     seen: Seen<Entry, u64, AppendOnly>,
     of: PhantomData<(F, K)>,
 }
 
-// Written out, so that it is proved once: a derived one is proved anew in each function that lets such a value go.
+// Written out, so that it is proved once: a derived one is proved anew in each function that lets
+// such a value go.
 impl<F: PriceFn, K: ServiceBrand<F>> Drop for LogPrefix<F, K> {
     fn drop(self) {
         let LogPrefix {
@@ -134,7 +136,8 @@ impl<F: PriceFn, K: ServiceBrand<F>> Model for LogPrefix<F, K> {
 
     ghost view = { λ f. f.seen.log };
 
-    ghost invariant = { λ f. (f.len ≡ length f.seen.log) × (f.seen.book ≡ K.book) × AreLegal (prices_named F.may_return K.closure) K.start f.seen.log };
+    ghost invariant = { λ f. (f.len ≡ length f.seen.log) × (f.seen.book ≡ K.book)
+        × AreLegal (prices_named F.may_return K.closure) K.start f.seen.log };
 }
 
 impl<F: PriceFn, K: ServiceBrand<F>> LogPrefix<F, K> {
@@ -168,7 +171,8 @@ impl<F: PriceFn, K: ServiceBrand<F>> LogPrefix<F, K> {
         self.len == other.len
     }
 
-    /// Whether it is a prefix of the other: of two prefixes of one log the shorter is one of the longer.
+    /// Whether it is a prefix of the other: of two prefixes of one log the shorter is one of the
+    /// longer.
     pub fn is_prefix_of(&self, other: &LogPrefix<F, K>) -> bool
         ensures prefix { result ≡ true → IsPrefix self.now other.now }
         ensures all { IsPrefix self.now other.now → result ≡ true }
@@ -178,11 +182,12 @@ impl<F: PriceFn, K: ServiceBrand<F>> LogPrefix<F, K> {
         self.len <= other.len
     }
 
-    /// Adds an accepted entry, which is to be a step on, to all that was seen, and says whether it did. If the
-    /// log is longer than what was seen, nothing changes.
+    /// Adds an accepted entry, which is to be a step on, to all that was seen, and says whether it
+    /// did. If the log is longer than what was seen, nothing changes.
     pub fn add(&mut self, head: &LogLength<K>, entry: &Entry) -> bool
         requires room { length self.old + 1 < 2 ^ 64 }
-        requires follows { AreLegal (prices_named F.may_return K.closure) K.start (self.old ++ entry.now ∷ []) }
+        requires follows { AreLegal (prices_named F.may_return K.closure) K.start
+            (self.old ++ entry.now ∷ []) }
         ensures { self.new ≡ (if result then self.old ++ entry.now ∷ [] else self.old) }
     {
         let len = self.len;

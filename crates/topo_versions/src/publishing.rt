@@ -19,10 +19,11 @@ pub trait VersionWriter<F: PriceFn, K: ServiceBrand<F>> {
     /// The entries of the version that readers take now, if there is one.
     ghost published: { Self → Option (List Entry) };
 
-    /// Publishes the version after these entries, with the picture that they lead to. It keeps no version
-    /// before it.
+    /// Publishes the version after these entries, with the picture that they lead to. It keeps no
+    /// version before it.
     fn publish<R: Wait>(&mut self, rt: &R, prefix: &LogPrefix<F, K>, picture: Arc<Picture>)
-        requires follows { IsVersionFrom (prices_named F.may_return K.closure) K.start prefix.now (arc_value picture) }
+        requires follows { IsVersionFrom (prices_named F.may_return K.closure) K.start prefix.now
+            (arc_value picture) }
         ensures { published self.new ≡ Some prefix.now };
 
     /// Ends it.

@@ -9,8 +9,8 @@ use std::alloc::AllocError;
 use std::marker::Model;
 use topo_price::tariff::PriceFn;
 
-/// A side of the store: the version that readers take, and nothing on the side that they have left, so that
-/// the store keeps no version before the one of now.
+/// A side of the store: the version that readers take, and nothing on the side that they have left,
+/// so that the store keeps no version before the one of now.
 #[derive(Drop)]
 pub struct Slot<F: PriceFn, K: ServiceBrand<F>> {
     version: Option<Version<F, K>>,

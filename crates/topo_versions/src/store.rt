@@ -53,10 +53,11 @@ fn current_version<F: PriceFn + Drop, K: ServiceBrand<F>>(
 impl<F: PriceFn + Drop, K: ServiceBrand<F>> VersionWriter<F, K> for StoreWriter<F, K> {
     ghost published = { λ w. entries_shown w.desk.shown.value };
 
-    // The next version is shown on the side that is blank. Once the readers have left the other side, that one
-    // becomes blank.
+    // The next version is shown on the side that is blank. Once the readers have left the other
+    // side, that one becomes blank.
     fn publish<R: Wait>(&mut self, rt: &R, prefix: &LogPrefix<F, K>, picture: Arc<Picture>)
-        requires follows { IsVersionFrom (prices_named F.may_return K.closure) K.start prefix.now (arc_value picture) }
+        requires follows { IsVersionFrom (prices_named F.may_return K.closure) K.start prefix.now
+            (arc_value picture) }
         ensures { entries_shown self.new.desk.shown.value ≡ Some prefix.now }
     {
         let next = Slot::of(Version::new(prefix.share(), picture));

@@ -13,15 +13,16 @@ use std::sync::Arc;
 use topo_picture::Picture;
 use topo_price::tariff::PriceFn;
 
-/// A picture that no longer changes, and the beginning of the list of accepted entries that leads to it.
-/// Contracts see the picture and the entries.
+/// A picture that no longer changes, and the beginning of the list of accepted entries that leads
+/// to it. Contracts see the picture and the entries.
 pub struct Version<F: PriceFn, K: ServiceBrand<F>> {
     picture: Arc<Picture>,
     prefix: LogPrefix<F, K>,
     of: PhantomData<F>,
 }
 
-// Written out, so that it is proved once: a derived one is proved anew in each function that lets such a value go.
+// Written out, so that it is proved once: a derived one is proved anew in each function that lets
+// such a value go.
 impl<F: PriceFn, K: ServiceBrand<F>> Drop for Version<F, K> {
     fn drop(self) {
         let Version {
@@ -43,13 +44,15 @@ impl<F: PriceFn, K: ServiceBrand<F>> Model for Version<F, K> {
 
     ghost view = { λ v. record { picture = arc_value v.picture; entries = v.prefix } };
 
-    ghost invariant = { λ v. IsVersionFrom (prices_named F.may_return K.closure) K.start v.prefix (arc_value v.picture) };
+    ghost invariant = { λ v. IsVersionFrom (prices_named F.may_return K.closure) K.start v.prefix
+        (arc_value v.picture) };
 }
 
 impl<F: PriceFn, K: ServiceBrand<F>> Version<F, K> {
     /// The version after these entries, with the picture that they lead to.
     pub fn new(prefix: LogPrefix<F, K>, picture: Arc<Picture>) -> Version<F, K>
-        requires follows { IsVersionFrom (prices_named F.may_return K.closure) K.start prefix (arc_value picture) }
+        requires follows { IsVersionFrom (prices_named F.may_return K.closure) K.start prefix
+            (arc_value picture) }
         ensures entries { result.entries ≡ prefix }
         ensures picture { result.picture ≡ arc_value picture }
     {
@@ -81,13 +84,14 @@ impl<F: PriceFn, K: ServiceBrand<F>> Version<F, K> {
     /// The picture after its entries.
     pub fn picture(&self) -> &Picture
         ensures picture { result.now ≡ self.now.picture }
-        ensures version { IsVersionFrom (prices_named F.may_return K.closure) K.start self.now.entries self.now.picture }
+        ensures version { IsVersionFrom (prices_named F.may_return K.closure)
+            K.start self.now.entries self.now.picture }
     {
         &self.picture
     }
 
-    /// Its entries. A copy of them holds no share of the picture, so the picture is free to be carried on
-    /// while the copy is kept.
+    /// Its entries. A copy of them holds no share of the picture, so the picture is free to be
+    /// carried on while the copy is kept.
     pub fn prefix(&self) -> &LogPrefix<F, K>
         ensures { result.now ≡ self.now.entries }
     {

@@ -1,5 +1,6 @@
 -- The first segment of an edge with one face on both sides is the first without which the picture falls apart; where there is none, it stays whole.
-use Rattle.std.proofs.Common.{◌≡◌, ◌≢◌, ℕ, zero, suc, ◌+◌, ◌-◌, ◌/◌, ◌<◌, ◌≤◌, ◌==◌, Bool, true, false, ◌&&◌, not, List, [], ◌∷◌, length, ◌⊎◌, inl, inr, refl, sym, ◌∙◌, ap, subst, arith}
+use Rattle.std.proofs.Common.{◌≡◌, ◌≢◌, ℕ, zero, suc, ◌+◌, ◌-◌, ◌/◌, ◌<◌, ◌≤◌, ◌==◌, Bool, true, false, ◌&&◌}
+use Rattle.std.proofs.Common.{not, List, [], ◌∷◌, length, ◌⊎◌, inl, inr, refl, sym, ◌∙◌, ap, subst, arith}
 use Rattle.std.specs.Prelude.{Option, Some, is_some, nat_lt}
 use Rattle.std.specs.List.{list_any}
 use Rattle.std.proofs.lemmas.Bool.{cases_Bool, eq-eqb, false≢true, lt-ltb, ltb-true, ne_eqb}
@@ -27,7 +28,8 @@ use Rattle.topo_perm.proofs.runs.Smoothings.{SmoothsTo, smoothed_out_back, smoot
 use Rattle.topo_perm.proofs.permutations.Faces.{twin-twin}
 use Rattle.topo_perm.proofs.runs.DeletionSteps.{HaveTwoFaces, IsOpening, DeletionStep, left_after, parted, put_back, deletion_step}
 use Rattle.topo_perm.proofs.permutations.Walks.{face_next-permutation, twin-within}
-use Rattle.topo_changes.proofs.deleting.DeletedOpening.{back_alone, left_dart, count, faces_shut, first_half, forward_alone, is_opening, left_turn, off_left, off_segment, opened_by, other_half, segment_in, turns_on}
+use Rattle.topo_changes.proofs.deleting.DeletedOpening.{back_alone, left_dart, count, faces_shut, first_half, forward_alone, is_opening}
+use Rattle.topo_changes.proofs.deleting.DeletedOpening.{left_turn, off_left, off_segment, opened_by, other_half, segment_in, turns_on}
 use Rattle.topo_changes.proofs.inserting.InsertedNumbers.{number_less}
 use Rattle.topo_rows.proofs.Verdicts.{bare_points}
 
@@ -43,11 +45,15 @@ pub record EndFacts (q : Rows) (e : ℕ) (row : EdgeRow) (p : Rows) : Type 0 whe
   pub alone : (v : ℕ) → (row.a ≡ v) ⊎ (row.b ≡ v) → turn (system q) (end_dart q v e) ≡ end_dart q v e → rotation q v ≡ e ∷ []
   pub only : (v : ℕ) → v < length q.rotations → rotation q v ≡ e ∷ [] → ((row.a ≡ v) ⊎ (row.b ≡ v)) × (turn (system q) (end_dart q v e) ≡ end_dart q v e)
   pub bare_without : (v : ℕ) → v < length q.rotations → rotation q v ≡ e ∷ [] → list_any is_bare p.rotations ≡ true
-  pub full_without : ((v : ℕ) → v < length q.rotations → rotation q v ≢ []) → ((v : ℕ) → v < length q.rotations → rotation q v ≢ e ∷ []) → list_any is_bare p.rotations ≡ false
+  pub full_without : ((v : ℕ) → v < length q.rotations → rotation q v ≢ []) → ((v : ℕ) → v < length q.rotations → rotation q v ≢ e ∷ [])
+      → list_any is_bare p.rotations ≡ false
 
-module _ (q : Rows) (e : ℕ) (row : EdgeRow) (good : IsWellFormed q) (known : edge_row q e ≡ Some row) (p : Rows) (good_p : IsWellFormed p) (hides : HidesTurns q e p) (ends : EndFacts q e row p)
-    (connected : Connected (system q)) (genus : cycle_count (map_of (turn_images q)) (length (turn_images q)) + cycle_count (face_next (map_of (turn_images q))) (length (turn_images q)) ≡ length (turn_images q) / 2 + 2)
-    (name onto : ℕ → ℕ) (c : SmoothsTo (opened_by q e row good known p hides (count q e row good known p hides)) (length (turn_images q)) (left_after (first_half q e row good known p hides) (count q e row good known p hides)) (map_of (turn_images p)) (length (turn_images p)) name onto) where
+module _ (q : Rows) (e : ℕ) (row : EdgeRow) (good : IsWellFormed q) (known : edge_row q e ≡ Some row) (p : Rows) (good_p : IsWellFormed p)
+    (hides : HidesTurns q e p) (ends : EndFacts q e row p)
+    (connected : Connected (system q)) (genus : cycle_count (map_of (turn_images q)) (length (turn_images q))
+    + cycle_count (face_next (map_of (turn_images q))) (length (turn_images q)) ≡ length (turn_images q) / 2 + 2)
+    (name onto : ℕ → ℕ) (c : SmoothsTo (opened_by q e row good known p hides (count q e row good known p hides)) (length (turn_images q))
+    (left_after (first_half q e row good known p hides) (count q e row good known p hides)) (map_of (turn_images p)) (length (turn_images p)) name onto) where
   abbrev final : ℕ
   final = length (edge_at q e).crossings
 
@@ -82,11 +88,13 @@ module _ (q : Rows) (e : ℕ) (row : EdgeRow) (good : IsWellFormed q) (known : e
 
   one_face : (i : ℕ) → i ≤ final → HasOneFace q e i → SameCycle (face_next (at i)) (half i) (twin (half i))
   one_face i hi s = subst (λ (v : ℕ). SameCycle (face_next (at i)) (half i) v) (sym (other_half q e row good known p hides i hi))
-      (rest_face_numbers q good.paths good.crossings good.rotations (is_opened e i) (λ d. refl) (seg i Forward) (seg i Back) (record { here = segment_in q e row good known p hides i Forward hi; stays = still_in i Forward }) s)
+      (rest_face_numbers q good.paths good.crossings good.rotations (is_opened e i) (λ d. refl) (seg i Forward) (seg i Back)
+      (record { here = segment_in q e row good known p hides i Forward hi; stays = still_in i Forward }) s)
 
   has_one_face : (i : ℕ) → i ≤ final → SameCycle (face_next (at i)) (half i) (twin (half i)) → HasOneFace q e i
   has_one_face i hi s = rest_face_darts q good.paths good.crossings good.rotations (is_opened e i) (λ d. refl) (seg i Forward) (seg i Back)
-      (record { here = segment_in q e row good known p hides i Forward hi; stays = still_in i Forward }) (record { here = segment_in q e row good known p hides i Back hi; stays = still_in i Back })
+      (record { here = segment_in q e row good known p hides i Forward hi; stays = still_in i Forward })
+      (record { here = segment_in q e row good known p hides i Back hi; stays = still_in i Back })
       (subst (λ (v : ℕ). SameCycle (face_next (at i)) (half i) v) (other_half q e row good known p hides i hi) s)
 
   -- an end that is alone has one face round it
@@ -96,13 +104,15 @@ module _ (q : Rows) (e : ℕ) (row : EdgeRow) (good : IsWellFormed q) (known : e
       let lh : half 0 < size = number_less q good (seg 0 Forward) (segment_in q e row good known p hides 0 Forward h0) in
       let fixed : at 0 (half 0) ≡ half 0 = left_turn q e row good known p hides 0 0 Forward (omega arith) h0 ∙ ap (index_of q) w in
       let faces : IsPermutation (face_next (at 0)) size = face_next-permutation (at 0) size (o.permutation 0) o.even in
-      has_one_face 0 h0 (SameCycle-sym (face_next (at 0)) size faces (twin (half 0)) (half 0) (twin-within size (half 0) o.even lh) (record { steps = 1; leads = ap (at 0) (twin-twin (half 0)) ∙ fixed }))
+      has_one_face 0 h0 (SameCycle-sym (face_next (at 0)) size faces (twin (half 0)) (half 0) (twin-within size (half 0) o.even lh)
+      (record { steps = 1; leads = ap (at 0) (twin-twin (half 0)) ∙ fixed }))
 
   alone_last : turn (system q) (seg final Back) ≡ seg final Back → HasOneFace q e final
   alone_last w =
       let hk : final ≤ final = omega arith in
       let far : twin (half final) ≡ index_of q (seg final Back) = other_half q e row good known p hides final hk in
-      has_one_face final hk (record { steps = 1; leads = ap (at final) far ∙ left_turn q e row good known p hides final final Back hk hk ∙ ap (index_of q) w ∙ sym far })
+      has_one_face final hk
+      (record { steps = 1; leads = ap (at final) far ∙ left_turn q e row good known p hides final final Back hk hk ∙ ap (index_of q) w ∙ sym far })
 
   -- ---- Where no segment has one face
 
@@ -110,10 +120,12 @@ module _ (q : Rows) (e : ℕ) (row : EdgeRow) (good : IsWellFormed q) (known : e
   full = (bares q good.crossings good.rotations e 0).full connected.no_bare_point
 
   only_first : (v : ℕ) → v < length q.rotations → rotation q v ≡ e ∷ [] → row.a ≡ v → HasOneFace q e 0
-  only_first v lv w same = alone_first (let t = (ends.only v lv w).1 in let d : end_dart q v e ≡ seg 0 Forward = ap (λ (u : ℕ). end_dart q u e) (sym same) ∙ ends.a_dart in ap (turn (system q)) (sym d) ∙ t ∙ d)
+  only_first v lv w same = alone_first (let t = (ends.only v lv w).1 in let d : end_dart q v e ≡ seg 0 Forward = ap (λ (u : ℕ). end_dart q u e) (sym same)
+      ∙ ends.a_dart in ap (turn (system q)) (sym d) ∙ t ∙ d)
 
   only_last : (v : ℕ) → v < length q.rotations → rotation q v ≡ e ∷ [] → row.b ≡ v → HasOneFace q e final
-  only_last v lv w same = alone_last (let t = (ends.only v lv w).1 in let d : end_dart q v e ≡ seg final Back = ap (λ (u : ℕ). end_dart q u e) (sym same) ∙ ends.b_dart in ap (turn (system q)) (sym d) ∙ t ∙ d)
+  only_last v lv w same = alone_last (let t = (ends.only v lv w).1 in let d : end_dart q v e ≡ seg final Back = ap (λ (u : ℕ). end_dart q u e) (sym same)
+      ∙ ends.b_dart in ap (turn (system q)) (sym d) ∙ t ∙ d)
 
   pub record Whole : Type 0 where
     pub connected_without : Connected (system p)
@@ -141,19 +153,22 @@ module _ (q : Rows) (e : ℕ) (row : EdgeRow) (good : IsWellFormed q) (known : e
   -- an end of the segment is a vertex with no other edge, or darts of other edges at its two ends are parted
   abbrev IsBareOrParted : ℕ → Type 0
   IsBareOrParted i = ((v : ℕ) × (v < length q.rotations) × (rotation q v ≡ e ∷ []) × (is_opened e (i + 1) (end_dart q v e) ≡ true))
-      ⊎ ((b : Dart) × (d : Dart) × (has_dart (darts q) b ≡ true) × (b.edge ≢ e) × (has_dart (darts q) d ≡ true) × (d.edge ≢ e) × (Joined (at (suc i)) twin (index_of q b) (index_of q d) → ⊥))
+      ⊎ ((b : Dart) × (d : Dart) × (has_dart (darts q) b ≡ true) × (b.edge ≢ e) × (has_dart (darts q) d ≡ true) × (d.edge ≢ e)
+      × (Joined (at (suc i)) twin (index_of q b) (index_of q d) → ⊥))
 
   elsewhere : (d : Dart) → has_dart (darts q) d ≡ true → d.edge ≢ e → (i : ℕ) → i ≤ final → IsElsewhere size (half i) (index_of q d)
   elsewhere d h ne i hi =
       let far : IsApart size (index_of q d) (half i) = off_segment q e row good known p hides d h ne i hi in
       record { within = far.within; not_self = far.not_self; not_twin = far.not_twin }
 
-  bare_end : (v i : ℕ) (way : Way) → v < length q.rotations → (row.a ≡ v) ⊎ (row.b ≡ v) → end_dart q v e ≡ seg i way → turn (system q) (seg i way) ≡ seg i way → IsBareOrParted i
+  bare_end : (v i : ℕ) (way : Way) → v < length q.rotations → (row.a ≡ v) ⊎ (row.b ≡ v) → end_dart q v e ≡ seg i way → turn (system q) (seg i way) ≡ seg i way
+      → IsBareOrParted i
   bare_end v i way lv is d alone = inl (v, lv, ends.alone v is (ap (turn (system q)) d ∙ alone ∙ sym d), ap (is_opened e (i + 1)) d ∙ out_now i way)
 
   one_face_parts : (i : ℕ) → i ≤ final → HasOneFace q e i → ((j : ℕ) → j < i → HasOneFace q e j → ⊥) → IsBareOrParted i
   one_face_parts i hi one before =
-      let st : DeletionStep at size half i = deletion_step at size half (final + 1) o i (omega (arith, hi)) (λ j lj s. before j lj (has_one_face j (omega (arith, hi, lj)) s)) in
+      let st : DeletionStep at size half i =
+      deletion_step at size half (final + 1) o i (omega (arith, hi)) (λ j lj s. before j lj (has_one_face j (omega (arith, hi, lj)) s)) in
       elim (turns_on q e row good known p hides i Forward hi) [
         | inr alone ↦
             let zero_is : i ≡ 0 = forward_alone q e row good known p hides i hi alone in
@@ -164,7 +179,8 @@ module _ (q : Rows) (e : ℕ) (row : EdgeRow) (good : IsWellFormed q) (known : e
               bare_end row.b i Back ends.b_there (inr refl) (ends.b_dart ∙ ap (λ (j : ℕ). seg j Back) (sym last_is)) alone
           | inl back ↦
               let at_a : at i (half i) ≡ index_of q on.to = left_turn q e row good known p hides i i Forward (omega arith) hi ∙ ap (index_of q) on.leads in
-              let at_b : at i (twin (half i)) ≡ index_of q back.to = ap (at i) (other_half q e row good known p hides i hi) ∙ left_turn q e row good known p hides i i Back (omega arith) hi ∙ ap (index_of q) back.leads in
+              let at_b : at i (twin (half i)) ≡ index_of q back.to = ap (at i) (other_half q e row good known p hides i hi)
+              ∙ left_turn q e row good known p hides i i Back (omega arith) hi ∙ ap (index_of q) back.leads in
               inr (
                 on.to,
                 back.to,
@@ -206,7 +222,8 @@ module _ (q : Rows) (e : ℕ) (row : EdgeRow) (good : IsWellFormed q) (known : e
 
   -- the picture falls apart when the segment and those before it are out
   apart_after : (i : ℕ) → IsBareOrParted i → Connected (opened q e (i + 1)) → ⊥
-  apart_after i (inl (v, lv, only, out)) whole_left = false≢true (sym whole_left.no_bare_point ∙ (bares q good.crossings good.rotations e (i + 1)).alone v lv only out)
+  apart_after i (inl (v, lv, only, out)) whole_left =
+      false≢true (sym whole_left.no_bare_point ∙ (bares q good.crossings good.rotations e (i + 1)).alone v lv only out)
   apart_after i (inr (b, d, hb, nb, hd, nd, parts)) whole_left =
       let sb : is_opened e (i + 1) b ≡ false = other_in (i + 1) b nb in
       let sd : is_opened e (i + 1) d ≡ false = other_in (i + 1) d nd in
@@ -220,15 +237,18 @@ module _ (q : Rows) (e : ℕ) (row : EdgeRow) (good : IsWellFormed q) (known : e
       let above : IsConnectedAmong (left_after half (final + 1)) (at (final + 1)) size = smoothed_out_back c
       (numbers_connected p good_p.paths good_p.crossings good_p.rotations whole_p.joined) in
       let all : final + 1 ≤ final + 1 = omega arith in
-      let joined : Joined (at (final + 1)) twin (index_of q b) (index_of q d) = above (index_of q b) (index_of q d) (number_less q good b hb) (number_less q good d hd)
+      let joined : Joined (at (final + 1)) twin (index_of q b) (index_of q d) =
+      above (index_of q b) (index_of q d) (number_less q good b hb) (number_less q good d hd)
       (off_left q e row good known p hides b hb nb (final + 1) all) (off_left q e row good known p hides d hd nd (final + 1) all) in
       let sum : suc i + (final - i) ≡ final + 1 = omega (arith, hi) in
-      parts (put_all_back (final - i) (suc i) (omega (arith, hi)) b d hb nb hd nd (subst (λ (w : ℕ). Joined (at w) twin (index_of q b) (index_of q d)) (sym sum) joined))
+      parts (put_all_back (final - i) (suc i)
+      (omega (arith, hi)) b d hb nb hd nd (subst (λ (w : ℕ). Joined (at w) twin (index_of q b) (index_of q d)) (sym sum) joined))
 
   -- before that it is whole
   whole_before : (i : ℕ) → i ≤ final → ((j : ℕ) → j < i → HasOneFace q e j → ⊥) → (j : ℕ) → j < i → Connected (opened q e (j + 1))
   whole_before i hi before j lj =
-      let st : DeletionStep at size half (j + 1) = deletion_step at size half (final + 1) o (j + 1) (omega (arith, hi, lj)) (λ k lk s. before k (omega (arith, lj, lk)) (has_one_face k (omega (arith, hi, lj, lk)) s)) in
+      let st : DeletionStep at size half (j + 1) = deletion_step at size half (final + 1) o (j + 1) (omega (arith, hi, lj))
+      (λ k lk s. before k (omega (arith, lj, lk)) (has_one_face k (omega (arith, hi, lj, lk)) s)) in
       record {
         no_bare_point = (bares q good.crossings good.rotations e (j + 1)).kept full (λ v lv only. elim (ends.only v lv only).0 [
           | inl same ↦ absurd (before 0 (omega (arith, lj)) (only_first v lv only same))
@@ -237,7 +257,8 @@ module _ (q : Rows) (e : ℕ) (row : EdgeRow) (good : IsWellFormed q) (known : e
         joined = λ b d hb hd.
             let (bq, bs) = left_stands (j + 1) b hb in
             let (dq, ds) = left_stands (j + 1) d hd in
-            ((joins (j + 1)).joined b d bq bs dq ds).1 (st.connected (index_of q b) (index_of q d) (number_less q good b bq) (number_less q good d dq) (left_number (j + 1) (omega (arith, hi, lj)) b bq bs) (left_number (j + 1) (omega (arith, hi, lj)) d dq ds));
+            ((joins (j + 1)).joined b d bq bs dq ds).1 (st.connected (index_of q b) (index_of q d) (number_less q good b bq) (number_less q good d dq)
+            (left_number (j + 1) (omega (arith, hi, lj)) b bq bs) (left_number (j + 1) (omega (arith, hi, lj)) d dq ds));
       } where
         kept_last : (j : ℕ) → j < final → is_opened e (j + 1) (seg final Back) ≡ false
         kept_last j less = grind (arith, cases_Bool, ltb-true, eq-eqb)
@@ -257,7 +278,8 @@ module _ (q : Rows) (e : ℕ) (row : EdgeRow) (good : IsWellFormed q) (known : e
 
   -- ---- A cut by faces, or none
 
-  same_face_test : (i : ℕ) → i ≤ final → (is_met (face_next (at i)) size (half i) (twin (half i)) ≡ true → HasOneFace q e i) × (is_met (face_next (at i)) size (half i) (twin (half i)) ≡ false → HasOneFace q e i → ⊥)
+  same_face_test : (i : ℕ) → i ≤ final → (is_met (face_next (at i)) size (half i) (twin (half i)) ≡ true → HasOneFace q e i)
+      × (is_met (face_next (at i)) size (half i) (twin (half i)) ≡ false → HasOneFace q e i → ⊥)
   same_face_test i hi = (
     λ w. has_one_face i hi (is_met-SameCycle (face_next (at i)) size (half i) (twin (half i)) w),
     λ w s. false≢true (sym w ∙ SameCycle-is_met (face_next (at i)) size (face_next-permutation (at i) size (o.permutation i) o.even) (half i) (twin (half i))

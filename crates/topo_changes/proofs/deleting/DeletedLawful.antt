@@ -1,5 +1,6 @@
 -- A picture without an edge of it: lawful where no segment of the edge has one face on both sides, and else cut at the first that has.
-use Rattle.std.proofs.Common.{◌≡◌, ◌≢◌, ℕ, zero, suc, ◌+◌, ◌*◌, ◌/◌, ◌<◌, ◌≤◌, ◌==◌, Bool, true, false, ◌||◌, List, [], ◌∷◌, length, is_some, ◌⊎◌, inl, inr, refl, sym, ◌∙◌, ap, subst, arith}
+use Rattle.std.proofs.Common.{◌≡◌, ◌≢◌, ℕ, zero, suc, ◌+◌, ◌*◌, ◌/◌, ◌<◌, ◌≤◌, ◌==◌, Bool, true, false, ◌||◌}
+use Rattle.std.proofs.Common.{List, [], ◌∷◌, length, is_some, ◌⊎◌, inl, inr, refl, sym, ◌∙◌, ap, subst, arith}
 use Rattle.std.specs.Prelude.{Some, slice_index_or, sum_by}
 use Rattle.std.specs.List.{list_any}
 use Rattle.std.proofs.lemmas.Bool.{cases_eq, eq-eqb, cond-true, cond-false}
@@ -56,7 +57,8 @@ module _ (rows : Rows) (good : IsWellFormed rows) (e : ℕ) (row : EdgeRow) (kno
   a_dart = cond-true _ _ _ (ap (λ (r : EdgeRow). r.a == row.a) (edge_at_row rows e row known) ∙ eq-eqb row.a row.a refl)
 
   b_dart : end_dart rows row.b e ≡ record { edge = e; seg = length (edge_at rows e).crossings; way = Back }
-  b_dart = cond-false _ _ _ (ap (λ (r : EdgeRow). r.a == row.b) (edge_at_row rows e row known) ∙ (path_facts rows good.paths row (row_in rows e row known)).apart)
+  b_dart = cond-false _ _ _
+      (ap (λ (r : EdgeRow). r.a == row.b) (edge_at_row rows e row known) ∙ (path_facts rows good.paths row (row_in rows e row known)).apart)
 
   ends : EndFacts rows e row (without rows e)
   ends = record {
@@ -71,7 +73,8 @@ module _ (rows : Rows) (good : IsWellFormed rows) (e : ℕ) (row : EdgeRow) (kno
   }
 
   module _ (connected : Connected (system rows)) (zero_genus : HasGenusZero rows) where
-    pub genus : cycle_count (map_of (turn_images rows)) (length (turn_images rows)) + cycle_count (face_next (map_of (turn_images rows))) (length (turn_images rows)) ≡ length (turn_images rows) / 2 + 2
+    pub genus : cycle_count (map_of (turn_images rows)) (length (turn_images rows))
+        + cycle_count (face_next (map_of (turn_images rows))) (length (turn_images rows)) ≡ length (turn_images rows) / 2 + 2
     genus = (let points : cycles_of (turn_images rows) ≡ length rows.rotations + length rows.crossings = points_are_cycles rows good connected.no_bare_point in
         let darts : length (turn_images rows) ≡ 2 * sum_by segment_count rows.edges = images_total rows (turn_images rows) refl in
         let euler : length rows.rotations + length rows.crossings + face_count rows ≡ sum_by segment_count rows.edges + 2 = zero_genus in omega arith)
@@ -82,7 +85,9 @@ module _ (rows : Rows) (good : IsWellFormed rows) (e : ℕ) (row : EdgeRow) (kno
     abbrev onto : ℕ → ℕ
     onto b = index_of (without rows e) (smoothed_dart rows (without rows e) (dart_of rows good b))
 
-    is_smoothed : SmoothsTo (opened_by rows e row good known (without rows e) hides (count rows e row good known (without rows e) hides)) (length (turn_images rows)) (left_after (first_half rows e row good known (without rows e) hides) (count rows e row good known (without rows e) hides)) (map_of (turn_images (without rows e))) (length (turn_images (without rows e))) name onto
+    is_smoothed : SmoothsTo (opened_by rows e row good known (without rows e) hides (count rows e row good known (without rows e) hides))
+        (length (turn_images rows)) (left_after (first_half rows e row good known (without rows e) hides) (count rows e row good known (without rows e) hides))
+        (map_of (turn_images (without rows e))) (length (turn_images (without rows e))) name onto
     is_smoothed = smoothing rows e (without rows e) good good_p there hides (slab_all rows e row good known (without rows e) hides)
 
     -- the cut by faces is the cut by connectedness
@@ -92,15 +97,18 @@ module _ (rows : Rows) (good : IsWellFormed rows) (e : ℕ) (row : EdgeRow) (kno
     -- without such a cut the picture without the edge is lawful, and there is no cut at all
     pub whole_without : rows.next_crossing ≤ 4294967296 → ((i : ℕ) → i ≤ length (edge_at rows e).crossings → HasOneFace rows e i → ⊥) → Lawful (without rows e)
     whole_without small none =
-        let w : Whole rows e row good known (without rows e) good_p hides ends connected genus name onto is_smoothed = whole rows e row good known (without rows e) good_p hides ends connected genus name onto is_smoothed none in
+        let w : Whole rows e row good known (without rows e) good_p hides ends connected genus name onto is_smoothed =
+        whole rows e row good known (without rows e) good_p hides ends connected genus name onto is_smoothed none in
         let before : sum_by segment_count rows.edges ≡ length rows.edges + 2 * length rows.crossings = segments_total rows good small in
-        let after : sum_by segment_count (without rows e).edges ≡ length (without rows e).edges + 2 * length (without rows e).crossings = segments_total (without rows e) good_p small in
+        let after : sum_by segment_count (without rows e).edges ≡ length (without rows e).edges + 2 * length (without rows e).crossings =
+        segments_total (without rows e) good_p small in
         let edges = edges_without rows good e row known in
         let crossings = crossings_without rows good e row known in
         grind (arith, vertices_without, edge_at_row, good_p)
 
     pub no_cut : ((i : ℕ) → i ≤ length (edge_at rows e).crossings → HasOneFace rows e i → ⊥) → (i : ℕ) → IsCut rows e i → ⊥
-    no_cut none i cut = cut.falls_apart (whole rows e row good known (without rows e) good_p hides ends connected genus name onto is_smoothed none).connected_without
+    no_cut none i cut = cut.falls_apart
+        (whole rows e row good known (without rows e) good_p hides ends connected genus name onto is_smoothed none).connected_without
 
     -- the first segment without which it falls apart is determined
     one_cut : (i j : ℕ) → IsCut rows e i → IsCut rows e j → i ≡ j

@@ -1,5 +1,6 @@
 -- The midpoints that are left when an edge is taken out of a slab: one for each crossing on its path, read from the turn while the edge is still there.
-use Rattle.std.proofs.Common.{◌≡◌, ◌≢◌, ℕ, zero, suc, ◌+◌, ◌%◌, ◌<◌, ◌≤◌, ◌==◌, Bool, true, false, cond, List, [], ◌∷◌, length, inl, inr, sym, ◌∙◌, ap, subst, arith}
+use Rattle.std.proofs.Common.{◌≡◌, ◌≢◌, ℕ, zero, suc, ◌+◌, ◌%◌, ◌<◌, ◌≤◌, ◌==◌, Bool, true, false}
+use Rattle.std.proofs.Common.{cond, List, [], ◌∷◌, length, inl, inr, sym, ◌∙◌, ap, subst, arith}
 use Rattle.std.specs.Prelude.{Some, slice_get}
 use Rattle.std.specs.List.{AllByRecursion}
 use Rattle.std.proofs.lemmas.Bool.{cases_Bool, cases_lt, cond-true, cond-false, eq-eqb, ne_eqb}
@@ -52,7 +53,8 @@ in_first h (suc i) j lj = elim (cases_lt j i) [
   | inr past ↦ inl (let same : j ≡ i = omega arith in ap h same)
 ]
 
-are_mids : (middle : ℕ → Type 0) (live : ℕ → Bool) (n : ℕ) (h : ℕ → ℕ) (count : ℕ) → ((i : ℕ) → i < count → IsAlive live n (h i) × middle (h i)) → ((i j : ℕ) → i < j → j < count → h j ≢ h i) → (i : ℕ) → i ≤ count → AreMids middle live n (first_of h i)
+are_mids : (middle : ℕ → Type 0) (live : ℕ → Bool) (n : ℕ) (h : ℕ → ℕ) (count : ℕ) → ((i : ℕ) → i < count → IsAlive live n (h i) × middle (h i))
+    → ((i j : ℕ) → i < j → j < count → h j ≢ h i) → (i : ℕ) → i ≤ count → AreMids middle live n (first_of h i)
 are_mids middle live n h count each apart zero li = tt
 are_mids middle live n h count each apart (suc i) li = (
   (each i (omega (arith, li))).0,
@@ -82,7 +84,8 @@ across-second : (leads : ℕ → Bool) (t : ℕ → ℕ) (b f : ℕ) → leads (
 across-second leads t b f e = cond-false _ _ _ e
 
 -- under other numbers, of which it is known as well which lead along their edges
-pub carried_across : (leads leads' : ℕ → Bool) (nu t g : ℕ → ℕ) (b f : ℕ) → g (nu b) ≡ nu (t b) → g (nu f) ≡ nu (t f) → leads' (nu (t b)) ≡ leads (t b) → across leads' g (nu b) (nu f) ≡ nu (across leads t b f)
+pub carried_across : (leads leads' : ℕ → Bool) (nu t g : ℕ → ℕ) (b f : ℕ) → g (nu b) ≡ nu (t b) → g (nu f) ≡ nu (t f) → leads' (nu (t b)) ≡ leads (t b)
+    → across leads' g (nu b) (nu f) ≡ nu (across leads t b f)
 carried_across leads leads' nu t g b f first second same = grind (arith, cases_Bool, across-first, across-second)
 
 module _ (rows : Rows) (good : IsWellFormed rows) (e : ℕ) (row : EdgeRow) (known : edge_row rows e ≡ Some row) where
@@ -126,8 +129,10 @@ module _ (rows : Rows) (good : IsWellFormed rows) (e : ℕ) (row : EdgeRow) (kno
       let (c, x, id, is, on, off) = hidden.edge_crossing i n found in
       let on_at : forward e (i + 1) ≡ ahead rows e x.id = sym on ∙ ap (ahead rows e) (sym id) in
       let off_at : back e i ≡ behind rows e x.id = sym off ∙ ap (behind rows e) (sym id) in
-      let on_turn : t (num (forward e (i + 1))) ≡ num (turn (system rows) (ahead rows e x.id)) = turn_number rows good (forward e (i + 1)) (hidden.edge_there (i + 1) Forward (omega (arith, less))) ∙ ap (λ (d : Dart). num (turn (system rows) d)) on_at in
-      let off_turn : t (num (back e i)) ≡ num (turn (system rows) (behind rows e x.id)) = turn_number rows good (back e i) (hidden.edge_there i Back (omega (arith, less))) ∙ ap (λ (d : Dart). num (turn (system rows) d)) off_at in
+      let on_turn : t (num (forward e (i + 1))) ≡ num (turn (system rows) (ahead rows e x.id)) = turn_number rows good (forward e (i + 1))
+      (hidden.edge_there (i + 1) Forward (omega (arith, less))) ∙ ap (λ (d : Dart). num (turn (system rows) d)) on_at in
+      let off_turn : t (num (back e i)) ≡ num (turn (system rows) (behind rows e x.id)) =
+      turn_number rows good (back e i) (hidden.edge_there i Back (omega (arith, less))) ∙ ap (λ (d : Dart). num (turn (system rows) d)) off_at in
       let (ahead_in, behind_in) = hidden.crossed_there c x is in
       record {
         other = c;
@@ -166,7 +171,8 @@ module _ (rows : Rows) (good : IsWellFormed rows) (e : ℕ) (row : EdgeRow) (kno
         let d_in : Is d = (hidden.crossed_there m.other m.crossing m.is).0 in (
           subst (IsAlive stays many) (sym m.at) (record {
             within = number_less rows good d d_in;
-            alive = off_left rows e row good known (without rows e) hidden d d_in (hidden.other_edge m.other m.crossing m.is).0 (segments rows good e row known connected zero_genus) (omega arith);
+            alive = off_left rows e row good known (without rows e) hidden d d_in (hidden.other_edge m.other m.crossing m.is).0
+                (segments rows good e row known connected zero_genus) (omega arith);
           }),
           (m.other, m.crossing, m.is, m.at),
         )
@@ -175,10 +181,12 @@ module _ (rows : Rows) (good : IsWellFormed rows) (e : ℕ) (row : EdgeRow) (kno
     mids_apart i j less lj same =
         let a : IsMet i = met i (omega (arith, less, lj)) in
         let b : IsMet j = met j lj in
-        let darts_same : ahead rows a.other a.crossing.id ≡ ahead rows b.other b.crossing.id = index_apart rows good.paths (ahead rows a.other a.crossing.id) (ahead rows b.other b.crossing.id)
+        let darts_same : ahead rows a.other a.crossing.id ≡ ahead rows b.other b.crossing.id =
+        index_apart rows good.paths (ahead rows a.other a.crossing.id) (ahead rows b.other b.crossing.id)
         (hidden.crossed_there a.other a.crossing a.is).0 (hidden.crossed_there b.other b.crossing b.is).0 (sym a.at ∙ sym same ∙ b.at) in
         let ids : a.crossing.id ≡ b.crossing.id = hidden.ahead_apart a.other b.other a.crossing b.crossing a.is b.is darts_same in
-        let places : i ≡ j = sym (edge_place rows e good (there rows good e row known) i a.crossing.id a.found) ∙ ap (place_on rows e) ids ∙ edge_place rows e good (there rows good e row known) j b.crossing.id b.found in
+        let places : i ≡ j = sym (edge_place rows e good (there rows good e row known) i a.crossing.id a.found) ∙ ap (place_on rows e) ids
+        ∙ edge_place rows e good (there rows good e row known) j b.crossing.id b.found in
         absurd (omega arith)
 
     -- the darts ahead of the first i crossings are midpoints
@@ -188,26 +196,33 @@ module _ (rows : Rows) (good : IsWellFormed rows) (e : ℕ) (row : EdgeRow) (kno
     -- and there are no others than those of the path
     pub path_mids_all : (x : ℕ) → IsAlive stays many x → middle x → IsIn x (first_of mid crossings)
     path_mids_all x xt (c, y, is, at) =
-        let (i, less, found) = in_place y.id (edge_at rows e).crossings (in_has_id y.id (edge_at rows e).crossings (other_edge rows e good (there rows good e row known) c y is).is_gone) in
+        let (i, less, found) = in_place y.id (edge_at rows e).crossings
+        (in_has_id y.id (edge_at rows e).crossings (other_edge rows e good (there rows good e row known) c y is).is_gone) in
         let m : IsMet i = met i less in
         let same_id : m.crossing.id ≡ y.id = (let both : Some m.crossing.id ≡ Some y.id = sym m.found ∙ found in cc) in
-        let same_edge : m.other ≡ c = sym (met_edge m.other m.crossing m.is) ∙ ap (λ (k : ℕ). (turn (system rows) (behind rows e k)).edge) same_id ∙ met_edge c y is in
+        let same_edge : m.other ≡ c = sym (met_edge m.other m.crossing m.is) ∙ ap (λ (k : ℕ). (turn (system rows) (behind rows e k)).edge) same_id
+        ∙ met_edge c y is in
         let is_mid : mid i ≡ x = m.at ∙ ap (λ (k : ℕ). num (ahead rows k m.crossing.id)) same_edge ∙ ap (λ (k : ℕ). num (ahead rows c k)) same_id ∙ sym at in
         subst (λ (v : ℕ). IsIn v (first_of mid crossings)) is_mid (in_first mid crossings i less)
 
     -- with the segments of the edge out and its crossings smoothed along the path, the slab renumbers what is left
     pub deleted_along : (nu back : ℕ → ℕ) (limit : ℕ) (u w v : Turning) → RenumbersTurn nu back t u.turn many u.live limit → IsSlab u.live u.turn limit
         → IsRun limit u (unchords_of (λ j. nu (num (forward e j))) (crossings + 1)) w → IsRun limit w (smooths_of nu (first_of mid crossings)) v
-        → IsSmoothedUnder (map_of (turn_images (without rows e))) (length (turn_images (without rows e))) (name rows good e row known connected zero_genus) nu v limit
+        → IsSmoothedUnder (map_of (turn_images (without rows e))) (length (turn_images (without rows e)))
+        (name rows good e row known connected zero_genus) nu v limit
     deleted_along nu back limit u w v renumbers slab unchords smooths =
-        deleted_slab rows good e row known connected zero_genus nu back limit u renumbers slab w v (first_of mid crossings) unchords (path_mids crossings (omega arith)) path_mids_all smooths
+        deleted_slab rows good e row known connected zero_genus nu back limit u renumbers slab w v (first_of mid crossings) unchords
+        (path_mids crossings (omega arith)) path_mids_all smooths
 
   -- ---- While the edge goes
 
   -- with some segments before a crossing out, the dart ahead of it is found as before
-  pub mid_opened : (j i : ℕ) → j ≤ i → i < crossings → across is_even (opened_by rows e row good known (without rows e) hidden j) (num (back e i)) (num (forward e (i + 1))) ≡ mid i
+  pub mid_opened : (j i : ℕ) → j ≤ i → i < crossings
+      → across is_even (opened_by rows e row good known (without rows e) hidden j) (num (back e i)) (num (forward e (i + 1))) ≡ mid i
   mid_opened j i lj li =
       let g : ℕ → ℕ = opened_by rows e row good known (without rows e) hidden j in
-      let first : g (num (back e i)) ≡ t (num (back e i)) = left_turn rows e row good known (without rows e) hidden j i Back lj (omega (arith, li)) ∙ sym (turn_number rows good (back e i) (hidden.edge_there i Back (omega (arith, li)))) in
-      let second : g (num (forward e (i + 1))) ≡ t (num (forward e (i + 1))) = left_turn rows e row good known (without rows e) hidden j (i + 1) Forward (omega (arith, lj)) (omega (arith, li)) ∙ sym (turn_number rows good (forward e (i + 1)) (hidden.edge_there (i + 1) Forward (omega (arith, li)))) in
+      let first : g (num (back e i)) ≡ t (num (back e i)) = left_turn rows e row good known (without rows e) hidden j i Back lj (omega (arith, li))
+      ∙ sym (turn_number rows good (back e i) (hidden.edge_there i Back (omega (arith, li)))) in
+      let second : g (num (forward e (i + 1))) ≡ t (num (forward e (i + 1))) = left_turn rows e row good known (without rows e) hidden j (i + 1) Forward
+      (omega (arith, lj)) (omega (arith, li)) ∙ sym (turn_number rows good (forward e (i + 1)) (hidden.edge_there (i + 1) Forward (omega (arith, li)))) in
       ap (λ (v : ℕ). cond (v % 2 == 0) v (g (num (forward e (i + 1))))) first ∙ ap (λ (v : ℕ). cond (t (num (back e i)) % 2 == 0) (t (num (back e i))) v) second

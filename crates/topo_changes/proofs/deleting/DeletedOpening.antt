@@ -118,7 +118,8 @@ module _ (q : Rows) (e : ℕ) (row : EdgeRow) (good : IsWellFormed q) (known : e
 
   pub turns_on : (i : ℕ) (way : Way) → i ≤ last → IsAloneOrOff i way
   turns_on zero Forward h = first_end
-  turns_on (suc i) Forward h = inl (subst (λ (j : ℕ). LeadsOff (segment j Forward)) (let w : i + 1 ≡ suc i = omega arith in w) (at_crossing i (omega (arith, h))).onward)
+  turns_on (suc i) Forward h =
+      inl (subst (λ (j : ℕ). LeadsOff (segment j Forward)) (let w : i + 1 ≡ suc i = omega arith in w) (at_crossing i (omega (arith, h))).onward)
   turns_on i Back h = elim (cases_eq i last) [
     | inl same ↦ subst (λ (j : ℕ). IsAloneOrOff j Back) (sym same) last_end
     | inr ne ↦ inl (at_crossing i (omega (arith, h, ne))).back
@@ -129,7 +130,8 @@ module _ (q : Rows) (e : ℕ) (row : EdgeRow) (good : IsWellFormed q) (known : e
   forward_alone zero h alone = refl
   forward_alone (suc i) h alone =
       let off : LeadsOff (segment (i + 1) Forward) = (at_crossing i (omega (arith, h))).onward in
-      absurd (off.other (sym (ap (λ (d : Dart). d.edge) off.leads) ∙ ap (λ (j : ℕ). (turn (system q) (segment j Forward)).edge) (let w : i + 1 ≡ suc i = omega arith in w) ∙ ap (λ (d : Dart). d.edge) alone))
+      absurd (off.other (sym (ap (λ (d : Dart). d.edge) off.leads)
+      ∙ ap (λ (j : ℕ). (turn (system q) (segment j Forward)).edge) (let w : i + 1 ≡ suc i = omega arith in w) ∙ ap (λ (d : Dart). d.edge) alone))
 
   pub back_alone : (i : ℕ) → i ≤ last → turn (system q) (segment i Back) ≡ segment i Back → i ≡ last
   back_alone i h alone = elim (cases_eq i last) [
@@ -142,9 +144,11 @@ module _ (q : Rows) (e : ℕ) (row : EdgeRow) (good : IsWellFormed q) (known : e
   -- ---- The turns with some segments out
 
   -- a dart that is not on a segment, and does not turn to it, turns as before when the segment goes
-  step_off : (i : ℕ) → i ≤ last → (a b : ℕ) → a < n → a ≢ first_half i → a ≢ twin (first_half i) → b ≢ first_half i → b ≢ twin (first_half i) → opened_by i a ≡ b → opened_by (suc i) a ≡ b
+  step_off : (i : ℕ) → i ≤ last → (a b : ℕ) → a < n → a ≢ first_half i → a ≢ twin (first_half i) → b ≢ first_half i → b ≢ twin (first_half i)
+      → opened_by i a ≡ b → opened_by (suc i) a ≡ b
   step_off i hi a b la na nt nb nc at =
-      let u : IsUnchord (opened_by i) (opened_by (i + 1)) (length (darts q)) (first_half i) = opening.unchords row known i (subst (λ (v : ℕ). i < v) (ap (λ (r : EdgeRow). length r.crossings + 1) (edge_at_row q e row known)) (omega (arith, hi))) in
+      let u : IsUnchord (opened_by i) (opened_by (i + 1)) (length (darts q)) (first_half i) =
+      opening.unchords row known i (subst (λ (v : ℕ). i < v) (ap (λ (r : EdgeRow). length r.crossings + 1) (edge_at_row q e row known)) (omega (arith, hi))) in
       let la' : a < length (darts q) = subst (λ (v : ℕ). a < v) (sym as_many) la in
       let half : u.half a ≡ b = u.first.elsewhere a la' na (λ w. nb (sym at ∙ w)) ∙ at in
       let next : opened_by (i + 1) a ≡ b = u.second.elsewhere a la' nt (λ w. nc (sym half ∙ w)) ∙ half in
@@ -152,11 +156,13 @@ module _ (q : Rows) (e : ℕ) (row : EdgeRow) (good : IsWellFormed q) (known : e
 
   -- a dart of another edge is on no segment of e
   pub off_segment : (d : Dart) → Is d → d.edge ≢ e → (i : ℕ) → i ≤ last → IsApart n (index_of q d) (first_half i)
-  off_segment d h ne i hi = segment_apart q good d (segment i Forward) h (segment_in i Forward hi) (λ w. ne (ap (λ (c : Dart). c.edge) w)) (λ w. ne (ap (λ (c : Dart). c.edge) w))
+  off_segment d h ne i hi = segment_apart q good d (segment i Forward) h (segment_in i Forward hi) (λ w. ne (ap (λ (c : Dart). c.edge) w))
+      (λ w. ne (ap (λ (c : Dart). c.edge) w))
 
   -- a dart of e that is left turns as in the whole system
   pub left_turn : (i j : ℕ) (way : Way) → i ≤ j → j ≤ last → opened_by i (index_of q (segment j way)) ≡ index_of q (turn (system q) (segment j way))
-  left_turn zero j way hi hj = opening.shut (index_of q (segment j way)) (subst (λ (v : ℕ). index_of q (segment j way) < v) (sym as_many) (number_less q good (segment j way) (segment_in j way hj)))
+  left_turn zero j way hi hj = opening.shut (index_of q (segment j way))
+      (subst (λ (v : ℕ). index_of q (segment j way) < v) (sym as_many) (number_less q good (segment j way) (segment_in j way hj)))
       ∙ turn_number q good (segment j way) (segment_in j way hj)
   left_turn (suc i) j way hi hj =
       let li : i ≤ last = omega (arith, hi, hj) in
@@ -172,7 +178,8 @@ module _ (q : Rows) (e : ℕ) (row : EdgeRow) (good : IsWellFormed q) (known : e
       ] where
         on_others : (i j : ℕ) (way : Way) → i < j → i ≤ last → j ≤ last → IsApart n (index_of q (segment j way)) (first_half i)
         on_others i j way less hi hj = segment_apart q good (segment j way) (segment i Forward) (segment_in j way hj) (segment_in i Forward hi)
-            (λ w. (let s : j ≡ i = ap (λ (d : Dart). d.seg) w in omega (arith, s, less))) (λ w. (let s : j ≡ i = ap (λ (d : Dart). d.seg) w in omega (arith, s, less)))
+            (λ w. (let s : j ≡ i = ap (λ (d : Dart). d.seg) w in omega (arith, s, less)))
+            (λ w. (let s : j ≡ i = ap (λ (d : Dart). d.seg) w in omega (arith, s, less)))
 
   pub off_left : (d : Dart) → Is d → d.edge ≢ e → (i : ℕ) → i ≤ count → left_after first_half i (index_of q d) ≡ true
   off_left d h ne i hi = left_of first_half i (index_of q d) (λ j lj.
@@ -188,19 +195,25 @@ module _ (q : Rows) (e : ℕ) (row : EdgeRow) (good : IsWellFormed q) (known : e
   shut a la = opening.shut a (subst (λ (v : ℕ). a < v) (sym as_many) la)
 
   pub faces_shut : cycle_count (face_next (opened_by 0)) n ≡ cycle_count (face_next (map_of (turn_images q))) n
-  faces_shut = cycle_count-same (face_next (opened_by 0)) (face_next (map_of (turn_images q))) n (face_next-permutation (opened_by 0) n (permutes 0) (even_count q good))
+  faces_shut = cycle_count-same (face_next (opened_by 0))
+      (face_next (map_of (turn_images q))) n (face_next-permutation (opened_by 0) n (permutes 0) (even_count q good))
       (λ a la. shut (twin a) (twin-within n a (even_count q good) la))
 
-  pub is_opening : Connected (system q) → cycle_count (map_of (turn_images q)) n + cycle_count (face_next (map_of (turn_images q))) n ≡ n / 2 + 2 → IsOpening opened_by n first_half count
+  pub is_opening : Connected (system q) → cycle_count (map_of (turn_images q)) n + cycle_count (face_next (map_of (turn_images q))) n ≡ n / 2 + 2
+      → IsOpening opened_by n first_half count
   is_opening connected genus = record {
     permutation = permutes;
     even = even_count q good;
     there = λ i li. number_less q good (segment i Forward) (segment_in i Forward (let k = li in omega arith));
-    apart = λ i j less lj. segment_apart q good (segment j Forward) (segment i Forward) (segment_in j Forward (let k = lj in omega arith)) (segment_in i Forward (let k = lj in let l = less in omega arith))
-        (λ w. (let s : j ≡ i = ap (λ (d : Dart). d.seg) w in omega (arith, s, less))) (λ w. (let s : j ≡ i = ap (λ (d : Dart). d.seg) w in omega (arith, s, less)));
+    apart = λ i j less lj. segment_apart q good (segment j Forward) (segment i Forward) (segment_in j Forward (let k = lj in omega arith))
+        (segment_in i Forward (let k = lj in let l = less in omega arith))
+        (λ w. (let s : j ≡ i = ap (λ (d : Dart). d.seg) w in omega (arith, s, less)))
+        (λ w. (let s : j ≡ i = ap (λ (d : Dart). d.seg) w in omega (arith, s, less)));
     unchord = λ i li.
-        let u : IsUnchord (opened_by i) (opened_by (i + 1)) (length (darts q)) (first_half i) = opening.unchords row known i (subst (λ (v : ℕ). i < v) (ap (λ (r : EdgeRow). length r.crossings + 1) (edge_at_row q e row known)) li) in
-        subst (λ (v : ℕ). IsUnchord (opened_by i) (opened_by v) n (first_half i)) (let w : i + 1 ≡ suc i = omega arith in w) (subst (λ (v : ℕ). IsUnchord (opened_by i) (opened_by (i + 1)) v (first_half i)) as_many u);
+        let u : IsUnchord (opened_by i) (opened_by (i + 1)) (length (darts q)) (first_half i) =
+        opening.unchords row known i (subst (λ (v : ℕ). i < v) (ap (λ (r : EdgeRow). length r.crossings + 1) (edge_at_row q e row known)) li) in
+        subst (λ (v : ℕ). IsUnchord (opened_by i) (opened_by v) n (first_half i)) (let w : i + 1 ≡ suc i = omega arith in w)
+        (subst (λ (v : ℕ). IsUnchord (opened_by i) (opened_by (i + 1)) v (first_half i)) as_many u);
     no_loop = λ i li w.
         let hi : i ≤ last = (let k = li in omega arith) in
         let at : opened_by i (first_half i) ≡ index_of q (turn (system q) (segment i Forward)) = left_turn i i Forward (omega arith) hi in
@@ -211,8 +224,10 @@ module _ (q : Rows) (e : ℕ) (row : EdgeRow) (good : IsWellFormed q) (known : e
     connected = λ a b la lb.
         let joined : Joined (map_of (turn_images q)) twin a b = numbers_connected q good.paths good.crossings good.rotations connected.joined a b la lb in
         walked_by (map_of (turn_images q)) (opened_by 0) n (turn_permutes q good.paths good.crossings good.rotations) (even_count q good)
-        (λ v lv. subst (λ (z : ℕ). Joined (opened_by 0) twin v z) (shut v lv) (Joined-turned (opened_by 0) twin v v (Joined-refl (opened_by 0) twin v))) a b la joined;
-    genus_zero = (let points : cycle_count (opened_by 0) n ≡ cycle_count (map_of (turn_images q)) n = cycle_count-same (opened_by 0) (map_of (turn_images q)) n (permutes 0) shut in
+        (λ v lv. subst (λ (z : ℕ). Joined (opened_by 0) twin v z) (shut v lv)
+        (Joined-turned (opened_by 0) twin v v (Joined-refl (opened_by 0) twin v))) a b la joined;
+    genus_zero = (let points : cycle_count (opened_by 0) n ≡ cycle_count (map_of (turn_images q)) n =
+        cycle_count-same (opened_by 0) (map_of (turn_images q)) n (permutes 0) shut in
         let faces = faces_shut in let g = genus in omega arith);
   }
 
@@ -226,8 +241,10 @@ module _ (q : Rows) (e : ℕ) (row : EdgeRow) (good : IsWellFormed q) (known : e
         let (j, lj, which) = out_of first_half count a dead in
         let hj : j ≤ last = (let k = lj in omega arith) in
         elim which [
-          | inl w ↦ subst (λ (v : ℕ). opened_by count v ≡ v) (sym w) (opening.out_alone count (segment j Forward) (segment_in j Forward hj) (out_test j lj Forward))
-          | inr w ↦ subst (λ (v : ℕ). opened_by count v ≡ v) (sym (w ∙ other_half j hj)) (opening.out_alone count (segment j Back) (segment_in j Back hj) (out_test j lj Back))
+          | inl w ↦ subst (λ (v : ℕ). opened_by count v ≡ v) (sym w)
+              (opening.out_alone count (segment j Forward) (segment_in j Forward hj) (out_test j lj Forward))
+          | inr w ↦ subst (λ (v : ℕ). opened_by count v ≡ v) (sym (w ∙ other_half j hj))
+              (opening.out_alone count (segment j Back) (segment_in j Back hj) (out_test j lj Back))
         ];
   } where
     out_test : (j : ℕ) → j < count → (way : Way) → is_opened e count (segment j way) ≡ true

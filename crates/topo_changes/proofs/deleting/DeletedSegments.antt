@@ -48,7 +48,8 @@ not_less a b h = grind (arith, nat_tests)
 -- ---- Places
 
 -- the crossings that a stretch runs over lie between its ends
-run_places : (q : Rows) (c : ℕ) (d : Dart) (xs : List ℕ) (b : Dart) → RunsOver q c d xs b → (d.seg ≤ b.seg) × ((i : ℕ) → IsIn i xs → (d.seg ≤ place_on q c i) × (place_on q c i + 1 ≤ b.seg))
+run_places : (q : Rows) (c : ℕ) (d : Dart) (xs : List ℕ) (b : Dart) → RunsOver q c d xs b → (d.seg ≤ b.seg)
+    × ((i : ℕ) → IsIn i xs → (d.seg ≤ place_on q c i) × (place_on q c i + 1 ≤ b.seg))
 run_places q c d [] b r = (let at : d.seg ≡ b.seg = ap (λ (y : Dart). y.seg) r in omega arith, λ i k. absurd k)
 run_places q c d (x ∷ xs) b r =
     let at : d.seg ≡ place_on q c x = ap (λ (y : Dart). y.seg) r.0 in
@@ -98,7 +99,8 @@ module _ (q : Rows) (e : ℕ) (p : Rows) (hp : IsWellFormed p) (s : HidesTurns q
   span : (c k : ℕ) → is_some (edge_row p c) ≡ true → k ≤ length (path c)
       → (begins c k ≤ ends c k) × ((i : ℕ) → IsIn i (crossings_between q e c k) → (begins c k ≤ place_on q c i) × (place_on q c i + 1 ≤ ends c k))
   span c k there inside =
-      let run : RunsOver q c (lifted p q (forward c k)) (crossings_between q e c k) (lifted p q (back c k)) = s.segments (forward c k) (dart_of_segment p hp c k Forward there inside) refl in
+      let run : RunsOver q c (lifted p q (forward c k)) (crossings_between q e c k) (lifted p q (back c k)) =
+      s.segments (forward c k) (dart_of_segment p hp c k Forward there inside) refl in
       grind (arith, run_places, lifted_back, lifted_forward)
 
   stands_rise : (c : ℕ) → is_some (edge_row p c) ≡ true → (i : ℕ) → i + 1 < length (path c) → stands c i < stands c (i + 1)
@@ -126,11 +128,15 @@ module _ (q : Rows) (e : ℕ) (p : Rows) (hp : IsWellFormed p) (s : HidesTurns q
 
   pub smoothed_lifted : (d : Dart) → Was d → smoothed_dart q p (lifted p q d) ≡ d
   smoothed_lifted d was = by_way d.edge d.seg d.way (edge_of_dart p hp d was) (segment_of_dart p hp d was) where
-    by_way : (c k : ℕ) (w : Way) → is_some (edge_row p c) ≡ true → k ≤ length (path c) → smoothed_dart q p (lifted p q (record { edge = c; seg = k; way = w })) ≡ record { edge = c; seg = k; way = w }
-    by_way c k Forward there inside = ap (smoothed_dart q p) (lifted_forward p q c k) ∙ ap (forward c) (over c k (begins c k) there inside (omega arith) (span c k there inside).0)
-    by_way c k Back there inside = ap (smoothed_dart q p) (lifted_back p q c k) ∙ ap (back c) (over c k (ends c k) there inside (span c k there inside).0 (omega arith))
+    by_way : (c k : ℕ) (w : Way) → is_some (edge_row p c) ≡ true → k ≤ length (path c)
+        → smoothed_dart q p (lifted p q (record { edge = c; seg = k; way = w })) ≡ record { edge = c; seg = k; way = w }
+    by_way c k Forward there inside = ap (smoothed_dart q p) (lifted_forward p q c k)
+        ∙ ap (forward c) (over c k (begins c k) there inside (omega arith) (span c k there inside).0)
+    by_way c k Back there inside = ap (smoothed_dart q p) (lifted_back p q c k)
+        ∙ ap (back c) (over c k (ends c k) there inside (span c k there inside).0 (omega arith))
 
-  smoothed_at : (c k i : ℕ) (w : Way) → is_some (edge_row p c) ≡ true → k ≤ length (path c) → IsIn i (crossings_between q e c k) → smoothed_dart q p (onward_by q i c w) ≡ record { edge = c; seg = k; way = w }
+  smoothed_at : (c k i : ℕ) (w : Way) → is_some (edge_row p c) ≡ true → k ≤ length (path c) → IsIn i (crossings_between q e c k)
+      → smoothed_dart q p (onward_by q i c w) ≡ record { edge = c; seg = k; way = w }
   smoothed_at c k i Forward there inside between =
       let (from, to) : (begins c k ≤ place_on q c i) × (place_on q c i + 1 ≤ ends c k) = (span c k there inside).1 i between in
       ap (forward c) (over c k (place_on q c i + 1) there inside (omega arith) to)
@@ -146,7 +152,8 @@ module _ (q : Rows) (e : ℕ) (p : Rows) (hp : IsWellFormed p) (s : HidesTurns q
   pub record IsPart (y d : Dart) : Type 0 where
     pub was : Was d
     pub at : smoothed_dart q p y ≡ d
-    pub on : (y ≡ lifted p q d) ⊎ ((x : CrossRow) × IsCrossingOf q e d.edge x × IsIn x.id (crossings_between q e d.edge d.seg) × (y ≡ onward_by q x.id d.edge d.way))
+    pub on : (y ≡ lifted p q d)
+        ⊎ ((x : CrossRow) × IsCrossingOf q e d.edge x × IsIn x.id (crossings_between q e d.edge d.seg) × (y ≡ onward_by q x.id d.edge d.way))
 
   part_at : (c : ℕ) (x : CrossRow) (w : Way) (y : Dart) → IsCrossingOf q e c x → y ≡ onward_by q x.id c w → (d : Dart) × IsPart y d
   part_at c x w y is at =

@@ -26,7 +26,8 @@ use Rattle.topo_changes.proofs.deleting.DeletedOpening.{count, first_half, is_op
 use Rattle.topo_changes.proofs.deleting.DeletedSegments.{smoothed_dart}
 use Rattle.topo_changes.proofs.inserting.InsertedNumbers.{dart_of, even_count}
 
-module _ (rows : Rows) (good : IsWellFormed rows) (e : ℕ) (row : EdgeRow) (known : edge_row rows e ≡ Some row) (connected : Connected (system rows)) (zero_genus : HasGenusZero rows) where
+module _ (rows : Rows) (good : IsWellFormed rows) (e : ℕ) (row : EdgeRow) (known : edge_row rows e ≡ Some row) (connected : Connected (system rows))
+    (zero_genus : HasGenusZero rows) where
   abbrev pub after : Rows
   after = without rows e
 
@@ -68,25 +69,35 @@ module _ (rows : Rows) (good : IsWellFormed rows) (e : ℕ) (row : EdgeRow) (kno
   opening = is_opening rows e row good known after (hides rows good e row known) connected (genus rows good e row known connected zero_genus)
 
   pub midway : AreMidway Middle rank left (opened segments) n (map_of (turn_images after)) m name onto
-  midway = midway_here rows e after good (good_p rows good e row known) (there rows good e row known) (hides rows good e row known) (slab_all rows e row good known after (hides rows good e row known))
+  midway = midway_here rows e after good (good_p rows good e row known) (there rows good e row known) (hides rows good e row known)
+      (slab_all rows e row good known after (hides rows good e row known))
 
-  module _ (nu back : ℕ → ℕ) (limit : ℕ) (t : Turning) (r : RenumbersTurn nu back (map_of (turn_images rows)) t.turn n t.live limit) (slab : IsSlab t.live t.turn limit) where
+  module _ (nu back : ℕ → ℕ) (limit : ℕ) (t : Turning) (r : RenumbersTurn nu back (map_of (turn_images rows)) t.turn n t.live limit)
+      (slab : IsSlab t.live t.turn limit) where
     whole : RenumbersSlab nu back (λ _. true) (map_of (turn_images rows)) n t.live t.turn limit
     whole = slab_of_turn nu back (map_of (turn_images rows)) t.turn n t.live limit r slab
 
     pub shut_slab : RenumbersSlab nu back (left_after half 0) (opened 0) n t.live t.turn limit
     shut_slab = record {
-      before = record { permutation = permutes rows e row good known after (hides rows good e row known) 0; even = even_count rows good; twins = λ a la. refl; free = λ a la w. absurd (false≢true (sym w)) };
+      before = record {
+        permutation = permutes rows e row good known after (hides rows good e row known) 0;
+        even = even_count rows good;
+        twins = λ a la. refl;
+        free = λ a la w. absurd (false≢true (sym w));
+      };
       after = slab;
       into = grind (arith, there, whole);
       from = grind (arith, there, whole);
-      turns = λ a at. whole.turns a (record { within = at.within; alive = refl }) ∙ ap nu (sym (shut rows e row good known after (hides rows good e row known) a at.within));
+      turns = λ a at. whole.turns a (record { within = at.within; alive = refl })
+          ∙ ap nu (sym (shut rows e row good known after (hides rows good e row known) a at.within));
     }
 
     -- with the segments of the edge out and each crossing smoothed, the slab renumbers what is left
-    pub deleted_slab : (w v : Turning) (xs : List ℕ) → IsRun limit t (unchords_of (λ j. nu (half j)) segments) w → AreMids Middle left n xs → ((x : ℕ) → IsAlive left n x → Middle x → IsIn x xs) → IsRun limit w (smooths_of nu xs) v
+    pub deleted_slab : (w v : Turning) (xs : List ℕ) → IsRun limit t (unchords_of (λ j. nu (half j)) segments) w → AreMids Middle left n xs
+        → ((x : ℕ) → IsAlive left n x → Middle x → IsIn x xs) → IsRun limit w (smooths_of nu xs) v
         → IsSmoothedUnder (map_of (turn_images after)) m name nu v limit
     deleted_slab w v xs unchords mids all smooths =
-        let opened_slab : RenumbersSlab nu back left (opened segments) n w.live w.turn limit = opened_numbers opening w shut_slab segments (omega arith) unchords in
+        let opened_slab : RenumbersSlab nu back left (opened segments) n w.live w.turn limit =
+        opened_numbers opening w shut_slab segments (omega arith) unchords in
         let p : IsWellFormed after = good_p rows good e row known in
         smoothed_numbers midway (turn_permutes after p.paths p.crossings p.rotations) (even_count after p) w opened_slab xs v mids all smooths

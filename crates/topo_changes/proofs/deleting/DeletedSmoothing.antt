@@ -34,7 +34,8 @@ use Rattle.topo_perm.proofs.permutations.Walks.{twin-within}
 use Rattle.topo_perm.proofs.runs.DeletionSteps.{left_after, left_of}
 use Rattle.topo_changes.proofs.deleting.DeletedSegments.{IsPart, smoothed_dart, smoothed_lifted, smoothed_onward, part_of}
 use Rattle.topo_changes.proofs.deleting.DeletedTurns.{left_away, over, straight}
-use Rattle.topo_changes.proofs.inserting.InsertedNumbers.{dart_here, dart_of, dart_of_number, even_count, number_less, number_of, numbers_apart, turn_number, turned, twinned}
+use Rattle.topo_changes.proofs.inserting.InsertedNumbers.{dart_here, dart_of, dart_of_number, even_count, number_less}
+use Rattle.topo_changes.proofs.inserting.InsertedNumbers.{number_of, numbers_apart, turn_number, turned, twinned}
 use Rattle.topo_changes.proofs.inserting.InsertedPath.{onward_edge}
 
 module _ (q : Rows) (e : ℕ) (p : Rows) (hq : IsWellFormed q) (hp : IsWellFormed p) (known : is_some (edge_row q e) ≡ true) (s : HidesTurns q e p) where
@@ -99,7 +100,8 @@ module _ (q : Rows) (e : ℕ) (p : Rows) (hq : IsWellFormed q) (hp : IsWellForme
   )
 
   -- nor is a dart of another segment of e
-  off_before : (k : ℕ) (way : Way) → k < count → (j : ℕ) → j < k → (num (record { edge = e; seg = k; way = way }) ≢ half j) × (num (record { edge = e; seg = k; way = way }) ≢ twin (half j))
+  off_before : (k : ℕ) (way : Way) → k < count → (j : ℕ) → j < k → (num (record { edge = e; seg = k; way = way }) ≢ half j)
+      × (num (record { edge = e; seg = k; way = way }) ≢ twin (half j))
   off_before k way lk j lj =
       let d : Dart = record { edge = e; seg = k; way = way } in
       let less : j < count = omega (arith, lj, lk) in
@@ -108,7 +110,8 @@ module _ (q : Rows) (e : ℕ) (p : Rows) (hq : IsWellFormed q) (hp : IsWellForme
         λ w. numbers_apart q hq d (back e j) (half_in k way lk) (half_in j Back less) (λ v. apart (ap (λ (c : Dart). c.seg) v)) (w ∙ twin_half j less),
       )
 
-  on_segment : (k : ℕ) (way : Way) → k < count → (num (record { edge = e; seg = k; way = way }) ≡ half k) ⊎ (num (record { edge = e; seg = k; way = way }) ≡ twin (half k))
+  on_segment : (k : ℕ) (way : Way) → k < count → (num (record { edge = e; seg = k; way = way }) ≡ half k)
+      ⊎ (num (record { edge = e; seg = k; way = way }) ≡ twin (half k))
   on_segment k Forward lk = inl refl
   on_segment k Back lk = inr (sym (twin_half k lk))
 
@@ -118,7 +121,8 @@ module _ (q : Rows) (e : ℕ) (p : Rows) (hq : IsWellFormed q) (hp : IsWellForme
       let d : Dart = dart_of q hq a in
       let h : Is d = dart_here q hq a la in
       let inside : d.seg ≤ length (edge_at q d.edge).crossings = segment_of_dart q hq d h in
-      let less : d.seg < count = (let w : d.seg ≤ length (edge_at q e).crossings = subst (λ (c : ℕ). d.seg ≤ length (edge_at q c).crossings) on_e inside in omega arith) in
+      let less : d.seg < count =
+      (let w : d.seg ≤ length (edge_at q e).crossings = subst (λ (c : ℕ). d.seg ≤ length (edge_at q c).crossings) on_e inside in omega arith) in
       let same : d ≡ record { edge = e; seg = d.seg; way = d.way } = ap (λ (c : ℕ). (let r : Dart = record { edge = c; seg = d.seg; way = d.way } in r)) on_e in
       let at : a ≡ num (record { edge = e; seg = d.seg; way = d.way }) = sym (number_of q hq a la) ∙ ap num same in
       let away = left_away half count a w d.seg less in
@@ -155,7 +159,8 @@ module _ (q : Rows) (e : ℕ) (p : Rows) (hq : IsWellFormed q) (hp : IsWellForme
   over_segment k way lk d z h ne z_in z_other to from =
       let b : Dart = record { edge = e; seg = k; way = way } in
       let b_in : Is b = half_in k way lk in
-      over (opened_turn q e) (length (darts q)) half count steps k (num d) (num b) (num z) lk (below d h) (below b b_in) (at_first d h ∙ ap num to) (at_first b b_in ∙ ap num from)
+      over (opened_turn q e) (length (darts q)) half count steps k (num d) (num b) (num z) lk (below d h) (below b b_in) (at_first d h ∙ ap num to)
+      (at_first b b_in ∙ ap num from)
       (off d h ne) (off_before k way lk) (off z z_in z_other) (on_segment k way lk)
 
   over_turn : (d b z : Dart) → Is d → d.edge ≢ e → Is z → z.edge ≢ e → turn (system q) d ≡ b → b.edge ≡ e → turn (system q) b ≡ z → t (num d) ≡ num z
@@ -195,8 +200,10 @@ module _ (q : Rows) (e : ℕ) (p : Rows) (hq : IsWellFormed q) (hp : IsWellForme
         ahead_in = a_in;
         behind_in = b_in;
         other = other;
-        from_ahead = over_turn (ahead q c x.id) (right_dart q e x) (behind q c x.id) a_in other b_in other to_right (onward_edge q x.id e (rightward x e)) from_right;
-        from_behind = over_turn (behind q c x.id) (left_dart q e x) (ahead q c x.id) b_in other a_in other to_left (onward_edge q x.id e (reversed (rightward x e))) from_left;
+        from_ahead = over_turn (ahead q c x.id) (right_dart q e x)
+            (behind q c x.id) a_in other b_in other to_right (onward_edge q x.id e (rightward x e)) from_right;
+        from_behind = over_turn (behind q c x.id) (left_dart q e x)
+            (ahead q c x.id) b_in other a_in other to_left (onward_edge q x.id e (reversed (rightward x e))) from_left;
       }
 
   -- ---- Along a segment
@@ -271,9 +278,11 @@ module _ (q : Rows) (e : ℕ) (p : Rows) (hq : IsWellFormed q) (hp : IsWellForme
       let up : Dart = lifted p q d in
       let end : Dart = lifted p q (back c k) in
       let twin_was : Was (back c k) = twin_in p d w in
-      let run : RunsForth c up (crossings_between q e c k) end = runs_forth c up (crossings_between q e c k) end (s.lifts d w) (pass_between d w) (s.segments d w refl) in
+      let run : RunsForth c up (crossings_between q e c k) end =
+      runs_forth c up (crossings_between q e c k) end (s.lifts d w) (pass_between d w) (s.segments d w refl) in
       record {
-        forth = face_step up run.last (lifted p q (turn (system p) (back c k))) run.there run.leads (ap (λ (y : Dart). t (num y)) run.ends ∙ lifted_turn (back c k) twin_was);
+        forth = face_step up run.last (lifted p q (turn (system p) (back c k))) run.there run.leads (ap (λ (y : Dart). t (num y)) run.ends
+            ∙ lifted_turn (back c k) twin_was);
         parts = run.parts;
       }
 
@@ -285,7 +294,8 @@ module _ (q : Rows) (e : ℕ) (p : Rows) (hq : IsWellFormed q) (hp : IsWellForme
       let was : Was d = twin_in p (back c k) w in
       let run : RunsBack c up (crossings_between q e c k) end = runs_back c up (crossings_between q e c k) end (pass_between d was) (s.segments d was refl) in
       record {
-        forth = face_step end (dart_twin up) (lifted p q (turn (system p) d)) (twin_in q up (s.lifts d was)) run.leads (ap (λ (y : Dart). t (num y)) (twin-twin up) ∙ lifted_turn d was);
+        forth = face_step end (dart_twin up) (lifted p q (turn (system p) d))
+            (twin_in q up (s.lifts d was)) run.leads (ap (λ (y : Dart). t (num y)) (twin-twin up) ∙ lifted_turn d was);
         parts = run.parts;
       }
 
@@ -304,11 +314,13 @@ module _ (q : Rows) (e : ℕ) (p : Rows) (hq : IsWellFormed q) (hp : IsWellForme
   ]
 
   -- at a crossing of e a part turns to the end of the part before it
-  onward_turn : (c : ℕ) (x : CrossRow) (way : Way) → IsCrossingOf q e c x → (t (num (onward_by q x.id c way)) ≡ num (onward_by q x.id c (reversed way))) × Is (onward_by q x.id c (reversed way))
+  onward_turn : (c : ℕ) (x : CrossRow) (way : Way) → IsCrossingOf q e c x → (t (num (onward_by q x.id c way)) ≡ num (onward_by q x.id c (reversed way)))
+      × Is (onward_by q x.id c (reversed way))
   onward_turn c x Forward is = let here : Passes c x.id = passes c x is in (here.from_ahead, here.behind_in)
   onward_turn c x Back is = let here : Passes c x.id = passes c x is in (here.from_behind, here.ahead_in)
 
-  onward_other : (y d : Dart) (x : CrossRow) → Was d → IsCrossingOf q e d.edge x → IsIn x.id (crossings_between q e d.edge d.seg) → smoothed_dart q p (onward_by q x.id d.edge (reversed d.way)) ≡ dart_twin d
+  onward_other : (y d : Dart) (x : CrossRow) → Was d → IsCrossingOf q e d.edge x → IsIn x.id (crossings_between q e d.edge d.seg)
+      → smoothed_dart q p (onward_by q x.id d.edge (reversed d.way)) ≡ dart_twin d
   onward_other y d x was is between = smoothed_onward q e p hp s (dart_twin d) x.id (twin_in p d was) between
 
   part_turns : (y d : Dart) → IsPart q e p hp s y d → (onto (t (num y)) ≡ index_of p (turn (system p) d)) ⊎ (onto (t (num y)) ≡ index_of p (dart_twin d))
@@ -316,10 +328,12 @@ module _ (q : Rows) (e : ℕ) (p : Rows) (hq : IsWellFormed q) (hp : IsWellForme
     | inl at ↦
         let next : Dart = turn (system p) d in
         let next_was : Was next = old_turn_in d part.was in
-        inl (ap (λ (z : Dart). onto (t (num z))) at ∙ ap onto (lifted_turn d part.was) ∙ onto_of (lifted p q next) (s.lifts next next_was) ∙ ap (index_of p) (smoothed_lifted q e p hp s next next_was))
+        inl (ap (λ (z : Dart). onto (t (num z))) at ∙ ap onto (lifted_turn d part.was) ∙ onto_of (lifted p q next) (s.lifts next next_was)
+        ∙ ap (index_of p) (smoothed_lifted q e p hp s next next_was))
     | inr (x, is, between, at) ↦
         let (leads, here) = onward_turn d.edge x d.way is in
-        inr (ap (λ (z : Dart). onto (t (num z))) at ∙ ap onto leads ∙ onto_of (onward_by q x.id d.edge (reversed d.way)) here ∙ ap (index_of p) (onward_other y d x part.was is between))
+        inr (ap (λ (z : Dart). onto (t (num z))) at ∙ ap onto leads ∙ onto_of (onward_by q x.id d.edge (reversed d.way)) here
+        ∙ ap (index_of p) (onward_other y d x part.was is between))
   ]
 
   part_there : (b : ℕ) → b < n → left_after half count b ≡ true → (d : Dart) × IsPart q e p hp s (dart_of q hq b) d
@@ -345,7 +359,8 @@ module _ (q : Rows) (e : ℕ) (p : Rows) (hq : IsWellFormed q) (hp : IsWellForme
         onto_of (lifted p q d) (s.lifts d was) ∙ ap (index_of p) (smoothed_lifted q e p hp s d was) ∙ number_of p hp a la;
     twins = λ b lb w.
         let (d, part) = part_there b lb w in
-        ap (λ (c : Dart). index_of p (smoothed_dart q p c)) (twinned q hq b lb) ∙ ap (λ (c : Dart). index_of p (dart_twin c)) part.at ∙ index_twin p d part.was ∙ ap twin (sym (onto_part b d part));
+        ap (λ (c : Dart). index_of p (smoothed_dart q p c)) (twinned q hq b lb) ∙ ap (λ (c : Dart). index_of p (dart_twin c)) part.at ∙ index_twin p d part.was
+        ∙ ap twin (sym (onto_part b d part));
     turns = λ b lb w.
         let (d, part) = part_there b lb w in
         let at : b ≡ num (dart_of q hq b) = sym (number_of q hq b lb) in
@@ -361,7 +376,8 @@ module _ (q : Rows) (e : ℕ) (p : Rows) (hq : IsWellFormed q) (hp : IsWellForme
     forth = λ a la.
         let d : Dart = dart_of p hp a in
         let la' : twin a < m = twin-within m a (even_count p hp) la in
-        subst (λ (v : ℕ). SameCycle (face_next t) (name a) v) (ap (λ (c : Dart). num (lifted p q (turn (system p) c))) (sym (twinned p hp a la)) ∙ ap (λ (c : Dart). num (lifted p q c)) (sym (turned p hp (twin a) la')))
+        subst (λ (v : ℕ). SameCycle (face_next t) (name a) v) (ap (λ (c : Dart). num (lifted p q (turn (system p) c))) (sym (twinned p hp a la))
+        ∙ ap (λ (c : Dart). num (lifted p q c)) (sym (turned p hp (twin a) la')))
         (leads_on d (dart_here p hp a la)).forth;
   }
 
@@ -381,7 +397,8 @@ module _ (q : Rows) (e : ℕ) (p : Rows) (hq : IsWellFormed q) (hp : IsWellForme
     | inl at ↦ absurd (ne at)
     | inr (x, is, between, at) ↦
         let (leads, here) = onward_turn d.edge x d.way is in
-        ap (λ (z : Dart). onto (t (num z))) at ∙ ap onto leads ∙ onto_of (onward_by q x.id d.edge (reversed d.way)) here ∙ ap (index_of p) (onward_other y d x part.was is between)
+        ap (λ (z : Dart). onto (t (num z))) at ∙ ap onto leads ∙ onto_of (onward_by q x.id d.edge (reversed d.way)) here
+        ∙ ap (index_of p) (onward_other y d x part.was is between)
   ]
 
   -- a dart of another edge is left
@@ -403,8 +420,10 @@ module _ (q : Rows) (e : ℕ) (p : Rows) (hq : IsWellFormed q) (hp : IsWellForme
       record {
         two = ap t here.from_ahead ∙ here.from_behind;
         even = index_forward q on here.ahead_in refl;
-        odd = ap (λ (v : ℕ). v % 2) (here.from_ahead ∙ sym (nat_twin (num back)) ∙ ap twin behind_twin) ∙ odd_twin (num around) (index_forward q around around_in refl);
-        lower = (let before : place (twin (t a)) ≡ back.seg = ap (λ (v : ℕ). (dart_of q hq (twin v)).seg) here.from_ahead ∙ ap (λ (v : ℕ). (dart_of q hq v).seg) behind_twin ∙ ap (λ (d : Dart). d.seg) (dart_of_number q hq around around_in) in
+        odd = ap (λ (v : ℕ). v % 2) (here.from_ahead ∙ sym (nat_twin (num back)) ∙ ap twin behind_twin)
+            ∙ odd_twin (num around) (index_forward q around around_in refl);
+        lower = (let before : place (twin (t a)) ≡ back.seg = ap (λ (v : ℕ). (dart_of q hq (twin v)).seg) here.from_ahead
+            ∙ ap (λ (v : ℕ). (dart_of q hq v).seg) behind_twin ∙ ap (λ (d : Dart). d.seg) (dart_of_number q hq around around_in) in
             let now : place a ≡ on.seg = ap (λ (d : Dart). d.seg) same in
             let next : on.seg ≡ back.seg + 1 = refl in omega arith);
         middle =
@@ -418,11 +437,16 @@ module _ (q : Rows) (e : ℕ) (p : Rows) (hq : IsWellFormed q) (hp : IsWellForme
       }
 
   -- a part at a crossing is the dart ahead of it, or the one to which that turns
-  at_crossing : (a c : ℕ) (x : CrossRow) (way : Way) → IsCrossingOf q e c x → a ≡ num (onward_by q x.id c way) → (z : ℕ) × IsAlive (left_after half count) n z × IsAheadOfCrossing z × ((a ≡ z) ⊎ (a ≡ t z))
+  at_crossing : (a c : ℕ) (x : CrossRow) (way : Way) → IsCrossingOf q e c x → a ≡ num (onward_by q x.id c way) → (z : ℕ) × IsAlive (left_after half count) n z
+      × IsAheadOfCrossing z × ((a ≡ z) ⊎ (a ≡ t z))
   at_crossing a c x way is at =
       let here : Passes c x.id = passes c x is in
-      let z : ℕ = num (ahead q c x.id) in
-      (z, record { within = number_less q hq (ahead q c x.id) here.ahead_in; alive = other_left (ahead q c x.id) here.ahead_in here.other }, (c, x, is, refl), by_way way at) where
+      let z : ℕ = num (ahead q c x.id) in (
+        z,
+        record { within = number_less q hq (ahead q c x.id) here.ahead_in; alive = other_left (ahead q c x.id) here.ahead_in here.other },
+        (c, x, is, refl),
+        by_way way at,
+      ) where
         by_way : (way : Way) → a ≡ num (onward_by q x.id c way) → (a ≡ num (ahead q c x.id)) ⊎ (a ≡ t (num (ahead q c x.id)))
         by_way Forward at = inl at
         by_way Back at = (let here : Passes c x.id = passes c x is in inr (at ∙ sym here.from_ahead))
@@ -449,7 +473,9 @@ module _ (q : Rows) (e : ℕ) (p : Rows) (hq : IsWellFormed q) (hp : IsWellForme
 
 -- the picture without edge e is the smoothing of the picture in which e is opened from end to end
 pub smoothing : (q : Rows) (e : ℕ) (p : Rows) (hq : IsWellFormed q) (hp : IsWellFormed p) (known : is_some (edge_row q e) ≡ true) (s : HidesTurns q e p)
-    → IsSlab (left_after (λ i. index_of q (record { edge = e; seg = i; way = Forward })) (length (edge_at q e).crossings + 1)) (opened_turn q e (length (edge_at q e).crossings + 1)) (length (turn_images q))
-    → SmoothsTo (opened_turn q e (length (edge_at q e).crossings + 1)) (length (turn_images q)) (left_after (λ i. index_of q (record { edge = e; seg = i; way = Forward })) (length (edge_at q e).crossings + 1))
+    → IsSlab (left_after (λ i. index_of q (record { edge = e; seg = i; way = Forward })) (length (edge_at q e).crossings + 1))
+    (opened_turn q e (length (edge_at q e).crossings + 1)) (length (turn_images q))
+    → SmoothsTo (opened_turn q e (length (edge_at q e).crossings + 1)) (length (turn_images q))
+    (left_after (λ i. index_of q (record { edge = e; seg = i; way = Forward })) (length (edge_at q e).crossings + 1))
     (map_of (turn_images p)) (length (turn_images p)) (λ a. index_of q (lifted p q (dart_of p hp a))) (λ b. index_of p (smoothed_dart q p (dart_of q hq b)))
 smoothing q e p hq hp known s slab = smoothing_here q e p hq hp known s slab

@@ -27,7 +27,8 @@ use Rattle.topo_changes.proofs.deleting.DeletedMids.{across, carried_across, cro
 use Rattle.topo_changes.proofs.deleting.DeletedSlab.{Middle, half, left, midway, n, name, onto, opened, opening, rank, shut_slab}
 use Rattle.topo_changes.proofs.inserting.InsertedNumbers.{even_count, number_less}
 
-module _ (rows : Rows) (good : IsWellFormed rows) (e : ℕ) (row : EdgeRow) (known : edge_row rows e ≡ Some row) (connected : Connected (system rows)) (zero_genus : HasGenusZero rows) where
+module _ (rows : Rows) (good : IsWellFormed rows) (e : ℕ) (row : EdgeRow) (known : edge_row rows e ≡ Some row) (connected : Connected (system rows))
+    (zero_genus : HasGenusZero rows) where
   abbrev num : Dart → ℕ
   num = index_of rows
 
@@ -51,14 +52,19 @@ module _ (rows : Rows) (good : IsWellFormed rows) (e : ℕ) (row : EdgeRow) (kno
 
   -- what is not out yet is left
   left_at : (i k : ℕ) (way : Way) → i ≤ k → k ≤ last → left_after h i (num (record { edge = e; seg = k; way = way })) ≡ true
-  left_at i k way lk inside = left_dart rows e row good known (without rows e) hidden i (omega arith) (record { edge = e; seg = k; way = way }) (hidden.edge_there k way inside)
+  left_at i k way lk inside = left_dart rows e row good known (without rows e) hidden i (omega arith) (record { edge = e; seg = k; way = way })
+      (hidden.edge_there k way inside)
       (ap (λ (b : Bool). b && nat_lt k i) (eq-eqb e e refl) ∙ not_less) where
         not_less : nat_lt k i ≡ false
         not_less = grind (arith, cases_Bool, ltb-true)
 
-  module _ (nu home : ℕ → ℕ) (limit : ℕ) (u : Turning) (r : RenumbersTurn nu home (map_of (turn_images rows)) u.turn many u.live limit) (slab : IsSlab u.live u.turn limit) where
-    pub deletion_step_numbers : (i : ℕ) → i ≤ last + 1 → (w : Turning) → IsRun limit u (unchords_of (λ j. nu (num (forward e j))) i) w → RenumbersSlab nu home (left_after h i) (t i) many w.live w.turn limit
-    deletion_step_numbers i li w run = opened_numbers (opening rows good e row known connected zero_genus) w (shut_slab rows good e row known connected zero_genus nu home limit u r slab) i li run
+  module _ (nu home : ℕ → ℕ) (limit : ℕ) (u : Turning) (r : RenumbersTurn nu home (map_of (turn_images rows)) u.turn many u.live limit)
+      (slab : IsSlab u.live u.turn limit) where
+    pub deletion_step_numbers : (i : ℕ) → i ≤ last + 1 → (w : Turning) → IsRun limit u (unchords_of (λ j. nu (num (forward e j))) i) w
+        → RenumbersSlab nu home (left_after h i) (t i) many w.live w.turn limit
+    deletion_step_numbers i li w run =
+        opened_numbers (opening rows good e row known connected zero_genus) w
+        (shut_slab rows good e row known connected zero_genus nu home limit u r slab) i li run
 
     module _ (i : ℕ) (w : Turning) (run : IsRun limit u (unchords_of (λ j. nu (num (forward e j))) i) w) where
       there : (j : ℕ) → j ≤ last → num (forward e j) < many
@@ -103,17 +109,21 @@ module _ (rows : Rows) (good : IsWellFormed rows) (e : ℕ) (row : EdgeRow) (kno
       over_turn li = (deletion_step_numbers i (omega arith) w run).turns (num (back e i)) (back_left li) ∙ ap nu (over_number li)
 
       -- so the midpoint behind the segment is found
-      pub mid_found : (li : i < last) → (leads : ℕ → Bool) → leads (nu (num (over_dart li))) ≡ is_even (num (over_dart li)) → across leads w.turn (nu (num (back e i))) (nu (num (forward e (i + 1)))) ≡ nu (middle_at i)
+      pub mid_found : (li : i < last) → (leads : ℕ → Bool) → leads (nu (num (over_dart li))) ≡ is_even (num (over_dart li))
+          → across leads w.turn (nu (num (back e i))) (nu (num (forward e (i + 1)))) ≡ nu (middle_at i)
       mid_found li leads same =
           let s = deletion_step_numbers i (omega arith) w run in
-          carried_across is_even leads nu (t i) w.turn (num (back e i)) (num (forward e (i + 1))) (s.turns (num (back e i)) (back_left li)) (s.turns (num (forward e (i + 1))) (forward_left li))
+          carried_across is_even leads nu (t i) w.turn (num (back e i)) (num (forward e (i + 1))) (s.turns (num (back e i)) (back_left li))
+          (s.turns (num (forward e (i + 1))) (forward_left li))
           (ap (λ k. leads (nu k)) (over_number li) ∙ same ∙ sym (ap is_even (over_number li)))
           ∙ ap nu (mid_opened rows good e row known i i (omega arith) li)
 
     -- the point of the next midpoint can be smoothed
-    pub smoothable_along : (w v : Turning) → IsRun limit u (unchords_of (λ j. nu (num (forward e j))) (last + 1)) w → (i : ℕ) → i < last → IsRun limit w (smooths_of nu (first_of middle_at i)) v → IsSmoothable v limit (nu (middle_at i))
+    pub smoothable_along : (w v : Turning) → IsRun limit u (unchords_of (λ j. nu (num (forward e j))) (last + 1)) w → (i : ℕ) → i < last
+        → IsRun limit w (smooths_of nu (first_of middle_at i)) v → IsSmoothable v limit (nu (middle_at i))
     smoothable_along w v run i li smooths =
         let p : IsWellFormed (without rows e) = good_p rows good e row known in
         smoothable
         (midway rows good e row known connected zero_genus) (turn_permutes (without rows e) p.paths p.crossings p.rotations)
-        (even_count (without rows e) p) w (deletion_step_numbers (last + 1) (omega arith) w run) (middle_at i) (first_of middle_at i) v (path_mids rows good e row known connected zero_genus (suc i) (omega (arith, li))) smooths
+        (even_count (without rows e) p) w (deletion_step_numbers (last + 1) (omega arith) w run) (middle_at i)
+        (first_of middle_at i) v (path_mids rows good e row known connected zero_genus (suc i) (omega (arith, li))) smooths

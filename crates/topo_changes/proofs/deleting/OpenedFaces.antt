@@ -1,5 +1,6 @@
 -- Walks along the faces of the rows while an edge is opened.
-use Rattle.std.proofs.Common.{◌≡◌, ◌≢◌, ◌↔◌, ◌+◌, ◌<◌, ◌≤◌, ◌%◌, ◌&&◌, ◌||◌, ◌==◌, ap, arith, Bool, false, inl, inr, length, refl, Some, subst, suc, sym, true, zero, ℕ, ◌∙◌}
+use Rattle.std.proofs.Common.{◌≡◌, ◌≢◌, ◌↔◌, ◌+◌, ◌<◌, ◌≤◌, ◌%◌, ◌&&◌, ◌||◌, ◌==◌, ap, arith, Bool}
+use Rattle.std.proofs.Common.{false, inl, inr, length, refl, Some, subst, suc, sym, true, zero, ℕ, ◌∙◌}
 use Rattle.std.specs.Prelude.{nat_lt}
 use Rattle.std.proofs.lemmas.Bool.{cases_Bool, cases_eq, eq-eqb, false≢true, ne_eqb}
 use Rattle.std.proofs.lemmas.Bool.Decides.{nat_tests}
@@ -34,7 +35,8 @@ not_opened e i = grind (arith, nat_tests)
 -- what is out with one segment more
 opened_one_more : (e i : ℕ) (d : Dart) → is_opened e (suc i) d ≡ ((is_opened e i d || same_dart (forward e i) d) || same_dart (back e i) d)
 opened_one_more e i d = by_way d.way where
-  by_way : (w : Way) → (d.edge == e && nat_lt d.seg (suc i)) ≡ (((d.edge == e && nat_lt d.seg i) || (e == d.edge && i == d.seg && same_way Forward w)) || (e == d.edge && i == d.seg && same_way Back w))
+  by_way : (w : Way) → (d.edge == e && nat_lt d.seg (suc i))
+      ≡ (((d.edge == e && nat_lt d.seg i) || (e == d.edge && i == d.seg && same_way Forward w)) || (e == d.edge && i == d.seg && same_way Back w))
   by_way Forward = grind (arith, nat_tests)
   by_way Back = grind (arith, nat_tests)
 
@@ -48,15 +50,20 @@ module _ (rows : Rows) (good : IsWellFormed rows) (e : ℕ) where
   is_gone i a = is_opened e i (dart_numbered rows a)
 
   pub turned_number : (d : Dart) → has_dart (darts rows) d ≡ true → index_of rows (turn (system rows) d) ≡ whole_turn (index_of rows d)
-  turned_number d here = sym ((opens rows good.paths good.crossings good.rotations e).shut (index_of rows d) (place_less (darts rows) d here) ∙ image_of rows good.paths d here)
+  turned_number d here =
+      sym ((opens rows good.paths good.crossings good.rotations e).shut (index_of rows d) (place_less (darts rows) d here) ∙ image_of rows good.paths d here)
 
   pub gone_number : (i : ℕ) (d : Dart) → has_dart (darts rows) d ≡ true → is_gone i (index_of rows d) ≡ is_opened e i d
   gone_number i d here = ap (is_opened e i) (numbered_index rows good.paths good.crossings good.rotations d here)
 
   number_is : (c : Dart) (b : ℕ) → has_dart (darts rows) c ≡ true → b < length (darts rows) → (b == index_of rows c) ≡ same_dart c (dart_numbered rows b)
   number_is c b here less = elim (cases_Bool (same_dart c (dart_numbered rows b))) [
-    | inl same ↦ eq-eqb b (index_of rows c) (sym (ap (index_of rows) (same_dart_true c (dart_numbered rows b) same) ∙ index_numbered rows good.paths good.crossings good.rotations b less)) ∙ sym same
-    | inr other ↦ ne_eqb b (index_of rows c) (λ k. false≢true (sym other ∙ ap (same_dart c) (ap (dart_numbered rows) k ∙ numbered_index rows good.paths good.crossings good.rotations c here) ∙ same_dart_self c)) ∙ sym other
+    | inl same ↦ eq-eqb b (index_of rows c)
+        (sym (ap (index_of rows) (same_dart_true c (dart_numbered rows b) same) ∙ index_numbered rows good.paths good.crossings good.rotations b less))
+        ∙ sym same
+    | inr other ↦ ne_eqb b (index_of rows c)
+        (λ k. false≢true (sym other ∙ ap (same_dart c) (ap (dart_numbered rows) k ∙ numbered_index rows good.paths good.crossings good.rotations c here)
+        ∙ same_dart_self c)) ∙ sym other
   ]
 
   module _ (row : EdgeRow) (there : edge_row rows e ≡ Some row) where
@@ -67,7 +74,8 @@ module _ (rows : Rows) (good : IsWellFormed rows) (e : ℕ) where
     here_back i less = dart_there rows good.paths (back e i) row there less
 
     -- the turn that is left leads to the first that is not out
-    pub opened_skips : (i : ℕ) → i ≤ segment_count row → (a : ℕ) → a < length (darts rows) → is_gone i a ≡ false → Skips whole_turn (is_gone i) a (opened_turn rows e i a)
+    pub opened_skips : (i : ℕ) → i ≤ segment_count row → (a : ℕ) → a < length (darts rows) → is_gone i a ≡ false
+        → Skips whole_turn (is_gone i) a (opened_turn rows e i a)
     opened_skips zero few a l left = record { passed = 0; lands = refl; stays = grind (arith, nat_tests); over = λ j some none. absurd (omega arith) }
     opened_skips (suc i) few a l left =
         let all = opens rows good.paths good.crossings good.rotations e in
@@ -80,12 +88,14 @@ module _ (rows : Rows) (good : IsWellFormed rows) (e : ℕ) where
         let less_twin : twin d < n = subst (λ k. k < n) d_twin (place_less (darts rows) (back e i) b_here) in
         let alike : (b : ℕ) → b < n → or_at (or_at (is_gone i) d) (twin d) b ≡ is_gone (suc i) b = λ b inside.
         ap (λ (t : Bool). (is_gone i b || t) || b == twin d) (number_is (forward e i) b f_here inside)
-        ∙ ap (λ (t : Bool). (is_gone i b || same_dart (forward e i) (dart_numbered rows b)) || t) (ap (λ k. b == k) (sym d_twin) ∙ number_is (back e i) b b_here inside)
+        ∙ ap (λ (t : Bool). (is_gone i b || same_dart (forward e i) (dart_numbered rows b)) || t)
+        (ap (λ k. b == k) (sym d_twin) ∙ number_is (back e i) b b_here inside)
         ∙ sym (opened_one_more e i (dart_numbered rows b)) in
         skips_alike whole_turn n (all.permutes 0) (or_at (or_at (is_gone i) d) (twin d)) (is_gone (suc i)) alike a (opened_turn rows e (suc i) a) l
         (unchord_skips whole_turn (opened_turn rows e i) (opened_turn rows e (suc i)) n (is_gone i) d less less_twin (λ k. grind arith) (all.permutes i)
         (gone_number i (forward e i) f_here ∙ not_opened e i) (ap (is_gone i) (sym d_twin) ∙ gone_number i (back e i) b_here ∙ not_opened e i)
-        (subst (λ (k : ℕ). IsUnchord (opened_turn rows e i) (opened_turn rows e k) n d) (let one : i + 1 ≡ suc i = omega arith in one) (all.unchords row there i (omega arith)))
+        (subst (λ (k : ℕ). IsUnchord (opened_turn rows e i) (opened_turn rows e k) n d) (let one : i + 1 ≡ suc i = omega arith in one)
+        (all.unchords row there i (omega arith)))
         (opened_skips i (omega arith)) a l (alike a l ∙ left))
 
     -- a walk that has passed so many darts that are out, from where it starts to turn
@@ -100,7 +110,8 @@ module _ (rows : Rows) (good : IsWellFormed rows) (e : ℕ) where
     pub passes_none : (out : ℕ) (from : Dart) → has_dart (darts rows) from ≡ true → Passes out (index_of rows from) (turn (system rows) from) 0
     passes_none out from here = record { here = turned_here from here; place = turned_number from here; over = λ j some none. absurd (omega arith) }
 
-    pub passes_more : (out start : ℕ) (next : Dart) (passed : ℕ) → Passes out start next passed → is_opened e out next ≡ true → Passes out start (turn (system rows) next) (suc passed)
+    pub passes_more : (out start : ℕ) (next : Dart) (passed : ℕ) → Passes out start next passed → is_opened e out next ≡ true
+        → Passes out start (turn (system rows) next) (suc passed)
     passes_more out start next passed h gone = record {
       here = turned_here next h.here;
       place = turned_number next h.here ∙ ap whole_turn h.place;
@@ -117,17 +128,20 @@ module _ (rows : Rows) (good : IsWellFormed rows) (e : ℕ) where
       pub other_left : is_gone out (index_of rows other) ≡ false
       other_left = gone_number out other other_here ∙ left
 
-      pub passes_to : (next : Dart) (passed : ℕ) → Passes out (index_of rows other) next passed → is_opened e out next ≡ false → index_of rows next ≡ face_next (opened_turn rows e out) (index_of rows from)
+      pub passes_to : (next : Dart) (passed : ℕ) → Passes out (index_of rows other) next passed → is_opened e out next ≡ false
+          → index_of rows next ≡ face_next (opened_turn rows e out) (index_of rows from)
       passes_to next passed h stays =
           let less = place_less (darts rows) other other_here in
           grind (arith, gone_number, skips_here, opened_skips, other_left, index_twin)
 
       pub passes_few : (next : Dart) (passed : ℕ) → Passes out (index_of rows other) next passed → length (darts rows) ≤ passed → ⊥
       passes_few next passed h many =
-          skips_ends whole_turn (is_gone out) (length (darts rows)) (index_of rows other) passed ((opens rows good.paths good.crossings good.rotations e).permutes 0) (place_less (darts rows) other other_here) many other_left h.over
+          skips_ends whole_turn (is_gone out) (length (darts rows)) (index_of rows other) passed
+          ((opens rows good.paths good.crossings good.rotations e).permutes 0) (place_less (darts rows) other other_here) many other_left h.over
 
     -- one cycle of numbers is one face
-    pub face_told : (i : ℕ) → i < segment_count row → (SameCycle (face_next (opened_turn rows e i)) (index_of rows (forward e i)) (index_of rows (back e i)) ↔ HasOneFace rows e i)
+    pub face_told : (i : ℕ) → i < segment_count row
+        → (SameCycle (face_next (opened_turn rows e i)) (index_of rows (forward e i)) (index_of rows (back e i)) ↔ HasOneFace rows e i)
     face_told i less = (
       λ same. rest_face_darts rows good.paths good.crossings good.rotations (is_opened e i) (λ d. refl) (forward e i) (back e i)
           (record { here = here_forward i less; stays = not_opened e i }) (record { here = here_back i less; stays = not_opened e i }) same,
@@ -152,13 +166,15 @@ module _ (rows : Rows) (good : IsWellFormed rows) (e : ℕ) where
       one_face_forth same = (face_told i less).0 same
 
       pub one_face_round : SameCycle face (index_of rows (back e i)) (index_of rows (forward e i)) → HasOneFace rows e i
-      one_face_round same = one_face_forth (SameCycle-sym face (length (darts rows)) permutes (index_of rows (back e i)) (index_of rows (forward e i)) (place_less (darts rows) (back e i) (here_back i less)) same)
+      one_face_round same = one_face_forth (SameCycle-sym face (length (darts rows)) permutes (index_of rows (back e i)) (index_of rows (forward e i))
+          (place_less (darts rows) (back e i) (here_back i less)) same)
 
       pub forth_of_face : HasOneFace rows e i → SameCycle face (index_of rows (forward e i)) (index_of rows (back e i))
       forth_of_face one = (face_told i less).1 one
 
       pub round_of_face : HasOneFace rows e i → SameCycle face (index_of rows (back e i)) (index_of rows (forward e i))
-      round_of_face one = SameCycle-sym face (length (darts rows)) permutes (index_of rows (forward e i)) (index_of rows (back e i)) (place_less (darts rows) (forward e i) (here_forward i less)) (forth_of_face one)
+      round_of_face one = SameCycle-sym face (length (darts rows)) permutes (index_of rows (forward e i)) (index_of rows (back e i))
+          (place_less (darts rows) (forward e i) (here_forward i less)) (forth_of_face one)
 
       module _ (from goal : Dart) (from_here : has_dart (darts rows) from ≡ true) (goal_here : has_dart (darts rows) goal ≡ true) where
         -- so many steps from the one, and the other was not met
@@ -189,7 +205,9 @@ module _ (rows : Rows) (good : IsWellFormed rows) (e : ℕ) where
           walks_met same = record { steps = suc steps; leads = sym stands_next ∙ ap (index_of rows) same }
 
           pub walks_home : next ≡ from → SameCycle face (index_of rows from) (index_of rows goal) → ⊥
-          walks_home same one = unmet_home face (index_of rows from) (index_of rows goal) steps (sym stands_next ∙ ap (index_of rows) same) (λ j few. h.unmet j (omega arith)) one
+          walks_home same one = unmet_home face (index_of rows from) (index_of rows goal) steps (sym stands_next ∙ ap (index_of rows) same)
+              (λ j few. h.unmet j (omega arith)) one
 
         pub walks_never : (d : Dart) (steps : ℕ) → Walks d steps → length (darts rows) ≤ steps → SameCycle face (index_of rows from) (index_of rows goal) → ⊥
-        walks_never d steps h many one = unmet_all face (index_of rows from) (index_of rows goal) (length (darts rows)) permutes (place_less (darts rows) from from_here) (λ j few. h.unmet j (omega arith)) one
+        walks_never d steps h many one = unmet_all face (index_of rows from) (index_of rows goal)
+            (length (darts rows)) permutes (place_less (darts rows) from from_here) (λ j few. h.unmet j (omega arith)) one

@@ -46,7 +46,8 @@ equality_equivalence n = grind (arith, eq-eqb, eqb-true)
 -- ---- Steps round a point
 
 -- a dart is followed by the one behind it
-follower_at : (first : Dart) (ds : List Dart) (k : ℕ) (c d : Dart) → IsDistinct ds → slice_get ds k ≡ Some c → slice_get ds (suc k) ≡ Some d → follower first ds c ≡ d
+follower_at : (first : Dart) (ds : List Dart) (k : ℕ) (c d : Dart) → IsDistinct ds → slice_get ds k ≡ Some c → slice_get ds (suc k) ≡ Some d
+    → follower first ds c ≡ d
 follower_at first [] k c d distinct e h = cc
 follower_at first (b ∷ []) zero c d distinct e h = cc
 follower_at first (b ∷ a ∷ ds) zero c d distinct e h = grind (arith, same_dart_self)
@@ -103,12 +104,16 @@ point_full (around ∷ s) full zero h = or_left_false (length around == 0) (list
 point_full (around ∷ s) full (suc i) h = point_full s (or_right_false (length around == 0) (list_any (λ around. length around == 0) s) full) i (omega arith)
 
 -- points with one dart have one number
-one_point : (s : System) → IsDistinct (darts_in s) → (i j : ℕ) (d : Dart) → i < length s → j < length s → has_dart (point s i) d ≡ true → has_dart (point s j) d ≡ true → i ≡ j
+one_point : (s : System) → IsDistinct (darts_in s) → (i j : ℕ) (d : Dart) → i < length s → j < length s → has_dart (point s i) d ≡ true
+    → has_dart (point s j) d ≡ true → i ≡ j
 one_point [] distinct i j d li lj h k = absurd (omega arith)
 one_point (around ∷ s) distinct zero zero d li lj h k = refl
-one_point (around ∷ s) distinct zero (suc j) d li lj h k = absurd (not_in_both around (darts_in s) d distinct h (at_point_in s (point s j) d (point_in s j (omega arith)) k))
-one_point (around ∷ s) distinct (suc i) zero d li lj h k = absurd (not_in_both around (darts_in s) d distinct k (at_point_in s (point s i) d (point_in s i (omega arith)) h))
-one_point (around ∷ s) distinct (suc i) (suc j) d li lj h k = ap suc (one_point s (distinct_right around (darts_in s) distinct) i j d (omega arith) (omega arith) h k)
+one_point (around ∷ s) distinct zero (suc j) d li lj h k =
+    absurd (not_in_both around (darts_in s) d distinct h (at_point_in s (point s j) d (point_in s j (omega arith)) k))
+one_point (around ∷ s) distinct (suc i) zero d li lj h k =
+    absurd (not_in_both around (darts_in s) d distinct k (at_point_in s (point s i) d (point_in s i (omega arith)) h))
+one_point (around ∷ s) distinct (suc i) (suc j) d li lj h k =
+    ap suc (one_point s (distinct_right around (darts_in s) distinct) i j d (omega arith) (omega arith) h k)
 
 -- the number of the point of a dart
 point_number : System → Dart → ℕ
@@ -147,7 +152,8 @@ module _ (rows : Rows) (good : IsWellFormed rows) (full : list_any (λ around. l
   distinct = distinct_system rows good.paths good.crossings good.rotations
 
   round_here : (i : ℕ) (d : Dart) → i < length (system rows) → has_dart (point (system rows) i) d ≡ true → has_dart (darts rows) d ≡ true
-  round_here i d h k = sym (system_test rows good.paths good.crossings good.rotations d) ∙ at_point_in (system rows) (point (system rows) i) d (point_in (system rows) i h) k
+  round_here i d h k = sym (system_test rows good.paths good.crossings good.rotations d)
+      ∙ at_point_in (system rows) (point (system rows) i) d (point_in (system rows) i h) k
 
   permutes : IsPermutation (turns rows good) (count rows good)
   permutes = turn_permutes rows good.paths good.crossings good.rotations
@@ -157,16 +163,20 @@ module _ (rows : Rows) (good : IsWellFormed rows) (full : list_any (λ around. l
 
   -- k steps on numbers are k turns
   steps : (k : ℕ) (d : Dart) → has_dart (darts rows) d ≡ true → after (turns rows good) k (index_of rows d) ≡ index_of rows (after (turn (system rows)) k d)
-  steps k d h = (after_carried (index_of rows) (λ d. has_dart (darts rows) d ≡ true) (turn (system rows)) (turns rows good) (turn_carried rows good.paths good.crossings good.rotations) k d h).1
+  steps k d h = (after_carried (index_of rows) (λ d. has_dart (darts rows) d ≡ true) (turn (system rows)) (turns rows good)
+      (turn_carried rows good.paths good.crossings good.rotations) k d h).1
 
   -- the cycle of a point's first dart holds each dart of the point
-  meets_round : (i : ℕ) (d : Dart) → i < length (system rows) → has_dart (point (system rows) i) d ≡ true → is_met (turns rows good) (count rows good) (number i) (index_of rows d) ≡ true
+  meets_round : (i : ℕ) (d : Dart) → i < length (system rows) → has_dart (point (system rows) i) d ≡ true
+      → is_met (turns rows good) (count rows good) (number i) (index_of rows d) ≡ true
   meets_round i d h k =
       let there = first_round i h in
-      SameCycle-is_met (turns rows good) (count rows good) permutes (number i) (index_of rows d) (number_less rows good (first_dart i) (round_here i (first_dart i) h there)) (record {
+      SameCycle-is_met (turns rows good) (count rows good) permutes (number i) (index_of rows d)
+      (number_less rows good (first_dart i) (round_here i (first_dart i) h there)) (record {
         steps = place_in (point (system rows) i) d;
         leads = steps (place_in (point (system rows) i) d) (first_dart i) (round_here i (first_dart i) h there)
-            ∙ ap (index_of rows) (turns_to (system rows) distinct (point (system rows) i) (point_in (system rows) i h) (place_in (point (system rows) i) d) (first_dart i) d (first_there i h) (get_place (point (system rows) i) d k));
+            ∙ ap (index_of rows) (turns_to (system rows) distinct (point (system rows) i) (point_in (system rows) i h) (place_in (point (system rows) i) d)
+            (first_dart i) d (first_there i h) (get_place (point (system rows) i) d k));
       })
 
   -- and no other
@@ -174,15 +184,18 @@ module _ (rows : Rows) (good : IsWellFormed rows) (full : list_any (λ around. l
   met_round i j li lj e =
       let cycle = is_met-SameCycle (turns rows good) (count rows good) (number i) (number j) e in
       let there = first_round i li in
-      let stays : has_dart (point (system rows) i) (after (turn (system rows)) cycle.steps (first_dart i)) ≡ true = turns_stay (system rows) distinct (point (system rows) i) (point_in (system rows) i li) cycle.steps (first_dart i) there in
+      let stays : has_dart (point (system rows) i) (after (turn (system rows)) cycle.steps (first_dart i)) ≡ true =
+      turns_stay (system rows) distinct (point (system rows) i) (point_in (system rows) i li) cycle.steps (first_dart i) there in
       let is_first_of : after (turn (system rows)) cycle.steps (first_dart i) ≡ first_dart j =
-      index_apart rows good.paths (after (turn (system rows)) cycle.steps (first_dart i)) (first_dart j) (round_here i (after (turn (system rows)) cycle.steps (first_dart i)) li stays) (round_here j (first_dart j) lj (first_round j lj))
+      index_apart rows good.paths (after (turn (system rows)) cycle.steps (first_dart i)) (first_dart j)
+      (round_here i (after (turn (system rows)) cycle.steps (first_dart i)) li stays) (round_here j (first_dart j) lj (first_round j lj))
       (sym (steps cycle.steps (first_dart i) (round_here i (first_dart i) li there)) ∙ cycle.leads) in
       one_point (system rows) distinct i j (first_dart j) li lj (ap (has_dart (point (system rows) i)) (sym is_first_of) ∙ stays) (first_round j lj)
 
   tests_alike : (i j : ℕ) → i < length (system rows) → j < length (system rows) → is_met (turns rows good) (count rows good) (number i) (number j) ≡ (i == j)
   tests_alike i j li lj = elim (cases_Bool (i == j)) [
-    | inl e ↦ ap (λ n. is_met (turns rows good) (count rows good) (number i) (number n)) (sym (eqb-true i j e)) ∙ meets_round i (first_dart i) li (first_round i li) ∙ sym e
+    | inl e ↦ ap (λ n. is_met (turns rows good) (count rows good) (number i) (number n)) (sym (eqb-true i j e))
+        ∙ meets_round i (first_dart i) li (first_round i li) ∙ sym e
     | inr e ↦ elim (cases_Bool (is_met (turns rows good) (count rows good) (number i) (number j))) [
       | inl met ↦ absurd (false≢true (sym e ∙ eq-eqb i j (met_round i j li lj met)))
       | inr unmet ↦ unmet ∙ sym e
@@ -203,7 +216,8 @@ module _ (rows : Rows) (good : IsWellFormed rows) (full : list_any (λ around. l
         range_length a (suc n) = let rest = range_length (a + 1) n in omega arith
 
   all_cycles : length (system rows) ≡ cycles_of (turn_images rows)
-  all_cycles = sym (equal_classes (length (system rows))) ∙ class_count-carries number (λ a b. a == b) (is_met (turns rows good) (count rows good)) (length (system rows)) (count rows good)
+  all_cycles = sym (equal_classes (length (system rows)))
+      ∙ class_count-carries number (λ a b. a == b) (is_met (turns rows good) (count rows good)) (length (system rows)) (count rows good)
       (equality_equivalence (length (system rows))) (is_met-equivalence (turns rows good) (count rows good) permutes) (record {
         within = λ i h. number_less rows good (first_dart i) (round_here i (first_dart i) h (first_round i h));
         same = tests_alike;
@@ -216,5 +230,6 @@ module _ (rows : Rows) (good : IsWellFormed rows) (full : list_any (λ around. l
       })
 
 -- the points of a picture without bare points are the cycles of its turn
-pub points_are_cycles : (rows : Rows) → IsWellFormed rows → list_any (λ around. length around == 0) (system rows) ≡ false → cycles_of (turn_images rows) ≡ length rows.rotations + length rows.crossings
+pub points_are_cycles : (rows : Rows) → IsWellFormed rows → list_any (λ around. length around == 0) (system rows) ≡ false
+    → cycles_of (turn_images rows) ≡ length rows.rotations + length rows.crossings
 points_are_cycles rows good full = sym (all_cycles rows good full) ∙ system_length rows good full

@@ -43,7 +43,8 @@ module _ (f g h : ℕ → ℕ) (n : ℕ) (out : ℕ → Bool) (y : ℕ) (inside 
       let steps : (j : ℕ) → after f (j + suc s.passed) a ≡ after f j y = λ j. after-add f j (suc s.passed) a ∙ ap (after f j) (sym there) in
       record {
         passed = t.passed + suc s.passed;
-        lands = same ∙ t.lands ∙ sym (steps (suc t.passed)) ∙ ap (λ i. after f i a) (let sum : suc t.passed + suc s.passed ≡ suc (t.passed + suc s.passed) = omega arith in sum);
+        lands = same ∙ t.lands ∙ sym (steps (suc t.passed))
+            ∙ ap (λ i. after f i a) (let sum : suc t.passed + suc s.passed ≡ suc (t.passed + suc s.passed) = omega arith in sum);
         stays = subst (λ b. or_at out y b ≡ false) (sym same) (stays_left (g y) t.stays apart);
         over = λ j some few. elim (order j s.passed) [
           | inl early ↦ or_left (out (after f j a)) (after f j a == y) (s.over j some early)
@@ -64,19 +65,23 @@ module _ (f g h : ℕ → ℕ) (n : ℕ) (out : ℕ → Bool) (y : ℕ) (inside 
   bypass_skips a l e = grind (arith, or_left_false, false≢true, or_right_false, eqb_self, cases_eq, onward, elsewhere)
 
 -- a segment is taken out
-pub unchord_skips : (f g h : ℕ → ℕ) (n : ℕ) (out : ℕ → Bool) (d : ℕ) → d < n → twin d < n → d ≢ twin d → IsPermutation g n → out d ≡ false → out (twin d) ≡ false → IsUnchord g h n d
-    → ((a : ℕ) → a < n → out a ≡ false → Skips f out a (g a)) → (a : ℕ) → a < n → or_at (or_at out d) (twin d) a ≡ false → Skips f (or_at (or_at out d) (twin d)) a (h a)
+pub unchord_skips : (f g h : ℕ → ℕ) (n : ℕ) (out : ℕ → Bool) (d : ℕ) → d < n → twin d < n → d ≢ twin d → IsPermutation g n → out d ≡ false
+    → out (twin d) ≡ false → IsUnchord g h n d
+    → ((a : ℕ) → a < n → out a ≡ false → Skips f out a (g a)) → (a : ℕ) → a < n → or_at (or_at out d) (twin d) a ≡ false
+    → Skips f (or_at (or_at out d) (twin d)) a (h a)
 unchord_skips f g h n out d inside other apart perm left other_left taken skips =
     bypass_skips f taken.half h n (or_at out d) (twin d) other (bypassed-permutation g taken.half n d perm inside taken.first)
     (ap (λ (t : Bool). t || twin d == d) other_left ∙ ne_eqb (twin d) d (λ k. apart (sym k))) taken.second
     (bypass_skips f g taken.half n out d inside perm left taken.first skips)
 
 -- another test with the same answers
-pub skips_alike : (f : ℕ → ℕ) (n : ℕ) → IsPermutation f n → (out gone : ℕ → Bool) → ((b : ℕ) → b < n → out b ≡ gone b) → (a b : ℕ) → a < n → Skips f out a b → Skips f gone a b
+pub skips_alike : (f : ℕ → ℕ) (n : ℕ) → IsPermutation f n → (out gone : ℕ → Bool) → ((b : ℕ) → b < n → out b ≡ gone b) → (a b : ℕ) → a < n → Skips f out a b
+    → Skips f gone a b
 skips_alike f n perm out gone same a b l s = grind (arith, after-within)
 
 -- where all so far are out and the next is not, it is the one
-pub skips_here : (f : ℕ → ℕ) (out : ℕ → Bool) (a b k : ℕ) → Skips f out a b → ((j : ℕ) → 0 < j → j ≤ k → out (after f j a) ≡ true) → out (after f (suc k) a) ≡ false → b ≡ after f (suc k) a
+pub skips_here : (f : ℕ → ℕ) (out : ℕ → Bool) (a b k : ℕ) → Skips f out a b → ((j : ℕ) → 0 < j → j ≤ k → out (after f j a) ≡ true)
+    → out (after f (suc k) a) ≡ false → b ≡ after f (suc k) a
 skips_here f out a b k s over here = elim (cases_eq s.passed k) [
   | inl same ↦ s.lands ∙ ap (λ i. after f (suc i) a) same
   | inr differ ↦ elim (cases_lt k s.passed) [
@@ -86,7 +91,8 @@ skips_here f out a b k s over here = elim (cases_eq s.passed k) [
 ]
 
 -- not all are out, since a comes again
-pub skips_ends : (f : ℕ → ℕ) (out : ℕ → Bool) (n a k : ℕ) → IsPermutation f n → a < n → n ≤ k → out a ≡ false → ((j : ℕ) → 0 < j → j ≤ k → out (after f j a) ≡ true) → ⊥
+pub skips_ends : (f : ℕ → ℕ) (out : ℕ → Bool) (n a k : ℕ) → IsPermutation f n → a < n → n ≤ k → out a ≡ false
+    → ((j : ℕ) → 0 < j → j ≤ k → out (after f j a) ≡ true) → ⊥
 skips_ends f out n a k perm l many left over =
     let (d, few, round) = period f n perm a l in
     false≢true (sym left ∙ ap out (sym round.home) ∙ over d round.some (omega (arith, few, many)))

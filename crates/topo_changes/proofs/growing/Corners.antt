@@ -19,7 +19,8 @@ module _ (rows : Rows) (good : IsWellFormed rows) where
     entry_in p below = slice_get-get_or around p 0 below
 
     pub entry_known : (p : ℕ) → p < length around → is_some (edge_row rows (slice_index around p)) ≡ true
-    entry_known p below = (good_rotation rows good.rotations v (vertex_in rows v inside)).known (slice_index around p) (in_at (slice_index around p) around p (entry_in p below))
+    entry_known p below =
+        (good_rotation rows good.rotations v (vertex_in rows v inside)).known (slice_index around p) (in_at (slice_index around p) around p (entry_in p below))
 
     pub corner_is : (p : ℕ) → p < length around → corner rows v p ≡ Some (end_dart rows v (slice_index around p))
     corner_is p below = corner_told rows v p (slice_index around p) around refl below refl

@@ -14,7 +14,8 @@ use Rattle.topo_core.specs.Lawful.{has_good_path, IsWellFormed}
 use Rattle.topo_core.specs.Picture.{corner, edge_at, edge_row, end_dart, rotation, system}
 use Rattle.topo_core.specs.Pictures.{back, forward}
 use Rattle.topo_core.specs.Systems.{turn}
-use Rattle.topo_core.proofs.growing.Growing.{crossings_after_growth, found_more, is_put_in, IsGrownTurn, IsPutIn, below_limit, more_vertices, paths_after_growth, rotations_after_growth, turns_after_growth}
+use Rattle.topo_core.proofs.growing.Growing.{crossings_after_growth, found_more, is_put_in, IsGrownTurn, IsPutIn, below_limit}
+use Rattle.topo_core.proofs.growing.Growing.{more_vertices, paths_after_growth, rotations_after_growth, turns_after_growth}
 use Rattle.topo_core.proofs.numbering.Members.{in_left, in_map, in_right, left_true}
 use Rattle.topo_core.proofs.numbering.Standing.{good_rotation}
 use Rattle.topo_core.proofs.systems.SystemDarts.{edge_at_row, eqb_self, row_id, row_in, some_of, vertex_in}
@@ -31,16 +32,19 @@ place_of_new f (x ∷ xs) ys other =
     ap (λ (b : Bool). cond {A = ℕ} (not b) (1 + position_or_len (λ y. y == f) (xs ++ f ∷ ys)) 0) (ne_eqb x f (other x (inl refl))) ∙ omega arith
 
 -- what is found behind all else
-find_new : (f : ℕ) (edges : List EdgeRow) (row : EdgeRow) → row.id ≡ f → ((r : EdgeRow) → IsIn r edges → r.id ≢ f) → find (λ r. r.id == f) (edges ++ row ∷ []) ≡ Some row
+find_new : (f : ℕ) (edges : List EdgeRow) (row : EdgeRow) → row.id ≡ f → ((r : EdgeRow) → IsIn r edges → r.id ≢ f)
+    → find (λ r. r.id == f) (edges ++ row ∷ []) ≡ Some row
 find_new f [] row is other = ap (λ (b : Bool). cond b (Some row) None) (eq-eqb row.id f is)
 find_new f (r ∷ rest) row is other =
-    ap (λ (b : Bool). cond b (Some r) (find (λ r. r.id == f) (rest ++ row ∷ []))) (ne_eqb r.id f (other r (inl refl))) ∙ find_new f rest row is (λ r h. other r (inr h))
+    ap (λ (b : Bool). cond b (Some r) (find (λ r. r.id == f) (rest ++ row ∷ []))) (ne_eqb r.id f (other r (inl refl)))
+    ∙ find_new f rest row is (λ r h. other r (inr h))
 
 -- what stands after it
 after_new : (f d : ℕ) (xs ys : List ℕ) → slice_index_or (xs ++ f ∷ ys) (length xs + 1) d ≡ slice_index_or ys 0 d
 after_new f d xs ys = get_or-append-add xs (f ∷ ys) 1 d
 
-module _ (rows : Rows) (u p kind : ℕ) (good : IsWellFormed rows) (u_in : u < length rows.rotations) (p_in : p < length (rotation rows u)) (known : kind < 64) where
+module _ (rows : Rows) (u p kind : ℕ) (good : IsWellFormed rows) (u_in : u < length rows.rotations) (p_in : p < length (rotation rows u))
+    (known : kind < 64) where
   abbrev grew : Rows
   grew = grown rows u p kind
 
@@ -54,7 +58,8 @@ module _ (rows : Rows) (u p kind : ℕ) (good : IsWellFormed rows) (u_in : u < l
   new_row = record { id = f; a = u; b = length rows.rotations; kind = kind; crossings = [] }
 
   pub old_edge : (row : EdgeRow) → IsIn row rows.edges → row.id < f
-  old_edge row h = below_limit f (map (λ row. row.id) rows.edges) (left_true _ (list_all (has_good_path rows) rows.edges) good.paths) row.id (in_map (λ row. row.id) row rows.edges h)
+  old_edge row h = below_limit f (map (λ row. row.id) rows.edges) (left_true _ (list_all (has_good_path rows) rows.edges) good.paths) row.id
+      (in_map (λ row. row.id) row rows.edges h)
 
   pub known_below : (e : ℕ) → is_some (edge_row rows e) ≡ true → e < f
   known_below e there = let row = some_of (edge_row rows e) there in subst (λ x. x < f) (row_id rows e row.0 row.1) (old_edge row.0 (row_in rows e row.0 row.1))
@@ -73,7 +78,8 @@ module _ (rows : Rows) (u p kind : ℕ) (good : IsWellFormed rows) (u_in : u < l
       let before : List ℕ = i.head ∷ i.front in
       let now : rotation grew u ≡ before ++ f ∷ i.back = around_after ∙ i.now in
       let old : (x : ℕ) → IsIn x before → x ≢ f = λ x h e.
-      let less = known_below x ((good_rotation rows good.rotations u (vertex_in rows u u_in)).known x (subst (IsIn x) (sym i.was) (in_left x before i.back h))) in absurd (omega arith) in
+      let less = known_below x ((good_rotation rows good.rotations u (vertex_in rows u u_in)).known x
+      (subst (IsIn x) (sym i.was) (in_left x before i.back h))) in absurd (omega arith) in
       grind (arith, slice_get-get_or, place_of_new, after_new)
 
   -- old edges are as they were
@@ -87,13 +93,15 @@ module _ (rows : Rows) (u p kind : ℕ) (good : IsWellFormed rows) (u_in : u < l
   new_edge = edge_at_row grew f new_row (find_new f rows.edges new_row refl (λ row h e. let less = old_edge row h in absurd (omega arith)))
 
   new_end : end_dart grew u f ≡ forward f 0
-  new_end = ap (λ (r : EdgeRow). cond (r.a == u) (forward f 0) (back f (length r.crossings))) new_edge ∙ ap (λ (b : Bool). cond b (forward f 0) (back f 0)) (eqb_self u)
+  new_end = ap (λ (r : EdgeRow). cond (r.a == u) (forward f 0) (back f (length r.crossings))) new_edge
+      ∙ ap (λ (b : Bool). cond b (forward f 0) (back f 0)) (eqb_self u)
 
   -- the new edge comes before the corner
   pub leads_on : (c : Dart) → corner rows u p ≡ Some c → turn (system grew) (forward f 0) ≡ c
   leads_on c at =
       let i = is_put_in p f around p_in in
-      let has : has_id (rotation grew u) f ≡ true = ap (λ xs. has_id xs f) (around_after ∙ i.now) ∙ has_id_in f (i.head ∷ i.front ++ f ∷ i.back) (in_right f (i.head ∷ i.front) (f ∷ i.back) (inl refl)) in
+      let has : has_id (rotation grew u) f ≡ true = ap (λ xs. has_id xs f) (around_after ∙ i.now)
+      ∙ has_id_in f (i.head ∷ i.front ++ f ∷ i.back) (in_right f (i.head ∷ i.front) (f ∷ i.back) (inl refl)) in
       ap (turn (system grew)) (sym new_end)
       ∙ turn_at_vertex grew grown_good u f (omega (arith, more_vertices rows u p kind good.paths good.rotations u_in p_in)) has
       ∙ ap (end_dart grew u) (follows i)

@@ -25,7 +25,8 @@ use Rattle.topo_rows.proofs.Begins.{get_left, get_right}
 use Rattle.topo_changes.proofs.growing.GrownCorner.{grown_good, grown_turns, known_below, leads_on, new_row}
 use Rattle.topo_changes.proofs.inserting.InsertedNumbers.{dart_here, dart_of, even_count, number_less, number_of, turn_number}
 
-module _ (rows : Rows) (good : IsWellFormed rows) (u p kind : ℕ) (u_in : u < length rows.rotations) (p_in : p < length (rotation rows u)) (known : kind < 64) where
+module _ (rows : Rows) (good : IsWellFormed rows) (u p kind : ℕ) (u_in : u < length rows.rotations) (p_in : p < length (rotation rows u))
+    (known : kind < 64) where
   abbrev pub after : Rows
   after = grown rows u p kind
 
@@ -54,7 +55,8 @@ module _ (rows : Rows) (good : IsWellFormed rows) (u p kind : ℕ) (u_in : u < l
   darts_after = flat_map-append darts_of rows.edges (new_row rows u p kind good u_in p_in known ∷ [])
 
   got_old : (d : Dart) → IsOld d → slice_get (darts after) (index_of rows d) ≡ Some d
-  got_old d h = ap (λ ds. slice_get ds (index_of rows d)) darts_after ∙ get_left (darts rows) (new_dart ∷ new_twin ∷ []) (index_of rows d) (place_less (darts rows) d h) ∙ get_index rows good.paths d h
+  got_old d h = ap (λ ds. slice_get ds (index_of rows d)) darts_after
+      ∙ get_left (darts rows) (new_dart ∷ new_twin ∷ []) (index_of rows d) (place_less (darts rows) d h) ∙ get_index rows good.paths d h
 
   got_new : slice_get (darts after) m ≡ Some new_dart
   got_new = ap (λ ds. slice_get ds m) darts_after ∙ get_right (darts rows) (new_dart ∷ new_twin ∷ []) m 0 (omega (arith, images_length rows))
@@ -90,7 +92,8 @@ module _ (rows : Rows) (good : IsWellFormed rows) (u p kind : ℕ) (u_in : u < l
   after_turn = map_of (turn_images after)
 
   is_old_edge : (d : Dart) → IsOld d → d.edge ≢ rows.next_edge
-  is_old_edge d h e = (let less : d.edge < rows.next_edge = known_below rows u p kind good u_in p_in known d.edge (edge_of_dart rows good d h) in absurd (omega arith))
+  is_old_edge d h e = (let less : d.edge < rows.next_edge = known_below rows u p kind good u_in p_in known d.edge (edge_of_dart rows good d h) in
+      absurd (omega arith))
 
   old_turn : (d : Dart) → IsOld d → after_turn (index_of rows d) ≡ index_of after (turn (system after) d)
   old_turn d h = ap after_turn (sym (old_index d h)) ∙ turn_number after good_after d (old_there d h)
@@ -103,7 +106,8 @@ module _ (rows : Rows) (good : IsWellFormed rows) (u p kind : ℕ) (u_in : u < l
     leads = leads_on rows u p kind good u_in p_in known c at
 
     -- an old dart turns as before, or to the new one where it turned to the corner
-    turned : (d : Dart) → IsOld d → (after_turn (index_of rows d) ≡ before_turn (index_of rows d)) ⊎ ((after_turn (index_of rows d) ≡ m) × (index_of rows c ≡ before_turn (index_of rows d)))
+    turned : (d : Dart) → IsOld d → (after_turn (index_of rows d) ≡ before_turn (index_of rows d))
+        ⊎ ((after_turn (index_of rows d) ≡ m) × (index_of rows c ≡ before_turn (index_of rows d)))
     turned d h = grind (arith, turn_number, turns, is_old_edge, old_turn, old_index, turn_stays, new_index, leads)
 
     growth : IsGrowth before_turn after_turn m (index_of rows c)
@@ -115,12 +119,15 @@ module _ (rows : Rows) (good : IsWellFormed rows) (u p kind : ℕ) (u_in : u < l
       starts = ap after_turn (sym new_index) ∙ turn_number after good_after new_dart new_there ∙ ap (index_of after) leads ∙ old_index c corner_there;
       alone = ap after_turn (sym new_twin_index) ∙ turn_number after good_after new_twin new_twin_there ∙ ap (index_of after) turns.alone ∙ new_twin_index;
       old = λ a la.
-          subst (λ (v : ℕ). (after_turn v ≡ before_turn v) ⊎ ((after_turn v ≡ m) × (index_of rows c ≡ before_turn v))) (number_of rows good a la) (turned (dart_of rows good a) (dart_here rows good a la));
+          subst (λ (v : ℕ). (after_turn v ≡ before_turn v) ⊎ ((after_turn v ≡ m) × (index_of rows c ≡ before_turn v))) (number_of rows good a la)
+          (turned (dart_of rows good a) (dart_here rows good a la));
     } where
       new_twin_there : has_dart (darts after) new_twin ≡ true
-      new_twin_there = has_at (darts after) (suc m) new_twin (ap (λ ds. slice_get ds (suc m)) darts_after ∙ get_right (darts rows) (new_dart ∷ new_twin ∷ []) (suc m) 1 (omega (arith, images_length rows)))
+      new_twin_there = has_at (darts after) (suc m) new_twin
+          (ap (λ ds. slice_get ds (suc m)) darts_after ∙ get_right (darts rows) (new_dart ∷ new_twin ∷ []) (suc m) 1 (omega (arith, images_length rows)))
 
     -- the old darts keep their halves, and the new edge has y
-    pub grown_slab : (nu back : ℕ → ℕ) (limit : ℕ) (t t' : Turning) (y : ℕ) → RenumbersTurn nu back before_turn t.turn m t.live limit → IsSlab t.live t.turn limit → IsStep limit t (Hang (nu (index_of rows c)) y) t'
+    pub grown_slab : (nu back : ℕ → ℕ) (limit : ℕ) (t t' : Turning) (y : ℕ) → RenumbersTurn nu back before_turn t.turn m t.live limit
+        → IsSlab t.live t.turn limit → IsStep limit t (Hang (nu (index_of rows c)) y) t'
         → IsGrowthUnder after_turn m nu t' limit y
     grown_slab nu back limit t t' y renumbers slab hang = growth_numbers growth y renumbers slab hang

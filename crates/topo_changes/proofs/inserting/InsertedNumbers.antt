@@ -10,7 +10,8 @@ use Rattle.topo_core.specs.Darts.{dart_twin}
 use Rattle.topo_core.specs.Systems.{SameFace, has_dart, turn}
 use Rattle.topo_core.specs.Picture.{darts, index_of, system, turn_images}
 use Rattle.topo_core.specs.Lawful.{IsWellFormed}
-use Rattle.topo_core.proofs.numbering.Numbering.{even_images, get_index, has_at, image_of, images_length, index_apart, index_less, index_of_get, index_twin, turn_stays, twin_in}
+use Rattle.topo_core.proofs.numbering.Numbering.{even_images, get_index, has_at, image_of, images_length, index_apart}
+use Rattle.topo_core.proofs.numbering.Numbering.{index_less, index_of_get, index_twin, turn_stays, twin_in}
 use Rattle.topo_core.proofs.numbering.Renumbering.{face_darts, face_numbers}
 use Rattle.topo_core.proofs.systems.SystemDarts.{get_there}
 use Rattle.topo_perm.specs.Edits.{IsApart}
@@ -57,7 +58,8 @@ module _ (rows : Rows) (good : IsWellFormed rows) where
   pub turned : (a : ℕ) → a < count → dart_of (turns a) ≡ turn (system rows) (dart_of a)
   turned a la =
       let h : IsHere (dart_of a) = dart_here a la in
-      ap dart_of (ap turns (sym (number_of a la)) ∙ turn_number (dart_of a) h) ∙ dart_of_number (turn (system rows) (dart_of a)) (turn_stays rows good.paths good.crossings good.rotations (dart_of a) h)
+      ap dart_of (ap turns (sym (number_of a la)) ∙ turn_number (dart_of a) h)
+      ∙ dart_of_number (turn (system rows) (dart_of a)) (turn_stays rows good.paths good.crossings good.rotations (dart_of a) h)
 
   pub twinned : (a : ℕ) → a < count → dart_of (twin a) ≡ dart_twin (dart_of a)
   twinned a la =

@@ -1,5 +1,6 @@
 -- A picture that shows a new edge, as numbers: the new edge is an insertion path through the old system.
-use Rattle.std.proofs.Common.{◌≡◌, ◌≢◌, ℕ, suc, ◌+◌, ◌-◌, ◌<◌, ◌≤◌, ◌==◌, Bool, true, false, ◌&&◌, List, [], ◌∷◌, length, ◌⊎◌, inl, inr, refl, sym, ◌∙◌, ap, subst, arith}
+use Rattle.std.proofs.Common.{◌≡◌, ◌≢◌, ℕ, suc, ◌+◌, ◌-◌, ◌<◌, ◌≤◌, ◌==◌, Bool, true, false, ◌&&◌}
+use Rattle.std.proofs.Common.{List, [], ◌∷◌, length, ◌⊎◌, inl, inr, refl, sym, ◌∙◌, ap, subst, arith}
 use Rattle.std.specs.Prelude.{Some}
 use Rattle.std.specs.List.{AllByRecursion, enumerate_from}
 use Rattle.std.proofs.lemmas.Bool.{cases_Bool, cases_eq, eq-eqb, false≢true}
@@ -26,8 +27,10 @@ use Rattle.topo_core.proofs.routing.SimpleRoutes.{same_or_twins}
 use Rattle.topo_perm.specs.Edits.{IsApart}
 use Rattle.topo_perm.proofs.runs.Chords.{AreNewChords, AreApartChords, IsNewChord, IsOffChords, NewChord, apart_back, without_chords}
 use Rattle.topo_perm.proofs.runs.Subdivisions.{AreSubdivisions, AreOnOthers, Subdivision, IsSubdivision, IsNamed, IsStraight, IsUndivided}
-use Rattle.topo_perm.proofs.runs.InsertionPaths.{AreAlong, AreStrange, IsInsertionPath, IsPlaced, MeetsOnce, Walks, all_at, all_of, chords_permutation, over_chord, over_chord_back, past_chords}
-use Rattle.topo_changes.proofs.inserting.InsertedNumbers.{dart_here, dart_of, dart_of_number, even_count, face_same, number_less, number_of, numbers_apart, same_face, segment_apart, turn_number, turned, twinned}
+use Rattle.topo_perm.proofs.runs.InsertionPaths.{AreAlong, AreStrange, IsInsertionPath, IsPlaced, MeetsOnce, Walks, all_at}
+use Rattle.topo_perm.proofs.runs.InsertionPaths.{all_of, chords_permutation, over_chord, over_chord_back, past_chords}
+use Rattle.topo_changes.proofs.inserting.InsertedNumbers.{dart_here, dart_of, dart_of_number, even_count, face_same, number_less}
+use Rattle.topo_changes.proofs.inserting.InsertedNumbers.{number_of, numbers_apart, same_face, segment_apart, turn_number, turned, twinned}
 
 pub onward_edge : (q : Rows) (x e : ℕ) (way : Way) → (onward_by q x e way).edge ≡ e
 onward_edge q x e Forward = refl
@@ -77,7 +80,8 @@ module _ (p q : Rows) (f u v : ℕ) (r : Route) (hp : IsWellFormed p) (hq : IsWe
 
   -- a dart of another edge is not on a segment of the new one
   strange : (d : Dart) → Is d → d.edge ≢ f → (i : ℕ) → i ≤ length r.crossed → IsApart n (num d) (num (newcomer i Forward))
-  strange d h ne i le = segment_apart q hq d (newcomer i Forward) h (newcomer_in i Forward le) (λ e. ne (ap (λ (c : Dart). c.edge) e)) (λ e. ne (ap (λ (c : Dart). c.edge) e))
+  strange d h ne i le = segment_apart q hq d (newcomer i Forward) h (newcomer_in i Forward le) (λ e. ne (ap (λ (c : Dart). c.edge) e))
+      (λ e. ne (ap (λ (c : Dart). c.edge) e))
 
   lifted_there : (d : Dart) → Was d → Is (lifted p q d)
   lifted_there d w = s.lifts d w
@@ -134,7 +138,8 @@ module _ (p q : Rows) (f u v : ℕ) (r : Route) (hp : IsWellFormed p) (hq : IsWe
 
   off_chords : (a : Dart) → Is a → a.edge ≢ f → (x z : ℕ) (ds : List Dart) (e : ℕ) → IsRest x ds → IsOffChords n (new_chords_of x z ds e) (num a)
   off_chords a h ne x z [] e rest = (strange a h ne (x - p.next_crossing) (index_least x [] rest), tt)
-  off_chords a h ne x z (d ∷ ds) e rest = (strange a h ne (x - p.next_crossing) (index_least x (d ∷ ds) rest), off_chords a h ne (x + 1) (num (backward q x d)) ds e (rest_of x d ds rest))
+  off_chords a h ne x z (d ∷ ds) e rest =
+      (strange a h ne (x - p.next_crossing) (index_least x (d ∷ ds) rest), off_chords a h ne (x + 1) (num (backward q x d)) ds e (rest_of x d ds rest))
 
   -- ---- The chords
 
@@ -158,7 +163,8 @@ module _ (p q : Rows) (f u v : ℕ) (r : Route) (hp : IsWellFormed p) (hq : IsWe
         z_other = backward_other x d h.was.0;
         e_in = t.e_in;
         e_other = t.e_other;
-        leaves = ap (λ (j : ℕ). turn (system q) (newcomer j Forward)) (next_index x h.from) ∙ ap (turn (system q)) (sym (s.newcomer x d i).0) ∙ (s.round_ahead x d i).1;
+        leaves = ap (λ (j : ℕ). turn (system q) (newcomer j Forward)) (next_index x h.from) ∙ ap (turn (system q)) (sym (s.newcomer x d i).0)
+            ∙ (s.round_ahead x d i).1;
         arrives = t.arrives;
         not_end = t.end_new x d i;
         not_onward = λ y c j w. s.not_both y x c d j i (sym w);
@@ -193,7 +199,8 @@ module _ (p q : Rows) (f u v : ℕ) (r : Route) (hp : IsWellFormed p) (hq : IsWe
       (λ e. ne (sym (ap (λ (c : Dart). c.seg) e))) (λ e. ne (sym (ap (λ (c : Dart). c.seg) e)))
 
   -- a chord before and the chords from x on
-  chords_off_chords : (i : ℕ) (a b : Dart) → Is a → a.edge ≢ f → Is b → b.edge ≢ f → i ≤ length r.crossed → (x : ℕ) (z e : Dart) (ds : List Dart) → IsRest x ds → IsStart x z e → i < x - p.next_crossing
+  chords_off_chords : (i : ℕ) (a b : Dart) → Is a → a.edge ≢ f → Is b → b.edge ≢ f → i ≤ length r.crossed → (x : ℕ) (z e : Dart) (ds : List Dart) → IsRest x ds
+      → IsStart x z e → i < x - p.next_crossing
       → AllByRecursion (AreApartChords n (record { from = num a; to = num b; half = num (newcomer i Forward) })) (new_chords_of x (num z) ds (num e))
   chords_off_chords i a b ha na hb nb hi x z e [] h t less =
       let le : x - p.next_crossing ≤ length r.crossed = index_least x [] h in (
@@ -226,14 +233,19 @@ module _ (p q : Rows) (f u v : ℕ) (r : Route) (hp : IsWellFormed p) (hq : IsWe
       let t' : IsStart (x + 1) (backward q x d) e = next_start x z e d ds h t in
       let h' : IsRest (x + 1) ds = rest_of x d ds h in (
         inner_chord x z e d ds h t,
-        chords_off_chords (x - p.next_crossing) z (onward q x d) t.z_in t.z_other there (onward_other x d h.was.0) (index_least x (d ∷ ds) h) (x + 1) (backward q x d) e ds h' t' (let k = h.from in omega arith),
+        chords_off_chords (x - p.next_crossing) z (onward q x d) t.z_in t.z_other there (onward_other x d h.was.0) (index_least x (d ∷ ds) h) (x + 1)
+            (backward q x d) e ds h' t' (let k = h.from in omega arith),
         are_chords (x + 1) (backward q x d) e ds h' t',
       )
 
   -- each segment of the new edge is a chord
-  chord_at : (x : ℕ) (z e : Dart) (ds : List Dart) → IsRest x ds → (i : ℕ) → x - p.next_crossing ≤ i → i ≤ length r.crossed → (l : NewChord) × IsIn l (new_chords_of x (num z) ds (num e)) × (l.half ≡ num (newcomer i Forward))
-  chord_at x z e [] h i low high =
-      (chord_of x (num z) (num e), inl refl, ap (λ (j : ℕ). num (newcomer j Forward)) (let k = h.from in let l : x + 0 ≡ p.next_crossing + length r.crossed = h.size in omega arith))
+  chord_at : (x : ℕ) (z e : Dart) (ds : List Dart) → IsRest x ds → (i : ℕ) → x - p.next_crossing ≤ i → i ≤ length r.crossed → (l : NewChord)
+      × IsIn l (new_chords_of x (num z) ds (num e)) × (l.half ≡ num (newcomer i Forward))
+  chord_at x z e [] h i low high = (
+    chord_of x (num z) (num e),
+    inl refl,
+    ap (λ (j : ℕ). num (newcomer j Forward)) (let k = h.from in let l : x + 0 ≡ p.next_crossing + length r.crossed = h.size in omega arith),
+  )
   chord_at x z e (d ∷ ds) h i low high = elim (cases_eq (x - p.next_crossing) i) [
     | inl same ↦ (chord_of x (num z) (num (onward q x d)), inl refl, ap (λ (j : ℕ). num (newcomer j Forward)) same)
     | inr ne ↦
@@ -263,7 +275,8 @@ module _ (p q : Rows) (f u v : ℕ) (r : Route) (hp : IsWellFormed p) (hq : IsWe
     pub start : IsStart p.next_crossing z e
 
   -- the path from the corner of `from` to the corner of `to`
-  pub path_of : (from to : Dart) → corner p u r.start ≡ Some from → corner p v r.end ≡ Some to → Was from → Was to → from ≢ to → AllByRecursion (λ d. has_dart (darts p) d ≡ true) r.crossed → CrossesOnce r.crossed → IsPath (lifted p q from) (lifted p q to)
+  pub path_of : (from to : Dart) → corner p u r.start ≡ Some from → corner p v r.end ≡ Some to → Was from → Was to → from ≢ to
+      → AllByRecursion (λ d. has_dart (darts p) d ≡ true) r.crossed → CrossesOnce r.crossed → IsPath (lifted p q from) (lifted p q to)
   path_of from to from_at to_at from_was to_was apart was once = record {
     rest = record { from = omega arith; size = refl; sub = λ y d i. i; was = was; once = once };
     start = record {
@@ -292,7 +305,8 @@ module _ (p q : Rows) (f u v : ℕ) (r : Route) (hp : IsWellFormed p) (hq : IsWe
   path_are_chords z e h = are_chords p.next_crossing z e r.crossed h.rest h.start
 
   -- what turns to a dart of the new edge turns, without it, to what follows that
-  over_newcomer : (z e : Dart) → IsPath z e → (a : Dart) → Is a → a.edge ≢ f → (i : ℕ) → (way : Way) → i ≤ length r.crossed → turn (system q) a ≡ newcomer i way → below z e (num a) ≡ num (turn (system q) (newcomer i way))
+  over_newcomer : (z e : Dart) → IsPath z e → (a : Dart) → Is a → a.edge ≢ f → (i : ℕ) → (way : Way) → i ≤ length r.crossed → turn (system q) a ≡ newcomer i way
+      → below z e (num a) ≡ num (turn (system q) (newcomer i way))
   over_newcomer z e h a ha na i Forward hi at =
       let (l, l_in, half) = chord_at p.next_crossing z e r.crossed h.rest i (omega arith) hi in
       let new_chords : AreNewChords g n (path_chords z e) = path_are_chords z e h in
@@ -332,17 +346,23 @@ module _ (p q : Rows) (f u v : ℕ) (r : Route) (hp : IsWellFormed p) (hq : IsWe
           near_there = number_less q hq (lifted p q d) (lifted_there d c.was);
           near_apart = numbers_apart q hq (lifted p q d) on (lifted_there d c.was) on_in ((s.new_points x d d c.at c.was).0);
           beyond_there = number_less q hq on on_in;
-          onto = over_newcomer z e h on on_in (onward_other x d c.was) (x - p.next_crossing + 1) Forward next ((s.round_ahead x d c.at).0 ∙ (s.newcomer x d c.at).0)
+          onto = over_newcomer z e h on on_in (onward_other x d c.was)
+              (x - p.next_crossing + 1) Forward next ((s.round_ahead x d c.at).0 ∙ (s.newcomer x d c.at).0)
               ∙ ap num (ap (turn (system q)) (sym (s.newcomer x d c.at).0) ∙ (s.round_ahead x d c.at).1) ∙ sym at_back;
-          round = ap (below z e) at_back ∙ over_newcomer z e h back back_in (backward_other x d c.was) (x - p.next_crossing) Back here ((s.round_behind x d c.at).0 ∙ (s.newcomer x d c.at).1)
+          round = ap (below z e) at_back
+              ∙ over_newcomer z e h back back_in (backward_other x d c.was) (x - p.next_crossing) Back here ((s.round_behind x d c.at).0
+              ∙ (s.newcomer x d c.at).1)
               ∙ ap num (ap (turn (system q)) (sym (s.newcomer x d c.at).1) ∙ (s.round_behind x d c.at).1);
           other_end = ap name (sym (index_twin p d c.was)) ∙ name_of (dart_twin d) twin_was ∙ ap num (s.after_crossing x d c.at) ∙ index_twin q on on_in;
           two = λ w. numbers_apart q hq on back on_in back_in (s.not_both x x d d c.at c.at) (w ∙ at_back);
-          new = λ a la. numbers_apart q hq (lifted p q (dart_of p hp a)) on (lifted_there (dart_of p hp a) (dart_here p hp a la)) on_in ((s.new_points x d (dart_of p hp a) c.at (dart_here p hp a la)).0);
-          new_back = λ a la w. numbers_apart q hq (lifted p q (dart_of p hp a)) back (lifted_there (dart_of p hp a) (dart_here p hp a la)) back_in ((s.new_points x d (dart_of p hp a) c.at (dart_here p hp a la)).1) (w ∙ at_back);
+          new = λ a la. numbers_apart q hq (lifted p q (dart_of p hp a)) on (lifted_there (dart_of p hp a) (dart_here p hp a la)) on_in
+              ((s.new_points x d (dart_of p hp a) c.at (dart_here p hp a la)).0);
+          new_back = λ a la w. numbers_apart q hq (lifted p q (dart_of p hp a)) back (lifted_there (dart_of p hp a) (dart_here p hp a la)) back_in
+              ((s.new_points x d (dart_of p hp a) c.at (dart_here p hp a la)).1) (w ∙ at_back);
         }
 
-    on_others : (x y : ℕ) (c d : Dart) → IsCrossed x c → IsCrossed y d → x ≢ y → same_segment c d ≡ false → AreOnOthers m (subdivision_of x c) (subdivision_of y d)
+    on_others : (x y : ℕ) (c d : Dart) → IsCrossed x c → IsCrossed y d → x ≢ y → same_segment c d ≡ false
+        → AreOnOthers m (subdivision_of x c) (subdivision_of y d)
     on_others x y c d hc hd ne apart =
         let on_c : Is (onward q x c) = (s.crossed_there x c hc.at).0 in
         let on_d : Is (onward q y d) = (s.crossed_there y d hd.at).0 in
@@ -352,7 +372,8 @@ module _ (p q : Rows) (f u v : ℕ) (r : Route) (hp : IsWellFormed p) (hq : IsWe
           dart = segment_apart p hp d c hd.was hc.was
               (λ w. one_segment c d (ap (λ (v : Dart). v.edge) (sym w)) (ap (λ (v : Dart). v.seg) (sym w)) apart)
               (λ w. one_segment c d (ap (λ (v : Dart). v.edge) (sym w)) (ap (λ (v : Dart). v.seg) (sym w)) apart);
-          near = numbers_apart q hq (lifted p q d) (lifted p q c) (lifted_there d hd.was) (lifted_there c hc.was) (λ w. one_segment c d (ap (λ (v : Dart). v.edge) (s.lifts_apart c d hc.was hd.was (sym w))) (ap (λ (v : Dart). v.seg) (s.lifts_apart c d hc.was hd.was (sym w))) apart);
+          near = numbers_apart q hq (lifted p q d) (lifted p q c) (lifted_there d hd.was) (lifted_there c hc.was) (λ w. one_segment c d
+              (ap (λ (v : Dart). v.edge) (s.lifts_apart c d hc.was hd.was (sym w))) (ap (λ (v : Dart). v.seg) (s.lifts_apart c d hc.was hd.was (sym w))) apart);
           beyond = numbers_apart q hq (onward q y d) (onward q x c) on_d on_c (λ w. ne (sym (s.onward_apart y x d c hd.at hc.at w)));
           beyond_back = λ w. numbers_apart q hq (onward q y d) (backward q x c) on_d back_c (s.not_both y x d c hd.at hc.at) (w ∙ back_number x c hc);
           back_beyond = λ w. numbers_apart q hq (onward q x c) (backward q y d) on_c back_d (s.not_both x y c d hc.at hd.at) (w ∙ back_number y d hd);
@@ -366,13 +387,22 @@ module _ (p q : Rows) (f u v : ℕ) (r : Route) (hp : IsWellFormed p) (hq : IsWe
       high = (let l : x + suc (length ds) ≡ p.next_crossing + length r.crossed = k.size in omega arith);
     }
 
-    later_subdivisions : (x : ℕ) (c : Dart) → IsCrossed x c → (y : ℕ) (ds : List Dart) → IsRest y ds → x < y → AllByRecursion (λ d. same_segment c d ≡ false) ds → AllByRecursion (AreOnOthers m (subdivision_of x c)) (subdivisions_of y ds)
+    later_subdivisions : (x : ℕ) (c : Dart) → IsCrossed x c → (y : ℕ) (ds : List Dart) → IsRest y ds → x < y → AllByRecursion (λ d. same_segment c d ≡ false) ds
+        → AllByRecursion (AreOnOthers m (subdivision_of x c)) (subdivisions_of y ds)
     later_subdivisions x c hc y [] k less apart = tt
-    later_subdivisions x c hc y (d ∷ ds) k less apart = (on_others x y c d hc (crossed_at y d ds k) (λ w. (let l = less in omega arith)) apart.0, later_subdivisions x c hc (y + 1) ds (rest_of y d ds k) (omega (arith, less)) apart.1)
+    later_subdivisions x c hc y (d ∷ ds) k less apart = (
+      on_others x y c d hc (crossed_at y d ds k) (λ w. (let l = less in omega arith)) apart.0,
+      later_subdivisions x c hc (y + 1) ds (rest_of y d ds k) (omega (arith, less)) apart.1,
+    )
 
     are_subdivisions : (x : ℕ) (ds : List Dart) → IsRest x ds → AreSubdivisions (below z e) n m name (subdivisions_of x ds)
     are_subdivisions x [] k = tt
-    are_subdivisions x (d ∷ ds) k = (is_subdivision x d (crossed_at x d ds k), later_subdivisions x d (crossed_at x d ds k) (x + 1) ds (rest_of x d ds k) (omega arith) k.once.0, are_subdivisions (x + 1) ds (rest_of x d ds k), sym (name_of d k.was.0))
+    are_subdivisions x (d ∷ ds) k = (
+      is_subdivision x d (crossed_at x d ds k),
+      later_subdivisions x d (crossed_at x d ds k) (x + 1) ds (rest_of x d ds k) (omega arith) k.once.0,
+      are_subdivisions (x + 1) ds (rest_of x d ds k),
+      sym (name_of d k.was.0),
+    )
 
     -- ---- The old system under its numbers in q
 
@@ -403,7 +433,8 @@ module _ (p q : Rows) (f u v : ℕ) (r : Route) (hp : IsWellFormed p) (hq : IsWe
         let after_was : Was (turn (system p) d) = turn_stays p hp.paths hp.crossings hp.rotations d was in
         let goal : num after ≡ name (old a) = ap (λ (c : Dart). num (lifted p q c)) (sym (turned p hp a la)) in
         elim (s.turns d was) [
-          | inl straight ↦ past_chords g n (path_chords z e) (num up) (num after) (off_path z e h up up_in (lifted_other d was)) (off_path z e h after (lifted_there (turn (system p) d) after_was) (lifted_other (turn (system p) d) after_was))
+          | inl straight ↦ past_chords g n (path_chords z e) (num up) (num after) (off_path z e h up up_in (lifted_other d was))
+              (off_path z e h after (lifted_there (turn (system p) d) after_was) (lifted_other (turn (system p) d) after_was))
               (turn_number q hq up up_in ∙ ap num straight) ∙ goal
           | inr over ↦
               let t : Dart = turn (system q) up in
@@ -424,12 +455,14 @@ module _ (p q : Rows) (f u v : ℕ) (r : Route) (hp : IsWellFormed p) (hq : IsWe
           let da : Was (dart_of p hp a) = dart_here p hp a la in
           let db : Was (dart_of p hp b) = dart_here p hp b lb in
           sym (number_of p hp a la) ∙ ap (index_of p) (s.lifts_apart (dart_of p hp a) (dart_of p hp b) da db
-          (index_apart q hq.paths (lifted p q (dart_of p hp a)) (lifted p q (dart_of p hp b)) (lifted_there (dart_of p hp a) da) (lifted_there (dart_of p hp b) db) w)) ∙ number_of p hp b lb;
+          (index_apart q hq.paths (lifted p q (dart_of p hp a)) (lifted p q (dart_of p hp b)) (lifted_there (dart_of p hp a) da)
+          (lifted_there (dart_of p hp b) db) w)) ∙ number_of p hp b lb;
       turns = turns_below;
     }
 
     -- no crossed dart is on the segment of d where no subdivision vertex is
-    undivided_segments : (a : ℕ) → a < m → (x : ℕ) (ds : List Dart) → AllByRecursion (λ d. has_dart (darts p) d ≡ true) ds → IsUndivided m (subdivisions_of x ds) a → AllByRecursion (λ c. same_segment c (dart_of p hp a) ≡ false) ds
+    undivided_segments : (a : ℕ) → a < m → (x : ℕ) (ds : List Dart) → AllByRecursion (λ d. has_dart (darts p) d ≡ true) ds
+        → IsUndivided m (subdivisions_of x ds) a → AllByRecursion (λ c. same_segment c (dart_of p hp a) ≡ false) ds
     undivided_segments a la x [] was u = tt
     undivided_segments a la x (c ∷ cs) was u = (
       elim (cases_Bool (same_segment c (dart_of p hp a))) [
@@ -446,20 +479,24 @@ module _ (p q : Rows) (f u v : ℕ) (r : Route) (hp : IsWellFormed p) (hq : IsWe
     straight a la u =
         let d : Dart = dart_of p hp a in
         let was : Was d = dart_here p hp a la in
-        ap (λ (c : Dart). num (lifted p q c)) (twinned p hp a la) ∙ ap num (s.uncrossed d was (undivided_segments a la p.next_crossing r.crossed h.rest.was u)) ∙ index_twin q (lifted p q d) (lifted_there d was)
+        ap (λ (c : Dart). num (lifted p q c)) (twinned p hp a la) ∙ ap num (s.uncrossed d was (undivided_segments a la p.next_crossing r.crossed h.rest.was u))
+        ∙ index_twin q (lifted p q d) (lifted_there d was)
 
     -- ---- The path along its subdivision vertices
 
-    along : (to : Dart) → Was to → num e ≡ num (lifted p q to) → (x : ℕ) (y : ℕ) (ds : List Dart) → IsRest x ds → AreAlong name y (subdivisions_of x ds) (index_of p to) (new_chords_of x y ds (num e))
+    along : (to : Dart) → Was to → num e ≡ num (lifted p q to) → (x : ℕ) (y : ℕ) (ds : List Dart) → IsRest x ds
+        → AreAlong name y (subdivisions_of x ds) (index_of p to) (new_chords_of x y ds (num e))
     along to was at x y [] k = (refl, at ∙ sym (name_of to was))
     along to was at x y (d ∷ ds) k = (
       refl,
       refl,
-      subst (λ (w : ℕ). AreAlong name w (subdivisions_of (x + 1) ds) (index_of p to) (new_chords_of (x + 1) (num (backward q x d)) ds (num e))) (sym (back_number x d (crossed_at x d ds k)))
+      subst (λ (w : ℕ). AreAlong name w (subdivisions_of (x + 1) ds) (index_of p to) (new_chords_of (x + 1) (num (backward q x d)) ds (num e)))
+          (sym (back_number x d (crossed_at x d ds k)))
           (along to was at (x + 1) (num (backward q x d)) ds (rest_of x d ds k)),
     )
 
-    walks : (to c : Dart) → Was c → (x : ℕ) (ds : List Dart) → IsRest x ds → Crosses (system p) c ds to → Walks old (index_of p c) (subdivisions_of x ds) (index_of p to)
+    walks : (to c : Dart) → Was c → (x : ℕ) (ds : List Dart) → IsRest x ds → Crosses (system p) c ds to
+        → Walks old (index_of p c) (subdivisions_of x ds) (index_of p to)
     walks to c was x [] k walk = same_face p hp c to was walk
     walks to c was x (d ∷ ds) k walk = (
       same_face p hp c d was walk.0,
@@ -467,15 +504,18 @@ module _ (p q : Rows) (f u v : ℕ) (r : Route) (hp : IsWellFormed p) (hq : IsWe
           (walks to (dart_twin d) (twin_in p d k.was.0) (x + 1) ds (rest_of x d ds k) walk.1),
     )
 
-    never : (c : Dart) → Was c → (x : ℕ) (ds : List Dart) → AllByRecursion (λ d. has_dart (darts p) d ≡ true) ds → AllByRecursion (λ y. SameFace (system p) c (dart_twin y) → ⊥) ds
+    never : (c : Dart) → Was c → (x : ℕ) (ds : List Dart) → AllByRecursion (λ d. has_dart (darts p) d ≡ true) ds
+        → AllByRecursion (λ y. SameFace (system p) c (dart_twin y) → ⊥) ds
         → AllByRecursion (λ j. SameCycle (face_next old) (index_of p c) (twin j.dart) → ⊥) (subdivisions_of x ds)
     never c was x [] here out = tt
     never c was x (d ∷ ds) here out = (
-      λ w. out.0 (face_same p hp c (dart_twin d) was (twin_in p d here.0) (subst (λ (v : ℕ). SameCycle (face_next old) (index_of p c) v) (sym (index_twin p d here.0)) w)),
+      λ w. out.0 (face_same p hp c (dart_twin d) was (twin_in p d here.0)
+          (subst (λ (v : ℕ). SameCycle (face_next old) (index_of p c) v) (sym (index_twin p d here.0)) w)),
       never c was (x + 1) ds here.1 out.1,
     )
 
-    meets_once : (c : Dart) → Was c → (x : ℕ) (ds : List Dart) → IsRest x ds → MeetsFacesOnce (system p) c ds → MeetsOnce old (index_of p c) (subdivisions_of x ds)
+    meets_once : (c : Dart) → Was c → (x : ℕ) (ds : List Dart) → IsRest x ds → MeetsFacesOnce (system p) c ds
+        → MeetsOnce old (index_of p c) (subdivisions_of x ds)
     meets_once c was x [] k once = tt
     meets_once c was x (d ∷ ds) k once = (
       never c was x (d ∷ ds) k.was once.0,
@@ -516,11 +556,13 @@ module _ (p q : Rows) (f u v : ℕ) (r : Route) (hp : IsWellFormed p) (hq : IsWe
                 ))
           ]
         ] where
-          half_or_twin : (i : ℕ) (way : Way) → i ≤ length r.crossed → (l : NewChord) → l.half ≡ num (newcomer i Forward) → (a : ℕ) → a ≡ num (newcomer i way) → (a ≡ l.half) ⊎ (a ≡ twin l.half)
+          half_or_twin : (i : ℕ) (way : Way) → i ≤ length r.crossed → (l : NewChord) → l.half ≡ num (newcomer i Forward) → (a : ℕ) → a ≡ num (newcomer i way)
+              → (a ≡ l.half) ⊎ (a ≡ twin l.half)
           half_or_twin i Forward hi l half a at = inl (at ∙ sym half)
           half_or_twin i Back hi l half a at = inr (at ∙ sym (twin_half i hi) ∙ ap twin (sym half))
 
-    pub is_insertion_path : (from to : Dart) → Was from → Was to → num z ≡ num (lifted p q from) → num e ≡ num (lifted p q to) → Crosses (system p) from r.crossed to → MeetsFacesOnce (system p) from r.crossed
+    pub is_insertion_path : (from to : Dart) → Was from → Was to → num z ≡ num (lifted p q from) → num e ≡ num (lifted p q to)
+        → Crosses (system p) from r.crossed to → MeetsFacesOnce (system p) from r.crossed
         → IsInsertionPath g n old m name (index_of p from) path_subdivisions (index_of p to) (path_chords z e)
     is_insertion_path from to from_was to_was z_is e_is walk once =
         let new_chords : AreNewChords g n (path_chords z e) = path_are_chords z e h in
@@ -530,15 +572,18 @@ module _ (p q : Rows) (f u v : ℕ) (r : Route) (hp : IsWellFormed p) (hq : IsWe
           subdivisions = are_subdivisions p.next_crossing r.crossed h.rest;
           straight = straight;
           new_chords = new_chords;
-          along = subst (λ (w : ℕ). AreAlong name w path_subdivisions (index_of p to) (path_chords z e)) (z_is ∙ sym (name_of from from_was)) (along to to_was e_is p.next_crossing (num z) r.crossed h.rest);
+          along = subst (λ (w : ℕ). AreAlong name w path_subdivisions (index_of p to) (path_chords z e)) (z_is ∙ sym (name_of from from_was))
+              (along to to_was e_is p.next_crossing (num z) r.crossed h.rest);
           from_there = number_less p hp from from_was;
           to_there = number_less p hp to to_was;
           walk = walks to from from_was p.next_crossing r.crossed h.rest walk;
           once = meets_once from from_was p.next_crossing r.crossed h.rest once;
           new = all_of (λ l. (d : ℕ) → d < m → IsApart n (name d) l.half) (path_chords z e) (λ l i d ld.
               let was : Was (dart_of p hp d) = dart_here p hp d ld in
-              all_at (λ k. IsApart n (name d) k.half) l (path_chords z e) (off_path z e h (lifted p q (dart_of p hp d)) (lifted_there (dart_of p hp d) was) (lifted_other (dart_of p hp d) was)) i);
-          strange = all_of (λ l. AllByRecursion (AreStrange n name l) path_subdivisions) (path_chords z e) (λ l i. strange_subdivisions l i (chord_there (path_chords z e) l new_chords i) p.next_crossing r.crossed h.rest);
+              all_at (λ k. IsApart n (name d) k.half) l (path_chords z e)
+              (off_path z e h (lifted p q (dart_of p hp d)) (lifted_there (dart_of p hp d) was) (lifted_other (dart_of p hp d) was)) i);
+          strange = all_of (λ l. AllByRecursion (AreStrange n name l) path_subdivisions) (path_chords z e)
+              (λ l i. strange_subdivisions l i (chord_there (path_chords z e) l new_chords i) p.next_crossing r.crossed h.rest);
           placed = placed;
         } where
           chord_there : (ls : List NewChord) (l : NewChord) → AreNewChords g n ls → IsIn l ls → l.half < n
@@ -548,12 +593,15 @@ module _ (p q : Rows) (f u v : ℕ) (r : Route) (hp : IsWellFormed p) (hq : IsWe
             | inr later ↦ chord_there js l k.2 later
           ]
 
-          strange_subdivisions : (l : NewChord) → IsIn l (path_chords z e) → l.half < n → (x : ℕ) (ds : List Dart) → IsRest x ds → AllByRecursion (AreStrange n name l) (subdivisions_of x ds)
+          strange_subdivisions : (l : NewChord) → IsIn l (path_chords z e) → l.half < n → (x : ℕ) (ds : List Dart) → IsRest x ds
+              → AllByRecursion (AreStrange n name l) (subdivisions_of x ds)
           strange_subdivisions l i there x [] k = tt
           strange_subdivisions l i there x (d ∷ ds) k =
               let c : IsCrossed x d = crossed_at x d ds k in
-              let on : IsApart n (num (onward q x d)) l.half = all_at (λ j. IsApart n (num (onward q x d)) j.half) l (path_chords z e) (off_path z e h (onward q x d) (s.crossed_there x d c.at).0 (onward_other x d c.was)) i in
-              let back : IsApart n (num (backward q x d)) l.half = all_at (λ j. IsApart n (num (backward q x d)) j.half) l (path_chords z e) (off_path z e h (backward q x d) (s.crossed_there x d c.at).1 (backward_other x d c.was)) i in (
+              let on : IsApart n (num (onward q x d)) l.half = all_at (λ j. IsApart n (num (onward q x d)) j.half) l (path_chords z e)
+              (off_path z e h (onward q x d) (s.crossed_there x d c.at).0 (onward_other x d c.was)) i in
+              let back : IsApart n (num (backward q x d)) l.half = all_at (λ j. IsApart n (num (backward q x d)) j.half) l (path_chords z e)
+              (off_path z e h (backward q x d) (s.crossed_there x d c.at).1 (backward_other x d c.was)) i in (
                 record {
                   beyond = apart_back n l.half (num (onward q x d)) there on;
                   back = subst (λ (w : ℕ). IsApart n l.half w) (sym (back_number x d c)) (apart_back n l.half (num (backward q x d)) there back);

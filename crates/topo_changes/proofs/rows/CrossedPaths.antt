@@ -1,5 +1,6 @@
 -- Paths with crossings put on one by one: they are the paths with all of them woven in.
-use Rattle.std.proofs.Common.{◌≡◌, ◌≢◌, ℕ, zero, suc, ◌+◌, ◌<◌, ◌≤◌, append_assoc, append-nil, add-one, Bool, true, false, cond, List, [], ◌∷◌, ◌++◌, length, get_or, set, take, drop, refl, sym, ap, ◌∙◌, arith, inl, inr}
+use Rattle.std.proofs.Common.{◌≡◌, ◌≢◌, ℕ, zero, suc, ◌+◌, ◌<◌, ◌≤◌, append_assoc, append-nil, add-one, Bool, true, false}
+use Rattle.std.proofs.Common.{cond, List, [], ◌∷◌, ◌++◌, length, get_or, set, take, drop, refl, sym, ap, ◌∙◌, arith, inl, inr}
 use Rattle.std.specs.Prelude.{◌-◌, ◌==◌, ◌&&◌, nat_lt, map, filter, insert}
 use Rattle.std.specs.List.{list_all, enumerate_from}
 use Rattle.std.proofs.lemmas.List.{get_or-set_same, length-take-le, map-append, set-get_or, take-append-drop, take_more}
@@ -25,7 +26,8 @@ enumerated_more n (x ∷ xs) y =
     ap (λ rest. (n, x) ∷ rest) (enumerated_more (n + 1) xs y ∙ ap (λ m. enumerate_from (n + 1) xs ++ (m, y) ∷ []) same)
 
 -- a function of the numbered items, one item further
-pub numbered_step : {X Y : Type 0} (f : ℕ × X → Y) (n : ℕ) (xs : List X) (i : ℕ) (d : X) → i < length xs → map f (enumerate_from n (take (i + 1) xs)) ≡ map f (enumerate_from n (take i xs)) ++ f (n + i, get_or xs i d) ∷ []
+pub numbered_step : {X Y : Type 0} (f : ℕ × X → Y) (n : ℕ) (xs : List X) (i : ℕ) (d : X) → i < length xs
+    → map f (enumerate_from n (take (i + 1) xs)) ≡ map f (enumerate_from n (take i xs)) ++ f (n + i, get_or xs i d) ∷ []
 numbered_step f n xs i d inside =
     ap (λ ys. map f (enumerate_from n ys)) (take_more xs i d inside)
     ∙ ap (map f) (enumerated_more n (take i xs) (get_or xs i d))
@@ -35,7 +37,8 @@ numbered_step f n xs i d inside =
 -- ---- The crossings of darts on a segment
 
 -- those of one dart more
-pub crossings_more : (first : ℕ) (darts : List Dart) (d : Dart) (e s : ℕ) → crossings_on first (darts ++ d ∷ []) e s ≡ crossings_on first darts e s ++ cond (d.edge == e && d.seg == s) ((first + length darts) ∷ []) []
+pub crossings_more : (first : ℕ) (darts : List Dart) (d : Dart) (e s : ℕ)
+    → crossings_on first (darts ++ d ∷ []) e s ≡ crossings_on first darts e s ++ cond (d.edge == e && d.seg == s) ((first + length darts) ∷ []) []
 crossings_more first darts d e s =
     ap (λ xs. map (λ x. x.0) (filter on xs)) (enumerated_more first darts d)
     ∙ ap (map (λ x. x.0)) (filter-append on (enumerate_from first darts) (last ∷ []))
@@ -79,7 +82,8 @@ woven_none new s [] none = none s
 woven_none new s (x ∷ path) none = ap (λ front. front ++ (x ∷ woven new (s + 1) path)) (none s) ∙ ap (λ rest. x ∷ rest) (woven_none new (s + 1) path none)
 
 -- what passes of a woven path, all of whose old crossings pass
-pub filter_woven : (p : ℕ → Bool) (new : ℕ → List ℕ) (s : ℕ) (path : List ℕ) → ((x : ℕ) → IsIn x path → p x ≡ true) → filter p (woven new s path) ≡ woven (λ i. filter p (new i)) s path
+pub filter_woven : (p : ℕ → Bool) (new : ℕ → List ℕ) (s : ℕ) (path : List ℕ) → ((x : ℕ) → IsIn x path → p x ≡ true)
+    → filter p (woven new s path) ≡ woven (λ i. filter p (new i)) s path
 filter_woven p new s [] passes = refl
 filter_woven p new s (x ∷ path) passes =
     filter-append p (new s) (x ∷ woven new (s + 1) path)
@@ -95,7 +99,8 @@ insert_next y xs i x = rw add-one refl
 past_new : (first s x : ℕ) (new path : List ℕ) → ((y : ℕ) → IsIn y new → first ≤ y) → crossed_path first s x (new ++ path) ≡ new ++ crossed_path first s x path
 past_new first s x [] path high = refl
 past_new first s x (y ∷ new) path high =
-    ap (λ (b : Bool). insert (y ∷ (new ++ path)) (cond b (cond (s == 0) 0 (segment_end first (s - 1) (new ++ path) + 1)) (segment_end first s (new ++ path) + 1)) x) (le-ltb y first (high y (inl refl)))
+    ap (λ (b : Bool). insert (y ∷ (new ++ path))
+    (cond b (cond (s == 0) 0 (segment_end first (s - 1) (new ++ path) + 1)) (segment_end first s (new ++ path) + 1)) x) (le-ltb y first (high y (inl refl)))
     ∙ insert_next y (new ++ path) (segment_end first s (new ++ path)) x
     ∙ ap (λ rest. y ∷ rest) (past_new first s x new path (λ z h. high z (inr h)))
 
@@ -107,7 +112,8 @@ at_old : (first x y : ℕ) (path : List ℕ) → nat_lt y first ≡ true → cro
 at_old first x y path low = ap (λ (b : Bool). insert (y ∷ path) (cond b 0 (segment_end first 0 path + 1)) x) low
 
 -- the crossing stands behind those that are new on its segment
-pub crossed_woven : (new : ℕ → List ℕ) (first s x t g : ℕ) (path : List ℕ) → g ≡ t + s → s ≤ length path → list_all (λ y. nat_lt y first) path ≡ true → ((i y : ℕ) → IsIn y (new i) → first ≤ y)
+pub crossed_woven : (new : ℕ → List ℕ) (first s x t g : ℕ) (path : List ℕ) → g ≡ t + s → s ≤ length path → list_all (λ y. nat_lt y first) path ≡ true
+    → ((i y : ℕ) → IsIn y (new i) → first ≤ y)
     → crossed_path first s x (woven new t path) ≡ woven (λ i. new i ++ cond (g == i) (x ∷ []) []) t path
 crossed_woven new first s x t g [] at on old high =
     let here : g ≡ t = omega arith in
@@ -126,8 +132,10 @@ crossed_woven new first (suc s) x t g (y ∷ path) at on old high =
     let later : t < g = omega arith in
     past_new first (suc s) x (new t) (y ∷ woven new (t + 1) path) (high t)
     ∙ ap (λ rest. new t ++ rest) (past_old first s x y (woven new (t + 1) path) (left_true (nat_lt y first) (list_all (λ y. nat_lt y first) path) old))
-    ∙ ap (λ rest. new t ++ (y ∷ rest)) (crossed_woven new first s x (t + 1) g path (omega arith) (omega arith) (right_true (nat_lt y first) (list_all (λ y. nat_lt y first) path) old) high)
-    ∙ ap (λ front. front ++ (y ∷ woven (λ i. new i ++ cond (g == i) (x ∷ []) []) (t + 1) path)) (sym (append-nil (new t)) ∙ ap (λ (b : Bool). new t ++ cond b (x ∷ []) []) (sym (other later))) where
+    ∙ ap (λ rest. new t ++ (y ∷ rest))
+    (crossed_woven new first s x (t + 1) g path (omega arith) (omega arith) (right_true (nat_lt y first) (list_all (λ y. nat_lt y first) path) old) high)
+    ∙ ap (λ front. front ++ (y ∷ woven (λ i. new i ++ cond (g == i) (x ∷ []) []) (t + 1) path))
+    (sym (append-nil (new t)) ∙ ap (λ (b : Bool). new t ++ cond b (x ∷ []) []) (sym (other later))) where
       other : t < g → (g == t) ≡ false
       other h = eqb_more g t h
 
@@ -140,7 +148,8 @@ pub counts : (first s x : ℕ) (path : List ℕ) → x < first → 0 < s → seg
 counts first s x path low some = grind (arith, lt-ltb, eqb_more)
 
 pub goes_past : (first s x : ℕ) (path : List ℕ) → first ≤ x → segment_end first s (x ∷ path) ≡ segment_end first s path + 1
-goes_past first s x path high = ap (λ (b : Bool). cond {A = ℕ} b (cond {A = ℕ} (s == 0) 0 (segment_end first (s - 1) path + 1)) (segment_end first s path + 1)) (le-ltb x first high)
+goes_past first s x path high = ap (λ (b : Bool). cond {A = ℕ} b (cond {A = ℕ} (s == 0) 0 (segment_end first (s - 1) path + 1)) (segment_end first s path + 1))
+    (le-ltb x first high)
 
 within : (first s : ℕ) (path : List ℕ) → segment_end first s path ≤ length path
 within first s [] = omega arith
@@ -174,7 +183,8 @@ put_out p e around old = by_place p where
   by_place (suc p) = apart (take (suc p) around) (drop (suc p) around) ∙ ap (filter low) (take-append-drop (suc p) around) ∙ kept
 
 -- put into two rotations and taken out of the first, where the second had no place for it
-pub taken_back : (rotations : List (List ℕ)) (u v p e : ℕ) (at_u at_v back : List ℕ) → u < length rotations → u ≢ v → at_u ≡ put_in p e (get_or rotations u []) → at_v ≡ get_or (set rotations u at_u) v []
+pub taken_back : (rotations : List (List ℕ)) (u v p e : ℕ) (at_u at_v back : List ℕ) → u < length rotations → u ≢ v → at_u ≡ put_in p e (get_or rotations u [])
+    → at_v ≡ get_or (set rotations u at_u) v []
     → back ≡ filter (λ x. nat_lt x e) (get_or (set (set rotations u at_u) v at_v) u []) → list_all (λ x. nat_lt x e) (get_or rotations u []) ≡ true
     → set (set (set rotations u at_u) v at_v) u back ≡ rotations
 taken_back rotations u v p e at_u at_v back inside apart put stays out old =

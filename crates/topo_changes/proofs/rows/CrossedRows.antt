@@ -1,5 +1,6 @@
 -- Edges whose paths are crossed one by one.
-use Rattle.std.proofs.Common.{Err, Ok, OnErr, OnOk, Result, ◌≡◌, ◌≢◌, ℕ, zero, suc, ◌+◌, ◌<◌, ◌≤◌, append-nil, Bool, true, false, cond, List, [], ◌∷◌, ◌++◌, length, get_or, set, take, refl, sym, ap, ◌∙◌, arith, inl, inr}
+use Rattle.std.proofs.Common.{Err, Ok, OnErr, OnOk, Result, ◌≡◌, ◌≢◌, ℕ, zero, suc, ◌+◌, ◌<◌, ◌≤◌, append-nil, Bool, true}
+use Rattle.std.proofs.Common.{false, cond, List, [], ◌∷◌, ◌++◌, length, get_or, set, take, refl, sym, ap, ◌∙◌, arith, inl, inr}
 use Rattle.std.specs.Prelude.{◌==◌, ◌&&◌, nat_lt, map, filter, find, None, Some}
 use Rattle.std.specs.List.{list_all}
 use Rattle.std.specs.Result.{is_err}
@@ -40,21 +41,24 @@ repathed_other e change row other = grind (arith, cases_Bool, eqb-true)
 pub none_repathed : (e : ℕ) (change : List ℕ → List ℕ) (edges : List EdgeRow) → find (λ row. row.id == e) edges ≡ None → map (repathed e change) edges ≡ edges
 none_repathed e change [] none = refl
 none_repathed e change (row ∷ edges) none = elim (cases_Bool (row.id == e)) [
-  | inl same ↦ absurd (let here : find (λ row. row.id == e) (row ∷ edges) ≡ Some row = ap (λ (b : Bool). cond b (Some row) (find (λ row. row.id == e) edges)) same in cc)
+  | inl same ↦ absurd (let here : find (λ row. row.id == e) (row ∷ edges) ≡ Some row =
+      ap (λ (b : Bool). cond b (Some row) (find (λ row. row.id == e) edges)) same in cc)
   | inr differs ↦
       ap (λ (b : Bool). record row { crossings = cond b (change row.crossings) row.crossings } ∷ map (repathed e change) edges) differs
       ∙ ap (λ rest. row ∷ rest) (none_repathed e change edges (sym (ap (λ (b : Bool). cond b (Some row) (find (λ row. row.id == e) edges)) differs) ∙ none))
 ]
 
 -- a path written at the edge's place
-pub repathed_at : (limit e i : ℕ) (change : List ℕ → List ℕ) (d : EdgeRow) (edges : List EdgeRow) → rises_below limit (map (λ row. row.id) edges) ≡ true → i < length edges → (get_or edges i d).id ≡ e
+pub repathed_at : (limit e i : ℕ) (change : List ℕ → List ℕ) (d : EdgeRow) (edges : List EdgeRow) → rises_below limit (map (λ row. row.id) edges) ≡ true
+    → i < length edges → (get_or edges i d).id ≡ e
     → set edges i (record (get_or edges i d) { crossings = change (get_or edges i d).crossings }) ≡ map (repathed e change) edges
 repathed_at limit e i change d [] rise inside here = absurd (omega arith)
 repathed_at limit e zero change d (row ∷ edges) rise inside here = grind (arith, eq-eqb, map_whole, repathed_other, ids_above, in_map)
 repathed_at limit e (suc i) change d (row ∷ edges) rise inside here =
     let at = in_at edges i d (omega arith) in
     let above = ids_above limit row.id (map (λ row. row.id) edges) rise (get_or edges i d).id (in_map (λ row. row.id) (get_or edges i d) edges at) in
-    ap (λ first. first ∷ set edges i (record (get_or edges i d) { crossings = change (get_or edges i d).crossings })) (sym (repathed_other e change row (λ same. omega arith)))
+    ap (λ first. first ∷ set edges i (record (get_or edges i d) { crossings = change (get_or edges i d).crossings }))
+    (sym (repathed_other e change row (λ same. omega arith)))
     ∙ ap (λ rest. repathed e change row ∷ rest) (repathed_at limit e i change d edges (right_true _ _ rise) (omega arith) here)
 
 -- the ids stay
@@ -65,13 +69,15 @@ pub still_rise : (e : ℕ) (change : List ℕ → List ℕ) (edges : List EdgeRo
 still_rise e change edges rise = (rise.0, ap (rises_below rise.0) (ids_stay e change edges) ∙ rise.1)
 
 pub crossed_rise : (first : ℕ) (darts : List Dart) (edges : List EdgeRow) → EdgesRise edges → EdgesRise (map (crossed_by first darts) edges)
-crossed_rise first darts edges rise = (rise.0, ap (rises_below rise.0) (map_map_same (λ row. row.id) (crossed_by first darts) (λ row. row.id) edges (λ row h. refl)) ∙ rise.1)
+crossed_rise first darts edges rise =
+    (rise.0, ap (rises_below rise.0) (map_map_same (λ row. row.id) (crossed_by first darts) (λ row. row.id) edges (λ row h. refl)) ∙ rise.1)
 
 -- ---- One dart more or less
 
 -- no dart crosses nothing
 pub crossed_by_none : (first : ℕ) (edges : List EdgeRow) → map (crossed_by first []) edges ≡ edges
-crossed_by_none first edges = map_whole (crossed_by first []) edges (λ row h. ap (λ path. record row { crossings = path }) (woven_none (crossings_on first [] row.id) 0 row.crossings (λ i. refl)))
+crossed_by_none first edges = map_whole (crossed_by first []) edges
+    (λ row h. ap (λ path. record row { crossings = path }) (woven_none (crossings_on first [] row.id) 0 row.crossings (λ i. refl)))
 
 module _ (first : ℕ) (darts : List Dart) (d : Dart) where
   abbrev pub x : ℕ
@@ -118,16 +124,20 @@ module _ (first : ℕ) (darts : List Dart) (d : Dart) where
   path_less e path old false is = woven_same (more e) (before e) 0 path (λ i h. elsewhere e i is)
 
   -- a crossing put on its path
-  pub crossed_more : (edges : List EdgeRow) → paths_below first edges ≡ true → ((row : EdgeRow) → IsIn row edges → row.id ≡ d.edge → d.seg ≤ length row.crossings)
+  pub crossed_more : (edges : List EdgeRow) → paths_below first edges ≡ true
+      → ((row : EdgeRow) → IsIn row edges → row.id ≡ d.edge → d.seg ≤ length row.crossings)
       → map (repathed d.edge (crossed_path first d.seg x)) (map (crossed_by first darts) edges) ≡ map (crossed_by first (darts ++ d ∷ [])) edges
-  crossed_more edges old on = map_map_same (repathed d.edge (crossed_path first d.seg x)) (crossed_by first darts) (crossed_by first (darts ++ d ∷ [])) edges (λ row h.
-      ap (λ path. record row { crossings = path }) (path_more row.id row.crossings (test_of_each (λ row. list_all (λ y. nat_lt y first) row.crossings) row edges old h) (on row h) (row.id == d.edge) refl))
+  crossed_more edges old on =
+      map_map_same (repathed d.edge (crossed_path first d.seg x)) (crossed_by first darts) (crossed_by first (darts ++ d ∷ [])) edges (λ row h.
+      ap (λ path. record row { crossings = path })
+      (path_more row.id row.crossings (test_of_each (λ row. list_all (λ y. nat_lt y first) row.crossings) row edges old h) (on row h) (row.id == d.edge) refl))
 
   -- and taken off again
   pub crossed_less : (edges : List EdgeRow) → paths_below first edges ≡ true
       → map (repathed d.edge (filter low)) (map (crossed_by first (darts ++ d ∷ [])) edges) ≡ map (crossed_by first darts) edges
   crossed_less edges old = map_map_same (repathed d.edge (filter low)) (crossed_by first (darts ++ d ∷ [])) (crossed_by first darts) edges (λ row h.
-      ap (λ path. record row { crossings = path }) (path_less row.id row.crossings (test_of_each (λ row. list_all (λ y. nat_lt y first) row.crossings) row edges old h) (row.id == d.edge) refl))
+      ap (λ path. record row { crossings = path })
+      (path_less row.id row.crossings (test_of_each (λ row. list_all (λ y. nat_lt y first) row.crossings) row edges old h) (row.id == d.edge) refl))
 
 -- ---- Steps of a walk along the darts
 
@@ -139,7 +149,8 @@ module _ (first i : ℕ) (darts : List Dart) (d : Dart) (was edges edges' : List
   long = length-take-le i darts (omega arith)
 
   -- one crossing further
-  pub one_more : AreOnPaths was darts → edges ≡ map (crossed_by first (take i darts)) was → edges' ≡ map (repathed here.edge (crossed_path first here.seg (first + i))) edges
+  pub one_more : AreOnPaths was darts → edges ≡ map (crossed_by first (take i darts)) was
+      → edges' ≡ map (repathed here.edge (crossed_path first here.seg (first + i))) edges
       → edges' ≡ map (crossed_by first (take (i + 1) darts)) was
   one_more on so_far is =
       is

@@ -1,5 +1,6 @@
 -- What a deletion takes out of the rows, part by part, is the picture without the edge.
-use Rattle.std.proofs.Common.{◌≡◌, ◌≢◌, ℕ, zero, suc, ◌<◌, ◌≤◌, Bool, true, false, cond, not, ◌||◌, ◌&&◌, List, [], ◌∷◌, ◌++◌, length, get_or, set, refl, sym, ap, subst, ◌∙◌, arith, inl, inr, eqb, Option, Some}
+use Rattle.std.proofs.Common.{◌≡◌, ◌≢◌, ℕ, zero, suc, ◌<◌, ◌≤◌, Bool, true, false, cond, not, ◌||◌, ◌&&◌, List, [], ◌∷◌}
+use Rattle.std.proofs.Common.{◌++◌, length, get_or, set, refl, sym, ap, subst, ◌∙◌, arith, inl, inr, eqb, Option, Some}
 use Rattle.std.specs.Prelude.{◌⊎◌, ◌==◌, filter, find, is_some, map, nat_le, unwrap_or}
 use Rattle.std.specs.List.{list_all, remove}
 use Rattle.std.specs.List.Sorted.{IsStrictlyIncreasing}
@@ -30,10 +31,15 @@ use Rattle.topo_changes.proofs.rows.CrossedRows.{in_at}
 
 -- ---- The other edge of a crossing
 
-pub across : (crossings : List CrossRow) (e x : ℕ) (row : CrossRow) → find (λ row. row.id == x) crossings ≡ Some row → other_edge crossings e x ≡ cond {A = ℕ} (row.crossed == e) row.newcomer row.crossed
-across crossings e x row there = ap (λ (o : Option CrossRow). cond {A = ℕ} ((unwrap_or o (record { id = x; crossed = 0; newcomer = 0; sign = LeftToRight })).crossed == e) (unwrap_or o (record { id = x; crossed = 0; newcomer = 0; sign = LeftToRight })).newcomer (unwrap_or o (record { id = x; crossed = 0; newcomer = 0; sign = LeftToRight })).crossed) there
+pub across : (crossings : List CrossRow) (e x : ℕ) (row : CrossRow) → find (λ row. row.id == x) crossings ≡ Some row
+    → other_edge crossings e x ≡ cond {A = ℕ} (row.crossed == e) row.newcomer row.crossed
+across crossings e x row there =
+    ap (λ (o : Option CrossRow). cond {A = ℕ} ((unwrap_or o (record { id = x; crossed = 0; newcomer = 0; sign = LeftToRight })).crossed == e)
+    (unwrap_or o (record { id = x; crossed = 0; newcomer = 0; sign = LeftToRight })).newcomer
+    (unwrap_or o (record { id = x; crossed = 0; newcomer = 0; sign = LeftToRight })).crossed) there
 
-pub across_read : (crossings : List CrossRow) (e x place : ℕ) (d : CrossRow) (t : Bool) → IsPlaceOf crossings (λ row. row.id) x place → ((get_or crossings place d).crossed == e) ≡ t
+pub across_read : (crossings : List CrossRow) (e x place : ℕ) (d : CrossRow) (t : Bool) → IsPlaceOf crossings (λ row. row.id) x place
+    → ((get_or crossings place d).crossed == e) ≡ t
     → other_edge crossings e x ≡ cond {A = ℕ} t (get_or crossings place d).newcomer (get_or crossings place d).crossed
 across_read crossings e x place d t placed is = grind (arith, across, get_or_from_slice_get)
 
@@ -51,7 +57,8 @@ is_other e a b one_is apart = by_test (a == e) refl where
 
 -- ---- Lists that change at two places
 
-one_set : {X : Type 0} (f : X → X) (a : ℕ) (xs : List X) (d : X) → a < length xs → ((v : ℕ) → v < length xs → v ≢ a → f (get_or xs v d) ≡ get_or xs v d) → set xs a (f (get_or xs a d)) ≡ map f xs
+one_set : {X : Type 0} (f : X → X) (a : ℕ) (xs : List X) (d : X) → a < length xs → ((v : ℕ) → v < length xs → v ≢ a → f (get_or xs v d) ≡ get_or xs v d)
+    → set xs a (f (get_or xs a d)) ≡ map f xs
 one_set f a [] d inside same = absurd (omega arith)
 one_set f zero (x ∷ xs) d inside same = ap (λ ys. f x ∷ ys) (sym (stay xs (λ v h. same (suc v) (omega arith) (λ e. (let k = e in omega arith))))) where
   stay : (xs : List _) → ((v : ℕ) → v < length xs → f (get_or xs v d) ≡ get_or xs v d) → map f xs ≡ xs
@@ -61,21 +68,29 @@ one_set f (suc a) (x ∷ xs) d inside same =
     ap (λ ys. x ∷ ys) (one_set f a xs d (omega arith) (λ v h differs. same (suc v) (omega arith) (λ e. differs (omega arith))))
     ∙ ap (λ y. y ∷ map f xs) (sym (same 0 (omega arith) (λ e. (let k = e in omega arith))))
 
-two_set : {X : Type 0} (f : X → X) (a b : ℕ) (xs : List X) (d : X) → a < length xs → b < length xs → a ≢ b → ((v : ℕ) → v < length xs → v ≢ a → v ≢ b → f (get_or xs v d) ≡ get_or xs v d)
+two_set : {X : Type 0} (f : X → X) (a b : ℕ) (xs : List X) (d : X) → a < length xs → b < length xs → a ≢ b
+    → ((v : ℕ) → v < length xs → v ≢ a → v ≢ b → f (get_or xs v d) ≡ get_or xs v d)
     → set (set xs a (f (get_or xs a d))) b (f (get_or (set xs a (f (get_or xs a d))) b d)) ≡ map f xs
 two_set f a b [] d a_in b_in apart same = absurd (omega arith)
 two_set f zero zero (x ∷ xs) d a_in b_in apart same = absurd (apart refl)
-two_set f zero (suc b) (x ∷ xs) d a_in b_in apart same = ap (λ ys. f x ∷ ys) (one_set f b xs d (omega arith) (λ v h differs. same (suc v) (omega arith) (λ e. (let k = e in omega arith)) (λ e. differs (omega arith))))
-two_set f (suc a) zero (x ∷ xs) d a_in b_in apart same = ap (λ ys. f x ∷ ys) (one_set f a xs d (omega arith) (λ v h differs. same (suc v) (omega arith) (λ e. differs (omega arith)) (λ e. (let k = e in omega arith))))
+two_set f zero (suc b) (x ∷ xs) d a_in b_in apart same =
+    ap (λ ys. f x ∷ ys) (one_set f b xs d (omega arith)
+    (λ v h differs. same (suc v) (omega arith) (λ e. (let k = e in omega arith)) (λ e. differs (omega arith))))
+two_set f (suc a) zero (x ∷ xs) d a_in b_in apart same =
+    ap (λ ys. f x ∷ ys) (one_set f a xs d (omega arith)
+    (λ v h differs. same (suc v) (omega arith) (λ e. differs (omega arith)) (λ e. (let k = e in omega arith))))
 two_set f (suc a) (suc b) (x ∷ xs) d a_in b_in apart same =
-    ap (λ ys. x ∷ ys) (two_set f a b xs d (omega arith) (omega arith) (λ e. apart (ap suc e)) (λ v h first second. same (suc v) (omega arith) (λ e. first (omega arith)) (λ e. second (omega arith))))
+    ap (λ ys. x ∷ ys) (two_set f a b xs d (omega arith) (omega arith) (λ e. apart (ap suc e))
+    (λ v h first second. same (suc v) (omega arith) (λ e. first (omega arith)) (λ e. second (omega arith))))
     ∙ ap (λ y. y ∷ map f xs) (sym (same 0 (omega arith) (λ e. (let k = e in omega arith)) (λ e. (let k = e in omega arith))))
 
 -- a list that begins with its least id stays as it is
 pub begins_there : (around : List ℕ) → list_all (nat_le (get_or around 0 0)) around ≡ true → from_least around ≡ around
 begins_there [] h = refl
 begins_there (x ∷ xs) h =
-    sym (least_first (x ∷ xs) 0 (omega arith) (λ _. omega arith) (λ k inside. (let t = test_of_each (nat_le x) (get_or (x ∷ xs) k 0) (x ∷ xs) h (in_at (x ∷ xs) k 0 inside) in le_from x (get_or (x ∷ xs) k 0) t)) (λ k below. absurd (omega arith)))
+    sym (least_first (x ∷ xs) 0 (omega arith) (λ _. omega arith)
+    (λ k inside. (let t = test_of_each (nat_le x) (get_or (x ∷ xs) k 0) (x ∷ xs) h (in_at (x ∷ xs) k 0 inside) in le_from x (get_or (x ∷ xs) k 0) t))
+    (λ k below. absurd (omega arith)))
     ∙ no_more (x ∷ xs) where
       le_from : (m n : ℕ) → nat_le m n ≡ true → m ≤ n
       le_from m n h = grind (arith, nat_tests)
@@ -104,16 +119,22 @@ module _ (rows : Rows) (good : IsWellFormed rows) (e : ℕ) where
   edges_climb = edge_ids_climb rows (map (λ row. row.id) rows.edges) good.paths refl
 
   pub rest_rises : IdsRise (map (λ row. row.id) (filter is_left rows.edges))
-  rest_rises = (rows.next_edge, rises_passing (λ row. row.id) is_left rows.next_edge rows.edges (left_true _ (list_all (has_good_path rows) rows.edges) good.paths))
+  rest_rises = (
+    rows.next_edge,
+    rises_passing (λ row. row.id) is_left rows.next_edge rows.edges (left_true _ (list_all (has_good_path rows) rows.edges) good.paths),
+  )
 
   -- the edges without the row at the place of e
-  pub rest_is : (list read after : List EdgeRow) (place : ℕ) → list ≡ rows.edges → read ≡ list → IsPlaceOf read (λ row. row.id) e place → after ≡ remove list place → after ≡ filter is_left rows.edges
+  pub rest_is : (list read after : List EdgeRow) (place : ℕ) → list ≡ rows.edges → read ≡ list → IsPlaceOf read (λ row. row.id) e place
+      → after ≡ remove list place → after ≡ filter is_left rows.edges
   rest_is list read after place is same placed now =
       let here = subst (λ (es : List EdgeRow). IsPlaceOf es (λ row. row.id) e place) (same ∙ is) placed in
-      now ∙ ap (λ (es : List EdgeRow). remove es place) is ∙ removed_is (λ (row : EdgeRow). row.id) rows.edges place e edges_climb here.within (place_named (λ (row : EdgeRow). row.id) rows.edges e place here)
+      now ∙ ap (λ (es : List EdgeRow). remove es place) is
+      ∙ removed_is (λ (row : EdgeRow). row.id) rows.edges place e edges_climb here.within (place_named (λ (row : EdgeRow). row.id) rows.edges e place here)
 
   -- and that row
-  pub row_read : (list read : List EdgeRow) (place : ℕ) (row : EdgeRow) → list ≡ rows.edges → read ≡ list → IsPlaceOf read (λ row. row.id) e place → row ≡ get_or list place row → edge_row rows e ≡ Some row
+  pub row_read : (list read : List EdgeRow) (place : ℕ) (row : EdgeRow) → list ≡ rows.edges → read ≡ list → IsPlaceOf read (λ row. row.id) e place
+      → row ≡ get_or list place row → edge_row rows e ≡ Some row
   row_read list read place row is same placed now = grind (arith, get_or_from_slice_get)
 
   module _ (row : EdgeRow) (there : edge_row rows e ≡ Some row) where
@@ -124,7 +145,8 @@ module _ (rows : Rows) (good : IsWellFormed rows) (e : ℕ) where
     on_edge c h on =
         let counted = (good_crossing rows good.crossings c h).counted row row_there in
         let some = counted_in c.id row.crossings on in
-        subst (λ n. (n == c.crossed || n == c.newcomer) ≡ true) (row_id rows e row there) (counted_one (row.id == c.crossed || row.id == c.newcomer) (omega arith)) where
+        subst (λ n. (n == c.crossed || n == c.newcomer) ≡ true) (row_id rows e row there)
+        (counted_one (row.id == c.crossed || row.id == c.newcomer) (omega arith)) where
           counted_one : (t : Bool) → 1 ≤ one t → t ≡ true
           counted_one true h = refl
           counted_one false h = absurd (omega arith)
@@ -139,8 +161,10 @@ module _ (rows : Rows) (good : IsWellFormed rows) (e : ℕ) where
         let other = is_other e c.crossed c.newcomer (on_edge c at.0 (subst (λ n. IsIn n row.crossings) (sym same) on)) facts.apart in
         let is : other_edge rows.crossings e x ≡ cond {A = ℕ} (c.crossed == e) c.newcomer c.crossed = across rows.crossings e x c pick.1 in
         let o = cond {A = ℕ} (c.crossed == e) c.newcomer c.crossed in
-        let known : is_some (edge_row rows o) ≡ true = elim other.one_of [ inl k ↦ ap (λ n. is_some (edge_row rows n)) k ∙ facts.crossed | inr k ↦ ap (λ n. is_some (edge_row rows n)) k ∙ facts.newcomer ] in
-        let still : is_some (find (λ row. row.id == o) (filter is_left rows.edges)) ≡ true = ap is_some (find_passing (λ row. row.id == o) is_left rows.edges (λ r h. passes r.id o h other.apart)) ∙ known in
+        let known : is_some (edge_row rows o) ≡ true =
+        elim other.one_of [ inl k ↦ ap (λ n. is_some (edge_row rows n)) k ∙ facts.crossed | inr k ↦ ap (λ n. is_some (edge_row rows n)) k ∙ facts.newcomer ] in
+        let still : is_some (find (λ row. row.id == o) (filter is_left rows.edges)) ≡ true =
+        ap is_some (find_passing (λ row. row.id == o) is_left rows.edges (λ r h. passes r.id o h other.apart)) ∙ known in
         record {
           known = ap is_some pick.1;
           there = subst (λ (n : ℕ). is_some (find (λ row. row.id == n) (filter is_left rows.edges)) ≡ true) (sym is) still;
@@ -155,21 +179,25 @@ module _ (rows : Rows) (good : IsWellFormed rows) (e : ℕ) where
           left_differs : (n : ℕ) → not (n == e) ≡ true → n ≢ e
           left_differs n h same = false≢true (sym (ap not (eq-eqb n e same)) ∙ h)
 
-    pub crossed_read : (crossings : List CrossRow) (edges : List EdgeRow) (path : List ℕ) → crossings ≡ rows.crossings → edges ≡ filter is_left rows.edges → path ≡ row.crossings → (x : ℕ) → IsIn x path → IsCrossed crossings e edges x
+    pub crossed_read : (crossings : List CrossRow) (edges : List EdgeRow) (path : List ℕ) → crossings ≡ rows.crossings → edges ≡ filter is_left rows.edges
+        → path ≡ row.crossings → (x : ℕ) → IsIn x path → IsCrossed crossings e edges x
     crossed_read crossings edges path first second third x on =
-        subst (λ (cs : List CrossRow). IsCrossed cs e edges x) (sym first) (subst (λ (es : List EdgeRow). IsCrossed rows.crossings e es x) (sym second) (crossed x (subst (λ (xs : List ℕ). IsIn x xs) third on)))
+        subst (λ (cs : List CrossRow). IsCrossed cs e edges x) (sym first)
+        (subst (λ (es : List EdgeRow). IsCrossed rows.crossings e es x) (sym second) (crossed x (subst (λ (xs : List ℕ). IsIn x xs) third on)))
 
     -- its two rotations are left, and the others stay as they are
     pub rotations_left : left_by row.id row.b (left_by row.id row.a rows.rotations) ≡ map (rotation_without e) rows.rotations
     rotations_left =
         let facts = path_facts rows good.paths row row_there in
         ap (λ n. left_by n row.b (left_by n row.a rows.rotations)) (row_id rows e row there)
-        ∙ two_set (rotation_without e) row.a row.b rows.rotations [] facts.a_in facts.b_in (λ same. false≢true (sym facts.apart ∙ eq-eqb row.a row.b same)) (λ v inside first second.
+        ∙ two_set (rotation_without e) row.a row.b rows.rotations [] facts.a_in facts.b_in (λ same. false≢true (sym facts.apart ∙ eq-eqb row.a row.b same))
+        (λ v inside first second.
         let here = vertex_in rows v inside in
         let counted = (good_rotation rows good.rotations v here).counted row row_there in
         let tests = test_of_each (has_good_rotation rows) v (vertices rows) good.rotations here in
         let none : (row.a == v || row.b == v) ≡ false = neither row.a row.b v (λ k. first (sym k)) (λ k. second (sym k)) in
-        stays e (rotation rows v) (counted_any (λ y. y == e) (rotation rows v) false (ap (λ n. occurrences n (rotation rows v)) (sym (row_id rows e row there)) ∙ counted ∙ ap one none))
+        stays e (rotation rows v)
+        (counted_any (λ y. y == e) (rotation rows v) false (ap (λ n. occurrences n (rotation rows v)) (sym (row_id rows e row there)) ∙ counted ∙ ap one none))
         (right_true _ (list_all (nat_le (get_or (rotation rows v) 0 0)) (rotation rows v)) tests)) where
           neither : (a b v : ℕ) → a ≢ v → b ≢ v → (a == v || b == v) ≡ false
           neither a b v first second = grind (arith, nat_tests)

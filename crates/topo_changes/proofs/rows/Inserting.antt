@@ -23,7 +23,8 @@ module _ (rows : Rows) (good : IsWellFormed rows) where
   -- the crossings on the paths are old
   pub crossings_old : paths_below rows.next_crossing rows.edges ≡ true
   crossings_old = all_from (λ row. list_all (λ x. nat_lt x rows.next_crossing) row.crossings) rows.edges (λ row h.
-      all_from (λ x. nat_lt x rows.next_crossing) row.crossings (λ x k. lt-ltb x rows.next_crossing (known_crossing_below rows good.crossings x (crossing_there rows good.paths row h x k))))
+      all_from (λ x. nat_lt x rows.next_crossing) row.crossings
+      (λ x k. lt-ltb x rows.next_crossing (known_crossing_below rows good.crossings x (crossing_there rows good.paths row h x k))))
 
   -- the edges in a rotation are old
   pub rotation_old : (v : ℕ) → v < length rows.rotations → list_all (λ e. nat_lt e rows.next_edge) (rotation rows v) ≡ true
@@ -49,5 +50,11 @@ pub rows_made : (rows : Rows) (u v kind : ℕ) (r : Route) (rotations : List (Li
     → edges ≡ map (crossed_by rows.next_crossing r.crossed) rows.edges ++ record { id = rows.next_edge; a = u; b = v; kind = kind; crossings = path } ∷ []
     → crossings ≡ rows.crossings ++ map (new_crossing rows.next_edge) (enumerate_from rows.next_crossing r.crossed)
     → n ≡ length r.crossed
-    → let made : Rows = record { rotations = rotations; edges = edges; crossings = crossings; next_edge = rows.next_edge + 1; next_crossing = rows.next_crossing + n } in made ≡ shown rows u v kind r
+    → let made : Rows = record {
+      rotations = rotations;
+      edges = edges;
+      crossings = crossings;
+      next_edge = rows.next_edge + 1;
+      next_crossing = rows.next_crossing + n;
+    } in made ≡ shown rows u v kind r
 rows_made rows u v kind r rotations edges crossings path n p is_rotations is_edges is_crossings is_n = cc

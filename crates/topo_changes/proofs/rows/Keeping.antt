@@ -1,5 +1,6 @@
 -- Crossings in a table: what is found by an id, and what more of them and fewer of them come to.
-use Rattle.std.proofs.Common.{◌≡◌, ℕ, zero, suc, ◌+◌, ◌<◌, ◌≤◌, Bool, true, false, cond, not, ◌&&◌, ◌||◌, List, [], ◌∷◌, ◌++◌, length, take, get_or, refl, sym, ap, subst, ◌∙◌, arith, inl, inr, Option, Some, None}
+use Rattle.std.proofs.Common.{◌≡◌, ℕ, zero, suc, ◌+◌, ◌<◌, ◌≤◌, Bool, true, false, cond, not, ◌&&◌, ◌||◌, List, [], ◌∷◌}
+use Rattle.std.proofs.Common.{◌++◌, length, take, get_or, refl, sym, ap, subst, ◌∙◌, arith, inl, inr, Option, Some, None}
 use Rattle.std.specs.Prelude.{◌==◌, filter, find, flat_map, is_some, map, nat_lt, slice_get, slice_index_or}
 use Rattle.std.specs.List.{enumerate_from, list_all}
 use Rattle.std.specs.Option.{option_map}
@@ -31,7 +32,9 @@ use Rattle.topo_table.specs.Places.{AreBelow, Places, entries, entry_at, ids_of,
 pub row_kept : (id : ℕ) (es : List (ℕ × Crossing)) → find (λ row. row.id == id) (map crossing_row es) ≡ option_map (λ c. crossing_row (id, c)) (value_of id es)
 row_kept id [] = refl
 row_kept id (e ∷ es) = by_test (e.0 == id) refl (row_kept id es) where
-  by_test : (t : Bool) → (e.0 == id) ≡ t → find (λ row. row.id == id) (map crossing_row es) ≡ option_map (λ c. crossing_row (id, c)) (value_of id es) → cond t (Some (crossing_row e)) (find (λ row. row.id == id) (map crossing_row es)) ≡ option_map (λ c. crossing_row (id, c)) (option_map (λ e. e.1) (cond t (Some e) (find (λ e. e.0 == id) es)))
+  by_test : (t : Bool) → (e.0 == id) ≡ t → find (λ row. row.id == id) (map crossing_row es) ≡ option_map (λ c. crossing_row (id, c)) (value_of id es)
+      → cond t (Some (crossing_row e)) (find (λ row. row.id == id) (map crossing_row es))
+      ≡ option_map (λ c. crossing_row (id, c)) (option_map (λ e. e.1) (cond t (Some e) (find (λ e. e.0 == id) es)))
   by_test true is rest = ap (λ (n : ℕ). Some (crossing_row (n, e.1))) (eqb-true e.0 id is)
   by_test false is rest = rest
 
@@ -40,7 +43,8 @@ pub none_kept : (table : Places Crossing) (x : ℕ) → value_of x (entries tabl
 none_kept table x none there = false≢true (sym (ap is_some (row_kept x (entries table) ∙ ap (option_map (λ c. crossing_row (x, c))) none)) ∙ there)
 
 -- the other edge of the crossing that an id finds
-pub other_kept : (table : Places Crossing) (e x : ℕ) (c : Crossing) → value_of x (entries table) ≡ Some c → other_edge (rows_of table) e x ≡ cond {A = ℕ} (c.crossed == e) c.newcomer c.crossed
+pub other_kept : (table : Places Crossing) (e x : ℕ) (c : Crossing) → value_of x (entries table) ≡ Some c
+    → other_edge (rows_of table) e x ≡ cond {A = ℕ} (c.crossed == e) c.newcomer c.crossed
 other_kept table e x c at = across (rows_of table) e x (crossing_row (x, c)) (row_kept x (entries table) ∙ ap (option_map (λ c. crossing_row (x, c))) at)
 
 -- ---- More of them
@@ -55,8 +59,10 @@ rows_of_new f [] = refl
 rows_of_new f (d ∷ ds) = ap (λ rows. new_crossing f d ∷ rows) (rows_of_new f ds)
 
 -- the rows with new crossings behind them
-pub added_rows : (was more : Places Crossing) (f first : ℕ) (darts : List Dart) → entries more ≡ entries was ++ map (new_entry f) (enumerate_from first darts) → rows_of more ≡ rows_of was ++ map (new_crossing f) (enumerate_from first darts)
-added_rows was more f first darts is = ap (map crossing_row) is ∙ rows_of_more (entries was) (map (new_entry f) (enumerate_from first darts)) ∙ ap (λ rows. rows_of was ++ rows) (rows_of_new f (enumerate_from first darts))
+pub added_rows : (was more : Places Crossing) (f first : ℕ) (darts : List Dart) → entries more ≡ entries was ++ map (new_entry f) (enumerate_from first darts)
+    → rows_of more ≡ rows_of was ++ map (new_crossing f) (enumerate_from first darts)
+added_rows was more f first darts is = ap (map crossing_row) is ∙ rows_of_more (entries was) (map (new_entry f) (enumerate_from first darts))
+    ∙ ap (λ rows. rows_of was ++ rows) (rows_of_new f (enumerate_from first darts))
 
 lt_more : (x n : ℕ) → nat_lt x n ≡ true → nat_lt x (n + 1) ≡ true
 lt_more x n h = grind (arith, nat_tests)
@@ -80,16 +86,20 @@ more_places : (slots : List (ℕ × Option Crossing)) (i : ℕ) (s : ℕ × Opti
 more_places slots i s at = take_more slots i s (got_within slots i s at) ∙ ap (λ x. take i slots ++ x ∷ []) (get_or_from_slice_get slots i s s at)
 
 -- the rows of the places so far, and of one more
-pub one_more_row : (slots : List (ℕ × Option Crossing)) (i id : ℕ) (c : Crossing) (rows more : List CrossRow) → slice_get slots i ≡ Some (id, Some c) → rows ≡ map crossing_row (present (take i slots)) → more ≡ rows ++ crossing_row (id, c) ∷ []
+pub one_more_row : (slots : List (ℕ × Option Crossing)) (i id : ℕ) (c : Crossing) (rows more : List CrossRow) → slice_get slots i ≡ Some (id, Some c)
+    → rows ≡ map crossing_row (present (take i slots)) → more ≡ rows ++ crossing_row (id, c) ∷ []
     → more ≡ map crossing_row (present (take (i + 1) slots))
 one_more_row slots i id c rows more at is now =
     now ∙ ap (λ rows. rows ++ crossing_row (id, c) ∷ []) is
-    ∙ sym (ap (λ ss. map crossing_row (present ss)) (more_places slots i (id, Some c) at) ∙ ap (map crossing_row) (present-push id c (take i slots)) ∙ rows_of_more (present (take i slots)) ((id, c) ∷ []))
+    ∙ sym (ap (λ ss. map crossing_row (present ss)) (more_places slots i (id, Some c) at) ∙ ap (map crossing_row) (present-push id c (take i slots))
+    ∙ rows_of_more (present (take i slots)) ((id, c) ∷ []))
 
 -- and of an empty one
-pub no_more_row : (slots : List (ℕ × Option Crossing)) (i id : ℕ) (rows : List CrossRow) → slice_get slots i ≡ Some (id, None) → rows ≡ map crossing_row (present (take i slots)) → rows ≡ map crossing_row (present (take (i + 1) slots))
+pub no_more_row : (slots : List (ℕ × Option Crossing)) (i id : ℕ) (rows : List CrossRow) → slice_get slots i ≡ Some (id, None)
+    → rows ≡ map crossing_row (present (take i slots)) → rows ≡ map crossing_row (present (take (i + 1) slots))
 no_more_row slots i id rows at is =
-    is ∙ ap (map crossing_row) (sym (ap present (more_places slots i (id, None) at) ∙ flat_map-append entry_at (take i slots) ((id, None) ∷ []) ∙ append-nil (present (take i slots))))
+    is ∙ ap (map crossing_row)
+    (sym (ap present (more_places slots i (id, None) at) ∙ flat_map-append entry_at (take i slots) ((id, None) ∷ []) ∙ append-nil (present (take i slots))))
 
 -- ---- Ids that rise
 
@@ -116,10 +126,12 @@ all_below limit (x ∷ (y ∷ ns)) h =
 -- ---- Fewer of them
 
 -- one id after others
-pub out_of_more : (x : ℕ) (gone : List ℕ) (es : List (ℕ × Crossing)) → without_id x (filter (λ e. not (has_id gone e.0)) es) ≡ filter (λ e. not (has_id (gone ++ x ∷ []) e.0)) es
+pub out_of_more : (x : ℕ) (gone : List ℕ) (es : List (ℕ × Crossing))
+    → without_id x (filter (λ e. not (has_id gone e.0)) es) ≡ filter (λ e. not (has_id (gone ++ x ∷ []) e.0)) es
 out_of_more x gone es =
     filter_twice (λ e. not (e.0 == x)) (λ e. not (has_id gone e.0)) es
-    ∙ filter_alike (λ e. not (has_id gone e.0) && not (e.0 == x)) (λ e. not (has_id (gone ++ x ∷ []) e.0)) es (λ e h. apart (has_id gone e.0) (e.0 == x) (x == e.0) (eqb_symm e.0 x) ∙ sym (ap not (has_id_more gone x e.0))) where
+    ∙ filter_alike (λ e. not (has_id gone e.0) && not (e.0 == x)) (λ e. not (has_id (gone ++ x ∷ []) e.0)) es
+    (λ e h. apart (has_id gone e.0) (e.0 == x) (x == e.0) (eqb_symm e.0 x) ∙ sym (ap not (has_id_more gone x e.0))) where
       apart : (a b c : Bool) → b ≡ c → (not a && not b) ≡ not (a || (c || false))
       apart true b c same = refl
       apart false true c same = ap (λ (t : Bool). not (t || false)) same
@@ -133,7 +145,8 @@ pub record AreTakenOut (was : Places Crossing) (path : List ℕ) (i : ℕ) (tabl
 pub out_none : (was : Places Crossing) (path : List ℕ) → AreTakenOut was path 0 was
 out_none was path = record { entries_are = sym (filter_whole (λ e. not (has_id [] e.0)) (entries was) (λ e h. refl)); below = λ limit h. h }
 
-pub out_more : (was : Places Crossing) (path : List ℕ) (i : ℕ) (table more : Places Crossing) → i < length path → AreTakenOut was path i table → entries more ≡ without_id (get_or path i 0) (entries table)
+pub out_more : (was : Places Crossing) (path : List ℕ) (i : ℕ) (table more : Places Crossing) → i < length path → AreTakenOut was path i table
+    → entries more ≡ without_id (get_or path i 0) (entries table)
     → ((limit : ℕ) → AreBelow limit table.slots → AreBelow limit more.slots) → AreTakenOut was path (i + 1) more
 out_more was path i table more inside h is below = record {
   entries_are = is ∙ ap (without_id (get_or path i 0)) h.entries_are ∙ out_of_more (get_or path i 0) (take i path) (entries was)
@@ -141,14 +154,17 @@ out_more was path i table more inside h is below = record {
   below = λ limit k. below limit (h.below limit k);
 }
 
-pub out_all : (was : Places Crossing) (path : List ℕ) (i : ℕ) (table : Places Crossing) → length path ≤ i → AreTakenOut was path i table → entries table ≡ filter (λ e. not (has_id path e.0)) (entries was)
+pub out_all : (was : Places Crossing) (path : List ℕ) (i : ℕ) (table : Places Crossing) → length path ≤ i → AreTakenOut was path i table
+    → entries table ≡ filter (λ e. not (has_id path e.0)) (entries was)
 out_all was path i table past h = h.entries_are ∙ ap (λ gone. filter (λ e. not (has_id gone e.0)) (entries was)) (take_all i path past)
 
 -- the rows that are left
 pub rows_of_left : (p : ℕ → Bool) (es : List (ℕ × Crossing)) → map crossing_row (filter (λ e. p e.0) es) ≡ filter (λ row. p row.id) (map crossing_row es)
 rows_of_left p [] = refl
 rows_of_left p (e ∷ es) = by_test (p e.0) (rows_of_left p es) where
-  by_test : (t : Bool) → map crossing_row (filter (λ e. p e.0) es) ≡ filter (λ row. p row.id) (map crossing_row es) → map crossing_row (cond t (e ∷ filter (λ e. p e.0) es) (filter (λ e. p e.0) es)) ≡ cond t (crossing_row e ∷ filter (λ row. p row.id) (map crossing_row es)) (filter (λ row. p row.id) (map crossing_row es))
+  by_test : (t : Bool) → map crossing_row (filter (λ e. p e.0) es) ≡ filter (λ row. p row.id) (map crossing_row es)
+      → map crossing_row (cond t (e ∷ filter (λ e. p e.0) es) (filter (λ e. p e.0) es))
+      ≡ cond t (crossing_row e ∷ filter (λ row. p row.id) (map crossing_row es)) (filter (λ row. p row.id) (map crossing_row es))
   by_test true rest = ap (λ rows. crossing_row e ∷ rows) rest
   by_test false rest = rest
 
@@ -167,20 +183,25 @@ module _ (rows : List CrossRow) (limit : ℕ) (rise : rises_below limit (map (λ
       let many = length-map rows (λ (row : CrossRow). row.id) in
       ap (list_all (λ x. nat_lt x (get_or rows i d).id)) h.ids
       ∙ ap (λ n. list_all (λ x. nat_lt x n) (take i (map (λ row. row.id) rows))) (sym (get_or-map (λ (row : CrossRow). row.id) rows i d 0 inside))
-      ∙ all_below (get_or (map (λ row. row.id) rows) i 0) (take i (map (λ row. row.id) rows)) (rises_before limit (map (λ row. row.id) rows) i (omega arith) rise)
+      ∙ all_below (get_or (map (λ row. row.id) rows) i 0) (take i (map (λ row. row.id) rows))
+      (rises_before limit (map (λ row. row.id) rows) i (omega arith) rise)
 
   -- one more
   pub noted_more : (i : ℕ) (d : CrossRow) (table more : Places Crossing) → i < length rows → AreNoted rows i table
-      → more.slots ≡ table.slots ++ ((get_or rows i d).id, Some (record { crossed = (get_or rows i d).crossed; newcomer = (get_or rows i d).newcomer; sign = (get_or rows i d).sign })) ∷ [] → table.room ≤ more.room + 1 → AreNoted rows (i + 1) more
+      → more.slots ≡ table.slots
+      ++ ((get_or rows i d).id, Some (record { crossed = (get_or rows i d).crossed; newcomer = (get_or rows i d).newcomer; sign = (get_or rows i d).sign }))
+      ∷ [] → table.room ≤ more.room + 1 → AreNoted rows (i + 1) more
   noted_more i d table more inside h is room =
       let row = get_or rows i d in
       let crossing : Crossing = record { crossed = row.crossed; newcomer = row.newcomer; sign = row.sign } in
       let many = length-map rows (λ (row : CrossRow). row.id) in
       record {
-        rows_are = ap (λ ss. map crossing_row (present ss)) is ∙ ap (map crossing_row) (present-push row.id crossing table.slots) ∙ rows_of_more (entries table) ((row.id, crossing) ∷ [])
+        rows_are = ap (λ ss. map crossing_row (present ss)) is ∙ ap (map crossing_row) (present-push row.id crossing table.slots)
+            ∙ rows_of_more (entries table) ((row.id, crossing) ∷ [])
             ∙ ap (λ rs. rs ++ row ∷ []) h.rows_are ∙ sym (take_more rows i d inside);
         ids = ap ids_of is ∙ map-append (λ (s : ℕ × Option Crossing). s.0) table.slots ((row.id, Some crossing) ∷ []) ∙ ap (λ ns. ns ++ row.id ∷ []) h.ids
-            ∙ sym (take_more (map (λ row. row.id) rows) i 0 (omega arith) ∙ ap (λ n. take i (map (λ row. row.id) rows) ++ n ∷ []) (get_or-map (λ (row : CrossRow). row.id) rows i d 0 inside));
+            ∙ sym (take_more (map (λ row. row.id) rows) i 0 (omega arith)
+            ∙ ap (λ n. take i (map (λ row. row.id) rows) ++ n ∷ []) (get_or-map (λ (row : CrossRow). row.id) rows i d 0 inside));
         room = let r = h.room in omega arith;
       }
 
@@ -198,18 +219,24 @@ pub record AreAdded (was : Places Crossing) (darts : List Dart) (first edge i : 
   pub room : length darts ≤ i + table.room
   pub below : AreBelow (first + i) table.slots
 
-pub added_more : (was table more : Places Crossing) (darts : List Dart) (first edge i : ℕ) (d : Dart) (c : Crossing) → i < length darts → AreAdded was darts first edge i table
-    → d ≡ get_or darts i d → (first + i, c) ≡ new_entry edge (first + i, d) → more.slots ≡ table.slots ++ (first + i, Some c) ∷ [] → entries more ≡ entries table ++ (first + i, c) ∷ [] → table.room ≤ more.room + 1 → AreAdded was darts first edge (i + 1) more
+pub added_more : (was table more : Places Crossing) (darts : List Dart) (first edge i : ℕ) (d : Dart) (c : Crossing) → i < length darts
+    → AreAdded was darts first edge i table
+    → d ≡ get_or darts i d → (first + i, c) ≡ new_entry edge (first + i, d) → more.slots ≡ table.slots ++ (first + i, Some c) ∷ []
+    → entries more ≡ entries table ++ (first + i, c) ∷ [] → table.room ≤ more.room + 1 → AreAdded was darts first edge (i + 1) more
 added_more was table more darts first edge i d c inside h read entry slots is room = record {
-  entries_are = is ∙ ap (λ es. es ++ (first + i, c) ∷ []) h.entries_are ∙ append_assoc (entries was) (map (new_entry edge) (enumerate_from first (take i darts))) ((first + i, c) ∷ [])
-      ∙ ap (λ es. entries was ++ es) (ap (λ e. map (new_entry edge) (enumerate_from first (take i darts)) ++ e ∷ []) (entry ∙ ap (λ d. new_entry edge (first + i, d)) read) ∙ sym (numbered_step (new_entry edge) first darts i d inside));
+  entries_are = is ∙ ap (λ es. es ++ (first + i, c) ∷ []) h.entries_are
+      ∙ append_assoc (entries was) (map (new_entry edge) (enumerate_from first (take i darts))) ((first + i, c) ∷ [])
+      ∙ ap (λ es. entries was ++ es) (ap (λ e. map (new_entry edge) (enumerate_from first (take i darts)) ++ e ∷ [])
+      (entry ∙ ap (λ d. new_entry edge (first + i, d)) read) ∙ sym (numbered_step (new_entry edge) first darts i d inside));
   room = let r = h.room in omega arith;
-  below = ap (λ n. list_all (λ x. nat_lt x n) (ids_of more.slots)) next ∙ ap (λ ss. list_all (λ x. nat_lt x (first + i + 1)) (ids_of ss)) slots ∙ below_more (first + i) (Some c) table.slots h.below;
+  below = ap (λ n. list_all (λ x. nat_lt x n) (ids_of more.slots)) next ∙ ap (λ ss. list_all (λ x. nat_lt x (first + i + 1)) (ids_of ss)) slots
+      ∙ below_more (first + i) (Some c) table.slots h.below;
 } where
   next : first + (i + 1) ≡ first + i + 1
   next = omega arith
 
-pub added_none : (was : Places Crossing) (darts : List Dart) (first edge : ℕ) → length darts ≤ was.room → AreBelow first was.slots → AreAdded was darts first edge 0 was
+pub added_none : (was : Places Crossing) (darts : List Dart) (first edge : ℕ) → length darts ≤ was.room → AreBelow first was.slots
+    → AreAdded was darts first edge 0 was
 added_none was darts first edge room below = record {
   entries_are = sym (append-nil (entries was));
   room = omega (arith, room);
@@ -218,5 +245,6 @@ added_none was darts first edge room below = record {
   same : first + 0 ≡ first
   same = omega arith
 
-pub added_all : (was table : Places Crossing) (darts : List Dart) (first edge i : ℕ) → i ≡ length darts → AreAdded was darts first edge i table → AreAdded was darts first edge (length darts) table
+pub added_all : (was table : Places Crossing) (darts : List Dart) (first edge i : ℕ) → i ≡ length darts → AreAdded was darts first edge i table
+    → AreAdded was darts first edge (length darts) table
 added_all was table darts first edge i all h = subst (λ n. AreAdded was darts first edge n table) all h

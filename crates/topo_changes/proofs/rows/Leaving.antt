@@ -1,5 +1,6 @@
 -- What a deletion does to lists: a row found by its id, an id taken out, and a list begun again at its least id.
-use Rattle.std.proofs.Common.{◌≡◌, ◌≢◌, ℕ, zero, suc, ◌+◌, ◌<◌, ◌≤◌, Bool, true, false, cond, not, ◌||◌, ◌&&◌, List, [], ◌∷◌, ◌++◌, length, take, drop, get_or, set, refl, sym, ap, subst, ◌∙◌, arith, inl, inr, Some}
+use Rattle.std.proofs.Common.{◌≡◌, ◌≢◌, ℕ, zero, suc, ◌+◌, ◌<◌, ◌≤◌, Bool, true, false, cond, not, ◌||◌, ◌&&◌, List, []}
+use Rattle.std.proofs.Common.{◌∷◌, ◌++◌, length, take, drop, get_or, set, refl, sym, ap, subst, ◌∙◌, arith, inl, inr, Some}
 use Rattle.std.specs.Prelude.{◌==◌, filter, find, fold, is_some, map, min, slice_index}
 use Rattle.std.specs.List.{position_or_len, remove}
 use Rattle.std.specs.List.Sorted.{IsStrictlyIncreasing}
@@ -28,13 +29,15 @@ use Rattle.topo_changes.proofs.rows.CrossedRows.{in_at}
 -- two tests that agree on the items
 pub filter_alike : {X : Type 0} (p q : X → Bool) (xs : List X) → ((x : X) → IsIn x xs → p x ≡ q x) → filter p xs ≡ filter q xs
 filter_alike p q [] alike = refl
-filter_alike p q (x ∷ xs) alike = ap (λ (b : Bool). cond b (x ∷ filter p xs) (filter p xs)) (alike x (inl refl)) ∙ ap (λ ys. cond (q x) (x ∷ ys) ys) (filter_alike p q xs (λ y h. alike y (inr h)))
+filter_alike p q (x ∷ xs) alike = ap (λ (b : Bool). cond b (x ∷ filter p xs) (filter p xs)) (alike x (inl refl))
+    ∙ ap (λ ys. cond (q x) (x ∷ ys) ys) (filter_alike p q xs (λ y h. alike y (inr h)))
 
 -- one test after another
 pub filter_twice : {X : Type 0} (p q : X → Bool) (xs : List X) → filter p (filter q xs) ≡ filter (λ x. q x && p x) xs
 filter_twice p q [] = refl
 filter_twice p q (x ∷ xs) = by_test (q x) (filter_twice p q xs) where
-  by_test : (b : Bool) → filter p (filter q xs) ≡ filter (λ x. q x && p x) xs → filter p (cond b (x ∷ filter q xs) (filter q xs)) ≡ cond (b && p x) (x ∷ filter (λ x. q x && p x) xs) (filter (λ x. q x && p x) xs)
+  by_test : (b : Bool) → filter p (filter q xs) ≡ filter (λ x. q x && p x) xs
+      → filter p (cond b (x ∷ filter q xs) (filter q xs)) ≡ cond (b && p x) (x ∷ filter (λ x. q x && p x) xs) (filter (λ x. q x && p x) xs)
   by_test true rest = ap (λ ys. cond (p x) (x ∷ ys) ys) rest
   by_test false rest = rest
 
@@ -61,7 +64,8 @@ module _ {X : Type 0} (id : X → ℕ) where
   place_named xs x place h = get_or-map id xs place h.row 0 h.within ∙ ap id (get_or_from_slice_get xs place h.row h.row h.at) ∙ h.named
 
   -- the rows but the one at its place
-  pub removed_is : (xs : List X) (i x : ℕ) → IsStrictlyIncreasing (map id xs) → i < length xs → slice_index (map id xs) i ≡ x → remove xs i ≡ filter (λ y. not (id y == x)) xs
+  pub removed_is : (xs : List X) (i x : ℕ) → IsStrictlyIncreasing (map id xs) → i < length xs → slice_index (map id xs) i ≡ x
+      → remove xs i ≡ filter (λ y. not (id y == x)) xs
   removed_is [] i x up inside at = absurd (omega arith)
   removed_is (z ∷ zs) zero x up inside at =
       let kept : filter (λ y. not (id y == x)) zs ≡ zs = filter_whole (λ y. not (id y == x)) zs (λ y h.
@@ -75,7 +79,8 @@ module _ {X : Type 0} (id : X → ℕ) where
 
 -- ---- A list from its least id on
 
-pub least_first : (xs : List ℕ) (i : ℕ) → i ≤ length xs → (0 < length xs → i < length xs) → ((k : ℕ) → k < length xs → slice_index xs i ≤ slice_index xs k) → ((k : ℕ) → k < i → slice_index xs i < slice_index xs k)
+pub least_first : (xs : List ℕ) (i : ℕ) → i ≤ length xs → (0 < length xs → i < length xs) → ((k : ℕ) → k < length xs → slice_index xs i ≤ slice_index xs k)
+    → ((k : ℕ) → k < i → slice_index xs i < slice_index xs k)
     → drop i xs ++ take i xs ≡ from_least xs
 least_first [] zero within inside least first = refl
 least_first [] (suc i) within inside least first = absurd (omega arith)
@@ -103,10 +108,12 @@ out_of_one x ys = filter_alike (λ y. not (y == x)) (λ y. not (has_id (x ∷ []
 
 -- a path without the crossing stays as it is
 pub unchanged : (x : ℕ) (row : EdgeRow) → has_id row.crossings x ≡ false → uncrossed_row (x ∷ []) row ≡ row
-unchanged x row none = ap (λ (path : List ℕ). record row { crossings = path }) (sym (out_of_one x row.crossings) ∙ filter_whole (λ y. not (y == x)) row.crossings (λ y h. grind (arith, cases_Bool, false≢true, has_id_in, eqb-true)))
+unchanged x row none = ap (λ (path : List ℕ). record row { crossings = path })
+    (sym (out_of_one x row.crossings) ∙ filter_whole (λ y. not (y == x)) row.crossings (λ y h. grind (arith, cases_Bool, false≢true, has_id_in, eqb-true)))
 
 -- the crossing is taken out of the one path on which it stands
-pub path_left : (edges : List EdgeRow) (i x other : ℕ) (row : EdgeRow) → IsStrictlyIncreasing (map (λ row. row.id) edges) → i < length edges → slice_index (map (λ row. row.id) edges) i ≡ other → row ≡ get_or edges i row
+pub path_left : (edges : List EdgeRow) (i x other : ℕ) (row : EdgeRow) → IsStrictlyIncreasing (map (λ row. row.id) edges) → i < length edges
+    → slice_index (map (λ row. row.id) edges) i ≡ other → row ≡ get_or edges i row
     → ((row : EdgeRow) → IsIn row edges → row.id ≢ other → has_id row.crossings x ≡ false)
     → set edges i (record row { crossings = filter (λ y. not (y == x)) row.crossings }) ≡ map (uncrossed_row (x ∷ [])) edges
 path_left [] i x other row up inside at read elsewhere = absurd (omega arith)
@@ -117,7 +124,8 @@ path_left (z ∷ zs) zero x other row up inside at read elsewhere =
     grind (arith, out_of_one)
 path_left (z ∷ zs) (suc i) x other row up inside at read elsewhere =
     let as_many = length-map zs (λ (row : EdgeRow). row.id) in
-    let less = above_first z.id (map (λ row. row.id) zs) up other (subst (λ y. IsIn y (map (λ row. row.id) zs)) at (in_at (map (λ row. row.id) zs) i 0 (omega arith))) in
+    let less = above_first z.id (map (λ row. row.id) zs) up other
+    (subst (λ y. IsIn y (map (λ row. row.id) zs)) at (in_at (map (λ row. row.id) zs) i 0 (omega arith))) in
     ap (λ ys. z ∷ ys) (path_left zs i x other row (up_tail z.id (map (λ row. row.id) zs) up) (omega arith) at read (λ y h. elsewhere y (inr h)))
     ∙ ap (λ y. y ∷ map (uncrossed_row (x ∷ [])) zs) (sym (unchanged x z (elsewhere z (inl refl) (λ same. (let e = same in omega arith)))))
 
@@ -125,7 +133,8 @@ path_left (z ∷ zs) (suc i) x other row up inside at read elsewhere =
 
 -- none is taken out
 pub none_out : (edges : List EdgeRow) → map (uncrossed_row []) edges ≡ edges
-none_out edges = map_whole (uncrossed_row []) edges (λ row h. ap (λ (path : List ℕ). record row { crossings = path }) (filter_whole (λ x. not (has_id [] x)) row.crossings (λ y k. refl)))
+none_out edges = map_whole (uncrossed_row []) edges
+    (λ row h. ap (λ (path : List ℕ). record row { crossings = path }) (filter_whole (λ x. not (has_id [] x)) row.crossings (λ y k. refl)))
 
 -- the ids stay
 pub ids_stay : (gone : List ℕ) (edges : List EdgeRow) → map (λ row. row.id) (map (uncrossed_row gone) edges) ≡ map (λ row. row.id) edges
@@ -140,26 +149,33 @@ has_id_more (z ∷ zs) x y = ap (λ b. z == y || b) (has_id_more zs x y) ∙ ass
   assoc false b c = refl
 
 -- one more is taken out
-pub more_out : (path : List ℕ) (i x : ℕ) (was edges after : List EdgeRow) → i < length path → x ≡ get_or path i 0 → edges ≡ map (uncrossed_row (take i path)) was → after ≡ map (uncrossed_row (x ∷ [])) edges
+pub more_out : (path : List ℕ) (i x : ℕ) (was edges after : List EdgeRow) → i < length path → x ≡ get_or path i 0
+    → edges ≡ map (uncrossed_row (take i path)) was → after ≡ map (uncrossed_row (x ∷ [])) edges
     → after ≡ map (uncrossed_row (take (i + 1) path)) was
 more_out path i x was edges after inside is before now =
-    now ∙ ap (map (uncrossed_row (x ∷ []))) before ∙ twice was ∙ ap (λ gone. map (uncrossed_row gone) was) (ap (λ y. take i path ++ y ∷ []) is ∙ sym (take_more path i 0 inside) ∙ ap (λ n. take n path) next) where
+    now ∙ ap (map (uncrossed_row (x ∷ []))) before ∙ twice was
+    ∙ ap (λ gone. map (uncrossed_row gone) was) (ap (λ y. take i path ++ y ∷ []) is ∙ sym (take_more path i 0 inside) ∙ ap (λ n. take n path) next) where
       next : suc i ≡ i + 1
       next = omega arith
 
       row_twice : (row : EdgeRow) → uncrossed_row (x ∷ []) (uncrossed_row (take i path) row) ≡ uncrossed_row (take i path ++ x ∷ []) row
-      row_twice row = ap (λ (list : List ℕ). record row { crossings = list }) (filter_twice (λ y. not (has_id (x ∷ []) y)) (λ y. not (has_id (take i path) y)) row.crossings
-          ∙ filter_alike (λ y. not (has_id (take i path) y) && not (has_id (x ∷ []) y)) (λ y. not (has_id (take i path ++ x ∷ []) y)) row.crossings (λ y h. neither (has_id (take i path) y) (has_id (x ∷ []) y) ∙ sym (ap not (has_id_more (take i path) x y)))) where
+      row_twice row = ap (λ (list : List ℕ). record row { crossings = list })
+          (filter_twice (λ y. not (has_id (x ∷ []) y)) (λ y. not (has_id (take i path) y)) row.crossings
+          ∙ filter_alike (λ y. not (has_id (take i path) y) && not (has_id (x ∷ []) y)) (λ y. not (has_id (take i path ++ x ∷ []) y)) row.crossings
+          (λ y h. neither (has_id (take i path) y) (has_id (x ∷ []) y) ∙ sym (ap not (has_id_more (take i path) x y)))) where
             neither : (a b : Bool) → (not a && not b) ≡ not (a || b)
             neither true b = refl
             neither false b = refl
 
-      twice : (edges : List EdgeRow) → map (uncrossed_row (x ∷ [])) (map (uncrossed_row (take i path)) edges) ≡ map (uncrossed_row (take i path ++ x ∷ [])) edges
+      twice : (edges : List EdgeRow)
+          → map (uncrossed_row (x ∷ [])) (map (uncrossed_row (take i path)) edges) ≡ map (uncrossed_row (take i path ++ x ∷ [])) edges
       twice [] = refl
-      twice (row ∷ edges) = ap (λ r. r ∷ map (uncrossed_row (x ∷ [])) (map (uncrossed_row (take i path)) edges)) (row_twice row) ∙ ap (λ rows. uncrossed_row (take i path ++ x ∷ []) row ∷ rows) (twice edges)
+      twice (row ∷ edges) = ap (λ r. r ∷ map (uncrossed_row (x ∷ [])) (map (uncrossed_row (take i path)) edges)) (row_twice row)
+          ∙ ap (λ rows. uncrossed_row (take i path ++ x ∷ []) row ∷ rows) (twice edges)
 
 -- an edge that was there still is
-still_found : (o : ℕ) (gone : List ℕ) (was : List EdgeRow) → is_some (find (λ row. row.id == o) (map (uncrossed_row gone) was)) ≡ is_some (find (λ row. row.id == o) was)
+still_found : (o : ℕ) (gone : List ℕ) (was : List EdgeRow)
+    → is_some (find (λ row. row.id == o) (map (uncrossed_row gone) was)) ≡ is_some (find (λ row. row.id == o) was)
 still_found o gone [] = refl
 still_found o gone (row ∷ was) = elim (cases_Bool (row.id == o)) [
   | inl is ↦ cc
@@ -170,7 +186,8 @@ still_found o gone (row ∷ was) = elim (cases_Bool (row.id == o)) [
 ]
 
 -- a crossing that was on its other edge's path alone still is
-pub crossed_still : (crossings : List CrossRow) (e x : ℕ) (gone : List ℕ) (was edges : List EdgeRow) → edges ≡ map (uncrossed_row gone) was → IsCrossed crossings e was x → IsCrossed crossings e edges x
+pub crossed_still : (crossings : List CrossRow) (e x : ℕ) (gone : List ℕ) (was edges : List EdgeRow) → edges ≡ map (uncrossed_row gone) was
+    → IsCrossed crossings e was x → IsCrossed crossings e edges x
 crossed_still crossings e x gone was edges is h = subst (λ edges. IsCrossed crossings e edges x) (sym is) (record {
   known = h.known;
   there = still_found (other_edge crossings e x) gone was ∙ h.there;

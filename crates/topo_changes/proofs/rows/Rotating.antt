@@ -1,5 +1,6 @@
 -- A rotation that an edge is taken out of in one move.
-use Rattle.std.proofs.Common.{◌≡◌, ◌≢◌, ℕ, zero, suc, ◌+◌, ◌<◌, ◌≤◌, ◌&&◌, ◌||◌, Bool, Some, true, false, cond, not, List, [], ◌∷◌, length, get_or, refl, sym, ap, ◌∙◌, arith, inl, inr}
+use Rattle.std.proofs.Common.{◌≡◌, ◌≢◌, ℕ, zero, suc, ◌+◌, ◌<◌, ◌≤◌, ◌&&◌, ◌||◌, Bool, Some, true, false}
+use Rattle.std.proofs.Common.{cond, not, List, [], ◌∷◌, length, get_or, refl, sym, ap, ◌∙◌, arith, inl, inr}
 use Rattle.std.specs.Prelude.{◌==◌, filter, nat_le}
 use Rattle.std.specs.List.{list_all, position_or_len, remove}
 use Rattle.std.proofs.lemmas.Bool.{cases_Bool, cases_lt, eq-eqb, eqb-true, false≢true}
@@ -28,14 +29,16 @@ none_of_it e xs none = filter_whole (λ y. not (y == e)) xs (λ y h. elim (cases
 ])
 
 -- one that stands in it once goes with its place
-pub removed_once : (e : ℕ) (xs : List ℕ) → occurrences e xs ≤ 1 → position_or_len (λ y. y == e) xs < length xs → remove xs (position_or_len (λ y. y == e) xs) ≡ filter (λ y. not (y == e)) xs
+pub removed_once : (e : ℕ) (xs : List ℕ) → occurrences e xs ≤ 1 → position_or_len (λ y. y == e) xs < length xs
+    → remove xs (position_or_len (λ y. y == e) xs) ≡ filter (λ y. not (y == e)) xs
 removed_once e [] once inside = absurd (omega arith)
 removed_once e (x ∷ xs) once inside =
     let step = sum_by-cons (λ y. one (y == e)) x xs in
     elim (cases_Bool (x == e)) [
       | inl is ↦ (
           let here : one (x == e) ≡ 1 = ap one is in
-          ap (remove (x ∷ xs)) (path_place_here e x xs is) ∙ sym (none_of_it e xs (omega arith)) ∙ sym (ap (λ (b : Bool). cond (not b) (x ∷ filter (λ y. not (y == e)) xs) (filter (λ y. not (y == e)) xs)) is))
+          ap (remove (x ∷ xs)) (path_place_here e x xs is) ∙ sym (none_of_it e xs (omega arith))
+          ∙ sym (ap (λ (b : Bool). cond (not b) (x ∷ filter (λ y. not (y == e)) xs) (filter (λ y. not (y == e)) xs)) is))
       | inr other ↦ (
           let here : one (x == e) ≡ 0 = ap one other in
           let later = path_place_later e x xs other in
@@ -52,7 +55,8 @@ none_there e (x ∷ xs) past = elim (cases_Bool (x == e)) [
   | inl is ↦ absurd (let here = path_place_here e x xs is in omega arith)
   | inr other ↦ (
       let later = path_place_later e x xs other in
-      ap (λ (b : Bool). cond (not b) (x ∷ filter (λ y. not (y == e)) xs) (filter (λ y. not (y == e)) xs)) other ∙ ap (λ ys. x ∷ ys) (none_there e xs (omega arith)))
+      ap (λ (b : Bool). cond (not b) (x ∷ filter (λ y. not (y == e)) xs) (filter (λ y. not (y == e)) xs)) other
+      ∙ ap (λ ys. x ∷ ys) (none_there e xs (omega arith)))
 ]
 
 all_left : (p q : ℕ → Bool) (xs : List ℕ) → list_all p xs ≡ true → list_all p (filter q xs) ≡ true
@@ -63,7 +67,8 @@ all_left p q (x ∷ xs) h = by_test (q x) (all_left p q xs (right_true (p x) (li
   by_test false rest = rest
 
 -- where another than its least id went, a rotation begins as it did
-pub begins_still : (e : ℕ) (xs : List ℕ) → list_all (nat_le (get_or xs 0 0)) xs ≡ true → position_or_len (λ y. y == e) xs ≢ 0 → filter (λ y. not (y == e)) xs ≡ rotation_without e xs
+pub begins_still : (e : ℕ) (xs : List ℕ) → list_all (nat_le (get_or xs 0 0)) xs ≡ true → position_or_len (λ y. y == e) xs ≢ 0
+    → filter (λ y. not (y == e)) xs ≡ rotation_without e xs
 begins_still e [] least later = refl
 begins_still e (x ∷ xs) least later = elim (cases_Bool (x == e)) [
   | inl is ↦ absurd (later (path_place_here e x xs is))
@@ -72,10 +77,12 @@ begins_still e (x ∷ xs) least later = elim (cases_Bool (x == e)) [
       kept ∙ sym (begins_there (x ∷ filter (λ y. not (y == e)) xs) (all_here x xs least)) ∙ ap from_least (sym kept))
 ] where
   all_here : (x : ℕ) (xs : List ℕ) → list_all (nat_le x) (x ∷ xs) ≡ true → list_all (nat_le x) (x ∷ filter (λ y. not (y == e)) xs) ≡ true
-  all_here x xs h = ap (λ (t : Bool). t && list_all (nat_le x) (filter (λ y. not (y == e)) xs)) (left_true (nat_le x x) (list_all (nat_le x) xs) h) ∙ all_left (nat_le x) (λ y. not (y == e)) xs (right_true (nat_le x x) (list_all (nat_le x) xs) h)
+  all_here x xs h = ap (λ (t : Bool). t && list_all (nat_le x) (filter (λ y. not (y == e)) xs)) (left_true (nat_le x x) (list_all (nat_le x) xs) h)
+      ∙ all_left (nat_le x) (λ y. not (y == e)) xs (right_true (nat_le x x) (list_all (nat_le x) xs) h)
 
 -- one more id that is another
-pub others_more : (ids : List ℕ) (place id : ℕ) → ((k : ℕ) → k < place → (get_or ids k 0 == id) ≡ false) → get_or ids place 0 ≢ id → (k : ℕ) → k < place + 1 → (get_or ids k 0 == id) ≡ false
+pub others_more : (ids : List ℕ) (place id : ℕ) → ((k : ℕ) → k < place → (get_or ids k 0 == id) ≡ false) → get_or ids place 0 ≢ id → (k : ℕ) → k < place + 1
+    → (get_or ids k 0 == id) ≡ false
 others_more ids place id so_far here k less = elim (cases_lt k place) [
   | inl before ↦ so_far k before
   | inr past ↦ (let same : k ≡ place = omega arith in ap (λ n. get_or ids n 0 == id) same ∙ differ (get_or ids place 0) id here)

@@ -8,5 +8,6 @@ use Rattle.topo_rows.proofs.Verdicts.{segments_by_pairs}
 use Rattle.topo_rows.proofs.RowCounts.{two_each}
 
 -- each edge has a segment, and each crossing gives one more to each of its two edges
-pub segments_total : (rows : Rows) → IsWellFormed rows → rows.next_crossing ≤ 4294967296 → sum_by segment_count rows.edges ≡ length rows.edges + 2 * length rows.crossings
+pub segments_total : (rows : Rows) → IsWellFormed rows → rows.next_crossing ≤ 4294967296
+    → sum_by segment_count rows.edges ≡ length rows.edges + 2 * length rows.crossings
 segments_total rows good small = grind (arith, two_each, segments_by_pairs)

@@ -1,5 +1,6 @@
 -- How many vertices, edges and crossings a picture has without an edge, and which vertices are bare then.
-use Rattle.std.proofs.Common.{◌≡◌, ◌≢◌, ◌+◌, ◌<◌, ◌≤◌, ◌||◌, ap, arith, Bool, cond, false, inl, inr, length, List, not, refl, suc, sym, true, ℕ, [], ◌++◌, ◌∙◌, ◌∷◌}
+use Rattle.std.proofs.Common.{◌≡◌, ◌≢◌, ◌+◌, ◌<◌, ◌≤◌, ◌||◌, ap, arith, Bool, cond, false, inl}
+use Rattle.std.proofs.Common.{inr, length, List, not, refl, suc, sym, true, ℕ, [], ◌++◌, ◌∙◌, ◌∷◌}
 use Rattle.std.specs.Prelude.{count_by, filter, map, slice_index_or, Some, option_map, unwrap_or, ◌==◌}
 use Rattle.std.specs.List.{list_all, list_any}
 use Rattle.std.proofs.lemmas.List.{length-map}
@@ -19,7 +20,8 @@ use Rattle.topo_core.proofs.systems.RoundPoints.{taken_out}
 use Rattle.topo_core.proofs.inserting.ShownPlaces.{path_once}
 use Rattle.topo_core.proofs.numbering.Standing.{good_rotation}
 use Rattle.topo_core.proofs.systems.SystemDarts.{crossing_there, edge_at_row, row_id, row_in, some_of, vertex_in}
-use Rattle.topo_core.proofs.deleting.WithoutRows.{filter_passes, gone, in_has_id, IsRotated, is_left, occurrences-passing, without_rotated, without_rotation, without_vertices}
+use Rattle.topo_core.proofs.deleting.WithoutRows.{filter_passes, gone, in_has_id, IsRotated, is_left, occurrences-passing}
+use Rattle.topo_core.proofs.deleting.WithoutRows.{without_rotated, without_rotation, without_vertices}
 use Rattle.topo_core.proofs.inserting.WovenPaths.{counted_in}
 use Rattle.topo_rows.proofs.RowCounts.{same_length}
 
@@ -30,10 +32,12 @@ pub vertices_without : (rows : Rows) (e : ℕ) → length (without rows e).rotat
 vertices_without rows e = without_vertices rows e
 
 -- one edge less
-pub edges_without : (rows : Rows) → IsWellFormed rows → (e : ℕ) (row : EdgeRow) → edge_row rows e ≡ Some row → length (without rows e).edges + 1 ≡ length rows.edges
+pub edges_without : (rows : Rows) → IsWellFormed rows → (e : ℕ) (row : EdgeRow) → edge_row rows e ≡ Some row
+    → length (without rows e).edges + 1 ≡ length rows.edges
 edges_without rows good e row there =
     let rise = left_true (rises_below rows.next_edge (map (λ row. row.id) rows.edges)) (list_all (has_good_path rows) rows.edges) good.paths in
-    let once : count_by (λ row. row.id == e) rows.edges ≡ 1 = sum_found (λ (row : EdgeRow). row.id) (λ row. 1) rows.next_edge e rows.edges rise ∙ ap (λ o. unwrap_or (option_map (λ row. 1) o) 0) there in
+    let once : count_by (λ row. row.id == e) rows.edges ≡ 1 = sum_found (λ (row : EdgeRow). row.id) (λ row. 1) rows.next_edge e rows.edges rise
+    ∙ ap (λ o. unwrap_or (option_map (λ row. 1) o) 0) there in
     let found = length-filter (λ (row : EdgeRow). row.id == e) rows.edges in
     grind (arith, length-filter_both, is_left, length-map, gone)
 
@@ -41,7 +45,8 @@ edges_without rows good e row there =
 ids_passing : {X : Type 0} (id : X → ℕ) (q : ℕ → Bool) (xs : List X) → map id (filter (λ x. q (id x)) xs) ≡ filter q (map id xs)
 ids_passing id q [] = refl
 ids_passing id q (x ∷ xs) = by_test (q (id x)) (ids_passing id q xs) where
-  by_test : (t : Bool) → map id (filter (λ x. q (id x)) xs) ≡ filter q (map id xs) → map id (cond t (x ∷ filter (λ x. q (id x)) xs) (filter (λ x. q (id x)) xs)) ≡ cond t (id x ∷ filter q (map id xs)) (filter q (map id xs))
+  by_test : (t : Bool) → map id (filter (λ x. q (id x)) xs) ≡ filter q (map id xs)
+      → map id (cond t (x ∷ filter (λ x. q (id x)) xs) (filter (λ x. q (id x)) xs)) ≡ cond t (id x ∷ filter q (map id xs)) (filter q (map id xs))
   by_test true rest = ap (λ ys. id x ∷ ys) rest
   by_test false rest = rest
 
@@ -53,15 +58,18 @@ none_passes q k xs fails = elim (cases_Bool (has_id (filter q xs) k)) [
 ]
 
 -- the crossings of the path are gone
-pub crossings_without : (rows : Rows) → IsWellFormed rows → (e : ℕ) (row : EdgeRow) → edge_row rows e ≡ Some row → length (without rows e).crossings + length row.crossings ≡ length rows.crossings
+pub crossings_without : (rows : Rows) → IsWellFormed rows → (e : ℕ) (row : EdgeRow) → edge_row rows e ≡ Some row
+    → length (without rows e).crossings + length row.crossings ≡ length rows.crossings
 crossings_without rows good e row there =
     let rise = left_true (rises_below rows.next_crossing (map (λ x. x.id) rows.crossings)) (list_all (is_good_crossing rows) rows.crossings) good.crossings in
     let path : gone rows e ≡ row.crossings = ap (λ (row : EdgeRow). row.crossings) (edge_at_row rows e row there) in
-    let same : (k : ℕ) → occurrences k (filter (has_id row.crossings) (map (λ (x : CrossRow). x.id) rows.crossings)) ≡ occurrences k row.crossings = λ k. elim (cases_Bool (has_id row.crossings k)) [
+    let same : (k : ℕ) → occurrences k (filter (has_id row.crossings) (map (λ (x : CrossRow). x.id) rows.crossings)) ≡ occurrences k row.crossings =
+    λ k. elim (cases_Bool (has_id row.crossings k)) [
       | inl h ↦
           let at = in_has_id k row.crossings h in
           let pick = some_of (cross_row rows k) (crossing_there rows good.paths row (row_in rows e row there) k at) in
-          let listed : occurrences k (map (λ (x : CrossRow). x.id) rows.crossings) ≡ 1 = sum_of_map (λ y. one (y == k)) (λ (x : CrossRow). x.id) rows.crossings ∙ sum_found (λ (x : CrossRow). x.id) (λ x. 1) rows.next_crossing k rows.crossings rise
+          let listed : occurrences k (map (λ (x : CrossRow). x.id) rows.crossings) ≡ 1 = sum_of_map (λ y. one (y == k)) (λ (x : CrossRow). x.id) rows.crossings
+          ∙ sum_found (λ (x : CrossRow). x.id) (λ x. 1) rows.next_crossing k rows.crossings rise
           ∙ ap (λ o. unwrap_or (option_map (λ x. 1) o) 0) pick.1 in
           let passing = occurrences-passing (has_id row.crossings) k (map (λ (x : CrossRow). x.id) rows.crossings) h in
           let most = path_once rows good e row there k at in
@@ -90,12 +98,14 @@ at_most_once rows good e v inside =
     elim (cases_Bool (has_id (rotation rows v) e)) [
       | inl h ↦
           let row = some_of (edge_row rows e) (around.known e (in_has_id e (rotation rows v) h)) in
-          at_most_one (row.0.a == v || row.0.b == v) (occurrences e (rotation rows v)) (ap (λ n. occurrences n (rotation rows v)) (sym (row_id rows e row.0 row.1)) ∙ around.counted row.0 (row_in rows e row.0 row.1))
+          at_most_one (row.0.a == v || row.0.b == v) (occurrences e (rotation rows v))
+          (ap (λ n. occurrences n (rotation rows v)) (sym (row_id rows e row.0 row.1)) ∙ around.counted row.0 (row_in rows e row.0 row.1))
       | inr h ↦ let none = none_counted_any (λ y. y == e) (rotation rows v) h in omega arith
     ]
 
 -- a vertex that becomes bare had the edge alone
-pub bare_without : (rows : Rows) → IsWellFormed rows → (e v : ℕ) → v < length rows.rotations → rotation rows v ≢ [] → rotation (without rows e) v ≡ [] → rotation rows v ≡ e ∷ []
+pub bare_without : (rows : Rows) → IsWellFormed rows → (e v : ℕ) → v < length rows.rotations → rotation rows v ≢ [] → rotation (without rows e) v ≡ []
+    → rotation rows v ≡ e ∷ []
 bare_without rows good e v inside some bare =
     let empty : filter (λ f. not (f == e)) (rotation rows v) ≡ [] = nothing_rotated (without_rotated rows e v) bare in
     elim (taken_out e (rotation rows v) (at_most_once rows good e v inside)) [
@@ -110,10 +120,12 @@ without_bare rows e v alone = grind (arith, without_rotation, eq-eqb)
 none_empty : (lists : List (List ℕ)) → ((v : ℕ) → v < length lists → slice_index_or lists v [] ≢ []) → list_any (λ around. length around == 0) lists ≡ false
 none_empty [] full = refl
 none_empty ([] ∷ lists) full = absurd (full 0 (omega arith) refl)
-none_empty ((x ∷ xs) ∷ lists) full = or_from (length (x ∷ xs) == 0) (list_any (λ around. length around == 0) lists) (eqb_more (length (x ∷ xs)) 0 (omega arith)) (none_empty lists (λ v inside. full (suc v) (omega arith)))
+none_empty ((x ∷ xs) ∷ lists) full = or_from (length (x ∷ xs) == 0) (list_any (λ around. length around == 0) lists) (eqb_more (length (x ∷ xs)) 0 (omega arith))
+    (none_empty lists (λ v inside. full (suc v) (omega arith)))
 
 -- where no vertex is bare or has the edge alone, none is bare without it
-pub full_without : (rows : Rows) → IsWellFormed rows → (e : ℕ) → ((v : ℕ) → v < length rows.rotations → rotation rows v ≢ []) → ((v : ℕ) → v < length rows.rotations → rotation rows v ≢ e ∷ [])
+pub full_without : (rows : Rows) → IsWellFormed rows → (e : ℕ) → ((v : ℕ) → v < length rows.rotations → rotation rows v ≢ [])
+    → ((v : ℕ) → v < length rows.rotations → rotation rows v ≢ e ∷ [])
     → list_any (λ around. length around == 0) (without rows e).rotations ≡ false
 full_without rows good e full others = none_empty (without rows e).rotations (λ v inside bare.
     let as_many = without_vertices rows e in

@@ -1,5 +1,6 @@
 -- A path that some crossings are gone from: where the crossings that are left stood, and those that are gone between them.
-use Rattle.std.proofs.Common.{◌≡◌, ℕ, zero, suc, ◌+◌, ◌<◌, ◌≤◌, append_assoc, Bool, true, false, cond, not, List, [], ◌∷◌, ◌++◌, length, get_or, eqb, refl, sym, ap, subst, ◌∙◌, arith, inl, inr}
+use Rattle.std.proofs.Common.{◌≡◌, ℕ, zero, suc, ◌+◌, ◌<◌, ◌≤◌, append_assoc, Bool, true, false, cond, not, List}
+use Rattle.std.proofs.Common.{[], ◌∷◌, ◌++◌, length, get_or, eqb, refl, sym, ap, subst, ◌∙◌, arith, inl, inr}
 use Rattle.std.specs.Prelude.{◌==◌, ◌⊎◌, filter}
 use Rattle.std.proofs.lemmas.List.{length-append}
 use Rattle.std.proofs.lemmas.List.Sums.{sum_by-cons}
@@ -30,7 +31,8 @@ pub gone_parts : (gone path : List ℕ) (s : ℕ) → s ≤ length (left_of gone
 gone_parts gone [] zero h = grind arith
 gone_parts gone [] (suc s) h = absurd (omega arith)
 gone_parts gone (x ∷ path) zero h = by_test (has_id gone x) (gone_parts gone path 0 (omega arith)) where
-  by_test : (b : Bool) → IsParted (gone_on gone path 0) 0 (left_of gone path) path → IsParted (cond b (x ∷ gone_on gone path 0) []) 0 (cond (not b) (x ∷ left_of gone path) (left_of gone path)) (x ∷ path)
+  by_test : (b : Bool) → IsParted (gone_on gone path 0) 0 (left_of gone path) path
+      → IsParted (cond b (x ∷ gone_on gone path 0) []) 0 (cond (not b) (x ∷ left_of gone path) (left_of gone path)) (x ∷ path)
   by_test true rest = grind arith
   by_test false rest = grind arith
 gone_parts gone (x ∷ path) (suc s) h = by_test (has_id gone x) h (gone_parts gone path (suc s)) (gone_parts gone path s) where
@@ -59,7 +61,8 @@ gone_parts gone (x ∷ path) (suc s) h = by_test (has_id gone x) h (gone_parts g
         last = λ e. rest.last (omega arith);
         previous = λ i e.
             let at : s ≡ i = omega arith in
-            subst (λ k. (list : List ℕ) × (x ∷ rest.front ≡ list ++ get_or (x ∷ left_of gone path) k 0 ∷ [])) at (one_before x s (left_of gone path) rest.front rest.first rest.previous);
+            subst (λ k. (list : List ℕ) × (x ∷ rest.front ≡ list ++ get_or (x ∷ left_of gone path) k 0 ∷ [])) at
+            (one_before x s (left_of gone path) rest.front rest.first rest.previous);
         next = λ less. rest.next (omega arith);
       }
 
@@ -84,7 +87,8 @@ pub left_kept : (gone : List ℕ) (x : ℕ) (path : List ℕ) → has_id gone x 
 left_kept gone x path e = ap (λ (b : Bool). cond (not b) (x ∷ left_of gone path) (left_of gone path)) e
 
 -- what is gone from a segment of a path that begins with a crossing that is gone
-gone_behind : (gone : List ℕ) (x : ℕ) (path : List ℕ) (s n : ℕ) → has_id gone x ≡ true → IsIn n (gone_on gone (x ∷ path) s) → ((s ≡ 0) × (n ≡ x)) ⊎ IsIn n (gone_on gone path s)
+gone_behind : (gone : List ℕ) (x : ℕ) (path : List ℕ) (s n : ℕ) → has_id gone x ≡ true → IsIn n (gone_on gone (x ∷ path) s) → ((s ≡ 0) × (n ≡ x))
+    ⊎ IsIn n (gone_on gone path s)
 gone_behind gone x path zero n e h = elim (subst (IsIn n) (taken_first gone x path e) h) [ inl same ↦ inl (refl, same) | inr k ↦ inr k ]
 gone_behind gone x path (suc s) n e h = inr (subst (IsIn n) (taken_later gone x path s e) h)
 
@@ -93,7 +97,8 @@ behind_gone gone x path zero n e h = subst (IsIn n) (sym (taken_first gone x pat
 behind_gone gone x path (suc s) n e h = subst (IsIn n) (sym (taken_later gone x path s e)) h
 
 -- and with one that is left
-left_behind : (gone : List ℕ) (x : ℕ) (path : List ℕ) (s n : ℕ) → has_id gone x ≡ false → IsIn n (gone_on gone (x ∷ path) s) → (j : ℕ) × (s ≡ suc j) × IsIn n (gone_on gone path j)
+left_behind : (gone : List ℕ) (x : ℕ) (path : List ℕ) (s n : ℕ) → has_id gone x ≡ false → IsIn n (gone_on gone (x ∷ path) s) → (j : ℕ) × (s ≡ suc j)
+    × IsIn n (gone_on gone path j)
 left_behind gone x path zero n e h = absurd (subst (IsIn n) (kept_first gone x path e) h)
 left_behind gone x path (suc s) n e h = (s, refl, subst (IsIn n) (kept_later gone x path s e) h)
 
@@ -165,7 +170,8 @@ item_place (x ∷ path) (suc i) once h =
     let most = once y (inr there) in
     let more = counted_in y path there in
     let apart : eqb x y ≡ false = grind (arith, cases_Bool, one) in
-    let fewer : (z : ℕ) → IsIn z path → occurrences z path ≤ 1 = λ z k. (let sum = sum_by-cons (λ w. one (w == z)) x path in let top = once z (inr k) in omega arith) in
+    let fewer : (z : ℕ) → IsIn z path → occurrences z path ≤ 1 =
+    λ z k. (let sum = sum_by-cons (λ w. one (w == z)) x path in let top = once z (inr k) in omega arith) in
     let rest = item_place path i fewer (omega arith) in
     let later = path_place_later y x path apart in omega arith
 
@@ -187,7 +193,8 @@ module _ (path whole : List ℕ) (once : (y : ℕ) → IsIn y path → occurrenc
 
   items_apart : (i j : ℕ) → i < length path → j < length path → place_of whole (get_or path i 0) ≡ place_of whole (get_or path j 0) → i ≡ j
   items_apart i j h k e =
-      let same = places_apart whole (get_or path i 0) (get_or path j 0) (old (get_or path i 0) (item_in path i h)) (old (get_or path j 0) (item_in path j k)) e in
+      let same = places_apart whole (get_or path i 0) (get_or path j 0) (old (get_or path i 0) (item_in path i h))
+      (old (get_or path j 0) (item_in path j k)) e in
       sym (item_place path i once h) ∙ ap (place_of path) same ∙ item_place path j once k
 
   -- segments that begin at one place are the same
@@ -226,14 +233,16 @@ module _ (path whole : List ℕ) (once : (y : ℕ) → IsIn y path → occurrenc
 -- ---- Where a segment runs
 
 -- along the crossings between, one after another
-pub runs_over : (q : Rows) (c : ℕ) (front xs behind_it : List ℕ) → (edge_at q c).crossings ≡ front ++ (xs ++ behind_it) → ((y : ℕ) → IsIn y (edge_at q c).crossings → occurrences y (edge_at q c).crossings ≤ 1)
+pub runs_over : (q : Rows) (c : ℕ) (front xs behind_it : List ℕ) → (edge_at q c).crossings ≡ front ++ (xs ++ behind_it)
+    → ((y : ℕ) → IsIn y (edge_at q c).crossings → occurrences y (edge_at q c).crossings ≤ 1)
     → RunsOver q c (forward c (length front)) xs (back c (length front + length xs))
 runs_over q c front [] behind_it parts once = let same : length front ≡ length front + 0 = omega arith in ap (back c) same
 runs_over q c front (x ∷ xs) behind_it parts once =
     let whole = (edge_at q c).crossings in
     let place : place_of whole x ≡ length front =
     ap (λ list. place_of list x) parts
-    ∙ place_between front (xs ++ behind_it) x (subst (λ (list : List ℕ). occurrences x list ≤ 1) parts (once x (subst (IsIn x) (sym parts) (in_right x front (x ∷ (xs ++ behind_it)) (inl refl))))) in
+    ∙ place_between front (xs ++ behind_it) x
+    (subst (λ (list : List ℕ). occurrences x list ≤ 1) parts (once x (subst (IsIn x) (sym parts) (in_right x front (x ∷ (xs ++ behind_it)) (inl refl))))) in
     let longer = length-append front (x ∷ []) in
     let next : length (front ++ x ∷ []) ≡ place_of whole x + 1 = omega arith in
     let total : length (front ++ x ∷ []) + length xs ≡ length front + suc (length xs) = omega arith in

@@ -68,7 +68,8 @@ module _ (rows : Rows) (paths : has_good_paths rows ≡ true) (crossings : has_g
   pub rest_joined_numbers : (c d : Dart) → IsLeft c → Joined (turn rest) dart_twin c d → Joined f twin (index_of rows c) (index_of rows d)
   rest_joined_numbers c d c_left joined = record {
     moves = joined.moves;
-    leads = (along_carried (index_of rows) IsLeft (turn rest) dart_twin f twin rest_turn_carried rest_twin_carried joined.moves c c_left).1 ∙ ap (index_of rows) joined.leads;
+    leads = (along_carried (index_of rows) IsLeft (turn rest) dart_twin f twin rest_turn_carried rest_twin_carried joined.moves c c_left).1
+        ∙ ap (index_of rows) joined.leads;
   }
 
   -- and numbers only as their darts are
@@ -83,7 +84,8 @@ module _ (rows : Rows) (paths : has_good_paths rows ≡ true) (crossings : has_g
       let distinct = distinct_system rows paths crossings rotations in
       elim (cases_Bool (has_dart (darts_in rest) d)) [
         | inl e ↦
-            e ∙ sym (ap (λ t. t && not (gone d)) (sym (system_test rows paths crossings rotations d) ∙ left_stood (system rows) distinct gone d e) ∙ ap not (left_passes (system rows) distinct gone d e))
+            e ∙ sym (ap (λ t. t && not (gone d)) (sym (system_test rows paths crossings rotations d) ∙ left_stood (system rows) distinct gone d e)
+            ∙ ap not (left_passes (system rows) distinct gone d e))
         | inr e ↦ elim (cases_Bool (has_dart (darts rows) d)) [
           | inl here ↦ elim (cases_Bool (gone d)) [
             | inl out ↦ e ∙ sym (ap (λ t. t && not (gone d)) here ∙ ap not out)
@@ -100,6 +102,7 @@ module _ (rows : Rows) (paths : has_good_paths rows ≡ true) (crossings : has_g
     left = rest_test rows paths crossings rotations (is_opened e i) (λ d. refl);
     joined = λ c d c_in c_stays d_in d_stays. (
       rest_joined_numbers rows paths crossings rotations (is_opened e i) (λ d. refl) c d (record { here = c_in; stays = c_stays }),
-      rest_joined_darts rows paths crossings rotations (is_opened e i) (λ d. refl) c d (record { here = c_in; stays = c_stays }) (record { here = d_in; stays = d_stays }),
+      rest_joined_darts rows paths crossings rotations (is_opened e i) (λ d. refl) c d (record { here = c_in; stays = c_stays })
+          (record { here = d_in; stays = d_stays }),
     );
   }

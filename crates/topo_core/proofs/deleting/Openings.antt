@@ -20,7 +20,8 @@ use Rattle.topo_core.specs.Rotations.{twin}
 use Rattle.topo_core.specs.Systems.{bypassed, darts_in, has_dart, System, turn}
 use Rattle.topo_core.proofs.systems.Bypassing.{LeadsOn, bypassed_distinct, bypassed_none, bypassed_one_more, leads_on, left_passes, left_stood, passing_left}
 use Rattle.topo_core.proofs.systems.NewDarts.{or_right_false, stands_in}
-use Rattle.topo_core.proofs.numbering.Numbering.{distinct_system, get_index, has_at, image_at, index_apart, index_of_get, index_twin, not_same, place_less, twin_in}
+use Rattle.topo_core.proofs.numbering.Numbering.{distinct_system, get_index, has_at, image_at, index_apart}
+use Rattle.topo_core.proofs.numbering.Numbering.{index_of_get, index_twin, not_same, place_less, twin_in}
 use Rattle.topo_core.proofs.numbering.Standing.{forward_back, is_dart_of_rows, listed_test, system_test}
 use Rattle.topo_core.proofs.systems.SystemDarts.{get_there}
 use Rattle.topo_core.proofs.systems.Turning.{IsDistinct, turn_apart, turn_in}
@@ -87,7 +88,8 @@ module _ (rows : Rows) (paths : has_good_paths rows ≡ true) (crossings : has_g
     rest_distinct = bypassed_distinct (system rows) all_distinct gone
 
     -- no number of a dart that is out is the number of what a dart that is left turns to
-    never_gone : (a b : ℕ) → a < length (darts rows) → b < length (darts rows) → gone (dart_numbered rows a) ≡ true → gone (dart_numbered rows b) ≡ false → a ≡ index_of rows (turn rest (dart_numbered rows b)) → ⊥
+    never_gone : (a b : ℕ) → a < length (darts rows) → b < length (darts rows) → gone (dart_numbered rows a) ≡ true → gone (dart_numbered rows b) ≡ false
+        → a ≡ index_of rows (turn rest (dart_numbered rows b)) → ⊥
     never_gone a b la lb out stays e = grind (arith, left_turn, numbered_here, numbered_index, false≢true)
 
     -- the turn of what is left is a permutation of the numbers
@@ -102,9 +104,12 @@ module _ (rows : Rows) (paths : has_good_paths rows ≡ true) (crossings : has_g
               let a_here = numbered_here a h in
               let b_here = numbered_here b k in
               let turned : turn rest (dart_numbered rows a) ≡ turn rest (dart_numbered rows b) =
-              index_apart rows paths (turn rest (dart_numbered rows a)) (turn rest (dart_numbered rows b)) (left_turn (dart_numbered rows a) a_here e).0 (left_turn (dart_numbered rows b) b_here d).0 (sym (without_left a e) ∙ same ∙ without_left b d) in
-              let stood = λ (c : Dart) (c_here : IsHere c) (stays : gone c ≡ false). passing_left (system rows) all_distinct gone c stays (here_stands c c_here) in
-              sym (index_numbered a h) ∙ ap (index_of rows) (turn_apart rest rest_distinct (dart_numbered rows a) (dart_numbered rows b) (stood (dart_numbered rows a) a_here e) (stood (dart_numbered rows b) b_here d) turned) ∙ index_numbered b k
+              index_apart rows paths (turn rest (dart_numbered rows a)) (turn rest (dart_numbered rows b))
+              (left_turn (dart_numbered rows a) a_here e).0 (left_turn (dart_numbered rows b) b_here d).0 (sym (without_left a e) ∙ same ∙ without_left b d) in
+              let stood = λ (c : Dart) (c_here : IsHere c) (stays : gone c ≡ false). passing_left (system rows) all_distinct gone c stays
+              (here_stands c c_here) in
+              sym (index_numbered a h) ∙ ap (index_of rows) (turn_apart rest rest_distinct (dart_numbered rows a) (dart_numbered rows b)
+              (stood (dart_numbered rows a) a_here e) (stood (dart_numbered rows b) b_here d) turned) ∙ index_numbered b k
         ]
       ];
     }
@@ -116,7 +121,8 @@ module _ (rows : Rows) (paths : has_good_paths rows ≡ true) (crossings : has_g
   one_more gone y d = gone d || same_dart y d
 
   -- a dart that is taken out is bypassed
-  pub bypasses : (gone : Dart → Bool) (y : Dart) → IsHere y → gone y ≡ false → IsBypass (turn_without rows gone) (turn_without rows (one_more gone y)) (length (darts rows)) (index_of rows y)
+  pub bypasses : (gone : Dart → Bool) (y : Dart) → IsHere y → gone y ≡ false
+      → IsBypass (turn_without rows gone) (turn_without rows (one_more gone y)) (length (darts rows)) (index_of rows y)
   bypasses gone y y_here y_left = record {
     alone = gone_alone (one_more gone y) y y_here (or_right (gone y) (same_dart y y) (same_dart_self y));
     onward = λ a h other leads. elim (cases_Bool (gone (dart_numbered rows a))) [
@@ -135,13 +141,18 @@ module _ (rows : Rows) (paths : has_good_paths rows ≡ true) (crossings : has_g
     differs a h other e = other (sym (index_numbered a h) ∙ ap (index_of rows) e)
 
     still : (a : ℕ) → a < length (darts rows) → a ≢ index_of rows y → gone (dart_numbered rows a) ≡ false → one_more gone y (dart_numbered rows a) ≡ false
-    still a h other stays = or_from (gone (dart_numbered rows a)) (same_dart y (dart_numbered rows a)) stays (not_same y (dart_numbered rows a) (λ e. differs a h other (sym e)))
+    still a h other stays =
+        or_from (gone (dart_numbered rows a)) (same_dart y (dart_numbered rows a)) stays (not_same y (dart_numbered rows a) (λ e. differs a h other (sym e)))
 
-    led : (a : ℕ) → a < length (darts rows) → gone (dart_numbered rows a) ≡ false → turn_without rows gone a ≡ index_of rows y → turn (bypassed gone (system rows)) (dart_numbered rows a) ≡ y
-    led a h stays leads = index_apart rows paths (turn (bypassed gone (system rows)) (dart_numbered rows a)) y (left_turn gone (dart_numbered rows a) (numbered_here a h) stays).0 y_here (sym (without_left gone a stays) ∙ leads)
+    led : (a : ℕ) → a < length (darts rows) → gone (dart_numbered rows a) ≡ false → turn_without rows gone a ≡ index_of rows y
+        → turn (bypassed gone (system rows)) (dart_numbered rows a) ≡ y
+    led a h stays leads = index_apart rows paths (turn (bypassed gone (system rows)) (dart_numbered rows a)) y
+        (left_turn gone (dart_numbered rows a) (numbered_here a h) stays).0 y_here (sym (without_left gone a stays) ∙ leads)
 
-    next : (a : ℕ) → a < length (darts rows) → a ≢ index_of rows y → gone (dart_numbered rows a) ≡ false → LeadsOn (turn (bypassed gone (system rows))) (turn (bypassed (one_more gone y) (system rows))) y (dart_numbered rows a)
-    next a h other stays = subst (λ s. LeadsOn (turn (bypassed gone (system rows))) (turn s) y (dart_numbered rows a)) (sym (bypassed_one_more gone y (system rows)))
+    next : (a : ℕ) → a < length (darts rows) → a ≢ index_of rows y → gone (dart_numbered rows a) ≡ false
+        → LeadsOn (turn (bypassed gone (system rows))) (turn (bypassed (one_more gone y) (system rows))) y (dart_numbered rows a)
+    next a h other stays =
+        subst (λ s. LeadsOn (turn (bypassed gone (system rows))) (turn s) y (dart_numbered rows a)) (sym (bypassed_one_more gone y (system rows)))
         (leads_on (bypassed gone (system rows)) (rest_distinct gone) y (dart_numbered rows a) (not_same (dart_numbered rows a) y (differs a h other))
         (passing_left (system rows) all_distinct gone (dart_numbered rows a) stays (here_stands (dart_numbered rows a) (numbered_here a h))))
 
@@ -149,22 +160,27 @@ module _ (rows : Rows) (paths : has_good_paths rows ≡ true) (crossings : has_g
 
   opened_one_more : (e i : ℕ) (d : Dart) → is_opened e (i + 1) d ≡ one_more (one_more (is_opened e i) (forward e i)) (back e i) d
   opened_one_more e i d = by_way d.way where
-    by_way : (w : Way) → (d.edge == e && nat_lt d.seg (i + 1)) ≡ (((d.edge == e && nat_lt d.seg i) || (e == d.edge && i == d.seg && same_way Forward w)) || (e == d.edge && i == d.seg && same_way Back w))
+    by_way : (w : Way) → (d.edge == e && nat_lt d.seg (i + 1))
+        ≡ (((d.edge == e && nat_lt d.seg i) || (e == d.edge && i == d.seg && same_way Forward w)) || (e == d.edge && i == d.seg && same_way Back w))
     by_way Forward = grind (arith, nat_tests)
     by_way Back = grind (arith, nat_tests)
 
-  pub opening_unchords : (e : ℕ) (row : EdgeRow) → edge_row rows e ≡ Some row → (i : ℕ) → i < segment_count row → IsUnchord (opened_turn rows e i) (opened_turn rows e (i + 1)) (length (darts rows)) (index_of rows (forward e i))
+  pub opening_unchords : (e : ℕ) (row : EdgeRow) → edge_row rows e ≡ Some row → (i : ℕ) → i < segment_count row
+      → IsUnchord (opened_turn rows e i) (opened_turn rows e (i + 1)) (length (darts rows)) (index_of rows (forward e i))
   opening_unchords e row there i inside =
       let first_here : IsHere (forward e i) = listed_test rows paths (forward e i) ∙ is_dart_of_rows rows (forward e i) (row, there, inside) in
       let second_here : IsHere (back e i) = twin_in rows (forward e i) first_here in
       let first_left : is_opened e i (forward e i) ≡ false = not_yet e i in
-      let second_left : one_more (is_opened e i) (forward e i) (back e i) ≡ false = or_from (is_opened e i (back e i)) (same_dart (forward e i) (back e i)) (not_yet e i) (forward_back e i e i) in
+      let second_left : one_more (is_opened e i) (forward e i) (back e i) ≡ false =
+      or_from (is_opened e i (back e i)) (same_dart (forward e i) (back e i)) (not_yet e i) (forward_back e i e i) in
       let both : one_more (one_more (is_opened e i) (forward e i)) (back e i) ≡ is_opened e (i + 1) = sym (λ k d. opened_one_more e i d k) in
       record {
         half = turn_without rows (one_more (is_opened e i) (forward e i));
         first = bypasses (is_opened e i) (forward e i) first_here first_left;
-        second = subst (λ gone. IsBypass (turn_without rows (one_more (is_opened e i) (forward e i))) (turn_without rows gone) (length (darts rows)) (twin (index_of rows (forward e i)))) both
-            (subst (IsBypass (turn_without rows (one_more (is_opened e i) (forward e i))) (turn_without rows (one_more (one_more (is_opened e i) (forward e i)) (back e i))) (length (darts rows))) (index_twin rows (forward e i) first_here)
+        second = subst (λ gone. IsBypass (turn_without rows (one_more (is_opened e i) (forward e i))) (turn_without rows gone) (length (darts rows))
+            (twin (index_of rows (forward e i)))) both
+            (subst (IsBypass (turn_without rows (one_more (is_opened e i) (forward e i)))
+            (turn_without rows (one_more (one_more (is_opened e i) (forward e i)) (back e i))) (length (darts rows))) (index_twin rows (forward e i) first_here)
             (bypasses (one_more (is_opened e i) (forward e i)) (back e i) second_here second_left));
       } where
         not_yet : (e i : ℕ) → (e == e && nat_lt i i) ≡ false

@@ -16,7 +16,9 @@ use Rattle.topo_core.proofs.numbering.Members.{left_true, right_true, test_of_ea
 use Rattle.topo_core.proofs.numbering.Standing.{good_crossing, good_rotation}
 use Rattle.topo_core.proofs.systems.SystemDarts.{crossing_there, vertex_in}
 use Rattle.topo_core.proofs.inserting.Weaving.{in_filter}
-use Rattle.topo_core.proofs.deleting.WithoutRows.{filter_passes, from_least_first, gone, in_rotated, is_left, is_uncrossed, left_apart, occurrences-passing, rises_passing, without_counted, without_crossing, without_crossings, without_edge_there, without_entry, without_rotated, without_rotation, without_rows, without_vertices}
+use Rattle.topo_core.proofs.deleting.WithoutRows.{filter_passes, from_least_first, gone, in_rotated, is_left, is_uncrossed, left_apart}
+use Rattle.topo_core.proofs.deleting.WithoutRows.{occurrences-passing, rises_passing, without_counted, without_crossing, without_crossings}
+use Rattle.topo_core.proofs.deleting.WithoutRows.{without_edge_there, without_entry, without_rotated, without_rotation, without_rows, without_vertices}
 
 module _ (rows : Rows) (e : ℕ) (good : IsWellFormed rows) (known : is_some (edge_row rows e) ≡ true) where
   abbrev after : Rows
@@ -40,16 +42,19 @@ module _ (rows : Rows) (e : ℕ) (good : IsWellFormed rows) (known : is_some (ed
   -- the crossings of the picture are good
   pub without_good_crossings : has_good_crossings after ≡ true
   without_good_crossings = and_from (rises_below rows.next_crossing (map (λ x. x.id) after.crossings)) (list_all (is_good_crossing after) after.crossings)
-      (rises_passing (λ x. x.id) (λ x. not (has_id (gone rows e) x.id)) rows.next_crossing rows.crossings (left_true _ (list_all (is_good_crossing rows) rows.crossings) good.crossings))
+      (rises_passing (λ x. x.id) (λ x. not (has_id (gone rows e) x.id)) rows.next_crossing rows.crossings
+      (left_true _ (list_all (is_good_crossing rows) rows.crossings) good.crossings))
       (all_from (is_good_crossing after) after.crossings (λ x h. let old = without_crossings rows e x h in left_good x old.0 old.1))
 
   -- ---- Good paths
 
   left_path_good : (row : EdgeRow) → IsIn row rows.edges → has_good_path after (uncrossed_row (gone rows e) row) ≡ true
   left_path_good row h =
-      let test = test_of_each (has_good_path rows) row rows.edges (right_true (rises_below rows.next_edge (map (λ row. row.id) rows.edges)) (list_all (has_good_path rows) rows.edges) good.paths) h in
+      let test = test_of_each (has_good_path rows) row rows.edges
+      (right_true (rises_below rows.next_edge (map (λ row. row.id) rows.edges)) (list_all (has_good_path rows) rows.edges) good.paths) h in
       and_from _ (list_all (λ x. is_some (cross_row after x)) (filter (is_uncrossed rows e) row.crossings))
-      (subst (λ n. (nat_lt row.a n && nat_lt row.b n && not (row.a == row.b) && nat_lt row.kind 64) ≡ true) (sym (without_vertices rows e)) (left_true _ _ test))
+      (subst (λ n. (nat_lt row.a n && nat_lt row.b n && not (row.a == row.b) && nat_lt row.kind 64) ≡ true) (sym (without_vertices rows e))
+      (left_true _ _ test))
       (all_from (λ x. is_some (cross_row after x)) (filter (is_uncrossed rows e) row.crossings) (λ x k.
       ap is_some (without_crossing rows e x (not-true (has_id (gone rows e) x) (filter_passes (is_uncrossed rows e) x row.crossings k)))
       ∙ crossing_there rows good.paths row h x (in_filter (is_uncrossed rows e) x row.crossings k)))

@@ -1,5 +1,6 @@
 -- Where the darts of a picture without an edge stood on their edges before.
-use Rattle.std.proofs.Common.{◌≡◌, ◌≢◌, ℕ, zero, suc, ◌+◌, ◌<◌, ◌≤◌, Bool, true, false, cond, not, ◌||◌, List, [], ◌∷◌, length, get_or, refl, sym, ap, subst, ◌∙◌, arith, inl, inr}
+use Rattle.std.proofs.Common.{◌≡◌, ◌≢◌, ℕ, zero, suc, ◌+◌, ◌<◌, ◌≤◌, Bool, true, false, cond, not, ◌||◌}
+use Rattle.std.proofs.Common.{List, [], ◌∷◌, length, get_or, refl, sym, ap, subst, ◌∙◌, arith, inl, inr}
 use Rattle.std.specs.Prelude.{◌==◌, ◌⊎◌, Some, is_some, nat_lt, slice_get}
 use Rattle.std.proofs.lemmas.Bool.{cases_Bool, eq-eqb, eqb-true, false≢true, or_cases, or_left, or_right}
 use Rattle.topo_core.specs.declared.darts.Dart.{Dart}
@@ -18,14 +19,16 @@ use Rattle.topo_core.specs.Picture.{ahead, behind, cross_row, darts, edge_at, ed
 use Rattle.topo_core.specs.Pictures.{back, forward}
 use Rattle.topo_core.specs.Systems.{has_dart}
 use Rattle.topo_core.proofs.numbering.Counting.{le_of_test, lt_of_test, one}
-use Rattle.topo_core.proofs.deleting.GonePaths.{first_inside, first_not_gone, firsts_apart, gone_from, gone_once, gone_parts, gone_segment, item_in, item_place, last_inside, last_not_gone, lasts_apart, left_of, places_apart, runs_over}
+use Rattle.topo_core.proofs.deleting.GonePaths.{first_inside, first_not_gone, firsts_apart, gone_from, gone_once, gone_parts, gone_segment}
+use Rattle.topo_core.proofs.deleting.GonePaths.{item_in, item_place, last_inside, last_not_gone, lasts_apart, left_of, places_apart, runs_over}
 use Rattle.topo_core.proofs.numbering.Members.{found}
 use Rattle.topo_core.proofs.inserting.ShownPlaces.{at_its_place, lifted_ahead, lifted_back, lifted_behind, lifted_edge, lifted_forward, on_path_of, path_once}
 use Rattle.topo_core.proofs.numbering.Standing.{good_crossing, is_dart_of_rows, listed_test, of_rows_is_dart}
 use Rattle.topo_core.proofs.systems.SystemDarts.{crossing_there, edge_at_row, eqb_self, row_id, row_in, some_of}
 use Rattle.topo_core.proofs.inserting.Weaving.{in_filter}
 use Rattle.topo_core.proofs.deleting.WithoutForm.{without_well_formed}
-use Rattle.topo_core.proofs.deleting.WithoutRows.{filter_in, filter_passes, gone, has_id_in, in_has_id, is_uncrossed, without_edge, without_edge_there, without_known}
+use Rattle.topo_core.proofs.deleting.WithoutRows.{filter_in, filter_passes, gone, has_id_in, in_has_id}
+use Rattle.topo_core.proofs.deleting.WithoutRows.{is_uncrossed, without_edge, without_edge_there, without_known}
 use Rattle.topo_core.proofs.inserting.WovenPaths.{counted_in, first_part, first_part_is, last_part, last_part_is}
 
 -- ---- Darts of good rows
@@ -45,14 +48,16 @@ module _ (rows : Rows) (good : IsWellFormed rows) where
   segment_of_dart d h = grind (arith, of_rows_is_dart, listed_test, edge_at_row)
 
   -- each segment of an edge that is there has its darts
-  pub dart_of_segment : (c s : ℕ) (w : Way) → is_some (edge_row rows c) ≡ true → s ≤ length (edge_at rows c).crossings → has_dart (darts rows) (record { edge = c; seg = s; way = w }) ≡ true
+  pub dart_of_segment : (c s : ℕ) (w : Way) → is_some (edge_row rows c) ≡ true → s ≤ length (edge_at rows c).crossings
+      → has_dart (darts rows) (record { edge = c; seg = s; way = w }) ≡ true
   dart_of_segment c s w known h = grind (arith, some_of, edge_at_row, listed_test, is_dart_of_rows)
 
   -- no crossing stands twice on the path of an edge that is there
   pub edge_once : (c : ℕ) → is_some (edge_row rows c) ≡ true → (y : ℕ) → IsIn y (edge_at rows c).crossings → occurrences y (edge_at rows c).crossings ≤ 1
   edge_once c known =
       let pick = some_of (edge_row rows c) known in
-      subst (λ (row : EdgeRow). (y : ℕ) → IsIn y row.crossings → occurrences y row.crossings ≤ 1) (sym (edge_at_row rows c pick.0 pick.1)) (path_once rows good c pick.0 pick.1)
+      subst (λ (row : EdgeRow). (y : ℕ) → IsIn y row.crossings → occurrences y row.crossings ≤ 1) (sym (edge_at_row rows c pick.0 pick.1))
+      (path_once rows good c pick.0 pick.1)
 
   -- a crossing on a path is there
   pub crossing_on : (c n : ℕ) → is_some (edge_row rows c) ≡ true → IsIn n (edge_at rows c).crossings → (x : CrossRow) × IsIn x rows.crossings × (x.id ≡ n)
@@ -63,7 +68,8 @@ module _ (rows : Rows) (good : IsWellFormed rows) where
       let at = found (λ x. x.id == n) pick.0 rows.crossings pick.1 in (pick.0, at.0, eqb-true pick.0.id n at.1)
 
   -- and of the edge
-  pub is_one_of : (c : ℕ) (x : CrossRow) → is_some (edge_row rows c) ≡ true → IsIn x rows.crossings → IsIn x.id (edge_at rows c).crossings → (c ≡ x.crossed) ⊎ (c ≡ x.newcomer)
+  pub is_one_of : (c : ℕ) (x : CrossRow) → is_some (edge_row rows c) ≡ true → IsIn x rows.crossings → IsIn x.id (edge_at rows c).crossings → (c ≡ x.crossed)
+      ⊎ (c ≡ x.newcomer)
   is_one_of c x known h on_path =
       let row = some_of (edge_row rows c) known in
       let on_row : IsIn x.id row.0.crossings = subst (λ (row : EdgeRow). IsIn x.id row.crossings) (edge_at_row rows c row.0 row.1) on_path in
@@ -93,7 +99,8 @@ module _ (rows : Rows) (e : ℕ) (good : IsWellFormed rows) (known : is_some (ed
       grind (arith, without_edge, edge_at_row, left_of, gone)
 
   -- what stands on its path now stood on it before and is not gone
-  pub on_path_before : (c n : ℕ) → is_some (edge_row after c) ≡ true → IsIn n (edge_at after c).crossings → IsIn n (edge_at rows c).crossings × (has_id (gone rows e) n ≡ true → ⊥)
+  pub on_path_before : (c n : ℕ) → is_some (edge_row after c) ≡ true → IsIn n (edge_at after c).crossings → IsIn n (edge_at rows c).crossings
+      × (has_id (gone rows e) n ≡ true → ⊥)
   on_path_before c n there h =
       let inside = subst (IsIn n) (left_edge c there).path h in grind (arith, in_filter, is_uncrossed, false≢true, filter_passes)
 
@@ -102,10 +109,13 @@ module _ (rows : Rows) (e : ℕ) (good : IsWellFormed rows) (known : is_some (ed
   -- the dart of an end of an edge that is left is lifted
   pub left_end : (w c : ℕ) → is_some (edge_row after c) ≡ true → end_dart rows w c ≡ lifted after rows (end_dart after w c)
   left_end w c there =
-      ap (λ a. cond {A = Dart} (a == w) (forward c 0) (back c (length (edge_at rows c).crossings))) (sym (left_edge c there).begins) ∙ by_test ((edge_at after c).a == w) where
-        by_test : (t : Bool) → cond {A = Dart} t (forward c 0) (back c (length (edge_at rows c).crossings)) ≡ lifted after rows (cond {A = Dart} t (forward c 0) (back c (length (edge_at after c).crossings)))
+      ap (λ a. cond {A = Dart} (a == w) (forward c 0) (back c (length (edge_at rows c).crossings))) (sym (left_edge c there).begins)
+      ∙ by_test ((edge_at after c).a == w) where
+        by_test : (t : Bool) → cond {A = Dart} t (forward c 0) (back c (length (edge_at rows c).crossings))
+            ≡ lifted after rows (cond {A = Dart} t (forward c 0) (back c (length (edge_at after c).crossings)))
         by_test true = refl
-        by_test false = sym (ap (λ (t : Bool). cond {A = Dart} t (back c (length (edge_at rows c).crossings)) (behind rows c (get_or (edge_at after c).crossings (length (edge_at after c).crossings) 0))) (eqb_self (length (edge_at after c).crossings)))
+        by_test false = sym (ap (λ (t : Bool). cond {A = Dart} t (back c (length (edge_at rows c).crossings))
+            (behind rows c (get_or (edge_at after c).crossings (length (edge_at after c).crossings) 0))) (eqb_self (length (edge_at after c).crossings)))
 
   -- ---- Segments
 
@@ -121,24 +131,28 @@ module _ (rows : Rows) (e : ℕ) (good : IsWellFormed rows) (known : is_some (ed
       let parts = gone_parts (gone rows e) whole s s_in in
       let once = edge_once rows good c left.before in
       let leads : lifted after rows (forward c s) ≡ forward c (length parts.front) =
-      lifted_forward after rows c s ∙ ap (λ list. forward c (first_part list whole s)) left.path ∙ ap (forward c) (first_part_is new s path whole s_in parts once) in
+      lifted_forward after rows c s ∙ ap (λ list. forward c (first_part list whole s)) left.path
+      ∙ ap (forward c) (first_part_is new s path whole s_in parts once) in
       let comes : lifted after rows (back c s) ≡ back c (length parts.front + length new) =
       lifted_back after rows c s ∙ ap (λ list. back c (last_part list whole s)) left.path ∙ ap (back c) (last_part_is new s path whole s_in parts once) in
       grind (arith, runs_over)
 
-  pub dart_runs : (d : Dart) → has_dart (darts after) d ≡ true → d.way ≡ Forward → RunsOver rows d.edge (lifted after rows d) (crossings_between rows e d.edge d.seg) (lifted after rows (dart_twin d))
+  pub dart_runs : (d : Dart) → has_dart (darts after) d ≡ true → d.way ≡ Forward
+      → RunsOver rows d.edge (lifted after rows d) (crossings_between rows e d.edge d.seg) (lifted after rows (dart_twin d))
   dart_runs d h leads = by_way d.way leads where
     main : RunsOver rows d.edge (lifted after rows (forward d.edge d.seg)) (crossings_between rows e d.edge d.seg) (lifted after rows (back d.edge d.seg))
     main = segment_runs d.edge d.seg (edge_of_dart after now d h) (segment_of_dart after now d h)
 
-    by_way : (w : Way) → w ≡ Forward → RunsOver rows d.edge (lifted after rows (record { edge = d.edge; seg = d.seg; way = w })) (crossings_between rows e d.edge d.seg) (lifted after rows (record { edge = d.edge; seg = d.seg; way = reversed w }))
+    by_way : (w : Way) → w ≡ Forward → RunsOver rows d.edge (lifted after rows (record { edge = d.edge; seg = d.seg; way = w }))
+        (crossings_between rows e d.edge d.seg) (lifted after rows (record { edge = d.edge; seg = d.seg; way = reversed w }))
     by_way Forward k = main
     by_way Back k = cc
 
   -- ---- The crossings of the edge
 
   -- a crossing on both paths is of both edges
-  pub crossing_of : (c n : ℕ) → c ≢ e → is_some (edge_row rows c) ≡ true → IsIn n (edge_at rows c).crossings → has_id (gone rows e) n ≡ true → (x : CrossRow) × (x.id ≡ n) × IsCrossingOf rows e c x
+  pub crossing_of : (c n : ℕ) → c ≢ e → is_some (edge_row rows c) ≡ true → IsIn n (edge_at rows c).crossings → has_id (gone rows e) n ≡ true → (x : CrossRow)
+      × (x.id ≡ n) × IsCrossingOf rows e c x
   crossing_of c n apart there h is_gone =
       let pick = crossing_on rows good c n there h in
       let x = pick.0 in
@@ -157,18 +171,21 @@ module _ (rows : Rows) (e : ℕ) (good : IsWellFormed rows) (known : is_some (ed
   other_edge c x is =
       let facts = good_crossing rows good.crossings x is.there in
       let differ : x.crossed ≢ x.newcomer = λ same. false≢true (sym facts.apart ∙ eq-eqb x.crossed x.newcomer same) in
-      let on = λ (f : ℕ) (there : is_some (edge_row rows f) ≡ true) (of_it : (f == x.crossed || f == x.newcomer) ≡ true). on_path_of rows good x is.there f there of_it in
+      let on = λ (f : ℕ) (there : is_some (edge_row rows f) ≡ true)
+      (of_it : (f == x.crossed || f == x.newcomer) ≡ true). on_path_of rows good x is.there f there of_it in
       grind (arith, without_edge_there, or_right, eq-eqb, has_id_in, gone, or_left)
 
   -- a crossing between is of both edges
-  pub between_of : (d : Dart) (i : ℕ) → has_dart (darts after) d ≡ true → IsIn i (crossings_between rows e d.edge d.seg) → (x : CrossRow) × (x.id ≡ i) × IsCrossingOf rows e d.edge x
+  pub between_of : (d : Dart) (i : ℕ) → has_dart (darts after) d ≡ true → IsIn i (crossings_between rows e d.edge d.seg) → (x : CrossRow) × (x.id ≡ i)
+      × IsCrossingOf rows e d.edge x
   between_of d i h k =
       let left = left_edge d.edge (edge_of_dart after now d h) in
       let from = gone_from (gone rows e) (edge_at rows d.edge).crossings d.seg i k in
       crossing_of d.edge i left.apart left.before from.0 from.1
 
   -- each crossing of the edge is gone from a segment of the other one
-  pub on_a_segment : (c : ℕ) (x : CrossRow) → IsCrossingOf rows e c x → (s : ℕ) × (s < segment_count (edge_at after c)) × IsIn x.id (crossings_between rows e c s)
+  pub on_a_segment : (c : ℕ) (x : CrossRow) → IsCrossingOf rows e c x → (s : ℕ) × (s < segment_count (edge_at after c))
+      × IsIn x.id (crossings_between rows e c s)
   on_a_segment c x is =
       let other = other_edge c x is in
       grind (arith, gone_segment, gone, left_edge)
@@ -226,8 +243,10 @@ module _ (rows : Rows) (e : ℕ) (good : IsWellFormed rows) (known : is_some (ed
     old y h = (on_path_before c y there h).0
 
     by_way : (w : Way) → lift (record { edge = c; seg = s; way = w }) ≡ lift (record { edge = c; seg = t; way = w }) → s ≡ t
-    by_way Forward same = firsts_apart (edge_at after c).crossings (edge_at rows c).crossings once old s t s_in t_in (ap (λ (d : Dart). d.seg) (sym (lifted_forward after rows c s) ∙ same ∙ lifted_forward after rows c t))
-    by_way Back same = lasts_apart (edge_at after c).crossings (edge_at rows c).crossings once old s t s_in t_in (ap (λ (d : Dart). d.seg) (sym (lifted_back after rows c s) ∙ same ∙ lifted_back after rows c t))
+    by_way Forward same = firsts_apart (edge_at after c).crossings (edge_at rows c).crossings once old s t s_in t_in
+        (ap (λ (d : Dart). d.seg) (sym (lifted_forward after rows c s) ∙ same ∙ lifted_forward after rows c t))
+    by_way Back same = lasts_apart (edge_at after c).crossings (edge_at rows c).crossings once old s t s_in t_in
+        (ap (λ (d : Dart). d.seg) (sym (lifted_back after rows c s) ∙ same ∙ lifted_back after rows c t))
 
   lifted_way : (d : Dart) → (lift d).way ≡ d.way
   lifted_way d = by_way d.way where
@@ -240,7 +259,8 @@ module _ (rows : Rows) (e : ℕ) (good : IsWellFormed rows) (known : is_some (ed
       let edges : c.edge ≡ d.edge = sym (lifted_edge after rows c) ∙ ap (λ (y : Dart). y.edge) same ∙ lifted_edge after rows d in
       let ways : c.way ≡ d.way = sym (lifted_way c) ∙ ap (λ (y : Dart). y.way) same ∙ lifted_way d in
       let moved : c ≡ record { edge = d.edge; seg = c.seg; way = d.way } = λ i. record { edge = edges i; seg = c.seg; way = ways i } in
-      let inside : c.seg ≤ length (edge_at after d.edge).crossings = subst (λ f. c.seg ≤ length (edge_at after f).crossings) edges (segment_of_dart after now c h) in
+      let inside : c.seg ≤ length (edge_at after d.edge).crossings =
+      subst (λ f. c.seg ≤ length (edge_at after f).crossings) edges (segment_of_dart after now c h) in
       let segments = segments_apart d.edge c.seg d.seg d.way (edge_of_dart after now d k) inside (segment_of_dart after now d k) (sym (ap lift moved) ∙ same) in
       moved ∙ ap (λ s. record { edge = d.edge; seg = s; way = d.way }) segments
 
@@ -264,9 +284,11 @@ module _ (rows : Rows) (e : ℕ) (good : IsWellFormed rows) (known : is_some (ed
 
     by_way : (w : Way) → has_dart (darts rows) (lift (record { edge = d.edge; seg = d.seg; way = w })) ≡ true
     by_way Forward = subst (λ y. has_dart (darts rows) y ≡ true) (sym (lifted_forward after rows d.edge d.seg))
-        (dart_of_segment rows good d.edge (first_part (edge_at after d.edge).crossings (edge_at rows d.edge).crossings d.seg) Forward before (first_inside (edge_at after d.edge).crossings (edge_at rows d.edge).crossings once old d.seg inside))
+        (dart_of_segment rows good d.edge (first_part (edge_at after d.edge).crossings (edge_at rows d.edge).crossings d.seg) Forward before
+        (first_inside (edge_at after d.edge).crossings (edge_at rows d.edge).crossings once old d.seg inside))
     by_way Back = subst (λ y. has_dart (darts rows) y ≡ true) (sym (lifted_back after rows d.edge d.seg))
-        (dart_of_segment rows good d.edge (last_part (edge_at after d.edge).crossings (edge_at rows d.edge).crossings d.seg) Back before (last_inside (edge_at after d.edge).crossings (edge_at rows d.edge).crossings once old d.seg inside))
+        (dart_of_segment rows good d.edge (last_part (edge_at after d.edge).crossings (edge_at rows d.edge).crossings d.seg) Back before
+        (last_inside (edge_at after d.edge).crossings (edge_at rows d.edge).crossings once old d.seg inside))
 
   -- no lifted dart starts at a crossing of the edge
   module _ (d : Dart) (x : CrossRow) (is : IsCrossingOf rows e d.edge x) (h : has_dart (darts after) d ≡ true) where
@@ -286,19 +308,22 @@ module _ (rows : Rows) (e : ℕ) (good : IsWellFormed rows) (known : is_some (ed
     segment_in = segment_of_dart after now d h
 
     not_ahead : (w : Way) → lift (record { edge = d.edge; seg = d.seg; way = w }) ≡ ahead rows d.edge x.id → ⊥
-    not_ahead Forward same = first_not_gone (edge_at after d.edge).crossings (edge_at rows d.edge).crossings once_left left_old x.id on_edge not_left d.seg segment_in
+    not_ahead Forward same =
+        first_not_gone (edge_at after d.edge).crossings (edge_at rows d.edge).crossings once_left left_old x.id on_edge not_left d.seg segment_in
         (ap (λ (y : Dart). y.seg) (sym (lifted_forward after rows d.edge d.seg) ∙ same))
     not_ahead Back same = let ways : Back ≡ Forward = ap (λ (y : Dart). y.way) (sym (lifted_back after rows d.edge d.seg) ∙ same) in cc
 
     not_behind : (w : Way) → lift (record { edge = d.edge; seg = d.seg; way = w }) ≡ behind rows d.edge x.id → ⊥
-    not_behind Back same = last_not_gone (edge_at after d.edge).crossings (edge_at rows d.edge).crossings once_left left_old x.id on_edge not_left d.seg segment_in
+    not_behind Back same =
+        last_not_gone (edge_at after d.edge).crossings (edge_at rows d.edge).crossings once_left left_old x.id on_edge not_left d.seg segment_in
         (ap (λ (y : Dart). y.seg) (sym (lifted_back after rows d.edge d.seg) ∙ same))
     not_behind Forward same = let ways : Forward ≡ Back = ap (λ (y : Dart). y.way) (sym (lifted_forward after rows d.edge d.seg) ∙ same) in cc
 
     not_at : (lift d ≢ ahead rows d.edge x.id) × (lift d ≢ behind rows d.edge x.id)
     not_at = (not_ahead d.way, not_behind d.way)
 
-  pub gone_apart : (c : ℕ) (x : CrossRow) (d : Dart) → IsCrossingOf rows e c x → has_dart (darts after) d ≡ true → (lift d ≢ ahead rows c x.id) × (lift d ≢ behind rows c x.id)
+  pub gone_apart : (c : ℕ) (x : CrossRow) (d : Dart) → IsCrossingOf rows e c x → has_dart (darts after) d ≡ true → (lift d ≢ ahead rows c x.id)
+      × (lift d ≢ behind rows c x.id)
   gone_apart c x d is h = grind (arith, lifted_edge, not_at)
 
   -- ---- The darts of the edge
@@ -374,8 +399,14 @@ module _ (rows : Rows) (e : ℕ) (good : IsWellFormed rows) (known : is_some (ed
           let high = le_of_test s (length whole) outside in
           let last : length whole ≡ s = omega arith in
           let lifted_last : back c (length whole) ≡ lift (back c (length (edge_at after c).crossings)) =
-          sym (ap (λ (t : Bool). cond {A = Dart} t (back c (length whole)) (behind rows c (get_or (edge_at after c).crossings (length (edge_at after c).crossings) 0))) (eqb_self (length (edge_at after c).crossings))) in
-          subst (λ t. IsOneOf (back c t)) last (inr (inl (back c (length (edge_at after c).crossings), dart_of_segment after now c (length (edge_at after c).crossings) Back left (omega arith), lifted_last)))
+          sym (ap (λ (t : Bool). cond {A = Dart} t (back c (length whole))
+          (behind rows c (get_or (edge_at after c).crossings (length (edge_at after c).crossings) 0))) (eqb_self (length (edge_at after c).crossings))) in
+          subst (λ t. IsOneOf (back c t)) last
+          (inr (inl (
+            back c (length (edge_at after c).crossings),
+            dart_of_segment after now c (length (edge_at after c).crossings) Back left (omega arith),
+            lifted_last,
+          )))
     ]
 
     segment_is : (s : ℕ) (w : Way) → s ≤ length whole → IsOneOf (record { edge = c; seg = s; way = w })

@@ -1,5 +1,6 @@
 -- The rows of a picture without an edge: each edge, each crossing and each rotation by those before.
-use Rattle.std.proofs.Common.{◌≡◌, ◌≢◌, ℕ, ◌+◌, ◌<◌, ◌≤◌, Bool, true, false, cond, not, ◌||◌, List, [], ◌∷◌, ◌++◌, length, take, drop, get_or, refl, sym, ap, subst, ◌∙◌, arith, inl, inr}
+use Rattle.std.proofs.Common.{◌≡◌, ◌≢◌, ℕ, ◌+◌, ◌<◌, ◌≤◌, Bool, true, false, cond, not, ◌||◌, List, [], ◌∷◌}
+use Rattle.std.proofs.Common.{◌++◌, length, take, drop, get_or, refl, sym, ap, subst, ◌∙◌, arith, inl, inr}
 use Rattle.std.specs.Prelude.{◌⊎◌, ◌==◌, Option, Some, None, filter, find, fold, is_some, map, min, nat_lt, option_map}
 use Rattle.std.proofs.Math.ListN.{get_or-map}
 use Rattle.std.proofs.Math.Seq.{drop-cons}
@@ -64,7 +65,8 @@ occurrences-passing p x (y ∷ xs) passes = by_test (p y) refl (occurrences-pass
   step : occurrences x (y ∷ xs) ≡ one (y == x) + occurrences x xs
   step = sum_by-cons (λ z. one (z == x)) y xs
 
-  by_test : (b : Bool) → p y ≡ b → occurrences x (filter p xs) ≡ occurrences x xs → occurrences x (cond b (y ∷ filter p xs) (filter p xs)) ≡ occurrences x (y ∷ xs)
+  by_test : (b : Bool) → p y ≡ b → occurrences x (filter p xs) ≡ occurrences x xs
+      → occurrences x (cond b (y ∷ filter p xs) (filter p xs)) ≡ occurrences x (y ∷ xs)
   by_test true e rest = let kept = sum_by-cons (λ z. one (z == x)) y (filter p xs) in omega (arith, step)
   by_test false e rest = grind (arith, one, cases_Bool, false≢true, eqb-true, step)
 
@@ -90,7 +92,8 @@ rises_first limit x [] low below rises = and_from (nat_lt x limit) true (lt_test
 rises_first limit x (y ∷ xs) low below rises = and_from (nat_lt x y) (rises_below limit (y ∷ xs)) (lt_test x y (below y (inl refl))) rises
 
 -- the ids of those that pass rise too
-pub rises_passing : {X : Type 0} (id : X → ℕ) (p : X → Bool) (limit : ℕ) (xs : List X) → rises_below limit (map id xs) ≡ true → rises_below limit (map id (filter p xs)) ≡ true
+pub rises_passing : {X : Type 0} (id : X → ℕ) (p : X → Bool) (limit : ℕ) (xs : List X) → rises_below limit (map id xs) ≡ true
+    → rises_below limit (map id (filter p xs)) ≡ true
 rises_passing id p limit [] rises = refl
 rises_passing id p limit (x ∷ xs) rises = by_test (p x) (rises_passing id p limit xs (right_true _ (rises_below limit (map id xs)) rises)) where
   by_test : (b : Bool) → rises_below limit (map id (filter p xs)) ≡ true → rises_below limit (map id (cond b (x ∷ filter p xs) (filter p xs))) ≡ true
@@ -190,11 +193,13 @@ module _ (rows : Rows) (e : ℕ) where
   without_no_row = grind (arith, find_map, find_failing)
 
   -- an edge of the picture is an edge of the rows that is left
-  pub without_known : (f : ℕ) (row : EdgeRow) → edge_row after f ≡ Some row → (f ≢ e) × ((old : EdgeRow) × (edge_row rows f ≡ Some old) × (row ≡ uncrossed_row gone old))
+  pub without_known : (f : ℕ) (row : EdgeRow) → edge_row after f ≡ Some row → (f ≢ e)
+      × ((old : EdgeRow) × (edge_row rows f ≡ Some old) × (row ≡ uncrossed_row gone old))
   without_known f row there =
       let apart : f ≢ e = λ same. (let none : None ≡ Some row = sym without_no_row ∙ ap (edge_row after) (sym same) ∙ there in cc) in
       (apart, by_row (edge_row rows f) refl (sym (without_edge_row f apart) ∙ there)) where
-        by_row : (o : Option EdgeRow) → edge_row rows f ≡ o → option_map (uncrossed_row gone) o ≡ Some row → (old : EdgeRow) × (edge_row rows f ≡ Some old) × (row ≡ uncrossed_row gone old)
+        by_row : (o : Option EdgeRow) → edge_row rows f ≡ o → option_map (uncrossed_row gone) o ≡ Some row → (old : EdgeRow) × (edge_row rows f ≡ Some old)
+            × (row ≡ uncrossed_row gone old)
         by_row None e k = cc
         by_row (Some old) e k = let same : uncrossed_row gone old ≡ row = cc in (old, e, sym same)
 
@@ -224,7 +229,8 @@ module _ (rows : Rows) (e : ℕ) where
   without_rotation v = get_or-map (λ around. from_least (filter (λ f. not (f == e)) around)) rows.rotations v []
 
   pub without_rotated : (v : ℕ) → IsRotated (filter (λ f. not (f == e)) (rotation rows v)) (rotation after v)
-  without_rotated v = subst (IsRotated (filter (λ f. not (f == e)) (rotation rows v))) (sym (without_rotation v)) (from_least_rotated (filter (λ f. not (f == e)) (rotation rows v)))
+  without_rotated v = subst (IsRotated (filter (λ f. not (f == e)) (rotation rows v))) (sym (without_rotation v))
+      (from_least_rotated (filter (λ f. not (f == e)) (rotation rows v)))
 
   -- what stands in it stood in the list before, and is not the edge
   pub without_entry : (v f : ℕ) → IsIn f (rotation after v) → IsIn f (rotation rows v) × (f ≢ e)
@@ -238,6 +244,8 @@ module _ (rows : Rows) (e : ℕ) where
       occurrences-rotated (without_rotated v) f ∙ occurrences-passing (λ f. not (f == e)) f (rotation rows v) passes
 
   -- a crossing that is left is not of the edge
-  pub left_apart : IsWellFormed rows → is_some (edge_row rows e) ≡ true → (x : CrossRow) → IsIn x rows.crossings → has_id gone x.id ≡ false → (x.crossed ≢ e) × (x.newcomer ≢ e)
+  pub left_apart : IsWellFormed rows → is_some (edge_row rows e) ≡ true → (x : CrossRow) → IsIn x rows.crossings → has_id gone x.id ≡ false → (x.crossed ≢ e)
+      × (x.newcomer ≢ e)
   left_apart good known x h stays =
-      let on_path : (e == x.crossed || e == x.newcomer) ≡ true → ⊥ = λ is_one. false≢true (sym stays ∙ has_id_in x.id gone (on_path_of rows good x h e known is_one)) in grind (arith, or_left, eq-eqb, or_right)
+      let on_path : (e == x.crossed || e == x.newcomer) ≡ true → ⊥ =
+      λ is_one. false≢true (sym stays ∙ has_id_in x.id gone (on_path_of rows good x h e known is_one)) in grind (arith, or_left, eq-eqb, or_right)

@@ -1,5 +1,6 @@
 -- How the darts of a picture without an edge turned before.
-use Rattle.std.proofs.Common.{◌≡◌, ℕ, ◌+◌, ◌<◌, ◌≤◌, Bool, true, false, cond, not, ◌||◌, List, [], ◌∷◌, ◌++◌, length, refl, sym, ap, subst, ◌∙◌, arith, inl, inr}
+use Rattle.std.proofs.Common.{◌≡◌, ℕ, ◌+◌, ◌<◌, ◌≤◌, Bool, true, false, cond, not, ◌||◌, List}
+use Rattle.std.proofs.Common.{[], ◌∷◌, ◌++◌, length, refl, sym, ap, subst, ◌∙◌, arith, inl, inr}
 use Rattle.std.specs.Prelude.{◌==◌, ◌⊎◌, filter, is_some, map, slice_index_or}
 use Rattle.std.specs.List.{range_with_len}
 use Rattle.std.proofs.lemmas.List.{map-append}
@@ -28,14 +29,17 @@ use Rattle.topo_core.proofs.growing.Growing.{in_append, map_same}
 use Rattle.topo_core.proofs.numbering.Members.{range_below}
 use Rattle.topo_core.proofs.numbering.Numbering.{distinct_system, not_same}
 use Rattle.topo_core.proofs.systems.Points.{at_point_in, has_image, image_of_dart, next_of_image, point_of, turn_at_point}
-use Rattle.topo_core.proofs.systems.RoundPoints.{distinct_exchanged, has_exchanged, IsTakenOut, next_of_four, next_of_taken, next_rotated, next_without, taken_out}
+use Rattle.topo_core.proofs.systems.RoundPoints.{distinct_exchanged, has_exchanged, IsTakenOut, next_of_four}
+use Rattle.topo_core.proofs.systems.RoundPoints.{next_of_taken, next_rotated, next_without, taken_out}
 use Rattle.topo_core.proofs.routing.RouteDarts.{has_item}
 use Rattle.topo_core.proofs.inserting.ShownPlaces.{in_counted, lifted_edge}
 use Rattle.topo_core.proofs.inserting.ShownRows.{in_images}
 use Rattle.topo_core.proofs.numbering.Standing.{good_rotation, system_test, end_dart_edge}
 use Rattle.topo_core.proofs.systems.SystemDarts.{crossing_point, edge_at_row, eqb_self, path_facts, row_id, row_in, some_of, vertex_in, vertex_point}
 use Rattle.topo_core.proofs.systems.Turning.{distinct_right, IsDistinct, next_around}
-use Rattle.topo_core.proofs.deleting.WithoutPlaces.{ahead_there, aheads_apart, behind_there, behinds_apart, between_of, dart_runs, edge_dart, edge_meets, edge_of_dart, edge_place, gone_apart, left_edge, left_end, lifted_apart, lifted_there, now, on_a_segment, on_one_segment, one_of, other_edge}
+use Rattle.topo_core.proofs.deleting.WithoutPlaces.{ahead_there, aheads_apart, behind_there, behinds_apart, between_of, dart_runs}
+use Rattle.topo_core.proofs.deleting.WithoutPlaces.{edge_dart, edge_meets, edge_of_dart, edge_place, gone_apart, left_edge, left_end}
+use Rattle.topo_core.proofs.deleting.WithoutPlaces.{lifted_apart, lifted_there, now, on_a_segment, on_one_segment, one_of, other_edge}
 use Rattle.topo_core.proofs.deleting.WithoutRows.{filter_passes, IsRotated, without_crossings, without_rotated, without_vertices}
 use Rattle.topo_core.proofs.systems.Bypassing.{point_distinct}
 use Rattle.topo_core.proofs.inserting.ShownPoints.{around_lifted}
@@ -65,11 +69,13 @@ module _ (rows : Rows) (e : ℕ) (good : IsWellFormed rows) (known : is_some (ed
   same_lift : (c d : Dart) → has_dart (darts after) c ≡ true → has_dart (darts after) d ≡ true → same_dart (lift d) (lift c) ≡ same_dart d c
   same_lift c d h k = elim (cases_Bool (same_dart d c)) [
     | inl s ↦ ap (λ y. same_dart (lift d) (lift y)) (sym (same_dart_true d c s)) ∙ same_dart_self (lift d) ∙ sym s
-    | inr s ↦ not_same (lift d) (lift c) (λ same. false≢true (sym s ∙ ap (same_dart d) (sym (lifted_apart rows e good known d c k h same)) ∙ same_dart_self d)) ∙ sym s
+    | inr s ↦ not_same (lift d) (lift c) (λ same. false≢true (sym s ∙ ap (same_dart d) (sym (lifted_apart rows e good known d c k h same)) ∙ same_dart_self d))
+        ∙ sym s
   ]
 
   -- what comes next round a point, lifted
-  next_lifted : (around : List Dart) (d : Dart) → IsIn around (system after) → has_dart around d ≡ true → next_around (map lift around) (lift d) ≡ lift (turn (system after) d)
+  next_lifted : (around : List Dart) (d : Dart) → IsIn around (system after) → has_dart around d ≡ true
+      → next_around (map lift around) (lift d) ≡ lift (turn (system after) d)
   next_lifted around d at h =
       next_of_image lift d around (λ c k. same_lift c d (at_point_there around at c k) (at_point_there around at d h))
       ∙ ap lift (sym (turn_at_point (system after) distinct_after around d at h))
@@ -79,10 +85,12 @@ module _ (rows : Rows) (e : ℕ) (good : IsWellFormed rows) (known : is_some (ed
 
   -- ---- Round the crossings that are left
 
-  turns_at_left : (x : CrossRow) (d : Dart) → IsIn x after.crossings → has_dart (around_crossing after x) d ≡ true → turn (system rows) (lift d) ≡ lift (turn (system after) d)
+  turns_at_left : (x : CrossRow) (d : Dart) → IsIn x after.crossings → has_dart (around_crossing after x) d ≡ true
+      → turn (system rows) (lift d) ≡ lift (turn (system after) d)
   turns_at_left x d h k =
       let same = around_lifted after rows is_good x h in
-      turn_before (around_crossing rows x) (lift d) (crossing_point rows x (without_crossings rows e x h).0) (ap (λ ds. has_dart ds (lift d)) same ∙ has_image lift (around_crossing after x) d k)
+      turn_before (around_crossing rows x) (lift d) (crossing_point rows x (without_crossings rows e x h).0)
+      (ap (λ ds. has_dart ds (lift d)) same ∙ has_image lift (around_crossing after x) d k)
       ∙ ap (λ ds. next_around ds (lift d)) same
       ∙ next_lifted (around_crossing after x) d (crossing_point after x h) k
 
@@ -143,7 +151,8 @@ module _ (rows : Rows) (e : ℕ) (good : IsWellFormed rows) (known : is_some (ed
     around_distinct = point_distinct (system rows) (around_vertex rows w) distinct_before point_before
 
     -- the list with the dart of the edge, in parts
-    parts_are : (out : IsTakenOut e (rotation rows w)) → around_vertex rows w ≡ map (end_dart rows w) out.front ++ end_dart rows w e ∷ map (end_dart rows w) out.back
+    parts_are : (out : IsTakenOut e (rotation rows w))
+        → around_vertex rows w ≡ map (end_dart rows w) out.front ++ end_dart rows w e ∷ map (end_dart rows w) out.back
     parts_are out = ap (map (end_dart rows w)) out.was ∙ map-append (end_dart rows w) out.front (e ∷ out.back)
 
     kept_parts : (out : IsTakenOut e (rotation rows w)) → kept ≡ map (end_dart rows w) out.front ++ map (end_dart rows w) out.back
@@ -173,10 +182,12 @@ module _ (rows : Rows) (e : ℕ) (good : IsWellFormed rows) (known : is_some (ed
       | inr same ↦ grind (arith, turn_before, point_before, kept_has, next_around, next_kept, around_distinct)
     ] where
       less_distinct : (front back : List Dart) (x : Dart) → IsDistinct (front ++ x ∷ back) → IsDistinct (front ++ back)
-      less_distinct front back x distinct = distinct_exchanged back front (distinct_right (x ∷ []) (back ++ front) (distinct_exchanged front (x ∷ back) distinct))
+      less_distinct front back x distinct =
+          distinct_exchanged back front (distinct_right (x ∷ []) (back ++ front) (distinct_exchanged front (x ∷ back) distinct))
 
     -- the dart of the edge is followed by itself or by a lifted one
-    edge_turns : IsIn e (rotation rows w) → (turn (system rows) (end_dart rows w e) ≡ end_dart rows w e) ⊎ ((c : Dart) × (has_dart (darts after) c ≡ true) × (turn (system rows) (end_dart rows w e) ≡ lift c))
+    edge_turns : IsIn e (rotation rows w) → (turn (system rows) (end_dart rows w e) ≡ end_dart rows w e)
+        ⊎ ((c : Dart) × (has_dart (darts after) c ≡ true) × (turn (system rows) (end_dart rows w e) ≡ lift c))
     edge_turns there = elim (taken_out e (rotation rows w) once) [
       | inl out ↦
           let h_front = map (end_dart rows w) out.front in
@@ -185,7 +196,8 @@ module _ (rows : Rows) (e : ℕ) (good : IsWellFormed rows) (known : is_some (ed
           let parts = parts_are out in
           let x_there : has_dart (around_vertex rows w) x ≡ true = ap (λ ds. has_dart ds x) parts ∙ has_exchanged h_front (x ∷ h_back) x
           ∙ or_left (same_dart x x) (has_dart (h_back ++ h_front) x) (same_dart_self x) in
-          let next : turn (system rows) x ≡ slice_index_or (h_back ++ h_front) 0 x = turn_before (around_vertex rows w) x point_before x_there ∙ ap (λ ds. next_around ds x) parts ∙ next_of_taken h_front h_back x (subst IsDistinct parts around_distinct) in
+          let next : turn (system rows) x ≡ slice_index_or (h_back ++ h_front) 0 x = turn_before (around_vertex rows w) x point_before x_there
+          ∙ ap (λ ds. next_around ds x) parts ∙ next_of_taken h_front h_back x (subst IsDistinct parts around_distinct) in
           elim (first_of (h_back ++ h_front) x) [
             | inl none ↦ inl (next ∙ none)
             | inr head ↦ grind (arith, kept_parts, has_exchanged, lifted_is, kept_is, image_of_dart, at_point_there, point_after)
@@ -224,7 +236,8 @@ module _ (rows : Rows) (e : ℕ) (good : IsWellFormed rows) (known : is_some (ed
     distinct = point_distinct (system rows) (around_crossing rows x) distinct_before (crossing_point rows x h);
   }
 
-  four_turns : (a b c d : Dart) → IsPoint (a ∷ b ∷ c ∷ d ∷ []) → (turn (system rows) a ≡ b) × (turn (system rows) b ≡ c) × (turn (system rows) c ≡ d) × (turn (system rows) d ≡ a)
+  four_turns : (a b c d : Dart) → IsPoint (a ∷ b ∷ c ∷ d ∷ []) → (turn (system rows) a ≡ b) × (turn (system rows) b ≡ c) × (turn (system rows) c ≡ d)
+      × (turn (system rows) d ≡ a)
   four_turns a b c d point =
       let four = a ∷ b ∷ c ∷ d ∷ [] in
       let next = next_of_four a b c d point.distinct in (
@@ -241,11 +254,13 @@ module _ (rows : Rows) (e : ℕ) (good : IsWellFormed rows) (known : is_some (ed
     pub to_left : turn (system rows) (behind rows c n) ≡ onward_by rows n e (reversed w)
     pub from_left : turn (system rows) (onward_by rows n e (reversed w)) ≡ ahead rows c n
 
-  round_newcomer : (sign : Sign) (c n : ℕ) → IsPoint (clockwise sign (ahead rows c n) (behind rows c n) (ahead rows e n) (behind rows e n)) → RoundCrossing c n (newcomer_rightward sign)
+  round_newcomer : (sign : Sign) (c n : ℕ) → IsPoint (clockwise sign (ahead rows c n) (behind rows c n) (ahead rows e n) (behind rows e n))
+      → RoundCrossing c n (newcomer_rightward sign)
   round_newcomer LeftToRight c n point = grind (arith, four_turns)
   round_newcomer RightToLeft c n point = grind (arith, four_turns)
 
-  round_crossed : (sign : Sign) (c n : ℕ) → IsPoint (clockwise sign (ahead rows e n) (behind rows e n) (ahead rows c n) (behind rows c n)) → RoundCrossing c n (reversed (newcomer_rightward sign))
+  round_crossed : (sign : Sign) (c n : ℕ) → IsPoint (clockwise sign (ahead rows e n) (behind rows e n) (ahead rows c n) (behind rows c n))
+      → RoundCrossing c n (reversed (newcomer_rightward sign))
   round_crossed LeftToRight c n point = grind (arith, four_turns)
   round_crossed RightToLeft c n point = grind (arith, four_turns)
 
@@ -290,12 +305,15 @@ module _ (rows : Rows) (e : ℕ) (good : IsWellFormed rows) (known : is_some (ed
   pub first_turns : IsFollowed (forward e 0)
   first_turns =
       let end : end_dart rows row.a e ≡ forward e 0 = ap (λ (t : Bool). cond {A = Dart} t (forward e 0) (back e (length row.crossings))) (eqb_self row.a) in
-      subst IsFollowed end (edge_turns row.a edge_facts.a_in (edge_facts.at_ends row.a edge_facts.a_in (or_left (row.a == row.a) (row.b == row.a) (eqb_self row.a))))
+      subst IsFollowed end
+      (edge_turns row.a edge_facts.a_in (edge_facts.at_ends row.a edge_facts.a_in (or_left (row.a == row.a) (row.b == row.a) (eqb_self row.a))))
 
   pub last_turns : IsFollowed (back e (length row.crossings))
   last_turns =
-      let end : end_dart rows row.b e ≡ back e (length row.crossings) = ap (λ (t : Bool). cond {A = Dart} t (forward e 0) (back e (length row.crossings))) edge_facts.apart in
-      subst IsFollowed end (edge_turns row.b edge_facts.b_in (edge_facts.at_ends row.b edge_facts.b_in (or_right (row.a == row.b) (row.b == row.b) (eqb_self row.b))))
+      let end : end_dart rows row.b e ≡ back e (length row.crossings) =
+      ap (λ (t : Bool). cond {A = Dart} t (forward e 0) (back e (length row.crossings))) edge_facts.apart in
+      subst IsFollowed end
+      (edge_turns row.b edge_facts.b_in (edge_facts.at_ends row.b edge_facts.b_in (or_right (row.a == row.b) (row.b == row.b) (eqb_self row.b))))
 
   -- ---- The deletion
 

@@ -1,10 +1,12 @@
 -- A growth keeps a connected embedding one.
-use Rattle.std.proofs.Common.{◌≡◌, ◌≢◌, ℕ, zero, suc, ◌+◌, ◌<◌, ◌≤◌, append_assoc, append-nil, Bool, true, false, cond, not, ◌&&◌, ◌||◌, List, [], ◌∷◌, ◌++◌, length, take, drop, get_or, eqb, refl, sym, ap, subst, ◌∙◌, arith, inl, inr}
+use Rattle.std.proofs.Common.{◌≡◌, ◌≢◌, ℕ, zero, suc, ◌+◌, ◌<◌, ◌≤◌, append_assoc, append-nil, Bool, true, false, cond, not, ◌&&◌}
+use Rattle.std.proofs.Common.{◌||◌, List, [], ◌∷◌, ◌++◌, length, take, drop, get_or, eqb, refl, sym, ap, subst, ◌∙◌, arith, inl, inr}
 use Rattle.std.specs.Prelude.{◌⊎◌, ◌==◌, nat_lt, nat_le, Some, None, count_by, map, find, is_some, Option, ◌-◌, if◌then◌else◌, slice_get, slice_index_or}
 use Rattle.std.specs.Option.{option_or}
 use Rattle.std.specs.List.{list_all, position_or_len, range_with_len}
 use Rattle.std.proofs.lemmas.Bool.Decides.{nat_tests}
-use Rattle.std.proofs.lemmas.List.{get_or-drop, get_or_append_left, get_or-set_same, get_or-set_other, get_or_at, length-set, length-append, map-append, take-append-drop}
+use Rattle.std.proofs.lemmas.List.{get_or-drop, get_or_append_left, get_or-set_same, get_or-set_other}
+use Rattle.std.proofs.lemmas.List.{get_or_at, length-set, length-append, map-append, take-append-drop}
 use Rattle.std.proofs.lemmas.List.Folds.{find-append}
 use Rattle.std.proofs.lemmas.Option.{slice_get-get_or}
 use Rattle.std.proofs.lemmas.List.FromFn.{map-range_with_len_more}
@@ -38,7 +40,8 @@ all_from p (x ∷ xs) each = ap (λ b. b && list_all p xs) (each x (inl refl)) �
 -- a test of all numbers of a range
 pub all_range : (p : ℕ → Bool) (a n : ℕ) → ((v : ℕ) → a ≤ v → v < a + n → p v ≡ true) → list_all p (range_with_len a n) ≡ true
 all_range p a zero each = refl
-all_range p a (suc n) each = ap (λ b. b && list_all p (range_with_len (a + 1) n)) (each a (omega arith) (omega arith)) ∙ all_range p (a + 1) n (λ v low high. each v (omega arith) (omega arith))
+all_range p a (suc n) each = ap (λ b. b && list_all p (range_with_len (a + 1) n)) (each a (omega arith) (omega arith))
+    ∙ all_range p (a + 1) n (λ v low high. each v (omega arith) (omega arith))
 
 -- ids that rise below a limit are below it
 pub below_limit : (limit : ℕ) (xs : List ℕ) → rises_below limit xs ≡ true → (x : ℕ) → IsIn x xs → x < limit
@@ -113,8 +116,16 @@ first_dropped p e around h = grind (arith, slice_get-get_or, get_or-drop)
 -- where it stands
 pub is_put_in : (p f : ℕ) (around : List ℕ) → p < length around → IsPutIn p f around
 is_put_in p f [] h = absurd (omega arith)
-is_put_in zero f (e ∷ around) h = record { head = e; front = around; back = []; was = ap (λ list. e ∷ list) (sym (append-nil around)); now = refl; corner = refl }
-is_put_in (suc p) f (e ∷ around) h = record { head = e; front = take p around; back = drop p around; was = ap (λ list. e ∷ list) (sym (take-append-drop p around)); now = refl; corner = first_dropped p e around (omega arith) }
+is_put_in zero f (e ∷ around) h =
+    record { head = e; front = around; back = []; was = ap (λ list. e ∷ list) (sym (append-nil around)); now = refl; corner = refl }
+is_put_in (suc p) f (e ∷ around) h = record {
+  head = e;
+  front = take p around;
+  back = drop p around;
+  was = ap (λ list. e ∷ list) (sym (take-append-drop p around));
+  now = refl;
+  corner = first_dropped p e around (omega arith);
+}
 
 -- ---- Lists made from equal functions, and ranges in parts
 
@@ -146,8 +157,10 @@ none_found q (x ∷ xs) none = ap (λ (b : Bool). cond b (Some x) (find q xs)) (
 -- a list of rising ids with the next id at its end
 pub rises_push : (limit : ℕ) (xs : List ℕ) → rises_below limit xs ≡ true → rises_below (limit + 1) (xs ++ limit ∷ []) ≡ true
 rises_push limit [] h = and_from (nat_lt limit (limit + 1)) true (lt_test limit (limit + 1) (omega arith)) refl
-rises_push limit (x ∷ []) h = and_from (nat_lt x limit) _ (left_true (nat_lt x limit) true h) (and_from (nat_lt limit (limit + 1)) true (lt_test limit (limit + 1) (omega arith)) refl)
-rises_push limit (x ∷ y ∷ xs) h = and_from (nat_lt x y) _ (left_true (nat_lt x y) (rises_below limit (y ∷ xs)) h) (rises_push limit (y ∷ xs) (right_true (nat_lt x y) (rises_below limit (y ∷ xs)) h))
+rises_push limit (x ∷ []) h =
+    and_from (nat_lt x limit) _ (left_true (nat_lt x limit) true h) (and_from (nat_lt limit (limit + 1)) true (lt_test limit (limit + 1) (omega arith)) refl)
+rises_push limit (x ∷ y ∷ xs) h = and_from (nat_lt x y) _ (left_true (nat_lt x y) (rises_below limit (y ∷ xs)) h)
+    (rises_push limit (y ∷ xs) (right_true (nat_lt x y) (rises_below limit (y ∷ xs)) h))
 
 -- ---- The rotations of a grown picture
 
@@ -159,7 +172,8 @@ le_test m n h = grind (arith, nat_tests)
 pub some_found_more : {X : Type 0} (q : X → Bool) (xs ys : List X) → is_some (find q xs) ≡ true → is_some (find q (xs ++ ys)) ≡ true
 some_found_more q [] ys h = cc
 some_found_more q (x ∷ xs) ys h = by_test (q x) (some_found_more q xs ys) h where
-  by_test : (b : Bool) → (is_some (find q xs) ≡ true → is_some (find q (xs ++ ys)) ≡ true) → is_some (cond b (Some x) (find q xs)) ≡ true → is_some (cond b (Some x) (find q (xs ++ ys))) ≡ true
+  by_test : (b : Bool) → (is_some (find q xs) ≡ true → is_some (find q (xs ++ ys)) ≡ true) → is_some (cond b (Some x) (find q xs)) ≡ true
+      → is_some (cond b (Some x) (find q (xs ++ ys))) ≡ true
   by_test true more h = refl
   by_test false more h = more h
 
@@ -217,21 +231,26 @@ first_below (x ∷ around) below h = let one = below x (inl refl) in omega arith
 -- the turn of the rows after a growth, in terms of the turn before it: the new dart comes between two old ones, its twin is by itself
 pub record IsGrownTurn (rows after : Rows) : Type 0 where
   pub old_turns : (d : Dart) → d.edge ≢ rows.next_edge
-      → (turn (system after) d ≡ turn (system rows) d) ⊎ ((turn (system after) d ≡ forward rows.next_edge 0) × (turn (system after) (forward rows.next_edge 0) ≡ turn (system rows) d))
+      → (turn (system after) d ≡ turn (system rows) d)
+      ⊎ ((turn (system after) d ≡ forward rows.next_edge 0) × (turn (system after) (forward rows.next_edge 0) ≡ turn (system rows) d))
   pub alone : turn (system after) (back rows.next_edge 0) ≡ back rows.next_edge 0
   pub source : Dart
   pub source_in : has_dart (darts rows) source ≡ true
   pub leads_in : turn (system after) source ≡ forward rows.next_edge 0
 
-module _ (rows : Rows) (u p kind : ℕ) (paths : has_good_paths rows ≡ true) (rotations : has_good_rotations rows ≡ true) (u_in : u < length rows.rotations) (p_in : p < length (rotation rows u)) where
+module _ (rows : Rows) (u p kind : ℕ) (paths : has_good_paths rows ≡ true) (rotations : has_good_rotations rows ≡ true) (u_in : u < length rows.rotations)
+    (p_in : p < length (rotation rows u)) where
   row_below : (row : EdgeRow) → IsIn row rows.edges → row.id < rows.next_edge
-  row_below row h = below_limit rows.next_edge (map (λ row. row.id) rows.edges) (left_true _ (list_all (has_good_path rows) rows.edges) paths) row.id (in_map (λ row. row.id) row rows.edges h)
+  row_below row h = below_limit rows.next_edge (map (λ row. row.id) rows.edges) (left_true _ (list_all (has_good_path rows) rows.edges) paths) row.id
+      (in_map (λ row. row.id) row rows.edges h)
 
   old_at : (v : ℕ) → v < length rows.rotations → has_good_rotation rows v ≡ true
   old_at v inside = test_of_each (has_good_rotation rows) v (vertices rows) rotations (vertex_in rows v inside)
 
-  old_counts : (v : ℕ) → v < length rows.rotations → (row : EdgeRow) → IsIn row rows.edges → occurrences row.id (rotation rows v) ≡ cond {A = ℕ} (row.a == v || row.b == v) 1 0
-  old_counts v inside row h = eqb-true _ _ (test_of_each (λ row. occurrences row.id (rotation rows v) == (if row.a == v || row.b == v then 1 else 0)) row rows.edges (left_true _ _ (left_true _ _ (old_at v inside))) h)
+  old_counts : (v : ℕ) → v < length rows.rotations → (row : EdgeRow) → IsIn row rows.edges
+      → occurrences row.id (rotation rows v) ≡ cond {A = ℕ} (row.a == v || row.b == v) 1 0
+  old_counts v inside row h = eqb-true _ _ (test_of_each (λ row. occurrences row.id (rotation rows v) == (if row.a == v || row.b == v then 1 else 0))
+      row rows.edges (left_true _ _ (left_true _ _ (old_at v inside))) h)
 
   old_known : (v : ℕ) → v < length rows.rotations → (e : ℕ) → IsIn e (rotation rows v) → is_some (edge_row rows e) ≡ true
   old_known v inside e h = test_of_each (λ e. is_some (edge_row rows e)) e (rotation rows v) (right_true _ _ (left_true _ _ (old_at v inside))) h
@@ -256,12 +275,18 @@ module _ (rows : Rows) (u p kind : ℕ) (paths : has_good_paths rows ≡ true) (
       → ((e : ℕ) → IsIn e around → nat_le (get_or around 0 0) e ≡ true)
       → has_good_rotation after v ≡ true
   assemble v around same old_ones new_one known least = subst
-      (λ (list : List ℕ). (list_all (λ row. occurrences row.id list == (if row.a == v || row.b == v then 1 else 0)) after.edges && list_all (λ e. is_some (edge_row after e)) list && list_all (nat_le (get_or list 0 0)) list) ≡ true)
+      (λ (list : List ℕ). (list_all (λ row. occurrences row.id list == (if row.a == v || row.b == v then 1 else 0)) after.edges
+      && list_all (λ e. is_some (edge_row after e)) list && list_all (nat_le (get_or list 0 0)) list) ≡ true)
       (sym same)
       (and_from _ _ (and_from _ _
-      (all_from (λ row. occurrences row.id around == (if row.a == v || row.b == v then 1 else 0)) after.edges (λ row h. elim (in_append row rows.edges (new_row ∷ []) h) [
+      (all_from (λ row. occurrences row.id around == (if row.a == v || row.b == v then 1 else 0)) after.edges
+      (λ row h. elim (in_append row rows.edges (new_row ∷ []) h) [
         | inl old ↦ eq-eqb _ _ (old_ones row old)
-        | inr k ↦ elim k [ inl e ↦ subst (λ (r : EdgeRow). (occurrences r.id around == (if r.a == v || r.b == v then 1 else 0)) ≡ true) (sym e) (eq-eqb _ _ new_one) | inr none ↦ absurd none ]
+        | inr k ↦ elim k [
+          | inl e ↦ subst (λ (r : EdgeRow). (occurrences r.id around == (if r.a == v || r.b == v then 1 else 0)) ≡ true) (sym e)
+              (eq-eqb _ _ new_one)
+          | inr none ↦ absurd none
+        ]
       ]))
       (all_from (λ e. is_some (edge_row after e)) around (λ e h. grind (arith, some_found_last, eq-eqb, some_found_more))))
       (all_from (nat_le (get_or around 0 0)) around least))
@@ -276,7 +301,8 @@ module _ (rows : Rows) (u p kind : ℕ) (paths : has_good_paths rows ≡ true) (
 
   -- the list of the new vertex
   rotation_new : rotation after (length rows.rotations) ≡ rows.next_edge ∷ []
-  rotation_new = get_or_at (with_end rows.rotations u p rows.next_edge) (rows.next_edge ∷ []) [] [] (length rows.rotations) (length-set rows.rotations u (put_in p rows.next_edge (rotation rows u)))
+  rotation_new = get_or_at (with_end rows.rotations u p rows.next_edge) (rows.next_edge ∷ []) [] [] (length rows.rotations)
+      (length-set rows.rotations u (put_in p rows.next_edge (rotation rows u)))
 
   -- a vertex beside u keeps its list
   at_other : (v : ℕ) → v < length rows.rotations → v ≢ u → has_good_rotation after v ≡ true
@@ -313,7 +339,9 @@ module _ (rows : Rows) (u p kind : ℕ) (paths : has_good_paths rows ≡ true) (
       (λ row h.
       let facts = path_facts rows paths row h in
       none_here row.id rows.next_edge (row_below row h) ∙ sym (untouched_by row.a row.b (length rows.rotations) facts.a_in facts.b_in))
-      (one_here rows.next_edge ∙ sym (ap (λ (t : Bool). cond {A = ℕ} t 1 0) (or_right (u == length rows.rotations) (length rows.rotations == length rows.rotations) (eqb_self (length rows.rotations)))))
+      (one_here rows.next_edge
+      ∙ sym (ap (λ (t : Bool). cond {A = ℕ} t 1 0)
+      (or_right (u == length rows.rotations) (length rows.rotations == length rows.rotations) (eqb_self (length rows.rotations)))))
       (λ e h. elim h [ inl k ↦ inl k | inr none ↦ absurd none ])
       (λ e h. elim h [ inl k ↦ le_test rows.next_edge e (same_le rows.next_edge e k) | inr none ↦ absurd none ])
 
@@ -324,7 +352,8 @@ module _ (rows : Rows) (u p kind : ℕ) (paths : has_good_paths rows ≡ true) (
   -- the rotations of the grown picture are good
   pub rotations_after_growth : has_good_rotations after ≡ true
   rotations_after_growth = all_range (has_good_rotation after) 0 (length after.rotations) (λ v low high.
-      let by_u : (b : Bool) → eqb v u ≡ b → has_good_rotation after v ≡ true = λ b. grind (arith, eqb-true, at_u, at_other, lt_of_test, ne_from, last_vertex, vertices_after, at_new) in by_u (eqb v u) refl)
+      let by_u : (b : Bool) → eqb v u ≡ b → has_good_rotation after v ≡ true =
+      λ b. grind (arith, eqb-true, at_u, at_other, lt_of_test, ne_from, last_vertex, vertices_after, at_new) in by_u (eqb v u) refl)
 
   -- ---- Its paths and crossings
 
@@ -344,13 +373,15 @@ module _ (rows : Rows) (u p kind : ℕ) (paths : has_good_paths rows ≡ true) (
       (ap (rises_below (rows.next_edge + 1)) (map-append (λ row. row.id) rows.edges (new_row ∷ []))
       ∙ rises_push rows.next_edge (map (λ row. row.id) rows.edges) (left_true _ (list_all (has_good_path rows) rows.edges) paths))
       (all_from (has_good_path after) (rows.edges ++ new_row ∷ []) (λ row h. elim (in_append row rows.edges (new_row ∷ []) h) [
-        | inl old ↦ old_path row (test_of_each (has_good_path rows) row rows.edges (right_true (rises_below rows.next_edge (map (λ row. row.id) rows.edges)) (list_all (has_good_path rows) rows.edges) paths) old)
+        | inl old ↦ old_path row (test_of_each (has_good_path rows) row rows.edges
+            (right_true (rises_below rows.next_edge (map (λ row. row.id) rows.edges)) (list_all (has_good_path rows) rows.edges) paths) old)
         | inr k ↦ elim k [ inl e ↦ ap (has_good_path after) e ∙ new_path known | inr none ↦ absurd none ]
       ]))
 
   -- an edge that was there is not the new one
   known_below : (e : ℕ) → is_some (edge_row rows e) ≡ true → e < rows.next_edge
-  known_below e known = let pick = some_of (edge_row rows e) known in subst (λ f. f < rows.next_edge) (row_id rows e pick.0 pick.1) (row_below pick.0 (row_in rows e pick.0 pick.1))
+  known_below e known = let pick = some_of (edge_row rows e) known in
+      subst (λ f. f < rows.next_edge) (row_id rows e pick.0 pick.1) (row_below pick.0 (row_in rows e pick.0 pick.1))
 
   -- and so are its crossings
   pub crossings_after_growth : has_good_crossings rows ≡ true → has_good_crossings after ≡ true
@@ -362,7 +393,8 @@ module _ (rows : Rows) (u p kind : ℕ) (paths : has_good_paths rows ≡ true) (
       (ap not good.apart)
       (some_found_more (λ row. row.id == x.crossed) rows.edges (new_row ∷ []) good.crossed))
       (some_found_more (λ row. row.id == x.newcomer) rows.edges (new_row ∷ []) good.newcomer))
-      (all_from (λ row. occurrences x.id row.crossings == (if row.id == x.crossed || row.id == x.newcomer then 1 else 0)) (rows.edges ++ new_row ∷ []) (λ row k. elim (in_append row rows.edges (new_row ∷ []) k) [
+      (all_from (λ row. occurrences x.id row.crossings == (if row.id == x.crossed || row.id == x.newcomer then 1 else 0)) (rows.edges ++ new_row ∷ [])
+      (λ row k. elim (in_append row rows.edges (new_row ∷ []) k) [
         | inl old ↦ eq-eqb _ _ (good.counted row old)
         | inr last ↦ elim last [
           | inl e ↦ ap (λ (r : EdgeRow). occurrences x.id r.crossings == (if r.id == x.crossed || r.id == x.newcomer then 1 else 0)) e
@@ -396,7 +428,8 @@ module _ (rows : Rows) (u p kind : ℕ) (paths : has_good_paths rows ≡ true) (
   around_crossing_after crossings x h = grind (arith, good_crossing, old_place_on)
 
   around_other : (v : ℕ) → v < length rows.rotations → v ≢ u → around_vertex after v ≡ around_vertex rows v
-  around_other v inside apart = ap (map (end_dart after v)) (rotation_other v inside apart) ∙ map_same (end_dart after v) (end_dart rows v) (rotation rows v) (λ e h. old_end_dart v e (old_known v inside e h))
+  around_other v inside apart = ap (map (end_dart after v)) (rotation_other v inside apart)
+      ∙ map_same (end_dart after v) (end_dart rows v) (rotation rows v) (λ e h. old_end_dart v e (old_known v inside e h))
 
   parts : IsPutIn p rows.next_edge (rotation rows u)
   parts = is_put_in p rows.next_edge (rotation rows u) p_in
@@ -444,7 +477,8 @@ module _ (rows : Rows) (u p kind : ℕ) (paths : has_good_paths rows ≡ true) (
   abbrev points_crossed : System
   points_crossed = map (around_crossing rows) rows.crossings
 
-  vertices_in_parts : (h : ℕ → List Dart) → map h (range_with_len 0 (length rows.rotations)) ≡ map h (range_with_len 0 u) ++ h u ∷ map h (range_with_len (u + 1) others)
+  vertices_in_parts : (h : ℕ → List Dart)
+      → map h (range_with_len 0 (length rows.rotations)) ≡ map h (range_with_len 0 u) ++ h u ∷ map h (range_with_len (u + 1) others)
   vertices_in_parts h =
       ap (map h) (range_split 0 u others (length rows.rotations) u (omega arith) (omega arith))
       ∙ map-append h (range_with_len 0 u) (u ∷ range_with_len (u + 1) others)
@@ -452,24 +486,28 @@ module _ (rows : Rows) (u p kind : ℕ) (paths : has_good_paths rows ≡ true) (
   system_before : system rows ≡ old_system points_before points_behind points_crossed first_dart front_darts back_darts new_dart new_twin
   system_before = grind (arith, vertices_in_parts, around_u_before)
 
-  system_after : has_good_crossings rows ≡ true → system after ≡ new_system points_before points_behind points_crossed first_dart front_darts back_darts new_dart new_twin
+  system_after : has_good_crossings rows ≡ true
+      → system after ≡ new_system points_before points_behind points_crossed first_dart front_darts back_darts new_dart new_twin
   system_after crossings =
       let before_u = map_same (around_vertex after) (around_vertex rows) (range_with_len 0 u) (λ v h.
       let high = range_below v 0 u h in around_other v (omega arith) (omega arith)) in
       let behind_u = map_same (around_vertex after) (around_vertex rows) (range_with_len (u + 1) others) (λ v h.
       let low = range_from v (u + 1) others h in let high = range_below v (u + 1) others h in around_other v (omega arith) (omega arith)) in
-      let old_vertices : map (around_vertex after) (range_with_len 0 (length rows.rotations)) ≡ points_before ++ (first_dart ∷ front_darts ++ new_dart ∷ back_darts) ∷ points_behind =
+      let old_vertices : map (around_vertex after) (range_with_len 0 (length rows.rotations)) ≡ points_before
+      ++ (first_dart ∷ front_darts ++ new_dart ∷ back_darts) ∷ points_behind =
       vertices_in_parts (around_vertex after)
       ∙ ap (λ s. s ++ around_vertex after u ∷ map (around_vertex after) (range_with_len (u + 1) others)) before_u
       ∙ ap (λ s. points_before ++ around_vertex after u ∷ s) behind_u
       ∙ ap (λ around. points_before ++ around ∷ points_behind) around_u_after in
-      let all_vertices : map (around_vertex after) (vertices after) ≡ (points_before ++ (first_dart ∷ front_darts ++ new_dart ∷ back_darts) ∷ points_behind) ++ (new_twin ∷ []) ∷ [] =
+      let all_vertices : map (around_vertex after) (vertices after) ≡ (points_before ++ (first_dart ∷ front_darts ++ new_dart ∷ back_darts) ∷ points_behind)
+      ++ (new_twin ∷ []) ∷ [] =
       ap (λ n. map (around_vertex after) (range_with_len 0 n)) more_vertices
       ∙ map-range_with_len_more (around_vertex after) 0 (length rows.rotations) (length rows.rotations) (omega arith)
       ∙ ap (λ s. s ++ around_vertex after (length rows.rotations) ∷ []) old_vertices
       ∙ ap (λ around. (points_before ++ (first_dart ∷ front_darts ++ new_dart ∷ back_darts) ∷ points_behind) ++ around ∷ []) around_new in
       ap (λ s. s ++ map (around_crossing after) rows.crossings) all_vertices
-      ∙ ap (λ s. ((points_before ++ (first_dart ∷ front_darts ++ new_dart ∷ back_darts) ∷ points_behind) ++ (new_twin ∷ []) ∷ []) ++ s) (map_same (around_crossing after) (around_crossing rows) rows.crossings (around_crossing_after crossings))
+      ∙ ap (λ s. ((points_before ++ (first_dart ∷ front_darts ++ new_dart ∷ back_darts) ∷ points_behind) ++ (new_twin ∷ []) ∷ []) ++ s)
+      (map_same (around_crossing after) (around_crossing rows) rows.crossings (around_crossing_after crossings))
       ∙ append_assoc (points_before ++ (first_dart ∷ front_darts ++ new_dart ∷ back_darts) ∷ points_behind) ((new_twin ∷ []) ∷ []) points_crossed
 
   -- the new edge has no dart before
@@ -485,7 +523,8 @@ module _ (rows : Rows) (u p kind : ℕ) (paths : has_good_paths rows ≡ true) (
       (subst (λ s. has_dart (darts_in s) new_dart ≡ false) system_before (nowhere_before new_dart refl crossings))
       (subst (λ s. has_dart (darts_in s) new_twin ≡ false) system_before (nowhere_before new_twin refl crossings))
       refl
-      (subst (λ s. (d : Dart) → count_by (same_dart d) (darts_in s) ≤ 1) system_before (λ d. at_most_one (is_of_rows rows d) _ (stands_once rows paths crossings rotations d)))
+      (subst (λ s. (d : Dart) → count_by (same_dart d) (darts_in s) ≤ 1) system_before
+      (λ d. at_most_one (is_of_rows rows d) _ (stands_once rows paths crossings rotations d)))
       (subst Connected system_before connected))
 
   not_new : (d c : Dart) → c.edge ≡ rows.next_edge → d.edge ≢ rows.next_edge → same_dart d c ≡ false
@@ -496,11 +535,13 @@ module _ (rows : Rows) (u p kind : ℕ) (paths : has_good_paths rows ≡ true) (
   turns_after_growth crossings =
       let no_dart = subst (λ s. has_dart (darts_in s) new_dart ≡ false) system_before (nowhere_before new_dart refl crossings) in
       let no_twin = subst (λ s. has_dart (darts_in s) new_twin ≡ false) system_before (nowhere_before new_twin refl crossings) in
-      let once = subst (λ s. (d : Dart) → count_by (same_dart d) (darts_in s) ≤ 1) system_before (λ d. at_most_one (is_of_rows rows d) _ (stands_once rows paths crossings rotations d)) in
+      let once = subst (λ s. (d : Dart) → count_by (same_dart d) (darts_in s) ≤ 1) system_before
+      (λ d. at_most_one (is_of_rows rows d) _ (stands_once rows paths crossings rotations d)) in
       grind (arith, system_after, system_before, reaches_new, turn_of_old, not_new, turn_of_twin, system_test)
 
 -- a growth at a corner makes an embedding of an embedding
-pub growth_keeps_embedding : (rows : Rows) → IsEmbedding rows → (u p kind : ℕ) → u < length rows.rotations → p < length (rotation rows u) → kind < 64 → IsEmbedding (grown rows u p kind)
+pub growth_keeps_embedding : (rows : Rows) → IsEmbedding rows → (u p kind : ℕ) → u < length rows.rotations → p < length (rotation rows u) → kind < 64
+    → IsEmbedding (grown rows u p kind)
 growth_keeps_embedding rows good u p kind u_in p_in known = record {
   well_formed = grind (arith, paths_after_growth, crossings_after_growth, rotations_after_growth);
   connected = connected_after_growth rows u p kind good.well_formed.paths good.well_formed.rotations u_in p_in good.well_formed.crossings good.connected;

@@ -17,11 +17,13 @@ use Rattle.topo_core.specs.Pictures.{back, forward}
 use Rattle.topo_core.specs.Rotations.{face_next}
 use Rattle.topo_core.specs.Systems.{has_dart, turn}
 use Rattle.topo_core.proofs.numbering.DartLaws.{same_dart_self, twin-twin}
-use Rattle.topo_core.proofs.growing.Growing.{IsGrownTurn, crossings_after_growth, growth_keeps_embedding, more_vertices, nowhere_before, paths_after_growth, rotations_after_growth, turns_after_growth}
+use Rattle.topo_core.proofs.growing.Growing.{IsGrownTurn, crossings_after_growth, growth_keeps_embedding, more_vertices}
+use Rattle.topo_core.proofs.growing.Growing.{nowhere_before, paths_after_growth, rotations_after_growth, turns_after_growth}
 use Rattle.topo_core.proofs.systems.Lengthening.{IsLonger, as_many_cycles}
 use Rattle.topo_core.proofs.numbering.Members.{or_second}
 use Rattle.topo_core.proofs.systems.NewDarts.{has_dart-append, or_left_false, or_right_false}
-use Rattle.topo_core.proofs.numbering.Numbering.{dart_at, has_at, images_length, index_of_get, place_here, place_in, place_later, place_less, turn_stays, twin_in}
+use Rattle.topo_core.proofs.numbering.Numbering.{dart_at, has_at, images_length, index_of_get, place_here}
+use Rattle.topo_core.proofs.numbering.Numbering.{place_in, place_later, place_less, turn_stays, twin_in}
 use Rattle.topo_core.proofs.numbering.Renumbering.{face_at, face_carried, face_permutes}
 use Rattle.topo_core.proofs.numbering.Standing.{back_forward, system_test}
 
@@ -44,7 +46,8 @@ place_second (c ∷ ds) es d h =
 
 -- ---- The faces of a grown picture
 
-module _ (rows : Rows) (u p kind : ℕ) (paths : has_good_paths rows ≡ true) (crossings : has_good_crossings rows ≡ true) (rotations : has_good_rotations rows ≡ true)
+module _ (rows : Rows) (u p kind : ℕ) (paths : has_good_paths rows ≡ true) (crossings : has_good_crossings rows ≡ true)
+    (rotations : has_good_rotations rows ≡ true)
     (u_in : u < length rows.rotations) (p_in : p < length (rotation rows u)) (known : kind < 64) where
   abbrev after : Rows
   after = grown rows u p kind
@@ -81,10 +84,12 @@ module _ (rows : Rows) (u p kind : ℕ) (paths : has_good_paths rows ≡ true) (
   is_old d h e = false≢true (sym (not_listed d e) ∙ h)
 
   old_listed : (d : Dart) → has_dart (darts rows) d ≡ true → has_dart (darts after) d ≡ true
-  old_listed d h = ap (λ ds. has_dart ds d) darts_after ∙ has_dart-append (darts rows) (new_dart ∷ new_twin ∷ []) d ∙ or_left (has_dart (darts rows) d) (has_dart (new_dart ∷ new_twin ∷ []) d) h
+  old_listed d h = ap (λ ds. has_dart ds d) darts_after ∙ has_dart-append (darts rows) (new_dart ∷ new_twin ∷ []) d
+      ∙ or_left (has_dart (darts rows) d) (has_dart (new_dart ∷ new_twin ∷ []) d) h
 
   new_listed : (d : Dart) → has_dart (new_dart ∷ new_twin ∷ []) d ≡ true → has_dart (darts after) d ≡ true
-  new_listed d h = ap (λ ds. has_dart ds d) darts_after ∙ has_dart-append (darts rows) (new_dart ∷ new_twin ∷ []) d ∙ or_right (has_dart (darts rows) d) (has_dart (new_dart ∷ new_twin ∷ []) d) h
+  new_listed d h = ap (λ ds. has_dart ds d) darts_after ∙ has_dart-append (darts rows) (new_dart ∷ new_twin ∷ []) d
+      ∙ or_right (has_dart (darts rows) d) (has_dart (new_dart ∷ new_twin ∷ []) d) h
 
   dart_listed : has_dart (darts after) new_dart ≡ true
   dart_listed = new_listed new_dart (or_left (same_dart new_dart new_dart) (has_dart (new_twin ∷ []) new_dart) (same_dart_self new_dart))
@@ -145,7 +150,8 @@ module _ (rows : Rows) (u p kind : ℕ) (paths : has_good_paths rows ≡ true) (
         on = face_over_dart;
         source = index_of rows s;
         source_in = place_less (darts rows) s s_in;
-        leads_in = ap face_after (sym (old_index s s_in)) ∙ face_after_at s (old_listed s s_in) ∙ ap (λ d. index_of after (turn (system after) d)) (twin-twin turns.source) ∙ ap (index_of after) turns.leads_in ∙ index_of_new;
+        leads_in = ap face_after (sym (old_index s s_in)) ∙ face_after_at s (old_listed s s_in)
+            ∙ ap (λ d. index_of after (turn (system after) d)) (twin-twin turns.source) ∙ ap (index_of after) turns.leads_in ∙ index_of_new;
       })
 
   -- as many faces as before
@@ -163,7 +169,8 @@ module _ (rows : Rows) (u p kind : ℕ) (paths : has_good_paths rows ≡ true) (
       let segments = sum_by_push segment_count rows.edges new_row in omega arith
 
 -- a growth at a corner makes a lawful picture of a lawful picture
-pub growth_keeps_lawful : (rows : Rows) → Lawful rows → (u p kind : ℕ) → u < length rows.rotations → p < length (rotation rows u) → kind < 64 → Lawful (grown rows u p kind)
+pub growth_keeps_lawful : (rows : Rows) → Lawful rows → (u p kind : ℕ) → u < length rows.rotations → p < length (rotation rows u) → kind < 64
+    → Lawful (grown rows u p kind)
 growth_keeps_lawful rows lawful u p kind u_in p_in known =
     let good = lawful.embedding.well_formed in
     record {

@@ -1,5 +1,6 @@
 -- A picture that shows a new edge along a route is well formed.
-use Rattle.std.proofs.Common.{◌≡◌, ◌≢◌, ℕ, suc, ◌+◌, ◌<◌, Bool, true, false, cond, not, ◌&&◌, ◌||◌, List, [], ◌∷◌, ◌++◌, length, get_or, eqb, refl, sym, ap, subst, ◌∙◌, arith, inl, inr}
+use Rattle.std.proofs.Common.{◌≡◌, ◌≢◌, ℕ, suc, ◌+◌, ◌<◌, Bool, true, false, cond, not, ◌&&◌, ◌||◌, List, []}
+use Rattle.std.proofs.Common.{◌∷◌, ◌++◌, length, get_or, eqb, refl, sym, ap, subst, ◌∙◌, arith, inl, inr}
 use Rattle.std.specs.Prelude.{◌⊎◌, ◌==◌, nat_lt, nat_le, Some, map, is_some, sum_by, if◌then◌else◌}
 use Rattle.std.specs.List.{AllByRecursion, list_all, range_with_len}
 use Rattle.std.proofs.lemmas.List.{map-append}
@@ -17,9 +18,12 @@ use Rattle.topo_core.specs.Lawful.{has_good_crossings, has_good_path, has_good_p
 use Rattle.topo_core.specs.Changes.{crossed_row, new_crossing, new_on, numbered, put_in, shown, woven}
 use Rattle.topo_core.specs.Insertions.{IsInsertable}
 use Rattle.topo_core.proofs.numbering.Counting.{eqb_less, eqb_more, eqb_symm, in_first, lt_test, one, sum_if, sum_nothing, sum_same}
-use Rattle.topo_core.proofs.growing.Growing.{all_from, all_range, first_below, first_put_in, in_put_in, le_test, ne_from, neither, none_counted, occurrences-put_in, rises_push}
+use Rattle.topo_core.proofs.growing.Growing.{all_from, all_range, first_below, first_put_in, in_put_in, le_test}
+use Rattle.topo_core.proofs.growing.Growing.{ne_from, neither, none_counted, occurrences-put_in, rises_push}
 use Rattle.topo_core.proofs.numbering.Members.{left_true, right_true, test_of_each}
-use Rattle.topo_core.proofs.inserting.ShownRows.{crossing_below, edge_below, in_images, known_crossing_below, known_edge_below, new_id_above, newcomer_row, numbered_in, rises_on, row_found, shown_crossings, shown_new_crossing, shown_new_row, shown_old_crossing_there, shown_old_there, shown_rotation_end, shown_rotation_other, shown_rotation_start, shown_rows, shown_vertices}
+use Rattle.topo_core.proofs.inserting.ShownRows.{crossing_below, edge_below, in_images, known_crossing_below, known_edge_below, new_id_above, newcomer_row}
+use Rattle.topo_core.proofs.inserting.ShownRows.{numbered_in, rises_on, row_found, shown_crossings, shown_new_crossing, shown_new_row, shown_old_crossing_there}
+use Rattle.topo_core.proofs.inserting.ShownRows.{shown_old_there, shown_rotation_end, shown_rotation_other, shown_rotation_start, shown_rows, shown_vertices}
 use Rattle.topo_core.proofs.numbering.Standing.{good_crossing, good_rotation, one_of_both, listed_test, of_rows_is_dart}
 use Rattle.topo_core.proofs.systems.SystemDarts.{crossing_there, eqb_self, vertex_in}
 use Rattle.topo_core.proofs.inserting.Weaving.{below_never, below_not_counted, in_filter, in_woven, number_counted, number_once, occurrences-woven}
@@ -70,10 +74,12 @@ module _ (rows : Rows) (u v kind : ℕ) (r : Route) (good : IsWellFormed rows) (
   named_below row h y named = known_crossing_below rows good.crossings y (crossing_there rows good.paths row h y named)
 
   -- a new crossing stands once on the path of its crossed edge, and on no other old one
-  new_on_old : (x : ℕ) (d : Dart) → IsIn (x, d) (numbered rows r) → (row : EdgeRow) → IsIn row rows.edges → occurrences x (woven (new_on rows r row.id) 0 row.crossings) ≡ one (row.id == d.edge)
+  new_on_old : (x : ℕ) (d : Dart) → IsIn (x, d) (numbered rows r) → (row : EdgeRow) → IsIn row rows.edges
+      → occurrences x (woven (new_on rows r row.id) 0 row.crossings) ≡ one (row.id == d.edge)
   new_on_old x d h row row_in =
       let all = occurrences-woven (new_on rows r row.id) 0 x row.crossings in
-      let before = none_counted x row.crossings (λ y named. let low = named_below row row_in y named in let high = new_id_above rows u v kind r x d h in omega arith) in
+      let before = none_counted x row.crossings
+      (λ y named. let low = named_below row row_in y named in let high = new_id_above rows u v kind r x d h in omega arith) in
       let inside : (d.edge == row.id) ≡ true → nat_lt d.seg (suc (length row.crossings)) ≡ true = λ e.
       let found = crossed_there x d h in
       let there : Some found.0 ≡ Some row = sym found.1 ∙ ap (edge_row rows) (eqb-true d.edge row.id e) ∙ row_found rows good.paths row row_in in
@@ -82,7 +88,8 @@ module _ (rows : Rows) (u v kind : ℕ) (r : Route) (good : IsWellFormed rows) (
       let more : d.seg < segment_count row = subst (λ row. d.seg < segment_count row) same segments in
       lt_test d.seg (suc (length row.crossings)) (omega arith) in
       let new_ones : sum_by (λ i. occurrences x (new_on rows r row.id i)) (range_with_len 0 (suc (length row.crossings))) ≡ one (row.id == d.edge) =
-      sum_same (λ i. occurrences x (new_on rows r row.id i)) (λ i. cond {A = ℕ} (d.edge == row.id) (one (d.seg == i)) 0) (range_with_len 0 (suc (length row.crossings)))
+      sum_same (λ i. occurrences x (new_on rows r row.id i)) (λ i. cond {A = ℕ} (d.edge == row.id) (one (d.seg == i)) 0)
+      (range_with_len 0 (suc (length row.crossings)))
       (λ i _. number_counted (λ y. y.1.edge == row.id && y.1.seg == i) rows.next_crossing x d r.crossed h ∙ one_of_both (d.edge == row.id) (d.seg == i))
       ∙ sum_if (d.edge == row.id) (λ i. one (d.seg == i)) (range_with_len 0 (suc (length row.crossings)))
       ∙ ap (λ (n : ℕ). cond {A = ℕ} (d.edge == row.id) n 0) (in_first d.seg (suc (length row.crossings)))
@@ -108,11 +115,14 @@ module _ (rows : Rows) (u v kind : ℕ) (r : Route) (good : IsWellFormed rows) (
       (ap not facts.apart)
       (shown_old_there rows u v kind r x.crossed facts.crossed))
       (shown_old_there rows u v kind r x.newcomer facts.newcomer))
-      (all_from (λ row. occurrences x.id row.crossings == (if row.id == x.crossed || row.id == x.newcomer then 1 else 0)) after.edges (λ row k. elim (shown_rows rows u v kind r row k) [
+      (all_from (λ row. occurrences x.id row.crossings == (if row.id == x.crossed || row.id == x.newcomer then 1 else 0)) after.edges
+      (λ row k. elim (shown_rows rows u v kind r row k) [
         | inl (old, in_old, is) ↦ ap (λ (row : EdgeRow). occurrences x.id row.crossings == (if row.id == x.crossed || row.id == x.newcomer then 1 else 0)) is
             ∙ eq-eqb _ _ (old_on_old x.id low old ∙ facts.counted old in_old)
         | inr is ↦ ap (λ (row : EdgeRow). occurrences x.id row.crossings == (if row.id == x.crossed || row.id == x.newcomer then 1 else 0)) is
-            ∙ eq-eqb _ _ (below_never rows.next_crossing x.id r.crossed low ∙ sym (neither rows.next_edge x.crossed x.newcomer (known_edge_below rows good.paths x.crossed facts.crossed) (known_edge_below rows good.paths x.newcomer facts.newcomer)))
+            ∙ eq-eqb _ _ (below_never rows.next_crossing x.id r.crossed low
+            ∙ sym (neither rows.next_edge x.crossed x.newcomer (known_edge_below rows good.paths x.crossed facts.crossed)
+            (known_edge_below rows good.paths x.newcomer facts.newcomer)))
       ]))
 
   new_crossing_good : (x : ℕ) (d : Dart) → IsIn (x, d) (numbered rows r) → is_good_crossing after (new_crossing rows.next_edge (x, d)) ≡ true
@@ -122,17 +132,21 @@ module _ (rows : Rows) (u v kind : ℕ) (r : Route) (good : IsWellFormed rows) (
       (ap not (eqb_less d.edge rows.next_edge low))
       (shown_old_there rows u v kind r d.edge (crossed_known x d h)))
       (ap is_some (shown_new_row rows u v kind r good.paths)))
-      (all_from (λ row. occurrences x row.crossings == (if row.id == d.edge || row.id == rows.next_edge then 1 else 0)) after.edges (λ row k. elim (shown_rows rows u v kind r row k) [
+      (all_from (λ row. occurrences x row.crossings == (if row.id == d.edge || row.id == rows.next_edge then 1 else 0)) after.edges
+      (λ row k. elim (shown_rows rows u v kind r row k) [
         | inl (old, in_old, is) ↦ ap (λ (row : EdgeRow). occurrences x row.crossings == (if row.id == d.edge || row.id == rows.next_edge then 1 else 0)) is
-            ∙ eq-eqb _ _ (new_on_old x d h old in_old ∙ sym (ap one (or_fails (old.id == d.edge) (old.id == rows.next_edge) (eqb_less old.id rows.next_edge (edge_below rows good.paths old in_old)))))
+            ∙ eq-eqb _ _ (new_on_old x d h old in_old
+            ∙ sym (ap one (or_fails (old.id == d.edge) (old.id == rows.next_edge) (eqb_less old.id rows.next_edge (edge_below rows good.paths old in_old)))))
         | inr is ↦ ap (λ (row : EdgeRow). occurrences x row.crossings == (if row.id == d.edge || row.id == rows.next_edge then 1 else 0)) is
-            ∙ eq-eqb _ _ (number_once rows.next_crossing x d r.crossed h ∙ sym (ap one (right_holds (rows.next_edge == d.edge) (rows.next_edge == rows.next_edge) (eqb_self rows.next_edge))))
+            ∙ eq-eqb _ _ (number_once rows.next_crossing x d r.crossed h
+            ∙ sym (ap one (right_holds (rows.next_edge == d.edge) (rows.next_edge == rows.next_edge) (eqb_self rows.next_edge))))
       ]))
 
   -- the crossings of the picture are good
   pub shown_good_crossings : has_good_crossings after ≡ true
   shown_good_crossings = and_from (rises_below after.next_crossing (map (λ x. x.id) after.crossings)) (list_all (is_good_crossing after) after.crossings)
-      (ap (rises_below after.next_crossing) (map-append (λ x. x.id) rows.crossings (map (new_crossing rows.next_edge) (numbered rows r)) ∙ ap (λ ids. map (λ x. x.id) rows.crossings ++ ids) (map-map (λ x. x.id) (new_crossing rows.next_edge) (numbered rows r)))
+      (ap (rises_below after.next_crossing) (map-append (λ x. x.id) rows.crossings (map (new_crossing rows.next_edge) (numbered rows r))
+      ∙ ap (λ ids. map (λ x. x.id) rows.crossings ++ ids) (map-map (λ x. x.id) (new_crossing rows.next_edge) (numbered rows r)))
       ∙ rises_on (map (λ x. x.id) rows.crossings) rows.next_crossing r.crossed (left_true _ (list_all (is_good_crossing rows) rows.crossings) good.crossings))
       (all_from (is_good_crossing after) after.crossings (λ x h. elim (shown_crossings rows u v kind r x h) [
         | inl old ↦ old_crossing_good x old
@@ -147,10 +161,13 @@ module _ (rows : Rows) (u v kind : ℕ) (r : Route) (good : IsWellFormed rows) (
 
   old_path_good : (row : EdgeRow) → IsIn row rows.edges → has_good_path after (crossed_row rows r row) ≡ true
   old_path_good row h =
-      let test = test_of_each (has_good_path rows) row rows.edges (right_true (rises_below rows.next_edge (map (λ row. row.id) rows.edges)) (list_all (has_good_path rows) rows.edges) good.paths) h in
+      let test = test_of_each (has_good_path rows) row rows.edges
+      (right_true (rises_below rows.next_edge (map (λ row. row.id) rows.edges)) (list_all (has_good_path rows) rows.edges) good.paths) h in
       and_from _ (list_all (λ x. is_some (cross_row after x)) (woven (new_on rows r row.id) 0 row.crossings))
-      (subst (λ n. (nat_lt row.a n && nat_lt row.b n && not (row.a == row.b) && nat_lt row.kind 64) ≡ true) (sym (shown_vertices rows u v kind r)) (left_true _ _ test))
-      (all_from (λ x. is_some (cross_row after x)) (woven (new_on rows r row.id) 0 row.crossings) (λ x k. elim (in_woven (new_on rows r row.id) 0 x row.crossings k) [
+      (subst (λ n. (nat_lt row.a n && nat_lt row.b n && not (row.a == row.b) && nat_lt row.kind 64) ≡ true) (sym (shown_vertices rows u v kind r))
+      (left_true _ _ test))
+      (all_from (λ x. is_some (cross_row after x)) (woven (new_on rows r row.id) 0 row.crossings)
+      (λ x k. elim (in_woven (new_on rows r row.id) 0 x row.crossings k) [
         | inl old ↦ shown_old_crossing_there rows u v kind r x (crossing_there rows good.paths row h x old)
         | inr (i, new) ↦
             let image = in_images (λ y. y.0) x _ new in
@@ -188,10 +205,12 @@ module _ (rows : Rows) (u v kind : ℕ) (r : Route) (good : IsWellFormed rows) (
       → ((e : ℕ) → IsIn e around → nat_le (get_or around 0 0) e ≡ true)
       → has_good_rotation after w ≡ true
   assemble w around same old_ones new_one known least = subst
-      (λ (list : List ℕ). (list_all (λ row. occurrences row.id list == (if row.a == w || row.b == w then 1 else 0)) after.edges && list_all (λ e. is_some (edge_row after e)) list && list_all (nat_le (get_or list 0 0)) list) ≡ true)
+      (λ (list : List ℕ). (list_all (λ row. occurrences row.id list == (if row.a == w || row.b == w then 1 else 0)) after.edges
+      && list_all (λ e. is_some (edge_row after e)) list && list_all (nat_le (get_or list 0 0)) list) ≡ true)
       (sym same)
       (and_from _ _ (and_from _ _
-      (all_from (λ row. occurrences row.id around == (if row.a == w || row.b == w then 1 else 0)) after.edges (λ row h. elim (shown_rows rows u v kind r row h) [
+      (all_from (λ row. occurrences row.id around == (if row.a == w || row.b == w then 1 else 0)) after.edges
+      (λ row h. elim (shown_rows rows u v kind r row h) [
         | inl (old, k, is) ↦ ap (λ (row : EdgeRow). occurrences row.id around == (if row.a == w || row.b == w then 1 else 0)) is ∙ eq-eqb _ _ (old_ones old k)
         | inr is ↦ ap (λ (row : EdgeRow). occurrences row.id around == (if row.a == w || row.b == w then 1 else 0)) is ∙ eq-eqb _ _ new_one
       ]))
@@ -203,7 +222,8 @@ module _ (rows : Rows) (u v kind : ℕ) (r : Route) (good : IsWellFormed rows) (
     vertex = vertex_in rows w inside
 
     least_first : (e : ℕ) → IsIn e (rotation rows w) → nat_le (get_or (rotation rows w) 0 0) e ≡ true
-    least_first e h = test_of_each (nat_le (get_or (rotation rows w) 0 0)) e (rotation rows w) (right_true _ _ (test_of_each (has_good_rotation rows) w (vertices rows) good.rotations vertex)) h
+    least_first e h = test_of_each (nat_le (get_or (rotation rows w) 0 0)) e (rotation rows w)
+        (right_true _ _ (test_of_each (has_good_rotation rows) w (vertices rows) good.rotations vertex)) h
 
     entry_below : (e : ℕ) → IsIn e (rotation rows w) → e < rows.next_edge
     entry_below e h = known_edge_below rows good.paths e ((good_rotation rows good.rotations w vertex).known e h)
@@ -218,7 +238,8 @@ module _ (rows : Rows) (u v kind : ℕ) (r : Route) (good : IsWellFormed rows) (
         least_first
 
     -- the list of an end has the new edge once
-    end_good : (p : ℕ) → p < length (rotation rows w) → rotation after w ≡ put_in p rows.next_edge (rotation rows w) → (u == w || v == w) ≡ true → has_good_rotation after w ≡ true
+    end_good : (p : ℕ) → p < length (rotation rows w) → rotation after w ≡ put_in p rows.next_edge (rotation rows w) → (u == w || v == w) ≡ true
+        → has_good_rotation after w ≡ true
     end_good p there is an_end = assemble w (put_in p rows.next_edge (rotation rows w)) is
         (λ row h.
         let more = occurrences-put_in p rows.next_edge (rotation rows w) row.id in
@@ -228,7 +249,8 @@ module _ (rows : Rows) (u v kind : ℕ) (r : Route) (good : IsWellFormed rows) (
         let once : one (rows.next_edge == rows.next_edge) ≡ 1 = ap one (eqb_self rows.next_edge) in
         let before = none_counted rows.next_edge (rotation rows w) entry_below in
         let wanted : one (u == w || v == w) ≡ 1 = ap one an_end in omega arith)
-        (λ e h. elim (in_put_in e p rows.next_edge (rotation rows w) h) [ inl k ↦ inl k | inr k ↦ inr ((good_rotation rows good.rotations w vertex).known e k) ])
+        (λ e h. elim (in_put_in e p rows.next_edge (rotation rows w) h)
+        [ inl k ↦ inl k | inr k ↦ inr ((good_rotation rows good.rotations w vertex).known e k) ])
         (λ e h. subst (λ x. nat_le x e ≡ true) (sym (first_put_in p rows.next_edge (rotation rows w) there))
         (elim (in_put_in e p rows.next_edge (rotation rows w) h) [
           | inl k ↦ subst (λ x. nat_le (get_or (rotation rows w) 0 0) x ≡ true) (sym k) (le_test _ _ (first_below (rotation rows w) entry_below there))
@@ -236,7 +258,8 @@ module _ (rows : Rows) (u v kind : ℕ) (r : Route) (good : IsWellFormed rows) (
         ]))
 
   start_good : has_good_rotation after u ≡ true
-  start_good = end_good u may.u_there r.start may.start (shown_rotation_start rows u v kind r may.u_there may.ends_apart) (or_left (u == u) (v == u) (eqb_self u))
+  start_good = end_good u may.u_there r.start may.start (shown_rotation_start rows u v kind r may.u_there may.ends_apart)
+      (or_left (u == u) (v == u) (eqb_self u))
 
   finish_good : has_good_rotation after v ≡ true
   finish_good = end_good v may.v_there r.end may.end (shown_rotation_end rows u v kind r may.v_there may.ends_apart) (or_right (u == v) (v == v) (eqb_self v))

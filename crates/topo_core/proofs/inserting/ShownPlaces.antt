@@ -1,5 +1,6 @@
 -- Where the darts of a picture stand on their edges once it shows a new edge along a route.
-use Rattle.std.proofs.Common.{◌≡◌, ℕ, suc, ◌+◌, ◌-◌, ◌<◌, ◌≤◌, Bool, true, false, cond, ◌&&◌, ◌||◌, List, [], ◌∷◌, length, eqb, refl, sym, ap, subst, ◌∙◌, arith, inl, inr}
+use Rattle.std.proofs.Common.{◌≡◌, ℕ, suc, ◌+◌, ◌-◌, ◌<◌, ◌≤◌, Bool, true, false, cond, ◌&&◌, ◌||◌}
+use Rattle.std.proofs.Common.{List, [], ◌∷◌, length, eqb, refl, sym, ap, subst, ◌∙◌, arith, inl, inr}
 use Rattle.std.specs.Prelude.{◌==◌, ◌⊎◌, Some, filter, is_some, map, slice_index_or}
 use Rattle.std.specs.List.{AllByRecursion, enumerate_from}
 use Rattle.std.proofs.lemmas.List.{length-map}
@@ -94,15 +95,18 @@ at_its_place x (y ∷ path) h = elim (cases_Bool (y == x)) [
   behind_it e (inr k) = k
 
 -- no crossing stands twice on a path
-pub path_once : (rows : Rows) → IsWellFormed rows → (e : ℕ) (row : EdgeRow) → edge_row rows e ≡ Some row → (y : ℕ) → IsIn y row.crossings → occurrences y row.crossings ≤ 1
+pub path_once : (rows : Rows) → IsWellFormed rows → (e : ℕ) (row : EdgeRow) → edge_row rows e ≡ Some row → (y : ℕ) → IsIn y row.crossings
+    → occurrences y row.crossings ≤ 1
 path_once rows good e row there y h =
     let row_there = row_in rows e row there in
     let pick = some_of (cross_row rows y) (crossing_there rows good.paths row row_there y h) in
     let at = found (λ x. x.id == y) pick.0 rows.crossings pick.1 in
-    subst (λ n. occurrences n row.crossings ≤ 1) (eqb-true pick.0.id y at.1) (at_most_one _ _ ((good_crossing rows good.crossings pick.0 at.0).counted row row_there))
+    subst (λ n. occurrences n row.crossings ≤ 1) (eqb-true pick.0.id y at.1)
+    (at_most_one _ _ ((good_crossing rows good.crossings pick.0 at.0).counted row row_there))
 
 -- a crossing stands on the paths of both its edges
-pub on_path_of : (rows : Rows) → IsWellFormed rows → (x : CrossRow) → IsIn x rows.crossings → (e : ℕ) → is_some (edge_row rows e) ≡ true → (e == x.crossed || e == x.newcomer) ≡ true → IsIn x.id (edge_at rows e).crossings
+pub on_path_of : (rows : Rows) → IsWellFormed rows → (x : CrossRow) → IsIn x rows.crossings → (e : ℕ) → is_some (edge_row rows e) ≡ true
+    → (e == x.crossed || e == x.newcomer) ≡ true → IsIn x.id (edge_at rows e).crossings
 on_path_of rows good x h e known is_one = grind (arith, some_of, row_id, good_crossing, row_in, one, edge_at_row, in_counted)
 
 -- ---- Lifted darts
@@ -123,10 +127,11 @@ module _ (rows after : Rows) where
     by_test false k = refl
 
   pub lifted_back : (e s : ℕ) → lifted rows after (back e s) ≡ back e (last_part (edge_at rows e).crossings (edge_at after e).crossings s)
-  lifted_back e s = by_test (s == length (edge_at rows e).crossings) (length (edge_at after e).crossings) (place_on after e (slice_index_or (edge_at rows e).crossings s 0)) where
-    by_test : (t : Bool) (j k : ℕ) → cond {A = Dart} t (back e j) (back e k) ≡ back e (cond t j k)
-    by_test true j k = refl
-    by_test false j k = refl
+  lifted_back e s = by_test (s == length (edge_at rows e).crossings) (length (edge_at after e).crossings)
+      (place_on after e (slice_index_or (edge_at rows e).crossings s 0)) where
+        by_test : (t : Bool) (j k : ℕ) → cond {A = Dart} t (back e j) (back e k) ≡ back e (cond t j k)
+        by_test true j k = refl
+        by_test false j k = refl
 
   -- a lifted dart is of the same edge and way
   pub lifted_edge : (d : Dart) → (lifted rows after d).edge ≡ d.edge
@@ -150,18 +155,23 @@ module _ (rows : Rows) (u v kind : ℕ) (r : Route) (good : IsWellFormed rows) (
   pub lifted_end : (w e : ℕ) → is_some (edge_row rows e) ≡ true → end_dart after w e ≡ lifted rows after (end_dart rows w e)
   lifted_end w e known =
       let pick = some_of (edge_row rows e) known in
-      let same : (edge_at after e).a ≡ (edge_at rows e).a = ap (λ (row : EdgeRow). row.a) (shown_old_edge rows u v kind r e pick.0 pick.1) ∙ sym (ap (λ (row : EdgeRow). row.a) (edge_at_row rows e pick.0 pick.1)) in
+      let same : (edge_at after e).a ≡ (edge_at rows e).a = ap (λ (row : EdgeRow). row.a) (shown_old_edge rows u v kind r e pick.0 pick.1)
+      ∙ sym (ap (λ (row : EdgeRow). row.a) (edge_at_row rows e pick.0 pick.1)) in
       ap (λ a. cond {A = Dart} (a == w) (forward e 0) (back e (length (edge_at after e).crossings))) same ∙ by_test ((edge_at rows e).a == w) where
-        by_test : (t : Bool) → cond {A = Dart} t (forward e 0) (back e (length (edge_at after e).crossings)) ≡ lifted rows after (cond {A = Dart} t (forward e 0) (back e (length (edge_at rows e).crossings)))
+        by_test : (t : Bool) → cond {A = Dart} t (forward e 0) (back e (length (edge_at after e).crossings))
+            ≡ lifted rows after (cond {A = Dart} t (forward e 0) (back e (length (edge_at rows e).crossings)))
         by_test true = refl
-        by_test false = sym (ap (λ (t : Bool). cond {A = Dart} t (back e (length (edge_at after e).crossings)) (behind after e (slice_index_or (edge_at rows e).crossings (length (edge_at rows e).crossings) 0))) (eqb_self (length (edge_at rows e).crossings)))
+        by_test false = sym (ap (λ (t : Bool). cond {A = Dart} t (back e (length (edge_at after e).crossings))
+            (behind after e (slice_index_or (edge_at rows e).crossings (length (edge_at rows e).crossings) 0))) (eqb_self (length (edge_at rows e).crossings)))
 
-  parted : (e : ℕ) (row : EdgeRow) → edge_row rows e ≡ Some row → (s : ℕ) → s ≤ length row.crossings → IsParted (new_on rows r e s) s row.crossings (edge_at after e).crossings
+  parted : (e : ℕ) (row : EdgeRow) → edge_row rows e ≡ Some row → (s : ℕ) → s ≤ length row.crossings
+      → IsParted (new_on rows r e s) s row.crossings (edge_at after e).crossings
   parted e row there s h =
       let base = woven_parts (new_on rows r row.id) 0 s row.crossings h in
       grind (arith, shown_old_edge, row_id)
 
-  once_after : (e : ℕ) (row : EdgeRow) → edge_row rows e ≡ Some row → (y : ℕ) → IsIn y (edge_at after e).crossings → occurrences y (edge_at after e).crossings ≤ 1
+  once_after : (e : ℕ) (row : EdgeRow) → edge_row rows e ≡ Some row → (y : ℕ) → IsIn y (edge_at after e).crossings
+      → occurrences y (edge_at after e).crossings ≤ 1
   once_after e row there =
       let at = shown_old_edge rows u v kind r e row there in
       subst (λ (list : List ℕ). (y : ℕ) → IsIn y list → occurrences y list ≤ 1) (sym (ap (λ (row : EdgeRow). row.crossings) at))
@@ -192,10 +202,12 @@ module _ (rows : Rows) (u v kind : ℕ) (r : Route) (good : IsWellFormed rows) (
       }
 
   -- a segment that the route does not cross keeps its twins
-  pub uncrossed_twins : (d : Dart) → has_dart (darts rows) d ≡ true → AllByRecursion (λ c. same_segment c d ≡ false) r.crossed → lifted rows after (dart_twin d) ≡ dart_twin (lifted rows after d)
+  pub uncrossed_twins : (d : Dart) → has_dart (darts rows) d ≡ true → AllByRecursion (λ c. same_segment c d ≡ false) r.crossed
+      → lifted rows after (dart_twin d) ≡ dart_twin (lifted rows after d)
   uncrossed_twins d h apart =
       let parts = segment_parts d h in
-      let none : new_on rows r d.edge d.seg ≡ [] = none_on d rows.next_crossing r.crossed (λ c k. each_of (λ c. same_segment c d ≡ false) r.crossed apart c k) in
+      let none : new_on rows r d.edge d.seg ≡ [] =
+      none_on d rows.next_crossing r.crossed (λ c k. each_of (λ c. same_segment c d ≡ false) r.crossed apart c k) in
       grind arith
 
   -- a crossed segment ends at the new crossing, and another one begins there
@@ -213,7 +225,8 @@ module _ (rows : Rows) (u v kind : ℕ) (r : Route) (good : IsWellFormed rows) (
 
   -- its crossings stand in order
   pub place_on_newcomer : (x : ℕ) (d : Dart) → IsIn (x, d) (numbered rows r) → place_on after rows.next_edge x ≡ x - rows.next_crossing
-  place_on_newcomer x d at = ap (λ (row : EdgeRow). place_of row.crossings x) (shown_new_edge rows u v kind r good.paths) ∙ place_of_number rows.next_crossing x d r.crossed at
+  place_on_newcomer x d at = ap (λ (row : EdgeRow). place_of row.crossings x) (shown_new_edge rows u v kind r good.paths)
+      ∙ place_of_number rows.next_crossing x d r.crossed at
 
   -- as many as the route crosses darts
   pub newcomer_length : length (map (λ x. x.0) (numbered rows r)) ≡ length r.crossed
@@ -224,7 +237,8 @@ module _ (rows : Rows) (u v kind : ℕ) (r : Route) (good : IsWellFormed rows) (
   newcomer_dart i way h =
       let many = newcomer_length in
       listed_test after now.paths (record { edge = rows.next_edge; seg = i; way = way })
-      ∙ is_dart_of_rows after (record { edge = rows.next_edge; seg = i; way = way }) (newcomer_row rows u v kind r, shown_new_row rows u v kind r good.paths, omega arith)
+      ∙ is_dart_of_rows after (record { edge = rows.next_edge; seg = i; way = way })
+      (newcomer_row rows u v kind r, shown_new_row rows u v kind r good.paths, omega arith)
 
   -- and their segments
   pub newcomer_segment : (d : Dart) → has_dart (darts after) d ≡ true → d.edge ≡ rows.next_edge → d.seg ≤ length r.crossed

@@ -1,5 +1,6 @@
 -- The points of a picture once it shows a new edge along a route: the old ones have their darts, lifted, and those of the new edge.
-use Rattle.std.proofs.Common.{arith, ◌≡◌, ◌≢◌, ℕ, ◌<◌, Bool, true, false, cond, List, [], ◌∷◌, ◌++◌, length, not, refl, sym, ap, ap₂, append_assoc, subst, ◌∙◌, inl, inr}
+use Rattle.std.proofs.Common.{arith, ◌≡◌, ◌≢◌, ℕ, ◌<◌, Bool, true, false, cond, List, [], ◌∷◌, ◌++◌}
+use Rattle.std.proofs.Common.{length, not, refl, sym, ap, ap₂, append_assoc, subst, ◌∙◌, inl, inr}
 use Rattle.std.specs.Prelude.{◌==◌, Some, filter, is_some, map, option_map, slice_get, slice_index_or}
 use Rattle.std.specs.List.{range_with_len}
 use Rattle.std.proofs.lemmas.List.{map-append}
@@ -30,7 +31,8 @@ use Rattle.topo_core.proofs.systems.Points.{at_point_in, distinct_passing, image
 use Rattle.topo_core.proofs.routing.RouteDarts.{has_item}
 use Rattle.topo_core.proofs.inserting.ShownForm.{each_of}
 use Rattle.topo_core.proofs.inserting.ShownPlaces.{lifted_ahead, lifted_behind, lifted_edge, lifted_end, newcomer_end, on_path_of}
-use Rattle.topo_core.proofs.inserting.ShownRows.{in_images, known_edge_below, numbered_in, shown_rotation_end, shown_rotation_other, shown_rotation_start, shown_vertices}
+use Rattle.topo_core.proofs.inserting.ShownRows.{in_images, known_edge_below, numbered_in, shown_rotation_end}
+use Rattle.topo_core.proofs.inserting.ShownRows.{shown_rotation_other, shown_rotation_start, shown_vertices}
 use Rattle.topo_core.proofs.numbering.Standing.{good_crossing, good_rotation, listed_test, of_rows_is_dart, system_test}
 use Rattle.topo_core.proofs.systems.SystemDarts.{crossing_point, eqb_self, vertex_in, vertex_point}
 use Rattle.topo_core.proofs.systems.Turning.{IsDistinct}
@@ -46,7 +48,8 @@ all_pass keep (c ∷ ds) each =
 all_but_one : (keep : Dart → Bool) (xs ys : List Dart) (c : Dart) → keep c ≡ false → filter keep (xs ++ c ∷ ys) ≡ filter keep (xs ++ ys)
 all_but_one keep xs ys c fails = grind (arith, filter-append)
 
-two_pass : (keep : Dart → Bool) (sign : Sign) (a b c d : Dart) → keep a ≡ true → keep b ≡ true → keep c ≡ false → keep d ≡ false → filter keep (clockwise sign a b c d) ≡ a ∷ b ∷ []
+two_pass : (keep : Dart → Bool) (sign : Sign) (a b c d : Dart) → keep a ≡ true → keep b ≡ true → keep c ≡ false → keep d ≡ false
+    → filter keep (clockwise sign a b c d) ≡ a ∷ b ∷ []
 two_pass keep LeftToRight a b c d a_is b_is c_is d_is = rw (a_is, b_is, c_is, d_is)
 two_pass keep RightToLeft a b c d a_is b_is c_is d_is = rw (a_is, b_is, c_is, d_is)
 
@@ -78,7 +81,8 @@ pub record IsEndPoint (rows after : Rows) (w p : ℕ) (new : Dart) : Type 0 wher
 
 -- ---- In the picture that shows the new edge
 
-module _ (rows : Rows) (u v kind : ℕ) (r : Route) (good : IsWellFormed rows) (ask : IsInsertable rows u v kind r) (now : IsWellFormed (shown rows u v kind r)) where
+module _ (rows : Rows) (u v kind : ℕ) (r : Route) (good : IsWellFormed rows) (ask : IsInsertable rows u v kind r)
+    (now : IsWellFormed (shown rows u v kind r)) where
   abbrev after : Rows
   after = shown rows u v kind r
 
@@ -109,7 +113,8 @@ module _ (rows : Rows) (u v kind : ℕ) (r : Route) (good : IsWellFormed rows) (
 
   -- ---- Round the vertices
 
-  lifted_ends : (w : ℕ) (es : List ℕ) → ((e : ℕ) → IsIn e es → is_some (edge_row rows e) ≡ true) → map (end_dart after w) es ≡ map lift (map (end_dart rows w) es)
+  lifted_ends : (w : ℕ) (es : List ℕ) → ((e : ℕ) → IsIn e es → is_some (edge_row rows e) ≡ true)
+      → map (end_dart after w) es ≡ map lift (map (end_dart rows w) es)
   lifted_ends w es known =
       map_same (end_dart after w) (λ e. lift (end_dart rows w e)) es (λ e h. lifted_end rows u v kind r good ask.once now w e (known e h))
       ∙ sym (map-map lift (end_dart rows w) es)
@@ -121,10 +126,12 @@ module _ (rows : Rows) (u v kind : ℕ) (r : Route) (good : IsWellFormed rows) (
       ∙ lifted_ends w (rotation rows w) (good_rotation rows good.rotations w h).known
 
   -- round one that is
-  around_end : (w p : ℕ) (new : Dart) → IsIn w (vertices rows) → p < length (rotation rows w) → rotation after w ≡ put_in p rows.next_edge (rotation rows w) → end_dart after w rows.next_edge ≡ new → IsEndPoint rows after w p new
+  around_end : (w p : ℕ) (new : Dart) → IsIn w (vertices rows) → p < length (rotation rows w) → rotation after w ≡ put_in p rows.next_edge (rotation rows w)
+      → end_dart after w rows.next_edge ≡ new → IsEndPoint rows after w p new
   around_end w p new h inside list end =
       let parts = is_put_in p rows.next_edge (rotation rows w) inside in
-      let known : (e : ℕ) → IsIn e ((parts.head ∷ parts.front) ++ parts.back) → is_some (edge_row rows e) ≡ true = λ e k. (good_rotation rows good.rotations w h).known e (subst (IsIn e) (sym parts.was) k) in
+      let known : (e : ℕ) → IsIn e ((parts.head ∷ parts.front) ++ parts.back) → is_some (edge_row rows e) ≡ true =
+      λ e k. (good_rotation rows good.rotations w h).known e (subst (IsIn e) (sym parts.was) k) in
       record {
         head = end_dart rows w parts.head;
         front = map (end_dart rows w) parts.front;
@@ -133,9 +140,11 @@ module _ (rows : Rows) (u v kind : ℕ) (r : Route) (good : IsWellFormed rows) (
         now =
             ap (map (end_dart after w)) (list ∙ parts.now)
             ∙ map-append (end_dart after w) (parts.head ∷ parts.front) (rows.next_edge ∷ parts.back)
-            ∙ ap (λ ds. ds ++ map (end_dart after w) (rows.next_edge ∷ parts.back)) (lifted_ends w (parts.head ∷ parts.front) (λ e k. known e (in_left e (parts.head ∷ parts.front) parts.back k)))
+            ∙ ap (λ ds. ds ++ map (end_dart after w) (rows.next_edge ∷ parts.back))
+            (lifted_ends w (parts.head ∷ parts.front) (λ e k. known e (in_left e (parts.head ∷ parts.front) parts.back k)))
             ∙ ap (λ d. map lift (map (end_dart rows w) (parts.head ∷ parts.front)) ++ d ∷ map (end_dart after w) parts.back) end
-            ∙ ap (λ ds. map lift (map (end_dart rows w) (parts.head ∷ parts.front)) ++ new ∷ ds) (lifted_ends w parts.back (λ e k. known e (in_right e (parts.head ∷ parts.front) parts.back k)));
+            ∙ ap (λ ds. map lift (map (end_dart rows w) (parts.head ∷ parts.front)) ++ new ∷ ds) (lifted_ends w parts.back
+            (λ e k. known e (in_right e (parts.head ∷ parts.front) parts.back k)));
         corner =
             slice_get-map (end_dart rows w) (rotation rows w) p
             ∙ ap (option_map (end_dart rows w)) parts.corner
@@ -160,15 +169,18 @@ module _ (rows : Rows) (u v kind : ℕ) (r : Route) (good : IsWellFormed rows) (
   new_not_kept : (d : Dart) → d.edge ≡ rows.next_edge → is_kept d ≡ false
   new_not_kept d e = ap (λ n. not (n == rows.next_edge)) e ∙ ap not (eqb_self rows.next_edge)
 
-  end_kept : (w p : ℕ) (new : Dart) → IsIn w (vertices rows) → new.edge ≡ rows.next_edge → IsEndPoint rows after w p new → filter is_kept (around_vertex after w) ≡ map lift (around_vertex rows w)
+  end_kept : (w p : ℕ) (new : Dart) → IsIn w (vertices rows) → new.edge ≡ rows.next_edge → IsEndPoint rows after w p new
+      → filter is_kept (around_vertex after w) ≡ map lift (around_vertex rows w)
   end_kept w p new h is_new point = grind (arith, all_but_one, new_not_kept, map-append, point_kept, vertex_point)
 
   -- without the new edge the darts round a vertex are the old ones, lifted
   vertex_kept : (w : ℕ) → IsIn w (vertices rows) → filter is_kept (around_vertex after w) ≡ map lift (around_vertex rows w)
   vertex_kept w h = elim (cases_Bool (w == u)) [
-    | inl e ↦ subst (λ n. filter is_kept (around_vertex after n) ≡ map lift (around_vertex rows n)) (sym (eqb-true w u e)) (end_kept u r.start first_dart (vertex_in rows u ask.u_there) refl around_start)
+    | inl e ↦ subst (λ n. filter is_kept (around_vertex after n) ≡ map lift (around_vertex rows n)) (sym (eqb-true w u e))
+        (end_kept u r.start first_dart (vertex_in rows u ask.u_there) refl around_start)
     | inr not_u ↦ elim (cases_Bool (w == v)) [
-      | inl e ↦ subst (λ n. filter is_kept (around_vertex after n) ≡ map lift (around_vertex rows n)) (sym (eqb-true w v e)) (end_kept v r.end last_dart (vertex_in rows v ask.v_there) refl around_finish)
+      | inl e ↦ subst (λ n. filter is_kept (around_vertex after n) ≡ map lift (around_vertex rows n)) (sym (eqb-true w v e))
+          (end_kept v r.end last_dart (vertex_in rows v ask.v_there) refl around_finish)
       | inr not_v ↦
           ap (filter is_kept) (around_other w h (λ e. false≢true (sym not_u ∙ eq-eqb w u e)) (λ e. false≢true (sym not_v ∙ eq-eqb w v e)))
           ∙ point_kept (around_vertex rows w) (vertex_point rows w h)
@@ -188,7 +200,8 @@ module _ (rows : Rows) (u v kind : ℕ) (r : Route) (good : IsWellFormed rows) (
   pair_kept : (x : ℕ × Dart) → IsIn x (numbered rows r) → filter is_kept (around_crossing after (new_crossing rows.next_edge x)) ≡ crossed_pair x
   pair_kept x h =
       let old = ap not (eqb_less x.1.edge rows.next_edge (old_edge_below x.1 (crossed_there x.0 x.1 h))) in
-      two_pass is_kept (sign_of x.1.way) (ahead after x.1.edge x.0) (behind after x.1.edge x.0) (ahead after rows.next_edge x.0) (behind after rows.next_edge x.0)
+      two_pass is_kept (sign_of x.1.way) (ahead after x.1.edge x.0) (behind after x.1.edge x.0) (ahead after rows.next_edge x.0)
+      (behind after rows.next_edge x.0)
       old old (new_not_kept (ahead after rows.next_edge x.0) refl) (new_not_kept (behind after rows.next_edge x.0) refl)
 
   -- ---- All points
@@ -203,20 +216,26 @@ module _ (rows : Rows) (u v kind : ℕ) (r : Route) (good : IsWellFormed rows) (
       ∙ sym (map-map (map lift) (around_vertex rows) (vertices rows)) in
       let old_kept : map (filter is_kept) (map (around_crossing after) rows.crossings) ≡ map (map lift) (map (around_crossing rows) rows.crossings) =
       map-map (filter is_kept) (around_crossing after) rows.crossings
-      ∙ map_same (λ x. filter is_kept (around_crossing after x)) (λ x. map lift (around_crossing rows x)) rows.crossings (λ x h. ap (filter is_kept) (around_lifted rows after good x h) ∙ point_kept (around_crossing rows x) (crossing_point rows x h))
+      ∙ map_same (λ x. filter is_kept (around_crossing after x)) (λ x. map lift (around_crossing rows x)) rows.crossings
+      (λ x h. ap (filter is_kept) (around_lifted rows after good x h) ∙ point_kept (around_crossing rows x) (crossing_point rows x h))
       ∙ sym (map-map (map lift) (around_crossing rows) rows.crossings) in
-      let new_kept : map (filter is_kept) (map (around_crossing after) (map (new_crossing rows.next_edge) (numbered rows r))) ≡ map crossed_pair (numbered rows r) =
+      let new_kept : map (filter is_kept) (map (around_crossing after) (map (new_crossing rows.next_edge) (numbered rows r)))
+      ≡ map crossed_pair (numbered rows r) =
       ap (map (filter is_kept)) (map-map (around_crossing after) (new_crossing rows.next_edge) (numbered rows r))
       ∙ map-map (filter is_kept) (λ x. around_crossing after (new_crossing rows.next_edge x)) (numbered rows r)
       ∙ map_same (λ x. filter is_kept (around_crossing after (new_crossing rows.next_edge x))) crossed_pair (numbered rows r) pair_kept in
-      let crossings_kept : map (filter is_kept) (map (around_crossing after) after.crossings) ≡ map (map lift) (map (around_crossing rows) rows.crossings) ++ map crossed_pair (numbered rows r) =
+      let crossings_kept : map (filter is_kept) (map (around_crossing after) after.crossings) ≡ map (map lift) (map (around_crossing rows) rows.crossings)
+      ++ map crossed_pair (numbered rows r) =
       ap (map (filter is_kept)) (map-append (around_crossing after) rows.crossings (map (new_crossing rows.next_edge) (numbered rows r)))
-      ∙ map-append (filter is_kept) (map (around_crossing after) rows.crossings) (map (around_crossing after) (map (new_crossing rows.next_edge) (numbered rows r)))
+      ∙ map-append (filter is_kept) (map (around_crossing after) rows.crossings)
+      (map (around_crossing after) (map (new_crossing rows.next_edge) (numbered rows r)))
       ∙ ap₂ (λ s t. s ++ t) old_kept new_kept in
       map-append (filter is_kept) (map (around_vertex after) (vertices after)) (map (around_crossing after) after.crossings)
       ∙ ap₂ (λ s t. s ++ t) vertices_kept crossings_kept
-      ∙ sym (append_assoc (map (map lift) (map (around_vertex rows) (vertices rows))) (map (map lift) (map (around_crossing rows) rows.crossings)) (map crossed_pair (numbered rows r)))
-      ∙ ap (λ s. s ++ map crossed_pair (numbered rows r)) (sym (map-append (map lift) (map (around_vertex rows) (vertices rows)) (map (around_crossing rows) rows.crossings)))
+      ∙ sym (append_assoc (map (map lift) (map (around_vertex rows) (vertices rows))) (map (map lift) (map (around_crossing rows) rows.crossings))
+      (map crossed_pair (numbered rows r)))
+      ∙ ap (λ s. s ++ map crossed_pair (numbered rows r))
+      (sym (map-append (map lift) (map (around_vertex rows) (vertices rows)) (map (around_crossing rows) rows.crossings)))
 
   -- and so are their darts
   pub darts_without_new : filter is_kept (darts_in (system after)) ≡ map lift (darts_in (system rows)) ++ darts_in (map crossed_pair (numbered rows r))
@@ -224,4 +243,5 @@ module _ (rows : Rows) (u v kind : ℕ) (r : Route) (good : IsWellFormed rows) (
 
   -- none of them stands twice
   pub distinct_without_new : IsDistinct (map lift (darts_in (system rows)) ++ darts_in (map crossed_pair (numbered rows r)))
-  distinct_without_new = subst IsDistinct darts_without_new (distinct_passing is_kept (darts_in (system after)) (distinct_system after now.paths now.crossings now.rotations))
+  distinct_without_new =
+      subst IsDistinct darts_without_new (distinct_passing is_kept (darts_in (system after)) (distinct_system after now.paths now.crossings now.rotations))

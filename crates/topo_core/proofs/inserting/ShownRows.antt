@@ -1,5 +1,6 @@
 -- The rows of a picture that shows a new edge along a route: each edge, each crossing and each rotation by those before.
-use Rattle.std.proofs.Common.{◌≡◌, ◌≢◌, ℕ, ◌+◌, ◌<◌, ◌≤◌, append_assoc, append-nil, Bool, true, false, cond, List, [], ◌∷◌, ◌++◌, length, refl, sym, ap, subst, ◌∙◌, arith, inl, inr}
+use Rattle.std.proofs.Common.{◌≡◌, ◌≢◌, ℕ, ◌+◌, ◌<◌, ◌≤◌, append_assoc, append-nil, Bool, true, false, cond}
+use Rattle.std.proofs.Common.{List, [], ◌∷◌, ◌++◌, length, refl, sym, ap, subst, ◌∙◌, arith, inl, inr}
 use Rattle.std.specs.Prelude.{◌⊎◌, ◌==◌, Some, None, map, find, is_some, option_map}
 use Rattle.std.specs.Option.{option_or}
 use Rattle.std.specs.List.{list_all, enumerate_from}
@@ -23,18 +24,22 @@ use Rattle.topo_core.proofs.systems.SystemDarts.{edge_at_row, eqb_self, row_id, 
 -- ---- Items found by rising ids
 
 -- an item is found by its id
-pub find_by_id : {X : Type 0} (id : X → ℕ) (limit : ℕ) (xs : List X) → rises_below limit (map id xs) ≡ true → (x : X) → IsIn x xs → find (λ y. id y == id x) xs ≡ Some x
+pub find_by_id : {X : Type 0} (id : X → ℕ) (limit : ℕ) (xs : List X) → rises_below limit (map id xs) ≡ true → (x : X) → IsIn x xs
+    → find (λ y. id y == id x) xs ≡ Some x
 find_by_id id limit [] rises x h = absurd h
-find_by_id id limit (y ∷ xs) rises x (inl e) = ap (λ (b : Bool). cond b (Some y) (find (λ y. id y == id x) xs)) (eq-eqb (id y) (id x) (ap id (sym e))) ∙ ap Some (sym e)
+find_by_id id limit (y ∷ xs) rises x (inl e) = ap (λ (b : Bool). cond b (Some y) (find (λ y. id y == id x) xs)) (eq-eqb (id y) (id x) (ap id (sym e)))
+    ∙ ap Some (sym e)
 find_by_id id limit (y ∷ xs) rises x (inr h) =
-    ap (λ (b : Bool). cond b (Some y) (find (λ y. id y == id x) xs)) (eqb_less (id y) (id x) (ids_above limit (id y) (map id xs) rises (id x) (in_map id x xs h)))
+    ap (λ (b : Bool). cond b (Some y) (find (λ y. id y == id x) xs))
+    (eqb_less (id y) (id x) (ids_above limit (id y) (map id xs) rises (id x) (in_map id x xs h)))
     ∙ find_by_id id limit xs (right_true _ _ rises) x h
 
 -- what is found among images is the image of what is found
 pub find_map : {X Y : Type 0} (q : Y → Bool) (f : X → Y) (xs : List X) → find q (map f xs) ≡ option_map f (find (λ x. q (f x)) xs)
 find_map q f [] = refl
 find_map q f (x ∷ xs) = by_test (q (f x)) (find_map q f xs) where
-  by_test : (b : Bool) → find q (map f xs) ≡ option_map f (find (λ x. q (f x)) xs) → cond b (Some (f x)) (find q (map f xs)) ≡ option_map f (cond b (Some x) (find (λ x. q (f x)) xs))
+  by_test : (b : Bool) → find q (map f xs) ≡ option_map f (find (λ x. q (f x)) xs)
+      → cond b (Some (f x)) (find q (map f xs)) ≡ option_map f (cond b (Some x) (find (λ x. q (f x)) xs))
   by_test true rest = refl
   by_test false rest = rest
 
@@ -45,7 +50,8 @@ in_images f y (x ∷ xs) (inl e) = (x, inl refl, e)
 in_images f y (x ∷ xs) (inr h) = let rest = in_images f y xs h in (rest.0, inr rest.1, rest.2)
 
 -- ids that rise, and the next n numbers after them
-pub rises_on : {X : Type 0} (xs : List ℕ) (n : ℕ) (ys : List X) → rises_below n xs ≡ true → rises_below (n + length ys) (xs ++ map (λ y. y.0) (enumerate_from n ys)) ≡ true
+pub rises_on : {X : Type 0} (xs : List ℕ) (n : ℕ) (ys : List X) → rises_below n xs ≡ true
+    → rises_below (n + length ys) (xs ++ map (λ y. y.0) (enumerate_from n ys)) ≡ true
 rises_on xs n [] rises = grind (arith, append-nil)
 rises_on xs n (y ∷ ys) rises =
     let same : n + length (y ∷ ys) ≡ n + 1 + length ys = omega arith in
@@ -85,15 +91,18 @@ row_found rows paths row h = find_by_id (λ row. row.id) rows.next_edge rows.edg
 
 -- ids of edges are below the next one
 pub edge_below : (rows : Rows) → has_good_paths rows ≡ true → (row : EdgeRow) → IsIn row rows.edges → row.id < rows.next_edge
-edge_below rows paths row h = below_limit rows.next_edge (map (λ row. row.id) rows.edges) (left_true _ (list_all (has_good_path rows) rows.edges) paths) row.id (in_map (λ row. row.id) row rows.edges h)
+edge_below rows paths row h = below_limit rows.next_edge (map (λ row. row.id) rows.edges) (left_true _ (list_all (has_good_path rows) rows.edges) paths) row.id
+    (in_map (λ row. row.id) row rows.edges h)
 
 -- and so is the id of an edge that is there
 pub known_edge_below : (rows : Rows) → has_good_paths rows ≡ true → (e : ℕ) → is_some (edge_row rows e) ≡ true → e < rows.next_edge
-known_edge_below rows paths e known = let pick = some_of (edge_row rows e) known in subst (λ f. f < rows.next_edge) (row_id rows e pick.0 pick.1) (edge_below rows paths pick.0 (row_in rows e pick.0 pick.1))
+known_edge_below rows paths e known = let pick = some_of (edge_row rows e) known in
+    subst (λ f. f < rows.next_edge) (row_id rows e pick.0 pick.1) (edge_below rows paths pick.0 (row_in rows e pick.0 pick.1))
 
 -- ids of crossings are below the next one
 pub crossing_below : (rows : Rows) → has_good_crossings rows ≡ true → (x : CrossRow) → IsIn x rows.crossings → x.id < rows.next_crossing
-crossing_below rows crossings x h = below_limit rows.next_crossing (map (λ x. x.id) rows.crossings) (left_true _ (list_all (is_good_crossing rows) rows.crossings) crossings) x.id (in_map (λ x. x.id) x rows.crossings h)
+crossing_below rows crossings x h = below_limit rows.next_crossing (map (λ x. x.id) rows.crossings)
+    (left_true _ (list_all (is_good_crossing rows) rows.crossings) crossings) x.id (in_map (λ x. x.id) x rows.crossings h)
 
 -- and so is the id of a crossing that is there
 pub known_crossing_below : (rows : Rows) → has_good_crossings rows ≡ true → (x : ℕ) → is_some (cross_row rows x) ≡ true → x < rows.next_crossing
@@ -113,12 +122,14 @@ module _ (rows : Rows) (u v kind : ℕ) (r : Route) where
   newcomer_row = record { id = rows.next_edge; a = u; b = v; kind = kind; crossings = map (λ x. x.0) (numbered rows r) }
 
   -- the row of any edge
-  pub shown_edge_row : (e : ℕ) → edge_row after e ≡ option_or (option_map (crossed_row rows r) (edge_row rows e)) (cond (rows.next_edge == e) (Some newcomer_row) None)
+  pub shown_edge_row : (e : ℕ)
+      → edge_row after e ≡ option_or (option_map (crossed_row rows r) (edge_row rows e)) (cond (rows.next_edge == e) (Some newcomer_row) None)
   shown_edge_row e = grind (arith, find-append, find_map)
 
   -- an old edge has its row with the new crossings woven into its path
   pub shown_old_row : (e : ℕ) (row : EdgeRow) → edge_row rows e ≡ Some row → edge_row after e ≡ Some (crossed_row rows r row)
-  shown_old_row e row there = shown_edge_row e ∙ ap (λ o. option_or (option_map (crossed_row rows r) o) (cond (rows.next_edge == e) (Some newcomer_row) None)) there
+  shown_old_row e row there = shown_edge_row e
+      ∙ ap (λ o. option_or (option_map (crossed_row rows r) o) (cond (rows.next_edge == e) (Some newcomer_row) None)) there
 
   pub shown_old_edge : (e : ℕ) (row : EdgeRow) → edge_row rows e ≡ Some row → edge_at after e ≡ crossed_row rows r row
   shown_old_edge e row there = edge_at_row after e (crossed_row rows r row) (shown_old_row e row there)
@@ -165,14 +176,17 @@ module _ (rows : Rows) (u v kind : ℕ) (r : Route) where
   new_id_above x d h = number_from rows.next_crossing x d r.crossed h
 
   pub no_new_crossing : has_good_crossings rows ≡ true → (x : ℕ) → rows.next_crossing ≤ x → cross_row rows x ≡ None
-  no_new_crossing crossings x high = none_found (λ row. row.id == x) rows.crossings (λ row h. let low = crossing_below rows crossings row h in eqb_less row.id x (omega arith))
+  no_new_crossing crossings x high =
+      none_found (λ row. row.id == x) rows.crossings (λ row h. let low = crossing_below rows crossings row h in eqb_less row.id x (omega arith))
 
   -- a crossed dart has its crossing
-  pub shown_new_crossing : has_good_crossings rows ≡ true → (x : ℕ) (d : Dart) → IsIn (x, d) (numbered rows r) → cross_row after x ≡ Some (new_crossing rows.next_edge (x, d))
+  pub shown_new_crossing : has_good_crossings rows ≡ true → (x : ℕ) (d : Dart) → IsIn (x, d) (numbered rows r)
+      → cross_row after x ≡ Some (new_crossing rows.next_edge (x, d))
   shown_new_crossing crossings x d h = grind (arith, find-append, no_new_crossing, new_id_above, find_map, find_numbered)
 
   -- a crossing of the picture is an old one or a new one
-  pub shown_crossings : (row : CrossRow) → IsIn row after.crossings → IsIn row rows.crossings ⊎ ((x : ℕ) × (d : Dart) × IsIn (x, d) (numbered rows r) × (row ≡ new_crossing rows.next_edge (x, d)))
+  pub shown_crossings : (row : CrossRow) → IsIn row after.crossings → IsIn row rows.crossings
+      ⊎ ((x : ℕ) × (d : Dart) × IsIn (x, d) (numbered rows r) × (row ≡ new_crossing rows.next_edge (x, d)))
   shown_crossings row h = elim (in_append row rows.crossings (map (new_crossing rows.next_edge) (numbered rows r)) h) [
     | inl old ↦ inl old
     | inr new ↦ let image = in_images (new_crossing rows.next_edge) row (numbered rows r) new in inr (image.0.0, image.0.1, image.1, image.2)

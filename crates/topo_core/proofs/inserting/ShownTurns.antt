@@ -24,9 +24,11 @@ use Rattle.topo_core.proofs.growing.Growing.{in_append}
 use Rattle.topo_core.proofs.numbering.Members.{in_left, in_map, in_right}
 use Rattle.topo_core.proofs.systems.NewDarts.{follower_new, follower_old, has_dart-append, stands_in}
 use Rattle.topo_core.proofs.numbering.Numbering.{distinct_system, not_same}
-use Rattle.topo_core.proofs.systems.Points.{at_point_in, follower_of_image, has_image, has_passing, image_of_dart, images_apart, next_of_image, passing_has, point_of, points_apart, turn_at_point}
+use Rattle.topo_core.proofs.systems.Points.{at_point_in, follower_of_image, has_image, has_passing, image_of_dart}
+use Rattle.topo_core.proofs.systems.Points.{images_apart, next_of_image, passing_has, point_of, points_apart, turn_at_point}
 use Rattle.topo_core.proofs.inserting.ShownPlaces.{crossed_twins, lifted_edge, newcomer_dart, newcomer_segment, place_on_newcomer, uncrossed_twins}
-use Rattle.topo_core.proofs.inserting.ShownPoints.{around_finish, around_lifted, around_other, around_start, at_point_there, crossed_pair, crossed_there, darts_without_new, distinct_without_new, is_kept, IsEndPoint, old_edge_below}
+use Rattle.topo_core.proofs.inserting.ShownPoints.{around_finish, around_lifted, around_other, around_start, at_point_there, crossed_pair}
+use Rattle.topo_core.proofs.inserting.ShownPoints.{crossed_there, darts_without_new, distinct_without_new, is_kept, IsEndPoint, old_edge_below}
 use Rattle.topo_core.proofs.inserting.ShownRows.{in_images, shown_vertices}
 use Rattle.topo_core.proofs.numbering.Standing.{system_test}
 use Rattle.topo_core.proofs.systems.SystemDarts.{crossing_point, vertex_in, vertex_point}
@@ -66,7 +68,8 @@ onward_twice e x Back q same = let ways : Back ≡ Forward = ap (λ (d : Dart). 
 
 -- ---- In the picture that shows the new edge
 
-module _ (rows : Rows) (u v kind : ℕ) (r : Route) (good : IsWellFormed rows) (ask : IsInsertable rows u v kind r) (now : IsWellFormed (shown rows u v kind r)) where
+module _ (rows : Rows) (u v kind : ℕ) (r : Route) (good : IsWellFormed rows) (ask : IsInsertable rows u v kind r)
+    (now : IsWellFormed (shown rows u v kind r)) where
   abbrev after : Rows
   after = shown rows u v kind r
 
@@ -97,11 +100,14 @@ module _ (rows : Rows) (u v kind : ℕ) (r : Route) (good : IsWellFormed rows) (
 
   -- an old dart is lifted to a dart of the picture
   pub lifts : (d : Dart) → has_dart (darts rows) d ≡ true → has_dart (darts after) (lift d) ≡ true
-  lifts d h = in_kept (lift d) (has_dart-append (map lift (darts_in (system rows))) pairs (lift d) ∙ or_left (has_dart (map lift (darts_in (system rows))) (lift d)) (has_dart pairs (lift d)) (lift_stands d h))
+  lifts d h = in_kept (lift d) (has_dart-append (map lift (darts_in (system rows))) pairs (lift d)
+      ∙ or_left (has_dart (map lift (darts_in (system rows))) (lift d)) (has_dart pairs (lift d)) (lift_stands d h))
 
   -- no two of them to the same
   pub lifts_apart : (c d : Dart) → has_dart (darts rows) c ≡ true → has_dart (darts rows) d ≡ true → lift c ≡ lift d → c ≡ d
-  lifts_apart c d h k e = images_apart lift (darts_in (system rows)) (distinct_left (map lift (darts_in (system rows))) pairs apart_parts) c d (stands_before c h) (stands_before d k) e
+  lifts_apart c d h k e =
+      images_apart lift (darts_in (system rows)) (distinct_left (map lift (darts_in (system rows))) pairs apart_parts) c d (stands_before c h)
+      (stands_before d k) e
 
   -- and none is of the new edge
   pub old_apart : (d : Dart) → has_dart (darts rows) d ≡ true → d.edge ≢ rows.next_edge
@@ -126,22 +132,28 @@ module _ (rows : Rows) (u v kind : ℕ) (r : Route) (good : IsWellFormed rows) (
   in_pairs x d c at h = at_point_in (map pair (numbered rows r)) (pair (x, d)) c (in_map pair (x, d) (numbered rows r) at) h
 
   pair_there : (x : ℕ) (d c : Dart) → IsIn (x, d) (numbered rows r) → has_dart (pair (x, d)) c ≡ true → has_dart (darts after) c ≡ true
-  pair_there x d c at h = in_kept c (has_dart-append (map lift (darts_in (system rows))) pairs c ∙ or_right (has_dart (map lift (darts_in (system rows))) c) (has_dart pairs c) (in_pairs x d c at h))
+  pair_there x d c at h = in_kept c (has_dart-append (map lift (darts_in (system rows))) pairs c
+      ∙ or_right (has_dart (map lift (darts_in (system rows))) c) (has_dart pairs c) (in_pairs x d c at h))
 
   -- no lifted dart starts at a new crossing
   no_lift : (x : ℕ) (d c b : Dart) → IsIn (x, d) (numbered rows r) → has_dart (pair (x, d)) b ≡ true → has_dart (darts rows) c ≡ true → lift c ≢ b
-  no_lift x d c b at h k e = not_in_both (map lift (darts_in (system rows))) pairs b apart_parts (subst (λ y. has_dart (map lift (darts_in (system rows))) y ≡ true) e (lift_stands c k)) (in_pairs x d b at h)
+  no_lift x d c b at h k e = not_in_both (map lift (darts_in (system rows))) pairs b apart_parts
+      (subst (λ y. has_dart (map lift (darts_in (system rows))) y ≡ true) e (lift_stands c k)) (in_pairs x d b at h)
 
   -- a dart starts at one new crossing only
-  one_pair : (x y : ℕ) (c d b : Dart) → IsIn (x, c) (numbered rows r) → IsIn (y, d) (numbered rows r) → has_dart (pair (x, c)) b ≡ true → has_dart (pair (y, d)) b ≡ true → ◌≡◌ {A = ℕ × Dart} (x, c) (y, d)
-  one_pair x y c d b at there h k = points_apart pair (numbered rows r) (distinct_right (map lift (darts_in (system rows))) pairs apart_parts) (x, c) (y, d) b at there h k
+  one_pair : (x y : ℕ) (c d b : Dart) → IsIn (x, c) (numbered rows r) → IsIn (y, d) (numbered rows r) → has_dart (pair (x, c)) b ≡ true
+      → has_dart (pair (y, d)) b ≡ true → ◌≡◌ {A = ℕ × Dart} (x, c) (y, d)
+  one_pair x y c d b at there h k = points_apart pair (numbered rows r) (distinct_right (map lift (darts_in (system rows))) pairs apart_parts) (x, c)
+      (y, d) b at there h k
 
   -- the darts at different crossings are different
   pub onwards_apart : (x y : ℕ) (c d : Dart) → IsIn (x, c) (numbered rows r) → IsIn (y, d) (numbered rows r) → onward after x c ≡ onward after y d → x ≡ y
-  onwards_apart x y c d at there e = ap (λ p. p.0) (one_pair x y c d (onward after x c) at there (onward_in_pair x c) (ap (has_dart (pair (y, d))) e ∙ onward_in_pair y d))
+  onwards_apart x y c d at there e =
+      ap (λ p. p.0) (one_pair x y c d (onward after x c) at there (onward_in_pair x c) (ap (has_dart (pair (y, d))) e ∙ onward_in_pair y d))
 
   pub backwards_apart : (x y : ℕ) (c d : Dart) → IsIn (x, c) (numbered rows r) → IsIn (y, d) (numbered rows r) → backward after x c ≡ backward after y d → x ≡ y
-  backwards_apart x y c d at there e = ap (λ p. p.0) (one_pair x y c d (backward after x c) at there (backward_in_pair x c) (ap (has_dart (pair (y, d))) e ∙ backward_in_pair y d))
+  backwards_apart x y c d at there e =
+      ap (λ p. p.0) (one_pair x y c d (backward after x c) at there (backward_in_pair x c) (ap (has_dart (pair (y, d))) e ∙ backward_in_pair y d))
 
   pub never_both : (x y : ℕ) (c d : Dart) → IsIn (x, c) (numbered rows r) → IsIn (y, d) (numbered rows r) → onward after x c ≢ backward after y d
   never_both x y c d at there e =
@@ -153,9 +165,11 @@ module _ (rows : Rows) (u v kind : ℕ) (r : Route) (good : IsWellFormed rows) (
   pair_is : (x : ℕ) (c d : Dart) → has_dart (pair (x, c)) d ≡ true → (d ≡ onward after x c) ⊎ (d ≡ backward after x c)
   pair_is x c d h = by_way c.way (elim (or_cases (same_dart d (ahead after c.edge x)) (has_dart (behind after c.edge x ∷ []) d) h) [
     | inl e ↦ inl (same_dart_true d (ahead after c.edge x) e)
-    | inr k ↦ elim (or_cases (same_dart d (behind after c.edge x)) false k) [ inl e ↦ inr (same_dart_true d (behind after c.edge x) e) | inr none ↦ absurd (false≢true none) ]
+    | inr k ↦ elim (or_cases (same_dart d (behind after c.edge x)) false k)
+        [ inl e ↦ inr (same_dart_true d (behind after c.edge x) e) | inr none ↦ absurd (false≢true none) ]
   ]) where
-    by_way : (w : Way) → (d ≡ ahead after c.edge x) ⊎ (d ≡ behind after c.edge x) → (d ≡ onward_by after x c.edge w) ⊎ (d ≡ onward_by after x c.edge (reversed w))
+    by_way : (w : Way) → (d ≡ ahead after c.edge x) ⊎ (d ≡ behind after c.edge x) → (d ≡ onward_by after x c.edge w)
+        ⊎ (d ≡ onward_by after x c.edge (reversed w))
     by_way Forward h = h
     by_way Back (inl e) = inr e
     by_way Back (inr e) = inl e
@@ -165,7 +179,8 @@ module _ (rows : Rows) (u v kind : ℕ) (r : Route) (good : IsWellFormed rows) (
       ⊎ (((c : Dart) × (has_dart (darts rows) c ≡ true) × (d ≡ lift c))
       ⊎ ((x : ℕ) × (c : Dart) × IsIn (x, c) (numbered rows r) × ((d ≡ onward after x c) ⊎ (d ≡ backward after x c))))
 
-  in_pairs_is : (d : Dart) → has_dart pairs d ≡ true → (x : ℕ) × (c : Dart) × IsIn (x, c) (numbered rows r) × ((d ≡ onward after x c) ⊎ (d ≡ backward after x c))
+  in_pairs_is : (d : Dart) → has_dart pairs d ≡ true → (x : ℕ) × (c : Dart) × IsIn (x, c) (numbered rows r)
+      × ((d ≡ onward after x c) ⊎ (d ≡ backward after x c))
   in_pairs_is d h = grind (arith, point_of, in_images, pair_is)
 
   -- a dart is of the new edge, or lifted, or stands at a new crossing
@@ -173,8 +188,10 @@ module _ (rows : Rows) (u v kind : ℕ) (r : Route) (good : IsWellFormed rows) (
   one_of d h = elim (cases_Bool (d.edge == rows.next_edge)) [
     | inl e ↦ let is_new = eqb-true d.edge rows.next_edge e in inl (is_new, newcomer_segment rows u v kind r good ask.once now d h is_new)
     | inr e ↦
-        let kept = passing_has (is_kept rows u v kind r good ask now) (darts_in (system after)) d (ap not e) (system_test after now.paths now.crossings now.rotations d ∙ h) in
-        let parts = sym (has_dart-append (map lift (darts_in (system rows))) pairs d) ∙ ap (λ ds. has_dart ds d) (sym (darts_without_new rows u v kind r good ask now)) ∙ kept in
+        let kept = passing_has (is_kept rows u v kind r good ask now) (darts_in (system after)) d (ap not e)
+        (system_test after now.paths now.crossings now.rotations d ∙ h) in
+        let parts = sym (has_dart-append (map lift (darts_in (system rows))) pairs d)
+        ∙ ap (λ ds. has_dart ds d) (sym (darts_without_new rows u v kind r good ask now)) ∙ kept in
         grind (arith, or_cases, image_of_dart, system_test, in_pairs_is)
   ]
 
@@ -190,7 +207,8 @@ module _ (rows : Rows) (u v kind : ℕ) (r : Route) (good : IsWellFormed rows) (
   point_after = turn_at_point (system after) distinct_after
 
   -- round a point that the new edge does not end at
-  turn_kept : (around lifted_around : List Dart) (d : Dart) → IsIn around (system rows) → IsIn lifted_around (system after) → lifted_around ≡ map lift around → has_dart around d ≡ true → turn (system after) (lift d) ≡ lift (turn (system rows) d)
+  turn_kept : (around lifted_around : List Dart) (d : Dart) → IsIn around (system rows) → IsIn lifted_around (system after) → lifted_around ≡ map lift around
+      → has_dart around d ≡ true → turn (system after) (lift d) ≡ lift (turn (system rows) d)
   turn_kept around lifted_around d at there same h =
       let d_in = at_point_there rows u v kind r good ask now around at d h in
       point_after lifted_around (lift d) there (ap (λ ds. has_dart ds (lift d)) same ∙ has_image lift around d h)
@@ -210,7 +228,8 @@ module _ (rows : Rows) (u v kind : ℕ) (r : Route) (good : IsWellFormed rows) (
     not_lifted ds old = grind (arith, cases_Bool, image_of_dart, old_apart, lifted_edge)
 
     front_old : (c : Dart) → has_dart (point.head ∷ point.front) c ≡ true → has_dart (darts rows) c ≡ true
-    front_old c h = old_in_list c (has_dart-append (point.head ∷ point.front) point.back c ∙ or_left (has_dart (point.head ∷ point.front) c) (has_dart point.back c) h)
+    front_old c h = old_in_list c
+        (has_dart-append (point.head ∷ point.front) point.back c ∙ or_left (has_dart (point.head ∷ point.front) c) (has_dart point.back c) h)
 
     -- the dart of the new edge turns to the corner's
     pub turn_of_end : turn (system after) new ≡ lift (slice_index_or point.back 0 point.head)
@@ -242,10 +261,14 @@ module _ (rows : Rows) (u v kind : ℕ) (r : Route) (good : IsWellFormed rows) (
         let lift_there : has_dart (map lift (point.head ∷ point.front) ++ new ∷ map lift point.back) (lift d) ≡ true =
         has_dart-append (map lift (point.head ∷ point.front)) (new ∷ map lift point.back) (lift d)
         ∙ either_part (has_dart (map lift (point.head ∷ point.front)) (lift d)) (same_dart (lift d) new) (has_dart (map lift point.back) (lift d))
-        (sym (has_dart-append (map lift (point.head ∷ point.front)) (map lift point.back) (lift d)) ∙ ap (λ ds. has_dart ds (lift d)) (sym (map-append lift (point.head ∷ point.front) point.back)) ∙ has_image lift whole d there) in
-        let turned = point_after (around_vertex after w) (lift d) list_there (ap (λ ds. has_dart ds (lift d)) point.now ∙ lift_there) ∙ ap (λ ds. next_around ds (lift d)) point.now in
-        let not_new : same_dart (lift d) new ≡ false = not_same (lift d) new (λ e. old_apart d d_in (sym (lifted_edge rows after d) ∙ ap (λ (y : Dart). y.edge) e ∙ is_new)) in
-        elim (follower_old (lift point.head) new (lift d) (map lift (point.head ∷ point.front)) (map lift point.back) not_new (not_lifted (point.head ∷ point.front) front_old)) [
+        (sym (has_dart-append (map lift (point.head ∷ point.front)) (map lift point.back) (lift d))
+        ∙ ap (λ ds. has_dart ds (lift d)) (sym (map-append lift (point.head ∷ point.front) point.back)) ∙ has_image lift whole d there) in
+        let turned = point_after (around_vertex after w) (lift d) list_there (ap (λ ds. has_dart ds (lift d)) point.now ∙ lift_there)
+        ∙ ap (λ ds. next_around ds (lift d)) point.now in
+        let not_new : same_dart (lift d) new ≡ false =
+        not_same (lift d) new (λ e. old_apart d d_in (sym (lifted_edge rows after d) ∙ ap (λ (y : Dart). y.edge) e ∙ is_new)) in
+        elim (follower_old (lift point.head) new (lift d) (map lift (point.head ∷ point.front))
+        (map lift point.back) not_new (not_lifted (point.head ∷ point.front) front_old)) [
           | inl same ↦ inl (turned ∙ same ∙ lifted_next)
           | inr between ↦
               let by_new = turned ∙ between.0 in
@@ -263,18 +286,24 @@ module _ (rows : Rows) (u v kind : ℕ) (r : Route) (good : IsWellFormed rows) (
   turns_as_before d h =
       let point = point_of (system rows) d (stands_before d h) in
       elim (in_append point.0 (map (around_vertex rows) (vertices rows)) (map (around_crossing rows) rows.crossings) point.1) [
-        | inl at_vertex ↦ let image = in_images (around_vertex rows) point.0 (vertices rows) at_vertex in by_vertex image.0 image.1 (ap (λ ds. has_dart ds d) (sym image.2) ∙ point.2)
-        | inr at_crossing ↦ let image = in_images (around_crossing rows) point.0 rows.crossings at_crossing in by_crossing image.0 image.1 (ap (λ ds. has_dart ds d) (sym image.2) ∙ point.2)
+        | inl at_vertex ↦ let image = in_images (around_vertex rows) point.0 (vertices rows) at_vertex in
+            by_vertex image.0 image.1 (ap (λ ds. has_dart ds d) (sym image.2) ∙ point.2)
+        | inr at_crossing ↦ let image = in_images (around_crossing rows) point.0 rows.crossings at_crossing in
+            by_crossing image.0 image.1 (ap (λ ds. has_dart ds d) (sym image.2) ∙ point.2)
       ] where
-        by_crossing : (x : CrossRow) → IsIn x rows.crossings → has_dart (around_crossing rows x) d ≡ true → FollowsBut after rows.next_edge (lift d) (lift (turn (system rows) d))
+        by_crossing : (x : CrossRow) → IsIn x rows.crossings → has_dart (around_crossing rows x) d ≡ true
+            → FollowsBut after rows.next_edge (lift d) (lift (turn (system rows) d))
         by_crossing x at k = inl (turn_kept (around_crossing rows x) (around_crossing after x) d (crossing_point rows x at)
             (crossing_point after x (in_left x rows.crossings (map (new_crossing rows.next_edge) (numbered rows r)) at)) (around_lifted rows after good x at) k)
 
-        by_vertex : (w : ℕ) → IsIn w (vertices rows) → has_dart (around_vertex rows w) d ≡ true → FollowsBut after rows.next_edge (lift d) (lift (turn (system rows) d))
+        by_vertex : (w : ℕ) → IsIn w (vertices rows) → has_dart (around_vertex rows w) d ≡ true
+            → FollowsBut after rows.next_edge (lift d) (lift (turn (system rows) d))
         by_vertex w at k = elim (cases_Bool (w == u)) [
-          | inl e ↦ turn_at_end u r.start (forward rows.next_edge 0) (vertex_in rows u ask.u_there) refl (around_start rows u v kind r good ask now) d (ap (λ n. has_dart (around_vertex rows n) d) (sym (eqb-true w u e)) ∙ k)
+          | inl e ↦ turn_at_end u r.start (forward rows.next_edge 0) (vertex_in rows u ask.u_there) refl (around_start rows u v kind r good ask now) d
+              (ap (λ n. has_dart (around_vertex rows n) d) (sym (eqb-true w u e)) ∙ k)
           | inr not_u ↦ elim (cases_Bool (w == v)) [
-            | inl e ↦ turn_at_end v r.end (back rows.next_edge (length r.crossed)) (vertex_in rows v ask.v_there) refl (around_finish rows u v kind r good ask now) d (ap (λ n. has_dart (around_vertex rows n) d) (sym (eqb-true w v e)) ∙ k)
+            | inl e ↦ turn_at_end v r.end (back rows.next_edge (length r.crossed)) (vertex_in rows v ask.v_there) refl
+                (around_finish rows u v kind r good ask now) d (ap (λ n. has_dart (around_vertex rows n) d) (sym (eqb-true w v e)) ∙ k)
             | inr not_v ↦ inl (turn_kept (around_vertex rows w) (around_vertex after w) d (vertex_point rows w at)
                 (vertex_point after w (subst (λ n. IsIn w (range_with_len 0 n)) (sym (shown_vertices rows u v kind r)) at))
                 (around_other rows u v kind r good ask now w at (λ e. false≢true (sym not_u ∙ eq-eqb w u e)) (λ e. false≢true (sym not_v ∙ eq-eqb w v e))) k)
@@ -285,7 +314,8 @@ module _ (rows : Rows) (u v kind : ℕ) (r : Route) (good : IsWellFormed rows) (
 
   new_point : (x : ℕ) (d : Dart) → IsIn (x, d) (numbered rows r) → IsIn (around_crossing after (new_crossing rows.next_edge (x, d))) (system after)
   new_point x d at = crossing_point after (new_crossing rows.next_edge (x, d))
-      (in_right (new_crossing rows.next_edge (x, d)) rows.crossings (map (new_crossing rows.next_edge) (numbered rows r)) (in_map (new_crossing rows.next_edge) (x, d) (numbered rows r) at))
+      (in_right (new_crossing rows.next_edge (x, d)) rows.crossings (map (new_crossing rows.next_edge) (numbered rows r))
+      (in_map (new_crossing rows.next_edge) (x, d) (numbered rows r) at))
 
   -- round a new crossing: onward, the new edge ahead, backward, the new edge behind
   pub record RoundCrossing (x : ℕ) (d : Dart) : Type 0 where
@@ -303,7 +333,8 @@ module _ (rows : Rows) (u v kind : ℕ) (r : Route) (good : IsWellFormed rows) (
       let old = old_apart d (crossed_there rows u v kind r good ask now x d at) in
       by_way d.way old (λ y h. point_after (around_crossing after (new_crossing rows.next_edge (x, d))) y (new_point x d at) h) where
         by_way : (w : Way) → d.edge ≢ rows.next_edge
-            → ((y : Dart) → has_dart (around_crossing after (new_crossing rows.next_edge (x, record { edge = d.edge; seg = d.seg; way = w }))) y ≡ true → turn (system after) y ≡ next_around (around_crossing after (new_crossing rows.next_edge (x, record { edge = d.edge; seg = d.seg; way = w }))) y)
+            → ((y : Dart) → has_dart (around_crossing after (new_crossing rows.next_edge (x, record { edge = d.edge; seg = d.seg; way = w }))) y ≡ true
+            → turn (system after) y ≡ next_around (around_crossing after (new_crossing rows.next_edge (x, record { edge = d.edge; seg = d.seg; way = w }))) y)
             → RoundCrossing x (record { edge = d.edge; seg = d.seg; way = w })
         by_way Forward old turned =
             let a = ahead after d.edge x in
@@ -319,8 +350,10 @@ module _ (rows : Rows) (u v kind : ℕ) (r : Route) (good : IsWellFormed rows) (
             record {
               onward_next = turned a (has_first a (b ∷ c ∷ e ∷ [])) ∙ first_of_four a b c e;
               ahead_next = turned b (has_second a b (c ∷ e ∷ [])) ∙ second_of_four a b c e b_not_a;
-              backward_next = turned c (or_right (same_dart c a) (has_dart (b ∷ c ∷ e ∷ []) c) (has_second b c (e ∷ []))) ∙ third_of_four a b c e c_not_a c_not_b;
-              behind_next = turned e (or_right (same_dart e a) (has_dart (b ∷ c ∷ e ∷ []) e) (or_right (same_dart e b) (has_dart (c ∷ e ∷ []) e) (has_second c e []))) ∙ last_of_four a b c e e_not_a e_not_b e_not_c;
+              backward_next = turned c (or_right (same_dart c a) (has_dart (b ∷ c ∷ e ∷ []) c) (has_second b c (e ∷ [])))
+                  ∙ third_of_four a b c e c_not_a c_not_b;
+              behind_next = turned e (or_right (same_dart e a) (has_dart (b ∷ c ∷ e ∷ []) e)
+                  (or_right (same_dart e b) (has_dart (c ∷ e ∷ []) e) (has_second c e []))) ∙ last_of_four a b c e e_not_a e_not_b e_not_c;
             }
         by_way Back old turned =
             let a = ahead after d.edge x in
@@ -335,7 +368,8 @@ module _ (rows : Rows) (u v kind : ℕ) (r : Route) (good : IsWellFormed rows) (
             let e_not_c = edges_apart e c (λ k. old (sym k)) in
             record {
               onward_next = turned c (or_right (same_dart c a) (has_dart (b ∷ c ∷ e ∷ []) c) (has_second b c (e ∷ []))) ∙ third_of_four a b c e c_not_a c_not_b;
-              ahead_next = turned e (or_right (same_dart e a) (has_dart (b ∷ c ∷ e ∷ []) e) (or_right (same_dart e b) (has_dart (c ∷ e ∷ []) e) (has_second c e []))) ∙ last_of_four a b c e e_not_a e_not_b e_not_c;
+              ahead_next = turned e (or_right (same_dart e a) (has_dart (b ∷ c ∷ e ∷ []) e)
+                  (or_right (same_dart e b) (has_dart (c ∷ e ∷ []) e) (has_second c e []))) ∙ last_of_four a b c e e_not_a e_not_b e_not_c;
               backward_next = turned a (has_first a (b ∷ c ∷ e ∷ [])) ∙ first_of_four a b c e;
               behind_next = turned b (has_second a b (c ∷ e ∷ [])) ∙ second_of_four a b c e b_not_a;
             }
@@ -369,5 +403,6 @@ module _ (rows : Rows) (u v kind : ℕ) (r : Route) (good : IsWellFormed rows) (
   }
 
 -- the picture that shows the new edge turns along the route as it should, and elsewhere as before
-pub shows_turns : (rows : Rows) (u v kind : ℕ) (r : Route) → IsWellFormed rows → IsInsertable rows u v kind r → IsWellFormed (shown rows u v kind r) → ShowsTurns rows rows.next_edge u v r (shown rows u v kind r)
+pub shows_turns : (rows : Rows) (u v kind : ℕ) (r : Route) → IsWellFormed rows → IsInsertable rows u v kind r → IsWellFormed (shown rows u v kind r)
+    → ShowsTurns rows rows.next_edge u v r (shown rows u v kind r)
 shows_turns = turns_shown

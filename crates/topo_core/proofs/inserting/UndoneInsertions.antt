@@ -1,5 +1,6 @@
 -- The picture without the edge that was just shown is the picture before.
-use Rattle.std.proofs.Common.{◌≡◌, ◌≢◌, ℕ, zero, suc, ◌+◌, ◌<◌, ◌≤◌, append-nil, Bool, true, false, cond, not, List, [], ◌∷◌, ◌++◌, length, get_or, refl, ap, ◌∙◌, arith, inl, inr}
+use Rattle.std.proofs.Common.{◌≡◌, ◌≢◌, ℕ, zero, suc, ◌+◌, ◌<◌, ◌≤◌, append-nil, Bool, true, false, cond}
+use Rattle.std.proofs.Common.{not, List, [], ◌∷◌, ◌++◌, length, get_or, refl, ap, ◌∙◌, arith, inl, inr}
 use Rattle.std.specs.Prelude.{◌==◌, ◌&&◌, filter, map, nat_le}
 use Rattle.std.proofs.lemmas.List.{ext_get_or, take-append-drop}
 use Rattle.std.proofs.lemmas.List.Elements.{filter-append}
@@ -19,7 +20,8 @@ use Rattle.topo_core.specs.Insertions.{IsInsertable}
 use Rattle.topo_core.proofs.numbering.Counting.{eqb_less, path_place_here}
 use Rattle.topo_core.proofs.growing.Growing.{ne_from}
 use Rattle.topo_core.proofs.numbering.Members.{in_left, in_map, in_right, right_true, test_of_each}
-use Rattle.topo_core.proofs.inserting.ShownRows.{crossing_below, edge_below, in_images, known_crossing_below, known_edge_below, new_id_above, newcomer_row, shown_new_edge, shown_rotation_end, shown_rotation_other, shown_rotation_start, shown_vertices}
+use Rattle.topo_core.proofs.inserting.ShownRows.{crossing_below, edge_below, in_images, known_crossing_below, known_edge_below, new_id_above, newcomer_row}
+use Rattle.topo_core.proofs.inserting.ShownRows.{shown_new_edge, shown_rotation_end, shown_rotation_other, shown_rotation_start, shown_vertices}
 use Rattle.topo_core.proofs.numbering.Standing.{good_rotation}
 use Rattle.topo_core.proofs.systems.SystemDarts.{crossing_there, eqb_self, vertex_in}
 use Rattle.topo_core.proofs.inserting.Weaving.{in_filter}
@@ -30,7 +32,8 @@ use Rattle.topo_core.proofs.deleting.WithoutRows.{has_id_in, in_has_id, least_be
 -- where each item passes, the list stays as it is
 pub filter_whole : {X : Type 0} (p : X → Bool) (xs : List X) → ((x : X) → IsIn x xs → p x ≡ true) → filter p xs ≡ xs
 filter_whole p [] each = refl
-filter_whole p (x ∷ xs) each = ap (λ (b : Bool). cond b (x ∷ filter p xs) (filter p xs)) (each x (inl refl)) ∙ ap (λ ys. x ∷ ys) (filter_whole p xs (λ y h. each y (inr h)))
+filter_whole p (x ∷ xs) each = ap (λ (b : Bool). cond b (x ∷ filter p xs) (filter p xs)) (each x (inl refl))
+    ∙ ap (λ ys. x ∷ ys) (filter_whole p xs (λ y h. each y (inr h)))
 
 -- where none passes, nothing stays
 pub filter_nothing : {X : Type 0} (p : X → Bool) (xs : List X) → ((x : X) → IsIn x xs → p x ≡ false) → filter p xs ≡ []
@@ -38,15 +41,19 @@ filter_nothing p [] none = refl
 filter_nothing p (x ∷ xs) none = ap (λ (b : Bool). cond b (x ∷ filter p xs) (filter p xs)) (none x (inl refl)) ∙ filter_nothing p xs (λ y h. none y (inr h))
 
 -- where those of the first part pass and none of the second, the first part stays
-pub filter_front : {X : Type 0} (p : X → Bool) (xs ys : List X) → ((x : X) → IsIn x xs → p x ≡ true) → ((y : X) → IsIn y ys → p y ≡ false) → filter p (xs ++ ys) ≡ xs
-filter_front p xs ys each none = filter-append p xs ys ∙ ap (λ zs. zs ++ filter p ys) (filter_whole p xs each) ∙ ap (λ zs. xs ++ zs) (filter_nothing p ys none) ∙ append-nil xs
+pub filter_front : {X : Type 0} (p : X → Bool) (xs ys : List X) → ((x : X) → IsIn x xs → p x ≡ true) → ((y : X) → IsIn y ys → p y ≡ false)
+    → filter p (xs ++ ys) ≡ xs
+filter_front p xs ys each none = filter-append p xs ys ∙ ap (λ zs. zs ++ filter p ys) (filter_whole p xs each)
+    ∙ ap (λ zs. xs ++ zs) (filter_nothing p ys none) ∙ append-nil xs
 
 -- where only the item between two parts fails, the parts stay
-pub filter_parts : {X : Type 0} (p : X → Bool) (xs : List X) (y : X) (zs : List X) → p y ≡ false → ((x : X) → IsIn x (xs ++ zs) → p x ≡ true) → filter p (xs ++ y ∷ zs) ≡ xs ++ zs
+pub filter_parts : {X : Type 0} (p : X → Bool) (xs : List X) (y : X) (zs : List X) → p y ≡ false → ((x : X) → IsIn x (xs ++ zs) → p x ≡ true)
+    → filter p (xs ++ y ∷ zs) ≡ xs ++ zs
 filter_parts p xs y zs fails each = grind (arith, filter-append, filter_whole, in_left, in_right)
 
 -- where those of the path pass and none of the new ones, the path stays
-pub filter_woven : (p : ℕ → Bool) (new : ℕ → List ℕ) (s : ℕ) (path : List ℕ) → ((i x : ℕ) → IsIn x (new i) → p x ≡ false) → ((x : ℕ) → IsIn x path → p x ≡ true) → filter p (woven new s path) ≡ path
+pub filter_woven : (p : ℕ → Bool) (new : ℕ → List ℕ) (s : ℕ) (path : List ℕ) → ((i x : ℕ) → IsIn x (new i) → p x ≡ false) → ((x : ℕ) → IsIn x path → p x ≡ true)
+    → filter p (woven new s path) ≡ path
 filter_woven p new s [] none each = filter_nothing p (new s) (none s)
 filter_woven p new s (x ∷ path) none each =
     filter-append p (new s) (x ∷ woven new (s + 1) path)
@@ -97,7 +104,8 @@ module _ (rows : Rows) (u v kind : ℕ) (r : Route) (good : IsWellFormed rows) (
 
   -- the new crossings are gone
   new_gone : (x : ℕ) (d : Dart) → IsIn (x, d) (numbered rows r) → not (has_id gone x) ≡ false
-  new_gone x d h = ap (λ ids. not (has_id ids x)) gone_is ∙ ap not (has_id_in x (map (λ x. x.0) (numbered rows r)) (in_map (λ x. x.0) (x, d) (numbered rows r) h))
+  new_gone x d h = ap (λ ids. not (has_id ids x)) gone_is
+      ∙ ap not (has_id_in x (map (λ x. x.0) (numbered rows r)) (in_map (λ x. x.0) (x, d) (numbered rows r) h))
 
   -- the old ones are left
   old_left : (x : ℕ) → x < rows.next_crossing → not (has_id gone x) ≡ true
@@ -116,12 +124,14 @@ module _ (rows : Rows) (u v kind : ℕ) (r : Route) (good : IsWellFormed rows) (
   row_undone row h = ap (λ (path : List ℕ). record row { crossings = path }) (filter_woven (λ x. not (has_id gone x)) (new_on rows r row.id) 0 row.crossings
       (λ i x k.
       let image = in_images (λ y. y.0) x _ k in
-      ap (λ n. not (has_id gone n)) image.2 ∙ new_gone image.0.0 image.0.1 (in_filter (λ y. y.1.edge == row.id && y.1.seg == i) image.0 (numbered rows r) image.1))
+      ap (λ n. not (has_id gone n)) image.2
+      ∙ new_gone image.0.0 image.0.1 (in_filter (λ y. y.1.edge == row.id && y.1.seg == i) image.0 (numbered rows r) image.1))
       (λ x k. old_left x (known_crossing_below rows good.crossings x (crossing_there rows good.paths row h x k))))
 
   edges_undone : map (uncrossed_row gone) (filter (λ row. not (row.id == rows.next_edge)) after.edges) ≡ rows.edges
   edges_undone =
-      ap (map (uncrossed_row gone)) (filter_front (λ row. not (row.id == rows.next_edge)) (map (crossed_row rows r) rows.edges) (newcomer_row rows u v kind r ∷ [])
+      ap (map (uncrossed_row gone))
+      (filter_front (λ row. not (row.id == rows.next_edge)) (map (crossed_row rows r) rows.edges) (newcomer_row rows u v kind r ∷ [])
       (λ row h.
       let image = in_images (crossed_row rows r) row rows.edges h in
       ap (λ (row : EdgeRow). not (row.id == rows.next_edge)) image.2 ∙ other_id rows.next_edge image.0.id (edge_below rows good.paths image.0 image.1))
@@ -148,11 +158,13 @@ module _ (rows : Rows) (u v kind : ℕ) (r : Route) (good : IsWellFormed rows) (
     entry_below g h = known_edge_below rows good.paths g ((good_rotation rows good.rotations w vertex).known g h)
 
     least_first : (g : ℕ) → IsIn g (rotation rows w) → get_or (rotation rows w) 0 0 ≤ g
-    least_first g h = le_of (get_or (rotation rows w) 0 0) g (test_of_each (nat_le (get_or (rotation rows w) 0 0)) g (rotation rows w) (right_true _ _ (test_of_each (has_good_rotation rows) w (vertices rows) good.rotations vertex)) h) where
-      le_of : (m n : ℕ) → nat_le m n ≡ true → m ≤ n
-      le_of m n h = grind (arith, nat_tests)
+    least_first g h = le_of (get_or (rotation rows w) 0 0) g (test_of_each (nat_le (get_or (rotation rows w) 0 0)) g (rotation rows w)
+        (right_true _ _ (test_of_each (has_good_rotation rows) w (vertices rows) good.rotations vertex)) h) where
+          le_of : (m n : ℕ) → nat_le m n ≡ true → m ≤ n
+          le_of m n h = grind (arith, nat_tests)
 
-    undone_by : (list : List ℕ) → rotation after w ≡ list → filter (λ g. not (g == rows.next_edge)) list ≡ rotation rows w → rotation (without after rows.next_edge) w ≡ rotation rows w
+    undone_by : (list : List ℕ) → rotation after w ≡ list → filter (λ g. not (g == rows.next_edge)) list ≡ rotation rows w
+        → rotation (without after rows.next_edge) w ≡ rotation rows w
     undone_by list is back =
         without_rotation after rows.next_edge w
         ∙ ap (λ around. from_least (filter (λ g. not (g == rows.next_edge)) around)) is
@@ -161,7 +173,8 @@ module _ (rows : Rows) (u v kind : ℕ) (r : Route) (good : IsWellFormed rows) (
 
     -- a vertex that is no end of the new edge
     other_undone : w ≢ u → w ≢ v → rotation (without after rows.next_edge) w ≡ rotation rows w
-    other_undone not_u not_v = undone_by (rotation rows w) (shown_rotation_other rows u v kind r w not_u not_v) (without_larger rows.next_edge (rotation rows w) entry_below)
+    other_undone not_u not_v =
+        undone_by (rotation rows w) (shown_rotation_other rows u v kind r w not_u not_v) (without_larger rows.next_edge (rotation rows w) entry_below)
 
     -- and one that is
     end_undone : (p : ℕ) → rotation after w ≡ put_in p rows.next_edge (rotation rows w) → rotation (without after rows.next_edge) w ≡ rotation rows w
@@ -184,9 +197,11 @@ module _ (rows : Rows) (u v kind : ℕ) (r : Route) (good : IsWellFormed rows) (
   -- ---- All parts together
 
   abbrev built : List (List ℕ) → List EdgeRow → List CrossRow → Rows
-  built around es xs = record { rotations = around; edges = es; crossings = xs; next_edge = rows.next_edge + 1; next_crossing = rows.next_crossing + length r.crossed }
+  built around es xs =
+      record { rotations = around; edges = es; crossings = xs; next_edge = rows.next_edge + 1; next_crossing = rows.next_crossing + length r.crossed }
 
-  pub insertion_undone_here : without after rows.next_edge ≡ record rows { next_edge = rows.next_edge + 1; next_crossing = rows.next_crossing + length r.crossed }
+  pub insertion_undone_here : without after rows.next_edge
+      ≡ record rows { next_edge = rows.next_edge + 1; next_crossing = rows.next_crossing + length r.crossed }
   insertion_undone_here = grind (arith, rotations_undone, edges_undone, crossings_undone)
 
 -- taking out the edge that was just shown gives the picture back, but for the ids that were given

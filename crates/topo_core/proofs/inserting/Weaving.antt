@@ -34,7 +34,8 @@ in_woven new s x (y ∷ path) h = elim (in_append x (new s) (y ∷ woven new (s 
 -- ---- How often
 
 -- how often x stands in a woven path: as often as before, and as often as in the new crossings of all segments
-pub occurrences-woven : (new : ℕ → List ℕ) (s x : ℕ) (path : List ℕ) → occurrences x (woven new s path) ≡ occurrences x path + sum_by (λ i. occurrences x (new i)) (range_with_len s (suc (length path)))
+pub occurrences-woven : (new : ℕ → List ℕ) (s x : ℕ) (path : List ℕ)
+    → occurrences x (woven new s path) ≡ occurrences x path + sum_by (λ i. occurrences x (new i)) (range_with_len s (suc (length path)))
 occurrences-woven new s x [] = let one_term = sum_by-cons (λ i. occurrences x (new i)) s [] in omega arith
 occurrences-woven new s x (y ∷ path) =
     let parts = sum_by-append (λ z. one (z == x)) (new s) (y ∷ woven new (s + 1) path) in
@@ -44,10 +45,12 @@ occurrences-woven new s x (y ∷ path) =
     let terms = sum_by-cons (λ i. occurrences x (new i)) s (range_with_len (s + 1) (suc (length path))) in omega arith
 
 -- how often x is the number of an item that passes
-pub counted_numbers : {X : Type 0} (p : ℕ × X → Bool) (x : ℕ) (ys : List (ℕ × X)) → occurrences x (map (λ y. y.0) (filter p ys)) ≡ sum_by (λ y. cond {A = ℕ} (y.0 == x) (one (p y)) 0) ys
+pub counted_numbers : {X : Type 0} (p : ℕ × X → Bool) (x : ℕ) (ys : List (ℕ × X))
+    → occurrences x (map (λ y. y.0) (filter p ys)) ≡ sum_by (λ y. cond {A = ℕ} (y.0 == x) (one (p y)) 0) ys
 counted_numbers p x [] = refl
 counted_numbers p x (y ∷ ys) = by_test (p y) (counted_numbers p x ys) refl where
-  step : sum_by (λ y. cond {A = ℕ} (y.0 == x) (one (p y)) 0) (y ∷ ys) ≡ cond {A = ℕ} (y.0 == x) (one (p y)) 0 + sum_by (λ y. cond {A = ℕ} (y.0 == x) (one (p y)) 0) ys
+  step : sum_by (λ y. cond {A = ℕ} (y.0 == x) (one (p y)) 0) (y ∷ ys) ≡ cond {A = ℕ} (y.0 == x) (one (p y)) 0
+      + sum_by (λ y. cond {A = ℕ} (y.0 == x) (one (p y)) 0) ys
   step = sum_by-cons (λ y. cond {A = ℕ} (y.0 == x) (one (p y)) 0) y ys
 
   nothing : (t : Bool) → cond {A = ℕ} t 0 0 ≡ 0
@@ -62,7 +65,8 @@ counted_numbers p x (y ∷ ys) = by_test (p y) (counted_numbers p x ys) refl whe
   by_test false rest e = grind (arith, one, nothing, step)
 
 -- the number of an item is counted once where the item passes
-pub number_counted : {X : Type 0} (p : ℕ × X → Bool) (n x : ℕ) (d : X) (ds : List X) → IsIn (x, d) (enumerate_from n ds) → occurrences x (map (λ y. y.0) (filter p (enumerate_from n ds))) ≡ one (p (x, d))
+pub number_counted : {X : Type 0} (p : ℕ × X → Bool) (n x : ℕ) (d : X) (ds : List X) → IsIn (x, d) (enumerate_from n ds)
+    → occurrences x (map (λ y. y.0) (filter p (enumerate_from n ds))) ≡ one (p (x, d))
 number_counted p n x d ds h =
     counted_numbers p x (enumerate_from n ds)
     ∙ sum_found (λ y. y.0) (λ y. one (p y)) (n + length ds) x (enumerate_from n ds) (rises_on [] n ds refl)

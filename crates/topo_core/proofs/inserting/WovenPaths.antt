@@ -1,5 +1,6 @@
 -- Where the crossings of an edge stand on its path once new crossings are woven in.
-use Rattle.std.proofs.Common.{◌≡◌, ℕ, zero, suc, ◌+◌, ◌-◌, ◌<◌, ◌≤◌, append_assoc, append-nil, Bool, false, cond, List, [], ◌∷◌, ◌++◌, length, eqb, refl, sym, ap, subst, ◌∙◌, arith, inl, inr}
+use Rattle.std.proofs.Common.{◌≡◌, ℕ, zero, suc, ◌+◌, ◌-◌, ◌<◌, ◌≤◌, append_assoc, append-nil, Bool, false, cond}
+use Rattle.std.proofs.Common.{List, [], ◌∷◌, ◌++◌, length, eqb, refl, sym, ap, subst, ◌∙◌, arith, inl, inr}
 use Rattle.std.specs.Prelude.{◌==◌, nat_lt, slice_index_or}
 use Rattle.std.specs.List.{position_or_len}
 use Rattle.std.proofs.lemmas.List.{length-append}
@@ -53,7 +54,8 @@ pub record IsParted (new : List ℕ) (s : ℕ) (path whole : List ℕ) : Type 0 
   pub previous : (i : ℕ) → s ≡ suc i → (list : List ℕ) × (front ≡ list ++ slice_index_or path i 0 ∷ [])
   pub next : s < length path → (list : List ℕ) × (back ≡ slice_index_or path s 0 ∷ list)
 
-one_longer : (xs : List ℕ) (x s : ℕ) (path front : List ℕ) (first : s ≡ 0 → front ≡ []) → ((i : ℕ) → s ≡ suc i → (list : List ℕ) × (front ≡ list ++ slice_index_or path i 0 ∷ []))
+one_longer : (xs : List ℕ) (x s : ℕ) (path front : List ℕ) (first : s ≡ 0 → front ≡ [])
+    → ((i : ℕ) → s ≡ suc i → (list : List ℕ) × (front ≡ list ++ slice_index_or path i 0 ∷ []))
     → (list : List ℕ) × (xs ++ (x ∷ front) ≡ list ++ slice_index_or (x ∷ path) s 0 ∷ [])
 one_longer xs x zero path front first previous = (xs, ap (λ f. xs ++ (x ∷ f)) (first refl))
 one_longer xs x (suc j) path front first previous =
@@ -97,7 +99,8 @@ woven_parts new t (suc s) (x ∷ path) h =
       last = λ e. rest.last (omega arith);
       previous = λ i e.
           let at : s ≡ i = omega arith in
-          subst (λ k. (list : List ℕ) × (new t ++ (x ∷ rest.front) ≡ list ++ slice_index_or (x ∷ path) k 0 ∷ [])) at (one_longer (new t) x s path rest.front rest.first rest.previous);
+          subst (λ k. (list : List ℕ) × (new t ++ (x ∷ rest.front) ≡ list ++ slice_index_or (x ∷ path) k 0 ∷ [])) at
+          (one_longer (new t) x s path rest.front rest.first rest.previous);
       next = λ less. rest.next (omega arith);
     }
 
@@ -111,7 +114,8 @@ first_part path whole s = cond (s == 0) 0 (place_of whole (slice_index_or path (
 abbrev pub last_part : List ℕ → List ℕ → ℕ → ℕ
 last_part path whole s = cond (s == length path) (length whole) (place_of whole (slice_index_or path s 0))
 
-module _ (new : List ℕ) (s : ℕ) (path whole : List ℕ) (inside : s ≤ length path) (parted : IsParted new s path whole) (once : (y : ℕ) → IsIn y whole → occurrences y whole ≤ 1) where
+module _ (new : List ℕ) (s : ℕ) (path whole : List ℕ) (inside : s ≤ length path) (parted : IsParted new s path whole)
+    (once : (y : ℕ) → IsIn y whole → occurrences y whole ≤ 1) where
   place_in_parts : (front back : List ℕ) (y : ℕ) → whole ≡ front ++ y ∷ back → place_of whole y ≡ length front
   place_in_parts front back y e =
       ap (λ list. place_of list y) e
@@ -120,7 +124,8 @@ module _ (new : List ℕ) (s : ℕ) (path whole : List ℕ) (inside : s ≤ leng
   after_previous : (i : ℕ) → s ≡ suc i → place_of whole (slice_index_or path i 0) + 1 ≡ length parted.front
   after_previous i e =
       let before = parted.previous i e in
-      let place = place_in_parts before.0 (new ++ parted.back) (slice_index_or path i 0) (parted.parts ∙ ap (λ f. f ++ (new ++ parted.back)) before.1 ∙ append_assoc before.0 (slice_index_or path i 0 ∷ []) (new ++ parted.back)) in
+      let place = place_in_parts before.0 (new ++ parted.back) (slice_index_or path i 0)
+      (parted.parts ∙ ap (λ f. f ++ (new ++ parted.back)) before.1 ∙ append_assoc before.0 (slice_index_or path i 0 ∷ []) (new ++ parted.back)) in
       let sum = ap (λ (f : List ℕ). length f) before.1 ∙ length-append before.0 (slice_index_or path i 0 ∷ []) in omega arith
 
   -- the first part begins behind the crossings before segment s
@@ -136,7 +141,8 @@ module _ (new : List ℕ) (s : ℕ) (path whole : List ℕ) (inside : s ≤ leng
     | inl e ↦ grind (arith, eqb-true, length-append)
     | inr e ↦
         let behind = parted.next (below s (length path) inside e) in
-        let place = place_in_parts (parted.front ++ new) behind.0 (slice_index_or path s 0) (parted.parts ∙ ap (λ b. parted.front ++ (new ++ b)) behind.1 ∙ sym (append_assoc parted.front new (slice_index_or path s 0 ∷ behind.0))) in
+        let place = place_in_parts (parted.front ++ new) behind.0 (slice_index_or path s 0)
+        (parted.parts ∙ ap (λ b. parted.front ++ (new ++ b)) behind.1 ∙ sym (append_assoc parted.front new (slice_index_or path s 0 ∷ behind.0))) in
         ap (λ (t : Bool). cond t (length whole) (place_of whole (slice_index_or path s 0))) e ∙ place ∙ length-append parted.front new
   ] where
     below : (m n : ℕ) → m ≤ n → eqb m n ≡ false → m < n

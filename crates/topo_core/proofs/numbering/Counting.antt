@@ -1,5 +1,6 @@
 -- Sums and counts over lists, and what stands in a list whose ids rise.
-use Rattle.std.proofs.Common.{◌≡◌, ◌+◌, ◌<◌, ◌≤◌, ◌||◌, ap, arith, Bool, cond, eqb, false, inl, inr, length, List, not, refl, Some, subst, suc, sym, true, zero, ℕ, [], ◌∙◌, ◌∷◌}
+use Rattle.std.proofs.Common.{◌≡◌, ◌+◌, ◌<◌, ◌≤◌, ◌||◌, ap, arith, Bool, cond, eqb, false, inl, inr}
+use Rattle.std.proofs.Common.{length, List, not, refl, Some, subst, suc, sym, true, zero, ℕ, [], ◌∙◌, ◌∷◌}
 use Rattle.std.specs.Prelude.{count_by, find, flat_map, map, nat_lt, option_map, slice_get, sum_by, unwrap_or, ◌==◌}
 use Rattle.std.specs.List.{list_any, position_or_len, range_with_len}
 use Rattle.std.proofs.lemmas.Bool.Decides.{nat_tests}
@@ -108,7 +109,8 @@ sum_found id g limit k (x ∷ xs) rises = by_test (sum_found id g limit k xs (ri
 
   no_other : id x ≡ k → sum_by (λ x. cond {A = ℕ} (id x == k) (g x) 0) xs ≡ 0
   no_other same = sum_nothing (λ x. cond {A = ℕ} (id x == k) (g x) 0) xs (λ y h.
-      ap (λ (t : Bool). cond {A = ℕ} t (g y) 0) (eqb_more (id y) k (subst (λ n. n < id y) same (ids_above limit (id x) (map id xs) rises (id y) (id_in id y xs h)))))
+      ap (λ (t : Bool). cond {A = ℕ} t (g y) 0)
+      (eqb_more (id y) k (subst (λ n. n < id y) same (ids_above limit (id x) (map id xs) rises (id y) (id_in id y xs h)))))
 
   by_test : sum_by (λ x. cond {A = ℕ} (id x == k) (g x) 0) xs ≡ unwrap_or (option_map g (find (λ x. id x == k) xs)) 0 → (t : Bool) → (id x == k) ≡ t
       → sum_by (λ x. cond {A = ℕ} (id x == k) (g x) 0) (x ∷ xs) ≡ unwrap_or (option_map g (cond (id x == k) (Some x) (find (λ x. id x == k) xs))) 0
@@ -133,7 +135,8 @@ once_in_range k a (suc n) low high = by_test (λ more. once_in_range k (a + 1) n
   step : sum_by (λ v. one (k == v)) (range_with_len a (suc n)) ≡ one (k == a) + sum_by (λ v. one (k == v)) (range_with_len (a + 1) n)
   step = sum_by-cons (λ v. one (k == v)) a (range_with_len (a + 1) n)
 
-  by_test : (a + 1 ≤ k → sum_by (λ v. one (k == v)) (range_with_len (a + 1) n) ≡ 1) → (t : Bool) → (k == a) ≡ t → sum_by (λ v. one (k == v)) (range_with_len a (suc n)) ≡ 1
+  by_test : (a + 1 ≤ k → sum_by (λ v. one (k == v)) (range_with_len (a + 1) n) ≡ 1) → (t : Bool) → (k == a) ≡ t
+      → sum_by (λ v. one (k == v)) (range_with_len a (suc n)) ≡ 1
   by_test later true e = grind (arith, eqb-true, not_in_range, step)
   by_test later false e = grind (arith, past, step)
 
@@ -164,7 +167,8 @@ pub path_place_later : (x y : ℕ) (path : List ℕ) → eqb y x ≡ false → p
 path_place_later x y path e = ap (λ (t : Bool). cond {A = ℕ} (not t) (1 + position_or_len (λ y. y == x) path) 0) e
 
 -- where x stands at most once, x is counted at its place: so it is counted at place i where z stands just when it is z
-pub place_test : (path : List ℕ) (i z x : ℕ) → slice_get path i ≡ Some z → occurrences x path ≤ 1 → cond {A = ℕ} (i == position_or_len (λ y. y == x) path) (occurrences x path) 0 ≡ one (x == z)
+pub place_test : (path : List ℕ) (i z x : ℕ) → slice_get path i ≡ Some z → occurrences x path ≤ 1
+    → cond {A = ℕ} (i == position_or_len (λ y. y == x) path) (occurrences x path) 0 ≡ one (x == z)
 place_test [] i z x at once = cc
 place_test (y ∷ path) zero z x at once =
     let same : y ≡ z = cc in
@@ -184,9 +188,11 @@ place_test (y ∷ path) (suc i) z x at once =
       | inr e ↦
           let counted : one (y == x) ≡ 0 = ap one e in
           let all : occurrences x (y ∷ path) ≡ occurrences x path = omega arith in
-          let shift : eqb (suc i) (position_or_len (λ y. y == x) (y ∷ path)) ≡ eqb i (position_or_len (λ y. y == x) path) = ap (eqb (suc i)) (path_place_later x y path e) ∙ eqb_suc i (position_or_len (λ y. y == x) path) in
+          let shift : eqb (suc i) (position_or_len (λ y. y == x) (y ∷ path)) ≡ eqb i (position_or_len (λ y. y == x) path) =
+          ap (eqb (suc i)) (path_place_later x y path e) ∙ eqb_suc i (position_or_len (λ y. y == x) path) in
           let rest = place_test path i z x at (omega arith) in
-          ap (λ (t : Bool). cond {A = ℕ} t (occurrences x (y ∷ path)) 0) shift ∙ ap (λ (n : ℕ). cond {A = ℕ} (eqb i (position_or_len (λ y. y == x) path)) n 0) all ∙ rest
+          ap (λ (t : Bool). cond {A = ℕ} t (occurrences x (y ∷ path)) 0) shift
+          ∙ ap (λ (n : ℕ). cond {A = ℕ} (eqb i (position_or_len (λ y. y == x) path)) n 0) all ∙ rest
     ]
 
 -- and past the end it is never counted
@@ -200,9 +206,11 @@ place_past (y ∷ path) (suc i) x past =
       | inr e ↦
           let counted : one (y == x) ≡ 0 = ap one e in
           let all : occurrences x (y ∷ path) ≡ occurrences x path = omega arith in
-          let shift : eqb (suc i) (position_or_len (λ y. y == x) (y ∷ path)) ≡ eqb i (position_or_len (λ y. y == x) path) = ap (eqb (suc i)) (path_place_later x y path e) ∙ eqb_suc i (position_or_len (λ y. y == x) path) in
+          let shift : eqb (suc i) (position_or_len (λ y. y == x) (y ∷ path)) ≡ eqb i (position_or_len (λ y. y == x) path) =
+          ap (eqb (suc i)) (path_place_later x y path e) ∙ eqb_suc i (position_or_len (λ y. y == x) path) in
           let rest = place_past path i x (omega arith) in
-          ap (λ (t : Bool). cond {A = ℕ} t (occurrences x (y ∷ path)) 0) shift ∙ ap (λ (n : ℕ). cond {A = ℕ} (eqb i (position_or_len (λ y. y == x) path)) n 0) all ∙ rest
+          ap (λ (t : Bool). cond {A = ℕ} t (occurrences x (y ∷ path)) 0) shift
+          ∙ ap (λ (n : ℕ). cond {A = ℕ} (eqb i (position_or_len (λ y. y == x) path)) n 0) all ∙ rest
     ]
 
 -- ---- Counts and tests of any

@@ -48,7 +48,8 @@ same_parts c d e = (grind (arith, nat_tests), grind (arith, nat_tests), grind (a
 
 -- darts that the test holds equal are equal
 pub same_dart_true : (c d : Dart) → same_dart c d ≡ true → c ≡ d
-same_dart_true c d e = let parts = same_parts c d e in let ways = same_way_true c.way d.way parts.2 in λ i. record { edge = parts.0 i; seg = parts.1 i; way = ways i }
+same_dart_true c d e = let parts = same_parts c d e in let ways = same_way_true c.way d.way parts.2 in
+    λ i. record { edge = parts.0 i; seg = parts.1 i; way = ways i }
 
 -- ---- A test of each dart of a list
 

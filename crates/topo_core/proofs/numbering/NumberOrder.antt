@@ -1,5 +1,6 @@
 -- The numbers of darts follow the canonical order.
-use Rattle.std.proofs.Common.{◌≡◌, ◌≢◌, ℕ, zero, suc, ◌+◌, ◌<◌, ◌≤◌, ◌||◌, not, Bool, true, false, cond, List, [], ◌∷◌, ◌++◌, refl, sym, ap, subst, ◌∙◌, arith, inl, inr}
+use Rattle.std.proofs.Common.{◌≡◌, ◌≢◌, ℕ, zero, suc, ◌+◌, ◌<◌, ◌≤◌, ◌||◌, not, Bool, true, false}
+use Rattle.std.proofs.Common.{cond, List, [], ◌∷◌, ◌++◌, refl, sym, ap, subst, ◌∙◌, arith, inl, inr}
 use Rattle.std.specs.Prelude.{◌⊎◌, flat_map, map, nat_lt, slice_index_or}
 use Rattle.std.specs.List.{list_all, position_or_len, range_with_len}
 use Rattle.std.specs.Ordering.{nat_cmp, ordering_then}
@@ -68,7 +69,8 @@ in_either (x ∷ xs) ys d h = elim (either (same_dart d x) (has_dart (xs ++ ys) 
 rises_joined : (xs ys : List Dart) → Rises xs → Rises ys → ((c : Dart) → has_dart xs c ≡ true → Leads c ys) → Rises (xs ++ ys)
 rises_joined [] ys h k before = k
 rises_joined (x ∷ xs) ys h k before = (
-  (λ d there. elim (in_either xs ys d there) [ inl left ↦ h.0 d left | inr right ↦ before x (left_holds (same_dart x x) (has_dart xs x) (same_dart_self x)) d right ]),
+  (λ d there. elim (in_either xs ys d there)
+      [ inl left ↦ h.0 d left | inr right ↦ before x (left_holds (same_dart x x) (has_dart xs x) (same_dart_self x)) d right ]),
   rises_joined xs ys h.1 k (λ c here. before c (right_holds (same_dart c x) (has_dart xs c) here)),
 )
 
@@ -158,7 +160,9 @@ place_order (x ∷ ds) rises c d c_in d_in less = elim (cases_Bool (same_dart d 
 -- a smaller number is earlier
 pub number_order : (rows : Rows) → has_good_paths rows ≡ true → (c d : Dart) → has_dart (darts rows) c ≡ true → has_dart (darts rows) d ≡ true
     → index_of rows c < index_of rows d → (dart_cmp c d ≡ Less) × (dart_cmp d c ≡ Greater)
-number_order rows paths = place_order (darts rows) (all_rise rows.next_edge rows.edges (left_true (rises_below rows.next_edge (map (λ row. row.id) rows.edges)) (list_all (has_good_path rows) rows.edges) paths))
+number_order rows paths = place_order (darts rows)
+    (all_rise rows.next_edge rows.edges
+    (left_true (rises_below rows.next_edge (map (λ row. row.id) rows.edges)) (list_all (has_good_path rows) rows.edges) paths))
 
 module _ (rows : Rows) (paths : has_good_paths rows ≡ true) (c d : Dart) (c_in : has_dart (darts rows) c ≡ true) (d_in : has_dart (darts rows) d ≡ true) where
   -- no later number is that of no later dart

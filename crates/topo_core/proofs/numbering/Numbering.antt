@@ -1,5 +1,6 @@
 -- The darts of an embedding as numbers: what turns, twins and moves are on darts, they are on the numbers.
-use Rattle.std.proofs.Common.{◌≡◌, ◌+◌, ◌<◌, ap, arith, Bool, cond, false, inl, inr, length, List, not, refl, Some, subst, suc, sym, true, zero, ℕ, [], ◌++◌, ◌∙◌, ◌∷◌}
+use Rattle.std.proofs.Common.{◌≡◌, ◌+◌, ◌<◌, ap, arith, Bool, cond, false, inl, inr, length, List}
+use Rattle.std.proofs.Common.{not, refl, Some, subst, suc, sym, true, zero, ℕ, [], ◌++◌, ◌∙◌, ◌∷◌}
 use Rattle.std.specs.Prelude.{flat_map, map, slice_get, slice_index, ◌%◌}
 use Rattle.std.specs.List.{position_or_len, range_with_len}
 use Rattle.std.proofs.lemmas.Bool.Decides.{nat_tests}
@@ -103,7 +104,8 @@ paired_segments e (s ∷ segments) = (refl, refl, paired_segments e segments)
 
 paired_edges : (edges : List EdgeRow) → IsPaired (flat_map darts_of edges)
 paired_edges [] = tt
-paired_edges (row ∷ edges) = paired_append (darts_of row) (flat_map darts_of edges) (paired_segments row.id (range_with_len 0 (segment_count row))) (paired_edges edges)
+paired_edges (row ∷ edges) = paired_append (darts_of row) (flat_map darts_of edges) (paired_segments row.id (range_with_len 0 (segment_count row)))
+    (paired_edges edges)
 
 even_step : (n : ℕ) → n % 2 ≡ 0 → suc (suc n) % 2 ≡ 0
 even_step n e = omega arith
@@ -125,7 +127,8 @@ pub not_same : (c d : Dart) → (c ≡ d → ⊥) → same_dart c d ≡ false
 not_same c d apart = elim (cases_Bool (same_dart c d)) [ inl e ↦ absurd (apart (same_dart_true c d e)) | inr e ↦ e ]
 
 -- the place of the twin is the twin of the place
-pub place_twin : (ds : List Dart) → IsPaired ds → (d : Dart) → has_dart ds d ≡ true → (place_in ds (dart_twin d) ≡ twin (place_in ds d)) × (has_dart ds (dart_twin d) ≡ true)
+pub place_twin : (ds : List Dart) → IsPaired ds → (d : Dart) → has_dart ds d ≡ true → (place_in ds (dart_twin d) ≡ twin (place_in ds d))
+    × (has_dart ds (dart_twin d) ≡ true)
 place_twin [] h d there = cc
 place_twin (c ∷ []) h d there = absurd h
 place_twin (c ∷ b ∷ ds) h d there = elim (cases_Bool (same_dart d c)) [
@@ -133,8 +136,10 @@ place_twin (c ∷ b ∷ ds) h d there = elim (cases_Bool (same_dart d c)) [
   | inr not_c ↦ elim (cases_Bool (same_dart d b)) [
     | inl e ↦ grind (arith, same_dart_true, same_from, twin-twin, place_later, place_here, or_left)
     | inr not_b ↦
-        let twin_not_c : same_dart (dart_twin d) c ≡ false = not_same (dart_twin d) c (λ k. false≢true (sym not_b ∙ same_from d b (sym (twin-twin d) ∙ ap dart_twin k ∙ sym h.1))) in
-        let twin_not_b : same_dart (dart_twin d) b ≡ false = not_same (dart_twin d) b (λ k. false≢true (sym not_c ∙ same_from d c (sym (twin-twin d) ∙ ap dart_twin (k ∙ h.1) ∙ twin-twin c))) in
+        let twin_not_c : same_dart (dart_twin d) c ≡ false =
+        not_same (dart_twin d) c (λ k. false≢true (sym not_b ∙ same_from d b (sym (twin-twin d) ∙ ap dart_twin k ∙ sym h.1))) in
+        let twin_not_b : same_dart (dart_twin d) b ≡ false =
+        not_same (dart_twin d) b (λ k. false≢true (sym not_c ∙ same_from d c (sym (twin-twin d) ∙ ap dart_twin (k ∙ h.1) ∙ twin-twin c))) in
         let inside = or_second (same_dart d b) (has_dart ds d) not_b (or_second (same_dart d c) (has_dart (b ∷ ds) d) not_c there) in
         let rest = place_twin ds h.2 d inside in
         grind (arith, place_later, twin_step, or_right)
@@ -207,11 +212,14 @@ module _ (rows : Rows) (paths : has_good_paths rows ≡ true) where
 
     -- the turn leads from darts of the rows to darts of the rows
     pub turn_stays : (d : Dart) → has_dart (darts rows) d ≡ true → has_dart (darts rows) (turn (system rows) d) ≡ true
-    turn_stays d h = sym (system_test rows paths crossings rotations (turn (system rows) d)) ∙ turn_in (system rows) d (system_test rows paths crossings rotations d ∙ h)
+    turn_stays d h = sym (system_test rows paths crossings rotations (turn (system rows) d))
+        ∙ turn_in (system rows) d (system_test rows paths crossings rotations d ∙ h)
 
     -- and no two of them to the same
     pub turns_apart : (c d : Dart) → has_dart (darts rows) c ≡ true → has_dart (darts rows) d ≡ true → turn (system rows) c ≡ turn (system rows) d → c ≡ d
-    turns_apart c d c_in d_in e = turn_apart (system rows) distinct_system c d (system_test rows paths crossings rotations c ∙ c_in) (system_test rows paths crossings rotations d ∙ d_in) e
+    turns_apart c d c_in d_in e =
+        turn_apart (system rows) distinct_system c d (system_test rows paths crossings rotations c ∙ c_in)
+        (system_test rows paths crossings rotations d ∙ d_in) e
 
     -- the dart with a number
     pub dart_at : (i : ℕ) → i < length (turn_images rows) → (d : Dart) × (slice_get (darts rows) i ≡ Some d)
@@ -229,12 +237,14 @@ module _ (rows : Rows) (paths : has_good_paths rows ≡ true) where
     turn_permutes = record {
       within = λ i h.
           let at = dart_at i h in
-          subst (λ n. n < length (turn_images rows)) (sym (image_at i at.0 at.1)) (index_less (turn (system rows) at.0) (turn_stays at.0 (has_at (darts rows) i at.0 at.1)));
+          subst (λ n. n < length (turn_images rows)) (sym (image_at i at.0 at.1))
+          (index_less (turn (system rows) at.0) (turn_stays at.0 (has_at (darts rows) i at.0 at.1)));
       apart = λ i j h k e.
           let c = dart_at i h in
           let d = dart_at j k in
           let c_in = has_at (darts rows) i c.0 c.1 in
           let d_in = has_at (darts rows) j d.0 d.1 in
-          let turned : turn (system rows) c.0 ≡ turn (system rows) d.0 = index_apart (turn (system rows) c.0) (turn (system rows) d.0) (turn_stays c.0 c_in) (turn_stays d.0 d_in) (sym (image_at i c.0 c.1) ∙ e ∙ image_at j d.0 d.1) in
+          let turned : turn (system rows) c.0 ≡ turn (system rows) d.0 = index_apart (turn (system rows) c.0) (turn (system rows) d.0) (turn_stays c.0 c_in)
+          (turn_stays d.0 d_in) (sym (image_at i c.0 c.1) ∙ e ∙ image_at j d.0 d.1) in
           sym (index_of_get i c.0 c.1) ∙ ap (index_of rows) (turns_apart c.0 d.0 c_in d_in turned) ∙ index_of_get j d.0 d.1;
     }

@@ -19,13 +19,15 @@ pub record Carries {X Y : Type 0} (h : X → Y) (P : X → Type 0) (f : X → X)
   pub carried : (x : X) → P x → g (h x) ≡ h (f x)
 
 -- many steps
-pub after_carried : {X Y : Type 0} (h : X → Y) (P : X → Type 0) (f : X → X) (g : Y → Y) → Carries h P f g → (k : ℕ) (x : X) → P x → P (after f k x) × (after g k (h x) ≡ h (after f k x))
+pub after_carried : {X Y : Type 0} (h : X → Y) (P : X → Type 0) (f : X → X) (g : Y → Y) → Carries h P f g → (k : ℕ) (x : X) → P x → P (after f k x)
+    × (after g k (h x) ≡ h (after f k x))
 after_carried h P f g c zero x p = (p, refl)
 after_carried h P f g c (suc k) x p =
     let rest = after_carried h P f g c k x p in grind arith
 
 -- moves by two such maps
-pub along_carried : {X Y : Type 0} (h : X → Y) (P : X → Type 0) (f other : X → X) (g twin : Y → Y) → Carries h P f g → Carries h P other twin → (moves : List Move) (x : X) → P x
+pub along_carried : {X Y : Type 0} (h : X → Y) (P : X → Type 0) (f other : X → X) (g twin : Y → Y) → Carries h P f g → Carries h P other twin
+    → (moves : List Move) (x : X) → P x
     → P (along f other moves x) × (along g twin moves (h x) ≡ h (along f other moves x))
 along_carried h P f other g twin c d [] x p = (p, refl)
 along_carried h P f other g twin c d (Turn ∷ moves) x p =
@@ -70,8 +72,10 @@ module _ (rows : Rows) (paths : has_good_paths rows ≡ true) (crossings : has_g
         let c_in = has_at (darts rows) i c.0 c.1 in
         let d_in = has_at (darts rows) j d.0 d.1 in
         let stepped : face_step (system rows) c.0 ≡ face_step (system rows) d.0 =
-        index_apart rows paths (face_step (system rows) c.0) (face_step (system rows) d.0) (face_carried.stays c.0 c_in) (face_carried.stays d.0 d_in) (sym (face_at i c.0 c.1) ∙ e ∙ face_at j d.0 d.1) in
-        let twins : dart_twin c.0 ≡ dart_twin d.0 = turns_apart rows paths crossings rotations (dart_twin c.0) (dart_twin d.0) (twin_in rows c.0 c_in) (twin_in rows d.0 d_in) stepped in
+        index_apart rows paths (face_step (system rows) c.0) (face_step (system rows) d.0) (face_carried.stays c.0 c_in) (face_carried.stays d.0 d_in)
+        (sym (face_at i c.0 c.1) ∙ e ∙ face_at j d.0 d.1) in
+        let twins : dart_twin c.0 ≡ dart_twin d.0 =
+        turns_apart rows paths crossings rotations (dart_twin c.0) (dart_twin d.0) (twin_in rows c.0 c_in) (twin_in rows d.0 d_in) stepped in
         let same : c.0 ≡ d.0 = sym (twin-twin c.0) ∙ ap dart_twin twins ∙ twin-twin d.0 in
         sym (index_of_get rows paths i c.0 c.1) ∙ ap (index_of rows) same ∙ index_of_get rows paths j d.0 d.1;
   }
@@ -80,11 +84,13 @@ module _ (rows : Rows) (paths : has_good_paths rows ≡ true) (crossings : has_g
   pub joined_numbers : (c d : Dart) → IsHere c → Joined (turn (system rows)) dart_twin c d → Joined (map_of images) twin (index_of rows c) (index_of rows d)
   joined_numbers c d c_in joined = record {
     moves = joined.moves;
-    leads = (along_carried (index_of rows) IsHere (turn (system rows)) dart_twin (map_of images) twin turn_carried twin_carried joined.moves c c_in).1 ∙ ap (index_of rows) joined.leads;
+    leads = (along_carried (index_of rows) IsHere (turn (system rows)) dart_twin (map_of images) twin turn_carried twin_carried joined.moves c c_in).1
+        ∙ ap (index_of rows) joined.leads;
   }
 
   -- and numbers only as their darts are
-  pub joined_darts : (c d : Dart) → IsHere c → IsHere d → Joined (map_of images) twin (index_of rows c) (index_of rows d) → Joined (turn (system rows)) dart_twin c d
+  pub joined_darts : (c d : Dart) → IsHere c → IsHere d → Joined (map_of images) twin (index_of rows c) (index_of rows d)
+      → Joined (turn (system rows)) dart_twin c d
   joined_darts c d c_in d_in joined =
       let led = along_carried (index_of rows) IsHere (turn (system rows)) dart_twin (map_of images) twin turn_carried twin_carried joined.moves c c_in in
       grind (arith, index_apart)
@@ -93,7 +99,8 @@ module _ (rows : Rows) (paths : has_good_paths rows ≡ true) (crossings : has_g
   pub face_numbers : (c d : Dart) → IsHere c → SameFace (system rows) c d → SameCycle (face_next (map_of images)) (index_of rows c) (index_of rows d)
   face_numbers c d c_in same = record {
     steps = same.steps;
-    leads = (after_carried (index_of rows) IsHere (face_step (system rows)) (face_next (map_of images)) face_carried same.steps c c_in).1 ∙ ap (index_of rows) same.leads;
+    leads = (after_carried (index_of rows) IsHere (face_step (system rows)) (face_next (map_of images)) face_carried same.steps c c_in).1
+        ∙ ap (index_of rows) same.leads;
   }
 
   -- and numbers only as their darts do
@@ -103,15 +110,19 @@ module _ (rows : Rows) (paths : has_good_paths rows ≡ true) (crossings : has_g
       grind (arith, index_apart)
 
   -- any two darts are joined just when any two numbers are
-  pub numbers_connected : ((c d : Dart) → has_dart (darts_in (system rows)) c ≡ true → has_dart (darts_in (system rows)) d ≡ true → Joined (turn (system rows)) dart_twin c d) → IsConnected images
+  pub numbers_connected : ((c d : Dart) → has_dart (darts_in (system rows)) c ≡ true → has_dart (darts_in (system rows)) d ≡ true
+      → Joined (turn (system rows)) dart_twin c d) → IsConnected images
   numbers_connected joined a b a_in b_in =
       let c = dart_at rows paths crossings rotations a a_in in
       let d = dart_at rows paths crossings rotations b b_in in
       let c_in = has_at (darts rows) a c.0 c.1 in
       let d_in = has_at (darts rows) b d.0 d.1 in
-      let numbers = joined_numbers c.0 d.0 c_in (joined c.0 d.0 (system_test rows paths crossings rotations c.0 ∙ c_in) (system_test rows paths crossings rotations d.0 ∙ d_in)) in
-      subst (λ i. Joined (map_of images) twin i b) (index_of_get rows paths a c.0 c.1) (subst (Joined (map_of images) twin (index_of rows c.0)) (index_of_get rows paths b d.0 d.1) numbers)
+      let numbers = joined_numbers c.0 d.0 c_in
+      (joined c.0 d.0 (system_test rows paths crossings rotations c.0 ∙ c_in) (system_test rows paths crossings rotations d.0 ∙ d_in)) in
+      subst (λ i. Joined (map_of images) twin i b) (index_of_get rows paths a c.0 c.1)
+      (subst (Joined (map_of images) twin (index_of rows c.0)) (index_of_get rows paths b d.0 d.1) numbers)
 
   -- and any two darts are joined if any two numbers are
-  pub darts_connected : IsConnected images → (c d : Dart) → has_dart (darts_in (system rows)) c ≡ true → has_dart (darts_in (system rows)) d ≡ true → Joined (turn (system rows)) dart_twin c d
+  pub darts_connected : IsConnected images → (c d : Dart) → has_dart (darts_in (system rows)) c ≡ true → has_dart (darts_in (system rows)) d ≡ true
+      → Joined (turn (system rows)) dart_twin c d
   darts_connected connected c d c_in d_in = grind (arith, system_test, joined_darts, index_less)

@@ -83,7 +83,8 @@ module _ (price : Pricing) (rows : Rows) (s : System) (ds : List Dart) (height :
     drop : height x ≡ cost + height (dart_twin x)
     later : height (dart_twin x) ≡ m
 
-  descends : (x : Dart) (xs : List Dart) (c d : Dart) (n : ℕ) → has_dart ds c ≡ true → Crosses s c (x ∷ xs) d → (cost : Costs price rows (x ∷ xs) n) → height d ≡ 0 → height c ≡ n → Descends c x xs cost.1
+  descends : (x : Dart) (xs : List Dart) (c d : Dart) (n : ℕ) → has_dart ds c ≡ true → Crosses s c (x ∷ xs) d → (cost : Costs price rows (x ∷ xs) n)
+      → height d ≡ 0 → height c ≡ n → Descends c x xs cost.1
   descends x xs c d n h walk cost zero_there same =
       let e = face_height c x h walk.0 in
       let there = face_in c x h walk.0 in
@@ -106,9 +107,11 @@ module _ (price : Pricing) (rows : Rows) (s : System) (ds : List Dart) (height :
       let tight : IsTight price rows height y = record { cost = other.cost; asked = other.asked; drop = other.drop } in
       let before = first.0 y (known y other.is_in) (subst (λ t. SameFace t c y) is walk'.0) tight in
       by_order (split_order (dart_cmp x y) before) mine other
-      (λ ys' m is_rest same_cost. compare_walks positive xs ys' (dart_twin x) d e m (twins x mine.is_in) (walk.1) (subst (Costs price rows xs) (sym same_cost) cost.3) down is_rest.0 is_rest.1 down' (mine.later ∙ sym same_cost) known is first.1) where
+      (λ ys' m is_rest same_cost. compare_walks positive xs ys' (dart_twin x) d e m (twins x mine.is_in) (walk.1)
+      (subst (Costs price rows xs) (sym same_cost) cost.3) down is_rest.0 is_rest.1 down' (mine.later ∙ sym same_cost) known is first.1) where
         by_order : (dart_cmp x y ≡ Less) ⊎ (dart_cmp x y ≡ Equal) → Descends c x xs cost.1 → Descends c y ys cost'.1
-            → ((ys' : List Dart) (m : ℕ) → Crosses s (dart_twin x) ys' e × Costs price rows ys' m → m ≡ cost.1 → (slice_cmp dart_cmp xs ys' ≡ Less) ⊎ (xs ≡ ys'))
+            → ((ys' : List Dart) (m : ℕ) → Crosses s (dart_twin x) ys' e × Costs price rows ys' m → m ≡ cost.1
+            → (slice_cmp dart_cmp xs ys' ≡ Less) ⊎ (xs ≡ ys'))
             → (slice_cmp dart_cmp (x ∷ xs) (y ∷ ys) ≡ Less) ⊎ ((x ∷ xs) ≡ (y ∷ ys))
         by_order (inl less) mine other rest = inl (ap (λ o. ordering_then o (slice_cmp dart_cmp xs ys)) less)
         by_order (inr equal) mine other rest =
@@ -138,7 +141,8 @@ pub record Certified (price : Pricing) (rows : Rows) (u v : ℕ) (height : Dart 
 
 module _ (price : Pricing) (rows : Rows) (u v : ℕ) (height : Dart → ℕ) (known : Certified price rows u v height) where
   walk_bound : (r : Route) (n : ℕ) → (route : IsRoute rows u v r) → Costs price rows r.crossed n → height route.from ≤ n
-  walk_bound r n route cost = height_bounds price rows (system rows) (darts rows) height known.closed known.twins known.certificate.even known.certificate.gentle
+  walk_bound r n route cost =
+      height_bounds price rows (system rows) (darts rows) height known.closed known.twins known.certificate.even known.certificate.gentle
       r.crossed route.from route.to n (known.corners r.start route.from route.starts) route.walk cost (known.certificate.target r.end route.to route.ends)
 
   -- no route costs less than the height of the corner where it starts
@@ -151,7 +155,8 @@ module _ (price : Pricing) (rows : Rows) (u v : ℕ) (height : Dart → ℕ) (kn
     start_height other priced = grind (arith, walk_bound)
 
     not_earlier : (other : Route) → IsPricedRoute price rows u v other n → r.start ≤ other.start
-    not_earlier other priced = not_below r.start other.start (λ before. by_heights.first_start other.start priced.route.from before priced.route.starts (start_height other priced))
+    not_earlier other priced =
+        not_below r.start other.start (λ before. by_heights.first_start other.start priced.route.from before priced.route.starts (start_height other priced))
 
     abbrev mine : IsRoute rows u v r
     mine = by_heights.priced.route
@@ -177,7 +182,8 @@ module _ (price : Pricing) (rows : Rows) (u v : ℕ) (height : Dart → ℕ) (kn
 
       ends_first : r.crossed ≡ other.crossed → r.end ≤ other.end
       ends_first lists = not_below r.end other.end (λ before. by_heights.first_end other.end priced.route.to before priced.route.ends
-          (subst (λ xs. SameFace (system rows) (arrival mine.from xs) priced.route.to) (sym lists) (arrives (system rows) other.crossed mine.from priced.route.to other_walk)))
+          (subst (λ xs. SameFace (system rows) (arrival mine.from xs) priced.route.to) (sym lists)
+          (arrives (system rows) other.crossed mine.from priced.route.to other_walk)))
 
       by_walks : (slice_cmp dart_cmp r.crossed other.crossed ≡ Less) ⊎ (r.crossed ≡ other.crossed) → route_cmp r other ≢ Greater
       by_walks (inl less) e = grind (arith, equal_starts)
@@ -203,7 +209,8 @@ module _ (price : Pricing) (rows : Rows) (u v : ℕ) (height : Dart → ℕ) (kn
 -- ---- Costs
 
 -- a walk of prices at least 1 costs at least the number of darts that it crosses
-pub length-le-cost : (price : Pricing) (rows : Rows) → ((d : Dart) (p : ℕ) → Price price rows d p → 1 ≤ p) → (ds : List Dart) (n : ℕ) → Costs price rows ds n → length ds ≤ n
+pub length-le-cost : (price : Pricing) (rows : Rows) → ((d : Dart) (p : ℕ) → Price price rows d p → 1 ≤ p) → (ds : List Dart) (n : ℕ)
+    → Costs price rows ds n → length ds ≤ n
 length-le-cost price rows positive [] n cost = omega arith
 length-le-cost price rows positive (d ∷ ds) n cost =
     let one = positive d cost.0 cost.2 in
@@ -211,7 +218,8 @@ length-le-cost price rows positive (d ∷ ds) n cost =
     grind (arith, cost)
 
 -- where an edge has one price, a walk has one cost
-pub one_cost : (price : Pricing) (rows : Rows) → ((d : Dart) (p q : ℕ) → Price price rows d p → Price price rows d q → p ≡ q) → (ds : List Dart) (m n : ℕ) → Costs price rows ds m → Costs price rows ds n → m ≡ n
+pub one_cost : (price : Pricing) (rows : Rows) → ((d : Dart) (p q : ℕ) → Price price rows d p → Price price rows d q → p ≡ q) → (ds : List Dart) (m n : ℕ)
+    → Costs price rows ds m → Costs price rows ds n → m ≡ n
 one_cost price rows same [] m n a b = a ∙ sym b
 one_cost price rows same (d ∷ ds) m n a b =
     let first = same d a.0 b.0 a.2 b.2 in
@@ -221,25 +229,29 @@ one_cost price rows same (d ∷ ds) m n a b =
 -- ---- Facts
 
 abbrev facts : (id a b kind : ℕ) → id < 2 ^ 32 → a < 2 ^ 32 → b < 2 ^ 32 → kind < 64 → Facts
-facts id a b kind id_in a_in b_in kind_in = record { id = id; a = a; b = b; kind = kind; id_in_range = id_in; a_in_range = a_in; b_in_range = b_in; known_kind = kind_in }
+facts id a b kind id_in a_in b_in kind_in =
+    record { id = id; a = a; b = b; kind = kind; id_in_range = id_in; a_in_range = a_in; b_in_range = b_in; known_kind = kind_in }
 
 -- facts are told apart by their four numbers alone
 module _ (a b kind : ℕ) (a_in : a < 2 ^ 32) (b_in : b < 2 ^ 32) (kind_in : kind < 64) where
   facts_by_id : (m n : ℕ) → m ≡ n → (p : m < 2 ^ 32) (q : n < 2 ^ 32)
       → facts m a b kind p a_in b_in kind_in ≡ facts n a b kind q a_in b_in kind_in
-  facts_by_id m n e = let P : ℕ → Type 0 = λ n. (p : m < 2 ^ 32) (q : n < 2 ^ 32) → facts m a b kind p a_in b_in kind_in ≡ facts n a b kind q a_in b_in kind_in in
+  facts_by_id m n e = let P : ℕ → Type 0 = λ n. (p : m < 2 ^ 32) (q : n < 2 ^ 32)
+      → facts m a b kind p a_in b_in kind_in ≡ facts n a b kind q a_in b_in kind_in in
       subst P e (λ p q. ap (λ (x : m < 2 ^ 32). facts m a b kind x a_in b_in kind_in) (le_prop p q))
 
 module _ (id b kind : ℕ) (id_in : id < 2 ^ 32) (b_in : b < 2 ^ 32) (kind_in : kind < 64) where
   facts_by_a : (m n : ℕ) → m ≡ n → (p : m < 2 ^ 32) (q : n < 2 ^ 32)
       → facts id m b kind id_in p b_in kind_in ≡ facts id n b kind id_in q b_in kind_in
-  facts_by_a m n e = let P : ℕ → Type 0 = λ n. (p : m < 2 ^ 32) (q : n < 2 ^ 32) → facts id m b kind id_in p b_in kind_in ≡ facts id n b kind id_in q b_in kind_in in
+  facts_by_a m n e = let P : ℕ → Type 0 = λ n. (p : m < 2 ^ 32) (q : n < 2 ^ 32)
+      → facts id m b kind id_in p b_in kind_in ≡ facts id n b kind id_in q b_in kind_in in
       subst P e (λ p q. ap (λ (x : m < 2 ^ 32). facts id m b kind id_in x b_in kind_in) (le_prop p q))
 
 module _ (id a kind : ℕ) (id_in : id < 2 ^ 32) (a_in : a < 2 ^ 32) (kind_in : kind < 64) where
   facts_by_b : (m n : ℕ) → m ≡ n → (p : m < 2 ^ 32) (q : n < 2 ^ 32)
       → facts id a m kind id_in a_in p kind_in ≡ facts id a n kind id_in a_in q kind_in
-  facts_by_b m n e = let P : ℕ → Type 0 = λ n. (p : m < 2 ^ 32) (q : n < 2 ^ 32) → facts id a m kind id_in a_in p kind_in ≡ facts id a n kind id_in a_in q kind_in in
+  facts_by_b m n e = let P : ℕ → Type 0 = λ n. (p : m < 2 ^ 32) (q : n < 2 ^ 32)
+      → facts id a m kind id_in a_in p kind_in ≡ facts id a n kind id_in a_in q kind_in in
       subst P e (λ p q. ap (λ (x : m < 2 ^ 32). facts id a m kind id_in a_in x kind_in) (le_prop p q))
 
 module _ (id a b : ℕ) (id_in : id < 2 ^ 32) (a_in : a < 2 ^ 32) (b_in : b < 2 ^ 32) where
@@ -258,4 +270,5 @@ one_facts row f g is_f is_g =
 
 -- so the price of an edge is one
 pub single_price : (price : Pricing) (rows : Rows) → KeepsPromise price → (d : Dart) (p q : ℕ) → Price price rows d p → Price price rows d q → p ≡ q
-single_price price rows promise d p q a b = promise.single a.facts p q a.asked (subst (λ f. price f q) (one_facts (edge_at rows d.edge) b.facts a.facts b.known a.known) b.asked)
+single_price price rows promise d p q a b =
+    promise.single a.facts p q a.asked (subst (λ f. price f q) (one_facts (edge_at rows d.edge) b.facts a.facts b.known a.known) b.asked)

@@ -1,6 +1,7 @@
 -- The order of routes has no endless descent among routes of one cost, so where there is a route there is a first one; and so
 -- each call has a step.
-use Rattle.std.proofs.Common.{◌≡◌, ◌≤◌, ◌<◌, ◌+◌, ◌⊎◌, ℕ, zero, suc, List, [], ◌∷◌, length, true, Option, Some, None, refl, sym, subst, ap, ◌∙◌, arith, inl, inr}
+use Rattle.std.proofs.Common.{◌≡◌, ◌≤◌, ◌<◌, ◌+◌, ◌⊎◌, ℕ, zero, suc, List, [], ◌∷◌, length, true}
+use Rattle.std.proofs.Common.{Option, Some, None, refl, sym, subst, ap, ◌∙◌, arith, inl, inr}
 use Rattle.std.proofs.lemmas.Bool.{cases_lt}
 use Rattle.std.proofs.lemmas.Bool.Decides.{nat_tests}
 use Rattle.std.specs.Prelude.{is_some}
@@ -81,7 +82,8 @@ module _ (P : Dart → Type 0) (step : (d : Dart) → ((c : Dart) → dart_cmp d
     | inl first ↦ inl (greater_number d.edge c.edge first)
     | inr rest ↦ by_segment rest.0 (then_greater (nat_cmp d.seg c.seg) (way_cmp d.way c.way) rest.1)
   ] where
-    by_segment : nat_cmp d.edge c.edge ≡ Equal → (nat_cmp d.seg c.seg ≡ Greater) ⊎ ((nat_cmp d.seg c.seg ≡ Equal) × (way_cmp d.way c.way ≡ Greater)) → IsEarlier d c
+    by_segment : nat_cmp d.edge c.edge ≡ Equal → (nat_cmp d.seg c.seg ≡ Greater)
+        ⊎ ((nat_cmp d.seg c.seg ≡ Equal) × (way_cmp d.way c.way ≡ Greater)) → IsEarlier d c
     by_segment e (inl second) = inr (inl (sym (equal_number d.edge c.edge e), greater_number d.seg c.seg second))
     by_segment e (inr rest) = inr (inr (sym (equal_number d.edge c.edge e), sym (equal_number d.seg c.seg rest.0), rest.1))
 
@@ -162,13 +164,17 @@ module _ (price : Pricing) (promise : KeepsPromise price) (rows : Rows) (u v : �
         → (r : Route) → r.start ≡ a → r.crossed ≡ xs → r.end ≡ z → Has r n → ⊥
     at_end a xs z starts walks ends r rs rc re priced = not_first r priced before where
       before : (other : Route) → Has other n → route_cmp r other ≡ Greater → ⊥
-      before other has g = elim (then_greater (nat_cmp r.start other.start) (ordering_then (slice_cmp dart_cmp r.crossed other.crossed) (nat_cmp r.end other.end)) g) [
-        | inl first ↦ starts other (let h = greater_number r.start other.start first in omega arith) has
-        | inr rest ↦ by_walk (sym (equal_number r.start other.start rest.0) ∙ rs) (then_greater (slice_cmp dart_cmp r.crossed other.crossed) (nat_cmp r.end other.end) rest.1)
-      ] where
-        by_walk : other.start ≡ a → (slice_cmp dart_cmp r.crossed other.crossed ≡ Greater) ⊎ ((slice_cmp dart_cmp r.crossed other.crossed ≡ Equal) × (nat_cmp r.end other.end ≡ Greater)) → ⊥
-        by_walk same (inl second) = walks other same (subst (λ zs. slice_cmp dart_cmp zs other.crossed ≡ Greater) rc second) has
-        by_walk same (inr last) = ends other same (sym (slice_cmp-IsAntisymmetric dart_cmp_equal r.crossed other.crossed last.0) ∙ rc) (let h = greater_number r.end other.end last.1 in omega arith) has
+      before other has g =
+          elim (then_greater (nat_cmp r.start other.start) (ordering_then (slice_cmp dart_cmp r.crossed other.crossed) (nat_cmp r.end other.end)) g) [
+            | inl first ↦ starts other (let h = greater_number r.start other.start first in omega arith) has
+            | inr rest ↦ by_walk (sym (equal_number r.start other.start rest.0) ∙ rs)
+                (then_greater (slice_cmp dart_cmp r.crossed other.crossed) (nat_cmp r.end other.end) rest.1)
+          ] where
+            by_walk : other.start ≡ a → (slice_cmp dart_cmp r.crossed other.crossed ≡ Greater)
+                ⊎ ((slice_cmp dart_cmp r.crossed other.crossed ≡ Equal) × (nat_cmp r.end other.end ≡ Greater)) → ⊥
+            by_walk same (inl second) = walks other same (subst (λ zs. slice_cmp dart_cmp zs other.crossed ≡ Greater) rc second) has
+            by_walk same (inr last) = ends other same (sym (slice_cmp-IsAntisymmetric dart_cmp_equal r.crossed other.crossed last.0) ∙ rc)
+                (let h = greater_number r.end other.end last.1 in omega arith) has
 
     at_walk : (a : ℕ) (xs : List Dart)
         → ((other : Route) → other.start < a → Has other n → ⊥)
@@ -179,7 +185,8 @@ module _ (price : Pricing) (promise : KeepsPromise price) (rows : Rows) (u v : �
 
     at_start : (a : ℕ) → ((other : Route) → other.start < a → Has other n → ⊥) → (r : Route) → r.start ≡ a → Has r n → ⊥
     at_start a starts r rs priced = by_list n (λ xs. (r : Route) → r.start ≡ a → r.crossed ≡ xs → Has r n → ⊥)
-        (λ xs low walks. at_walk a xs starts (λ other os g has. walks other.crossed (short other n has) g other os refl has)) r.crossed (short r n priced) r rs refl priced
+        (λ xs low walks. at_walk a xs starts (λ other os g has. walks other.crossed (short other n has) g other os refl has)) r.crossed (short r n priced)
+        r rs refl priced
 
     none_of_cost : (r : Route) → Has r n → ⊥
     none_of_cost r priced = by_number (λ a. (r : Route) → r.start ≡ a → Has r n → ⊥)

@@ -15,7 +15,8 @@ use Rattle.topo_core.proofs.routing.SimpleRoutes.{face_stays, face_through}
 
 module _ (price : Pricing) (promise : KeepsPromise price) (rows : Rows) (good : IsWellFormed rows) where
   -- a walk may begin at any dart of the face where it begins
-  begins_anywhere : (xs : List Dart) (b c d : Dart) → has_dart (darts rows) b ≡ true → SameFace (system rows) b c → Crosses (system rows) c xs d → Crosses (system rows) b xs d
+  begins_anywhere : (xs : List Dart) (b c d : Dart) → has_dart (darts rows) b ≡ true → SameFace (system rows) b c → Crosses (system rows) c xs d
+      → Crosses (system rows) b xs d
   begins_anywhere [] b c d b_in same walk = face_through rows good b c d b_in same walk
   begins_anywhere (x ∷ xs) b c d b_in same walk = (face_through rows good b c x b_in same walk.0, walk.1)
 
@@ -24,7 +25,8 @@ module _ (price : Pricing) (promise : KeepsPromise price) (rows : Rows) (good : 
   IsShortest c d n = (ys : List Dart) (m : ℕ) → Crosses (system rows) c ys d → Costs price rows ys m → n ≤ m
 
   -- what is left of a shortest walk never comes to the first face again
-  comes_never_back : (ys : List Dart) (b c d : Dart) (n m : ℕ) → has_dart (darts rows) c ≡ true → IsShortest c d n → Crosses (system rows) b ys d → Costs price rows ys m → m ≤ n
+  comes_never_back : (ys : List Dart) (b c d : Dart) (n m : ℕ) → has_dart (darts rows) c ≡ true → IsShortest c d n → Crosses (system rows) b ys d
+      → Costs price rows ys m → m ≤ n
       → AllByRecursion (λ y. SameFace (system rows) c (dart_twin y) → ⊥) ys
   comes_never_back [] b c d n m c_in shortest walk cost below = tt
   comes_never_back (y ∷ ys) b c d n m c_in shortest walk cost below =
@@ -36,7 +38,8 @@ module _ (price : Pricing) (promise : KeepsPromise price) (rows : Rows) (good : 
       in
       (back, comes_never_back ys (dart_twin y) c d n cost.1 c_in shortest walk.1 cost.3 (omega arith))
 
-  shortest_meets_once : (xs : List Dart) (c d : Dart) (n : ℕ) → has_dart (darts rows) c ≡ true → IsShortest c d n → Crosses (system rows) c xs d → Costs price rows xs n
+  shortest_meets_once : (xs : List Dart) (c d : Dart) (n : ℕ) → has_dart (darts rows) c ≡ true → IsShortest c d n → Crosses (system rows) c xs d
+      → Costs price rows xs n
       → MeetsFacesOnce (system rows) c xs
   shortest_meets_once [] c d n c_in shortest walk cost = tt
   shortest_meets_once (x ∷ xs) c d n c_in shortest walk cost =
@@ -44,8 +47,10 @@ module _ (price : Pricing) (promise : KeepsPromise price) (rows : Rows) (good : 
       let later : IsShortest (dart_twin x) d cost.1 = λ ys m other paid.
       let whole = shortest (x ∷ ys) (cost.0 + m) (walk.0, other) (cost.0, m, cost.2, paid, refl) in
       omega arith
-      in
-      (comes_never_back (x ∷ xs) c c d n n c_in shortest walk cost (omega arith), shortest_meets_once xs (dart_twin x) d cost.1 (twin_in rows x (face_stays rows good c x c_in walk.0)) later walk.1 cost.3)
+      in (
+        comes_never_back (x ∷ xs) c c d n n c_in shortest walk cost (omega arith),
+        shortest_meets_once xs (dart_twin x) d cost.1 (twin_in rows x (face_stays rows good c x c_in walk.0)) later walk.1 cost.3,
+      )
 
   -- a least route meets no face twice
   pub least_is_simple : (u v : ℕ) (r : Route) (n : ℕ) → IsLeast price rows u v r n → IsSimpleRoute rows u v r
@@ -54,4 +59,8 @@ module _ (price : Pricing) (promise : KeepsPromise price) (rows : Rows) (good : 
       let shortest : IsShortest route.from route.to n = λ ys m walk cost. least.least (record r { crossed = ys }) m
       (record { route = record { from = route.from; to = route.to; starts = route.starts; ends = route.ends; walk = walk }; cost = cost })
       in
-      record { route = route; once = shortest_meets_once r.crossed route.from route.to n (corner_in rows good u r.start route.from route.starts) shortest route.walk least.priced.cost }
+      record {
+        route = route;
+        once = shortest_meets_once r.crossed route.from route.to n (corner_in rows good u r.start route.from route.starts)
+            shortest route.walk least.priced.cost;
+      }

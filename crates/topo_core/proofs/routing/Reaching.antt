@@ -28,7 +28,8 @@ crosses_more s [] c d e walk same = (walk, same)
 crosses_more s (x ∷ xs) c d e walk same = (walk.0, crosses_more s xs (dart_twin x) d e walk.1 same)
 
 -- and costs the price of d more
-costs_more : (price : Pricing) (rows : Rows) (xs : List Dart) (d : Dart) (m p : ℕ) → Costs price rows xs m → Price price rows d p → (n : ℕ) × Costs price rows (xs ++ d ∷ []) n
+costs_more : (price : Pricing) (rows : Rows) (xs : List Dart) (d : Dart) (m p : ℕ) → Costs price rows xs m → Price price rows d p → (n : ℕ)
+    × Costs price rows (xs ++ d ∷ []) n
 costs_more price rows [] d m p cost asked = (p + 0, (p, 0, asked, refl, refl))
 costs_more price rows (x ∷ xs) d m p cost asked =
     let rest = costs_more price rows xs d cost.1 p cost.3 asked in
@@ -70,7 +71,9 @@ has_corner rows good v below = by_list (around_vertex rows v) refl where
   at_point = vertex_point rows v (vertex_in rows v below)
 
   by_list : (around : List Dart) → around_vertex rows v ≡ around → (c : Dart) × (corner rows v 0 ≡ Some c)
-  by_list [] e = absurd (false≢true (sym good.connected.no_bare_point ∙ any_of (λ around. length around == 0) (around_vertex rows v) (system rows) at_point (ap (λ around. length around == 0) e)))
+  by_list [] e = absurd
+      (false≢true (sym good.connected.no_bare_point
+      ∙ any_of (λ around. length around == 0) (around_vertex rows v) (system rows) at_point (ap (λ around. length around == 0) e)))
   by_list (c ∷ around) e = (c, ap (λ around. slice_get around 0) e)
 
 -- from the first corner of u to the first of v

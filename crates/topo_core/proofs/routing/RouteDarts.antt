@@ -42,7 +42,8 @@ corner_in rows good v p c at = by_test (nat_lt v (length rows.rotations)) refl w
   by_test false e = grind (arith, past_end, le_of_test)
 
 -- a certificate of an embedding
-pub certified : (price : Pricing) (rows : Rows) (u v : ℕ) (height : Dart → ℕ) → IsWellFormed rows → IsCertificate price rows v height → Certified price rows u v height
+pub certified : (price : Pricing) (rows : Rows) (u v : ℕ) (height : Dart → ℕ) → IsWellFormed rows → IsCertificate price rows v height
+    → Certified price rows u v height
 certified price rows u v height good certificate = record {
   closed = λ d h. turn_stays rows good.paths good.crossings good.rotations (dart_twin d) (twin_in rows d h);
   twins = twin_in rows;

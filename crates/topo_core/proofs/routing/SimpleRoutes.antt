@@ -58,7 +58,8 @@ module _ (rows : Rows) (good : IsWellFormed rows) where
   -- faces go both ways
   pub face_back : (c d : Dart) → IsHere c → SameFace (system rows) c d → SameFace (system rows) d c
   face_back c d h same = face_darts rows good.paths good.crossings good.rotations d c (face_stays c d h same) h
-      (SameCycle-sym (face_next (map_of (turn_images rows))) (length (turn_images rows)) (face_permutes rows good.paths good.crossings good.rotations) (index_of rows c) (index_of rows d)
+      (SameCycle-sym (face_next (map_of (turn_images rows))) (length (turn_images rows)) (face_permutes rows good.paths good.crossings good.rotations)
+      (index_of rows c) (index_of rows d)
       (index_less rows good.paths good.crossings good.rotations c h)
       (face_numbers rows good.paths good.crossings good.rotations c d h same))
 
@@ -81,7 +82,8 @@ module _ (rows : Rows) (good : IsWellFormed rows) where
       (x_in, crossed_in xs (dart_twin x) d (twin_in rows x x_in) walk.1)
 
   -- x lies in the face of c, and the walk from b never comes to that face again: so it does not cross the segment of x
-  never_again : (ys : List Dart) (c x b d : Dart) → IsHere c → SameFace (system rows) c x → IsHere b → (SameFace (system rows) c b → ⊥) → Crosses (system rows) b ys d
+  never_again : (ys : List Dart) (c x b d : Dart) → IsHere c → SameFace (system rows) c x → IsHere b → (SameFace (system rows) c b → ⊥)
+      → Crosses (system rows) b ys d
       → AllByRecursion (λ y. SameFace (system rows) c (dart_twin y) → ⊥) ys → AllByRecursion (λ y. same_segment x y ≡ false) ys
   never_again [] c x b d c_in on_face b_in apart walk never = tt
   never_again (y ∷ ys) c x b d c_in on_face b_in apart walk never =
@@ -109,6 +111,7 @@ module _ (rows : Rows) (good : IsWellFormed rows) where
   position_there w p c at = subst (λ n. p < n) (length-map (rotation rows w) (end_dart rows w)) (slice_get_within (around_vertex rows w) p c at)
 
 -- an edge can be shown along a route that meets no face twice
-pub simple_is_insertable : (rows : Rows) (u v kind : ℕ) (r : Route) → IsWellFormed rows → u < length rows.rotations → v < length rows.rotations → u ≢ v → kind < 64
+pub simple_is_insertable : (rows : Rows) (u v kind : ℕ) (r : Route) → IsWellFormed rows → u < length rows.rotations → v < length rows.rotations
+    → u ≢ v → kind < 64
     → IsSimpleRoute rows u v r → IsInsertable rows u v kind r
 simple_is_insertable rows u v kind r good u_in v_in apart known simple = grind (arith, corner_in, position_there, crossed_in, crosses_once)

@@ -1,5 +1,6 @@
 -- Tests that compute, and what they prove of routes, cuts and lawful pictures: the tools of the evidence.
-use Rattle.std.proofs.Common.{◌≡◌, ◌≢◌, ℕ, zero, suc, ◌+◌, ◌^◌, ◌≤◌, ◌<◌, Bool, true, false, not, ◌&&◌, ◌||◌, nat_le, nat_lt, List, [], ◌∷◌, length, take, Some, slice_get, slice_index, slice_index_or, refl, sym, ap, subst, ◌∙◌, arith, inl, inr}
+use Rattle.std.proofs.Common.{◌≡◌, ◌≢◌, ℕ, zero, suc, ◌+◌, ◌^◌, ◌≤◌, ◌<◌, Bool, true, false, not, ◌&&◌, ◌||◌, nat_le, nat_lt, List, []}
+use Rattle.std.proofs.Common.{◌∷◌, length, take, Some, slice_get, slice_index, slice_index_or, refl, sym, ap, subst, ◌∙◌, arith, inl, inr}
 use Rattle.std.specs.Prelude.{◌==◌, is_some}
 use Rattle.std.specs.List.{list_all, list_any}
 use Rattle.std.specs.Ordering.{is_gt}
@@ -49,7 +50,8 @@ at_place p (y ∷ xs) all zero x h = let same : y ≡ x = cc in ap p (sym same) 
 at_place p (y ∷ xs) all (suc i) x h = at_place p xs (right_true (p y) (list_all p xs) all) i x h
 
 -- what a test says of the item at a place before n
-before_place : {X : Type 0} (p : X → Bool) (xs : List X) (n : ℕ) → list_all p (take n xs) ≡ true → (i : ℕ) (x : X) → i < n → slice_get xs i ≡ Some x → p x ≡ true
+before_place : {X : Type 0} (p : X → Bool) (xs : List X) (n : ℕ) → list_all p (take n xs) ≡ true → (i : ℕ) (x : X) → i < n
+    → slice_get xs i ≡ Some x → p x ≡ true
 before_place p xs zero all i x below h = absurd (omega arith)
 before_place p [] (suc n) all i x below h = cc
 before_place p (y ∷ xs) (suc n) all zero x below h = let same : y ≡ x = cc in ap p (sym same) ∙ left_true (p y) (list_all p (take n xs)) all
@@ -149,9 +151,11 @@ module _ (prices : List ℕ) (rows : Rows) where
   total_price [] = 0
   total_price (d ∷ ds) = price_at d + total_price ds
 
-  costs_there : (ds : List Dart) → list_all (λ d. in_range_test (edge_at rows d.edge) && has_price d) ds ≡ true → Costs (by_kind prices) rows ds (total_price ds)
+  costs_there : (ds : List Dart) → list_all (λ d. in_range_test (edge_at rows d.edge) && has_price d) ds ≡ true
+      → Costs (by_kind prices) rows ds (total_price ds)
   costs_there [] h = refl
-  costs_there (d ∷ ds) h = (price_at d, total_price ds, price_there d (left_true _ _ (left_true _ _ h)) (right_true _ _ (left_true _ _ h)), costs_there ds (right_true _ _ h), refl)
+  costs_there (d ∷ ds) h =
+      (price_at d, total_price ds, price_there d (left_true _ _ (left_true _ _ h)) (right_true _ _ (left_true _ _ h)), costs_there ds (right_true _ _ h), refl)
 
 -- ---- First routes
 
@@ -190,7 +194,8 @@ module _ (rows : Rows) (u v : ℕ) (plan : Planned) where
   abbrev takes_first_test : Dart → List Dart → Bool
   takes_first_test c [] = true
   takes_first_test c (x ∷ xs) =
-      (holds_face (system rows) (face_of (system rows) c) c && list_all (λ y. not (is_tight y) || (not (has_dart (face_of (system rows) c) y) || dart_le x y)) (darts rows))
+      (holds_face (system rows) (face_of (system rows) c) c
+      && list_all (λ y. not (is_tight y) || (not (has_dart (face_of (system rows) c) y) || dart_le x y)) (darts rows))
       && takes_first_test (dart_twin x) xs
 
   abbrev goes : Dart → Bool
@@ -230,9 +235,12 @@ module _ (rows : Rows) (u v : ℕ) (plan : Planned) where
   takes_first c (x ∷ xs) h = (
     λ y known face tight.
         let held = left_true _ _ (left_true _ _ h) in
-        let tests = for_each (λ y. not (is_tight y) || (not (has_dart (face_of (system rows) c) y) || dart_le x y)) (darts rows) (right_true _ _ (left_true _ _ h)) y known in
-        let is : is_tight y ≡ true = both_true _ _ (price_has plan.prices rows y tight.cost tight.asked) (eq_test _ _ (tight.drop ∙ ap (λ p. p + height (dart_twin y)) (price_is plan.prices rows y tight.cost tight.asked))) in
-        le_not_above x y (or_first (has_dart (face_of (system rows) c) y) (dart_le x y) (face_held (system rows) (face_of (system rows) c) c y held face) (or_first (is_tight y) _ is tests)),
+        let tests = for_each (λ y. not (is_tight y) || (not (has_dart (face_of (system rows) c) y) || dart_le x y)) (darts rows)
+        (right_true _ _ (left_true _ _ h)) y known in
+        let is : is_tight y ≡ true = both_true _ _ (price_has plan.prices rows y tight.cost tight.asked)
+        (eq_test _ _ (tight.drop ∙ ap (λ p. p + height (dart_twin y)) (price_is plan.prices rows y tight.cost tight.asked))) in
+        le_not_above x y (or_first (has_dart (face_of (system rows) c) y) (dart_le x y) (face_held (system rows) (face_of (system rows) c) c y held face)
+        (or_first (is_tight y) _ is tests)),
     takes_first (dart_twin x) xs (right_true _ _ h),
   )
 
@@ -245,7 +253,8 @@ module _ (rows : Rows) (u v : ℕ) (plan : Planned) where
   first_by_tests passes = first_by_heights (by_kind plan.prices) rows u v height certified (λ d p price. price.asked.1) planned_route cost (record {
     priced = grind (arith, crosses_by_test, costs_there);
     least_height = λ p c at. le_from_test cost (height c) (at_place (λ c. nat_le cost (height c)) (around_vertex rows u) passes.least_height p c at);
-    first_start = λ p c before at same. not_both (height c == cost) (before_place (λ c. not (height c == cost)) (around_vertex rows u) plan.start passes.first_start p c before at) (eq_test (height c) cost same);
+    first_start = λ p c before at same. not_both (height c == cost)
+        (before_place (λ c. not (height c == cost)) (around_vertex rows u) plan.start passes.first_start p c before at) (eq_test (height c) cost same);
     first_darts = takes_first plan.from plan.crossed passes.first_darts;
     first_end = λ p c before at face. not_both (goes c) (before_place (λ c. not (goes c)) (around_vertex rows v) plan.end passes.first_end p c before at)
         (face_held (system rows) (face_of (system rows) (arrival plan.from plan.crossed)) (arrival plan.from plan.crossed) c passes.arrival_held face);
@@ -271,22 +280,26 @@ module _ (price : Pricing) (may : Dart → Bool) (rows : Rows) (u v : ℕ) (ds :
 
   -- then there is no route from u to v
   pub no_route_by_tests : Encloses → HasNoRoute price rows u v
-  no_route_by_tests encloses r n priced = never r.crossed priced.route.from n (at_place (has_dart ds) (around_vertex rows u) encloses.from r.start priced.route.from priced.route.starts) priced.route.walk priced.cost where
-    out : (b : Bool) → not b ≡ true → b ≡ true → ⊥
-    out true n h = cc
-    out false n h = cc
+  no_route_by_tests encloses r n priced = never r.crossed priced.route.from n
+      (at_place (has_dart ds) (around_vertex rows u) encloses.from r.start priced.route.from priced.route.starts) priced.route.walk priced.cost where
+        out : (b : Bool) → not b ≡ true → b ≡ true → ⊥
+        out true n h = cc
+        out false n h = cc
 
-    or_next : (a b : Bool) → a ≡ true → (not a || b) ≡ true → b ≡ true
-    or_next true b h k = k
-    or_next false b h k = cc
+        or_next : (a b : Bool) → a ≡ true → (not a || b) ≡ true → b ≡ true
+        or_next true b h k = k
+        or_next false b h k = cc
 
-    along : (c d : Dart) → has_dart ds c ≡ true → SameFace (system rows) c d → has_dart ds d ≡ true
-    along c d in_it face = face_held (system rows) ds c d (both_true _ _ in_it encloses.faces) face
+        along : (c d : Dart) → has_dart ds c ≡ true → SameFace (system rows) c d → has_dart ds d ≡ true
+        along c d in_it face = face_held (system rows) ds c d (both_true _ _ in_it encloses.faces) face
 
-    never : (xs : List Dart) (c : Dart) (n : ℕ) → has_dart ds c ≡ true → Crosses (system rows) c xs priced.route.to → Costs price rows xs n → ⊥
-    never [] c n in_it face costs = out (has_dart ds priced.route.to) (at_place (λ c. not (has_dart ds c)) (around_vertex rows v) encloses.never_to r.end priced.route.to priced.route.ends) (along c priced.route.to in_it face)
-    never (x ∷ xs) c n in_it walk costs = never xs (dart_twin x) costs.1
-        (or_next (may x) _ (encloses.priced x costs.0 costs.2) (for_each (λ d. not (may d) || has_dart ds (dart_twin d)) ds encloses.edges x (along c x in_it walk.0))) walk.1 costs.3
+        never : (xs : List Dart) (c : Dart) (n : ℕ) → has_dart ds c ≡ true → Crosses (system rows) c xs priced.route.to → Costs price rows xs n → ⊥
+        never [] c n in_it face costs = out (has_dart ds priced.route.to)
+            (at_place (λ c. not (has_dart ds c)) (around_vertex rows v) encloses.never_to r.end priced.route.to priced.route.ends)
+            (along c priced.route.to in_it face)
+        never (x ∷ xs) c n in_it walk costs = never xs (dart_twin x) costs.1
+            (or_next (may x) _ (encloses.priced x costs.0 costs.2)
+            (for_each (λ d. not (may d) || has_dart ds (dart_twin d)) ds encloses.edges x (along c x in_it walk.0))) walk.1 costs.3
 
 -- ---- Connectedness, lawful pictures and cuts
 
@@ -312,7 +325,9 @@ module _ (rows : Rows) (e : ℕ) where
   -- the first n segments have two faces each when those before them are out
   abbrev pub have_two_faces : ℕ → Bool
   have_two_faces zero = true
-  have_two_faces (suc i) = (holds_face (opened rows e i) (face_of (opened rows e i) (ahead_on i)) (ahead_on i) && not (has_dart (face_of (opened rows e i) (ahead_on i)) (back_on i))) && have_two_faces i
+  have_two_faces (suc i) =
+      (holds_face (opened rows e i) (face_of (opened rows e i) (ahead_on i)) (ahead_on i)
+      && not (has_dart (face_of (opened rows e i) (ahead_on i)) (back_on i))) && have_two_faces i
 
   not_false : (b : Bool) → not b ≡ true → b ≡ false
   not_false true h = cc
@@ -322,16 +337,22 @@ module _ (rows : Rows) (e : ℕ) where
   two_faces_by_test zero i h below one = absurd (omega arith)
   two_faces_by_test (suc n) i h below one = elim (cases_eq i n) [
     | inl same ↦ let here = left_true _ _ h in
-        other_face (opened rows e n) (face_of (opened rows e n) (ahead_on n)) (ahead_on n) (back_on n) (left_true _ _ here) (not_false _ (right_true _ _ here)) (subst (HasOneFace rows e) same one)
+        other_face (opened rows e n) (face_of (opened rows e n) (ahead_on n)) (ahead_on n) (back_on n) (left_true _ _ here) (not_false _ (right_true _ _ here))
+        (subst (HasOneFace rows e) same one)
     | inr apart ↦ two_faces_by_test n i (right_true _ _ h) (omega arith) one
   ]
 
   -- both forms of a cut at segment i
-  pub cut_by_tests : (i : ℕ) → is_some (edge_row rows e) ≡ true → i ≤ length (edge_at rows e).crossings → has_dart (face_of (opened rows e i) (ahead_on i)) (back_on i) ≡ true → have_two_faces i ≡ true
+  pub cut_by_tests : (i : ℕ) → is_some (edge_row rows e) ≡ true → i ≤ length (edge_at rows e).crossings
+      → has_dart (face_of (opened rows e i) (ahead_on i)) (back_on i) ≡ true → have_two_faces i ≡ true
       → list_any (λ around. length around == 0) (system (without rows e)) ≡ true → list_any (λ around. length around == 0) (opened rows e (i + 1)) ≡ true
       → ((j : ℕ) → j < i → Connected (opened rows e (j + 1))) → IsCutAt rows e i
   cut_by_tests i there on_path one two bare bare_after whole = record {
-    by_connection = record { falls_apart = bare_apart (system (without rows e)) bare; apart_after = bare_apart (opened rows e (i + 1)) bare_after; whole_before = whole };
+    by_connection = record {
+      falls_apart = bare_apart (system (without rows e)) bare;
+      apart_after = bare_apart (opened rows e (i + 1)) bare_after;
+      whole_before = whole;
+    };
     by_faces = record { there = there; on_path = on_path; one_face = one_face_by_test i one; two_faces_before = λ j below. two_faces_by_test i j two below };
   }
 

@@ -39,7 +39,8 @@ module _ (price : Pricing) (limits : Limits) (p : Rows) where
   abbrev IsSame : Reply → Reply → Rows → Rows → Type 0
   IsSame reply other q r = (reply ≡ other) × (q ≡ r)
 
-  grows_once : (u position kind : ℕ) (reply other : Reply) (q r : Rows) → Step price limits p (Grow u position kind) reply q → Step price limits p (Grow u position kind) other r
+  grows_once : (u position kind : ℕ) (reply other : Reply) (q r : Rows) → Step price limits p (Grow u position kind) reply q
+      → Step price limits p (Grow u position kind) other r
       → IsSame reply other q r
   grows_once u position kind (Grown v e) (Grown w f) q r step step' = (cc, cc)
   grows_once u position kind (Grown v e) (Refused why) q r step step' = absurd (some_apart _ why step.0 step'.0)
@@ -53,13 +54,15 @@ module _ (price : Pricing) (limits : Limits) (p : Rows) where
   grows_once u position kind (Refused why) (Deleted f) q r step step' = absurd step'
 
   -- an insertion that is made is not refused
-  not_refused : (u v kind : ℕ) (made : Route) (n : ℕ) (why : Refusal) → insert_refusal limits p u v kind ≡ None → IsFirst price p u v made n → HasRoomFor limits p made
+  not_refused : (u v kind : ℕ) (made : Route) (n : ℕ) (why : Refusal) → insert_refusal limits p u v kind ≡ None → IsFirst price p u v made n
+      → HasRoomFor limits p made
       → IsRefused price limits p (Insert u v kind) why → ⊥
   not_refused u v kind made n why admitted first room (inl early) = some_apart _ why admitted early
   not_refused u v kind made n why admitted first room (inr (inl late)) = late.2 made n first.is_least.priced
   not_refused u v kind made n why admitted first room (inr (inr late)) = grind (arith, one_first)
 
-  refused_once : (u v kind : ℕ) (why other : Refusal) → IsRefused price limits p (Insert u v kind) why → IsRefused price limits p (Insert u v kind) other → why ≡ other
+  refused_once : (u v kind : ℕ) (why other : Refusal) → IsRefused price limits p (Insert u v kind) why
+      → IsRefused price limits p (Insert u v kind) other → why ≡ other
   refused_once u v kind why other (inl early) (inl early') = same_some _ why other early early'
   refused_once u v kind why other (inl early) (inr (inl late)) = absurd (some_apart _ why late.0 early)
   refused_once u v kind why other (inl early) (inr (inr late)) = absurd (some_apart _ why late.0 early)
@@ -73,7 +76,8 @@ module _ (price : Pricing) (limits : Limits) (p : Rows) where
   one_insertion : (made other : Inserted) → made.id ≡ other.id → made.route ≡ other.route → made.price ≡ other.price → made ≡ other
   one_insertion made other ids routes prices = λ i. record { id = ids i; route = routes i; price = prices i }
 
-  inserts_once : (u v kind : ℕ) (reply other : Reply) (q r : Rows) → Step price limits p (Insert u v kind) reply q → Step price limits p (Insert u v kind) other r
+  inserts_once : (u v kind : ℕ) (reply other : Reply) (q r : Rows) → Step price limits p (Insert u v kind) reply q
+      → Step price limits p (Insert u v kind) other r
       → IsSame reply other q r
   inserts_once u v kind (Put made) (Put other) q r step step' = grind (arith, one_first, one_least, one_insertion)
   inserts_once u v kind (Put made) (Refused why) q r step step' = absurd (not_refused u v kind made.route made.price why step.0 step.1 step.2 step'.0)
@@ -97,7 +101,8 @@ module _ (price : Pricing) (limits : Limits) (p : Rows) where
   kept_once e why other (inr cut) (inl gone) = absurd (is_none (edge_row p e) gone.0 cut.1)
   kept_once e why other (inr cut) (inr cut') = cut.2 ∙ ap Cut (one_cut p e cut.0 cut'.0 cut.3 cut'.3) ∙ sym cut'.2
 
-  deletes_once : (e : ℕ) (reply other : Reply) (q r : Rows) → Step price limits p (Delete e) reply q → Step price limits p (Delete e) other r → IsSame reply other q r
+  deletes_once : (e : ℕ) (reply other : Reply) (q r : Rows) → Step price limits p (Delete e) reply q → Step price limits p (Delete e) other r
+      → IsSame reply other q r
   deletes_once e (Deleted f) (Deleted g) q r step step' = (ap Deleted (step.2 ∙ sym step'.2), step.3 ∙ sym step'.3)
   deletes_once e (Deleted f) (Refused why) q r step step' = absurd (not_kept e why step.0 step.1 step'.0)
   deletes_once e (Refused why) (Deleted f) q r step step' = absurd (not_kept e why step'.0 step'.1 step.0)
@@ -110,7 +115,8 @@ module _ (price : Pricing) (limits : Limits) (p : Rows) where
   deletes_once e (Refused why) (Put made) q r step step' = absurd step'
 
   -- two steps by one call are one
-  pub one_step : (call : Call) (reply other : Reply) (q r : Rows) → Step price limits p call reply q → Step price limits p call other r → (reply ≡ other) × (q ≡ r)
+  pub one_step : (call : Call) (reply other : Reply) (q r : Rows) → Step price limits p call reply q → Step price limits p call other r
+      → (reply ≡ other) × (q ≡ r)
   one_step (Grow u position kind) reply other q r step step' = grows_once u position kind reply other q r step step'
   one_step (Insert u v kind) reply other q r step step' = inserts_once u v kind reply other q r step step'
   one_step (Delete e) reply other q r step step' = deletes_once e reply other q r step step'

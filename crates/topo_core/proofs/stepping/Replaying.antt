@@ -31,6 +31,7 @@ module _ (price : Pricing) (limits : Limits) where
   pub versions_replay : (entries : List Entry) (p q : Rows) → Replays price limits p entries q → Replays price limits p (versions entries) q
   versions_replay [] p q way = way
   versions_replay (entry ∷ entries) p q way = by_reply (is_accepted entry.reply) refl (versions_replay entries way.0 q way.2) where
-    by_reply : (b : Bool) → is_accepted entry.reply ≡ b → Replays price limits way.0 (versions entries) q → Replays price limits p (versions (entry ∷ entries)) q
+    by_reply : (b : Bool) → is_accepted entry.reply ≡ b → Replays price limits way.0 (versions entries) q
+        → Replays price limits p (versions (entry ∷ entries)) q
     by_reply true on rest = rw on (way.0, way.1, rest)
     by_reply false off rest = grind (arith, refused_stays)

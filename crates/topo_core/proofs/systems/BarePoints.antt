@@ -47,7 +47,8 @@ one_left : (keep : Dart → Bool) (ds : List Dart) (d : Dart) → IsIn d ds → 
 one_left keep ds d h passes = not_empty (filter keep ds) d (passing_has keep ds d passes (has_item d ds h))
 
 -- a list that has e at most once is empty, e alone, or has another number
-alone_or_other : (e : ℕ) (around : List ℕ) → around ≢ [] → (IsIn e around → occurrences e around ≤ 1) → (around ≡ e ∷ []) ⊎ ((f : ℕ) × IsIn f around × (eqb f e ≡ false))
+alone_or_other : (e : ℕ) (around : List ℕ) → around ≢ [] → (IsIn e around → occurrences e around ≤ 1) → (around ≡ e ∷ [])
+    ⊎ ((f : ℕ) × IsIn f around × (eqb f e ≡ false))
 alone_or_other e [] some once = absurd (some refl)
 alone_or_other e (x ∷ []) some once = elim (cases_Bool (eqb x e)) [
   | inl is ↦ inl (ap (λ y. y ∷ []) (eqb-true x e is))
@@ -78,13 +79,15 @@ module _ (rows : Rows) (e i : ℕ) where
 
   crossed_ahead : (x : CrossRow) → IsIn (ahead rows x.crossed x.id) (around_crossing rows x)
   crossed_ahead x = by_sign x.sign where
-    by_sign : (sign : Sign) → IsIn (ahead rows x.crossed x.id) (clockwise sign (ahead rows x.crossed x.id) (behind rows x.crossed x.id) (ahead rows x.newcomer x.id) (behind rows x.newcomer x.id))
+    by_sign : (sign : Sign) → IsIn (ahead rows x.crossed x.id)
+        (clockwise sign (ahead rows x.crossed x.id) (behind rows x.crossed x.id) (ahead rows x.newcomer x.id) (behind rows x.newcomer x.id))
     by_sign LeftToRight = inl refl
     by_sign RightToLeft = inl refl
 
   newcomer_ahead : (x : CrossRow) → IsIn (ahead rows x.newcomer x.id) (around_crossing rows x)
   newcomer_ahead x = by_sign x.sign where
-    by_sign : (sign : Sign) → IsIn (ahead rows x.newcomer x.id) (clockwise sign (ahead rows x.crossed x.id) (behind rows x.crossed x.id) (ahead rows x.newcomer x.id) (behind rows x.newcomer x.id))
+    by_sign : (sign : Sign) → IsIn (ahead rows x.newcomer x.id)
+        (clockwise sign (ahead rows x.crossed x.id) (behind rows x.crossed x.id) (ahead rows x.newcomer x.id) (behind rows x.newcomer x.id))
     by_sign LeftToRight = inr (inl refl)
     by_sign RightToLeft = inr (inr (inr (inl refl)))
 
@@ -105,10 +108,12 @@ module _ (rows : Rows) (e i : ℕ) where
       let good = good_rotation rows rotations v h in
       let row = some_of (edge_row rows e) (good.known e k) in
       let counted = good.counted row.0 (row_in rows e row.0 row.1) in
-      at_most_one (row.0.a == v || row.0.b == v) (occurrences e (rotation rows v)) (ap (λ n. occurrences n (rotation rows v)) (sym (row_id rows e row.0 row.1)) ∙ counted)
+      at_most_one (row.0.a == v || row.0.b == v) (occurrences e (rotation rows v))
+      (ap (λ n. occurrences n (rotation rows v)) (sym (row_id rows e row.0 row.1)) ∙ counted)
 
   -- a vertex with another edge has a dart left
-  vertex_kept : has_good_rotations rows ≡ true → (v : ℕ) → IsIn v (vertices rows) → rotation rows v ≢ [] → (rotation rows v ≡ e ∷ [] → is_opened e i (end_dart rows v e) ≡ false)
+  vertex_kept : has_good_rotations rows ≡ true → (v : ℕ) → IsIn v (vertices rows) → rotation rows v ≢ []
+      → (rotation rows v ≡ e ∷ [] → is_opened e i (end_dart rows v e) ≡ false)
       → (length (filter stays (around_vertex rows v)) == 0) ≡ false
   vertex_kept rotations v h some kept = grind (arith, alone_or_other, once_there, one_left, in_map, other_stays, end_dart_edge)
 
@@ -117,7 +122,8 @@ module _ (rows : Rows) (e i : ℕ) where
       → list_any (λ around. length around == 0) (opened rows e i) ≡ false
   points_kept crossings rotations some kept = none_of (λ around. length around == 0) (opened rows e i) (λ around at.
       let point = in_images (filter stays) around (system rows) at in
-      ap (λ ds. length ds == 0) point.2 ∙ elim (in_append point.0 (map (around_vertex rows) (vertices rows)) (map (around_crossing rows) rows.crossings) point.1) [
+      ap (λ ds. length ds == 0) point.2
+      ∙ elim (in_append point.0 (map (around_vertex rows) (vertices rows)) (map (around_crossing rows) rows.crossings) point.1) [
         | inl here ↦
             let image = in_images (around_vertex rows) point.0 (vertices rows) here in
             let below = range_below image.0 0 (length rows.rotations) image.1 in
@@ -128,13 +134,17 @@ module _ (rows : Rows) (e i : ℕ) where
       ])
 
   -- a vertex with no edge but e becomes bare with its dart
-  vertex_bared : (v : ℕ) → v < length rows.rotations → rotation rows v ≡ e ∷ [] → is_opened e i (end_dart rows v e) ≡ true → list_any (λ around. length around == 0) (opened rows e i) ≡ true
-  vertex_bared v h alone out = any_of (λ around. length around == 0) (filter stays (around_vertex rows v)) (opened rows e i) (in_map (filter stays) (around_vertex rows v) (system rows) (vertex_point rows v (vertex_in rows v h)))
+  vertex_bared : (v : ℕ) → v < length rows.rotations → rotation rows v ≡ e ∷ [] → is_opened e i (end_dart rows v e) ≡ true
+      → list_any (λ around. length around == 0) (opened rows e i) ≡ true
+  vertex_bared v h alone out = any_of (λ around. length around == 0) (filter stays (around_vertex rows v)) (opened rows e i)
+      (in_map (filter stays) (around_vertex rows v) (system rows) (vertex_point rows v (vertex_in rows v h)))
       (ap (λ es. length (filter stays (map (end_dart rows v) es)) == 0) alone ∙ ap (λ t. length (cond (not t) (end_dart rows v e ∷ []) []) == 0) out)
 
   -- a picture without bare points has no empty rotation
   rotation_full : list_any (λ around. length around == 0) (system rows) ≡ false → (v : ℕ) → v < length rows.rotations → rotation rows v ≢ []
-  rotation_full none v h empty = false≢true (sym none ∙ any_of (λ around. length around == 0) (around_vertex rows v) (system rows) (vertex_point rows v (vertex_in rows v h)) (ap (λ es. length (map (end_dart rows v) es) == 0) empty))
+  rotation_full none v h empty =
+      false≢true (sym none ∙ any_of (λ around. length around == 0) (around_vertex rows v) (system rows) (vertex_point rows v (vertex_in rows v h))
+      (ap (λ es. length (map (end_dart rows v) es) == 0) empty))
 
 -- all of it
 pub bares : (rows : Rows) → has_good_crossings rows ≡ true → has_good_rotations rows ≡ true → (e i : ℕ) → Bares rows e i

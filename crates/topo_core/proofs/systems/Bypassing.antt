@@ -30,7 +30,8 @@ same_symm c d e = not_same d c (λ k. false≢true (sym e ∙ ap (λ y. same_dar
 -- a list without y stays
 pub filter_absent : (y : Dart) (ds : List Dart) → has_dart ds y ≡ false → filter (kept_by y) ds ≡ ds
 filter_absent y [] h = refl
-filter_absent y (c ∷ ds) h = filter_in (kept_by y) c ds (ap not (or_left_false (same_dart y c) (has_dart ds y) h)) ∙ ap (λ cs. c ∷ cs) (filter_absent y ds (or_right_false (same_dart y c) (has_dart ds y) h))
+filter_absent y (c ∷ ds) h = filter_in (kept_by y) c ds (ap not (or_left_false (same_dart y c) (has_dart ds y) h))
+    ∙ ap (λ cs. c ∷ cs) (filter_absent y ds (or_right_false (same_dart y c) (has_dart ds y) h))
 
 -- a list with y once, before and behind it
 pub record Parted (y : Dart) (ds : List Dart) : Type 0 where
@@ -136,19 +137,22 @@ module _ (s : System) (distinct : IsDistinct (darts_in s)) (gone : Dart → Bool
   passing_left d passes h = ap (λ ds. has_dart ds d) (passing_points keep s) ∙ passing_has keep (darts_in s) d (ap not passes) h
 
 -- y taken out of a system
-pub leads_on : (s : System) → IsDistinct (darts_in s) → (y d : Dart) → same_dart d y ≡ false → stands_in s d ≡ true → LeadsOn (turn s) (turn (bypassed (same_dart y) s)) y d
+pub leads_on : (s : System) → IsDistinct (darts_in s) → (y d : Dart) → same_dart d y ≡ false → stands_in s d ≡ true
+    → LeadsOn (turn s) (turn (bypassed (same_dart y) s)) y d
 leads_on s distinct y d other h =
     let point = point_of s d h in
     let around = point.0 in
     let was : turn s d ≡ next_around around d = turn_at_point s distinct around d point.1 point.2 in
     let kept : has_dart (filter (kept_by y) around) d ≡ true = passing_has (kept_by y) around d (ap not (same_symm d y other)) point.2 in
     let now : turn (bypassed (same_dart y) s) d ≡ next_around (filter (kept_by y) around) d =
-    turn_at_point (bypassed (same_dart y) s) (bypassed_distinct s distinct (same_dart y)) (filter (kept_by y) around) d (in_map (filter (kept_by y)) around s point.1) kept in
+    turn_at_point (bypassed (same_dart y) s) (bypassed_distinct s distinct (same_dart y))
+    (filter (kept_by y) around) d (in_map (filter (kept_by y)) around s point.1) kept in
     grind (arith, cases_Bool, leads_on_around, point_distinct, turn_at_point, next_around, filter_absent)
 
 -- ---- One test after the other
 
-either_gone : (gone : Dart → Bool) (y : Dart) (ds : List Dart) → filter (λ d. not (gone d || same_dart y d)) ds ≡ filter (kept_by y) (filter (λ d. not (gone d)) ds)
+either_gone : (gone : Dart → Bool) (y : Dart) (ds : List Dart)
+    → filter (λ d. not (gone d || same_dart y d)) ds ≡ filter (kept_by y) (filter (λ d. not (gone d)) ds)
 either_gone gone y [] = refl
 either_gone gone y (c ∷ ds) = by_tests (gone c) (same_dart y c) refl refl (either_gone gone y ds) where
   by_tests : (t u : Bool) → gone c ≡ t → same_dart y c ≡ u → filter (λ d. not (gone d || same_dart y d)) ds ≡ filter (kept_by y) (filter (λ d. not (gone d)) ds)

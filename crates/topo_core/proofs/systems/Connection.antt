@@ -97,14 +97,16 @@ module _ (s : System) (root : Dart) where
   source_to c ds all h =
       let by_test : (b : Bool) → has_dart ds (turn s c) ≡ b → To c = λ b. elim b as (λ b. has_dart ds (turn s c) ≡ b → To c) [
         | true ↦ (λ e. joined_through (turn s) dart_twin c (turn s c) root (joined_move (turn s) dart_twin Turn c) (all_from_at To ds (turn s c) all e))
-        | false ↦ (λ e. joined_through (turn s) dart_twin c (dart_twin c) root (joined_move (turn s) dart_twin Cross c) (all_from_at To ds (dart_twin c) all (or_second (has_dart ds (turn s c)) (has_dart ds (dart_twin c)) e h)))
+        | false ↦ (λ e. joined_through (turn s) dart_twin c (dart_twin c) root (joined_move (turn s) dart_twin Cross c)
+            (all_from_at To ds (dart_twin c) all (or_second (has_dart ds (turn s c)) (has_dart ds (dart_twin c)) e h)))
       ] in by_test (has_dart ds (turn s c)) refl
 
   sources_to : (cs ds : List Dart) → AllFrom To ds → AllFrom To (add_sources s cs ds)
   sources_to [] ds all = all
   sources_to (c ∷ cs) ds all =
       sources_to cs (cond (has_dart ds (turn s c) || has_dart ds (dart_twin c)) (add c ds) ds)
-      (cond_both (has_dart ds (turn s c) || has_dart ds (dart_twin c)) (add c ds) ds (AllFrom To) (λ h. add_keeps To c ds (source_to c ds all h) all) (λ _. all))
+      (cond_both (has_dart ds (turn s c) || has_dart ds (dart_twin c)) (add c ds) ds (AllFrom To)
+      (λ h. add_keeps To c ds (source_to c ds all h) all) (λ _. all))
 
   reaching_to : (n : ℕ) (ds : List Dart) → AllFrom To ds → AllFrom To (reaching_in s n ds)
   reaching_to zero ds all = all
@@ -131,7 +133,8 @@ spreads_from s n (root ∷ ds) = all_in (root ∷ ds) (reached_in s n (root ∷ 
 abbrev pub spreads_in : System → ℕ → Bool
 spreads_in s n = spreads_from s n (darts_in s)
 
-spread_joins : (s : System) (n : ℕ) (ds : List Dart) → spreads_from s n ds ≡ true → (c d : Dart) → has_dart ds c ≡ true → has_dart ds d ≡ true → Joined (turn s) dart_twin c d
+spread_joins : (s : System) (n : ℕ) (ds : List Dart) → spreads_from s n ds ≡ true → (c d : Dart) → has_dart ds c ≡ true → has_dart ds d ≡ true
+    → Joined (turn s) dart_twin c d
 spread_joins s n [] reached c d from to = cc
 spread_joins s n (root ∷ ds) reached c d from to =
     joined_through (turn s) dart_twin c root d
@@ -139,7 +142,8 @@ spread_joins s n (root ∷ ds) reached c d from to =
     (joined_from_root s root n d (for_each (has_dart (reached_in s n (root ∷ []))) (root ∷ ds) (left_true _ _ reached) d to))
 
 -- a system in which n rounds lead everywhere is connected
-pub connected_by_spread : (s : System) (n : ℕ) → spreads_in s n ≡ true → (c d : Dart) → has_dart (darts_in s) c ≡ true → has_dart (darts_in s) d ≡ true → Joined (turn s) dart_twin c d
+pub connected_by_spread : (s : System) (n : ℕ) → spreads_in s n ≡ true → (c d : Dart) → has_dart (darts_in s) c ≡ true → has_dart (darts_in s) d ≡ true
+    → Joined (turn s) dart_twin c d
 connected_by_spread s n reached c d from to = spread_joins s n (darts_in s) reached c d from to
 
 -- two vertices with an edge between them are an embedding

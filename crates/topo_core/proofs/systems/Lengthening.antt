@@ -2,7 +2,8 @@
 use Rattle.std.proofs.Common.{◌≡◌, ◌<◌, ◌⊎◌, ap, arith, Bool, cond, false, inl, inr, not, refl, subst, suc, sym, true, zero, ℕ, ◌==◌, ◌∙◌}
 use Rattle.std.proofs.lemmas.Bool.{eq-eqb}
 use Rattle.topo_core.specs.Cycles.{after, count_below, cycle_count, is_first, is_met, IsPermutation, SameCycle}
-use Rattle.topo_core.proofs.systems.Orbits.{SameCycle-is_met, SameCycle-refl, SameCycle-step, SameCycle-trans, count_below-same, is_met-SameCycle, some_below-same, some_below-true}
+use Rattle.topo_core.proofs.systems.Orbits.{SameCycle-is_met, SameCycle-refl, SameCycle-step, SameCycle-trans}
+use Rattle.topo_core.proofs.systems.Orbits.{count_below-same, is_met-SameCycle, some_below-same, some_below-true}
 
 -- ---- Counts
 
@@ -78,7 +79,8 @@ module _ (f g : ℕ → ℕ) (n : ℕ) (before : IsPermutation f n) (now : IsPer
 
   -- a number that a smaller one leads to in one step is not the first of its cycle
   not_first : (a b : ℕ) → b < a → g b ≡ a → is_first (λ a b. is_met g (suc (suc n)) a b) a ≡ false
-  not_first a b l e = ap not (some_below-true (λ b. is_met g (suc (suc n)) b a) a b l (some_below-true (λ k. after g k b == a) (suc (suc n)) 1 (omega arith) (eq-eqb (g b) a e)))
+  not_first a b l e = ap not
+      (some_below-true (λ b. is_met g (suc (suc n)) b a) a b l (some_below-true (λ k. after g k b == a) (suc (suc n)) 1 (omega arith) (eq-eqb (g b) a e)))
 
   -- as many cycles
   pub as_many_cycles : cycle_count g (suc (suc n)) ≡ cycle_count f n

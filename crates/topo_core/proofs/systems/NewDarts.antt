@@ -1,5 +1,6 @@
 -- A rotation system with one dart more at a point, and its twin at a point of its own: what was connected stays so.
-use Rattle.std.proofs.Common.{◌≡◌, ◌+◌, ◌≤◌, ◌||◌, ap, append_assoc, arith, Bool, cond, false, inl, inr, length, List, refl, subst, sym, true, [], ◌++◌, ◌∙◌, ◌∷◌}
+use Rattle.std.proofs.Common.{◌≡◌, ◌+◌, ◌≤◌, ◌||◌, ap, append_assoc, arith, Bool, cond, false}
+use Rattle.std.proofs.Common.{inl, inr, length, List, refl, subst, sym, true, [], ◌++◌, ◌∙◌, ◌∷◌}
 use Rattle.std.specs.Prelude.{count_by, slice_index_or, ◌==◌, ◌⊎◌}
 use Rattle.std.specs.List.{list_any}
 use Rattle.std.proofs.lemmas.List.Concat.{flat_map-append}
@@ -87,7 +88,8 @@ follower_new first x (y ∷ xs) ys h =
 
 -- what follows d is what followed it, or the new dart comes between
 pub follower_old : (first x d : Dart) (xs ys : List Dart) → same_dart d x ≡ false → has_dart xs x ≡ false
-    → (follower first (xs ++ x ∷ ys) d ≡ follower first (xs ++ ys) d) ⊎ ((follower first (xs ++ x ∷ ys) d ≡ x) × (slice_index_or ys 0 first ≡ follower first (xs ++ ys) d))
+    → (follower first (xs ++ x ∷ ys) d ≡ follower first (xs ++ ys) d)
+    ⊎ ((follower first (xs ++ x ∷ ys) d ≡ x) × (slice_index_or ys 0 first ≡ follower first (xs ++ ys) d))
 follower_old first x d [] ys other new = inl (ap (λ (b : Bool). cond b (slice_index_or ys 0 first) (follower first ys d)) other)
 follower_old first x d (y ∷ []) ys other new = grind (arith, cases_Bool)
 follower_old first x d (y ∷ w ∷ xs) ys other new = elim (cases_Bool (same_dart d y)) [
@@ -104,10 +106,12 @@ follower_old first x d (y ∷ w ∷ xs) ys other new = elim (cases_Bool (same_da
 ]
 
 -- the dart before the new one, in a list that has no dart twice
-dart_before : (first x z : Dart) (zs ys : List Dart) → ((d : Dart) → count_by (same_dart d) (z ∷ zs) ≤ 1) → (y : Dart) × (has_dart (z ∷ zs) y ≡ true) × (follower first (z ∷ zs ++ x ∷ ys) y ≡ x)
+dart_before : (first x z : Dart) (zs ys : List Dart) → ((d : Dart) → count_by (same_dart d) (z ∷ zs) ≤ 1) → (y : Dart) × (has_dart (z ∷ zs) y ≡ true)
+    × (follower first (z ∷ zs ++ x ∷ ys) y ≡ x)
 dart_before first x z [] ys once = (z, ap (λ b. b || false) (same_dart_self z), ap (λ (b : Bool). cond b x (follower first (x ∷ ys) z)) (same_dart_self z))
 dart_before first x z (w ∷ zs) ys once =
-    let fewer : (d : Dart) → count_by (same_dart d) (w ∷ zs) ≤ 1 = λ d. let step = sum_by-cons (λ c. one (same_dart d c)) z (w ∷ zs) in let most = once d in omega arith in
+    let fewer : (d : Dart) → count_by (same_dart d) (w ∷ zs) ≤ 1 = λ d. let step = sum_by-cons (λ c. one (same_dart d c)) z (w ∷ zs) in let most =
+    once d in omega arith in
     let rest = dart_before first x w zs ys fewer in
     let y = rest.0 in
     let apart : same_dart y z ≡ false = elim (cases_Bool (same_dart y z)) [
@@ -130,7 +134,8 @@ any_bare-append [] t = refl
 any_bare-append (around ∷ s) t = ap (λ b. length around == 0 || b) (any_bare-append s t) ∙ sym (or_assoc (length around == 0) (any_bare s) (any_bare t))
 
 -- no point is bare after one of them has another list that is not empty, and one dart has a point of its own
-no_bare : (before after crossings : System) (around changed : List Dart) (y : Dart) → (length changed == 0) ≡ false → any_bare ((before ++ around ∷ after) ++ crossings) ≡ false → any_bare ((before ++ changed ∷ after) ++ (y ∷ []) ∷ crossings) ≡ false
+no_bare : (before after crossings : System) (around changed : List Dart) (y : Dart) → (length changed == 0) ≡ false
+    → any_bare ((before ++ around ∷ after) ++ crossings) ≡ false → any_bare ((before ++ changed ∷ after) ++ (y ∷ []) ∷ crossings) ≡ false
 no_bare before after crossings around changed y full none = grind (arith, any_bare-append, or_left_false, or_right_false)
 
 -- ---- One dart more in a system
@@ -146,7 +151,9 @@ module _ (before after crossings : System) (z : Dart) (zs ys : List Dart) (x y :
   stands_old : (d : Dart) → stands_in old_system d ≡ ((stands_in before d || (has_dart (z ∷ zs ++ ys) d || stands_in after d)) || stands_in crossings d)
   stands_old d = grind (arith, stands_in-append, has_dart-append)
 
-  stands_new : (d : Dart) → stands_in new_system d ≡ ((stands_in before d || (has_dart (z ∷ zs ++ x ∷ ys) d || stands_in after d)) || (has_dart (y ∷ []) d || stands_in crossings d))
+  stands_new : (d : Dart)
+      → stands_in new_system d
+      ≡ ((stands_in before d || (has_dart (z ∷ zs ++ x ∷ ys) d || stands_in after d)) || (has_dart (y ∷ []) d || stands_in crossings d))
   stands_new d = grind (arith, stands_in-append, has_dart-append)
 
   same_list : (d : Dart) → same_dart d x ≡ false → has_dart (z ∷ zs ++ x ∷ ys) d ≡ has_dart (z ∷ zs ++ ys) d
@@ -161,7 +168,8 @@ module _ (before after crossings : System) (z : Dart) (zs ys : List Dart) (x y :
       | inr not_y ↦ inl (
           stands_old d
           ∙ sym (ap (λ b. (stands_in before d || (b || stands_in after d)) || stands_in crossings d) (same_list d not_x))
-          ∙ sym (ap (λ b. (stands_in before d || (has_dart (z ∷ zs ++ x ∷ ys) d || stands_in after d)) || (b || stands_in crossings d)) (ap (λ b. b || false) not_y))
+          ∙ sym (ap (λ b. (stands_in before d || (has_dart (z ∷ zs ++ x ∷ ys) d || stands_in after d)) || (b || stands_in crossings d))
+          (ap (λ b. b || false) not_y))
           ∙ sym (stands_new d) ∙ h)
     ]
   ]
@@ -188,10 +196,13 @@ module _ (before after crossings : System) (z : Dart) (zs ys : List Dart) (x y :
   new_in_parts d other = turn_beside Q d other ∙ ap (λ s. turn s d) (append_assoc before ((z ∷ zs ++ x ∷ ys) ∷ after) crossings)
 
   count_old : (d : Dart) → count_by (same_dart d) (darts_in old_system)
-      ≡ count_by (same_dart d) (darts_in before) + (count_by (same_dart d) (z ∷ zs) + count_by (same_dart d) ys + count_by (same_dart d) (darts_in after)) + count_by (same_dart d) (darts_in crossings)
+      ≡ count_by (same_dart d) (darts_in before) + (count_by (same_dart d) (z ∷ zs) + count_by (same_dart d) ys + count_by (same_dart d) (darts_in after))
+      + count_by (same_dart d) (darts_in crossings)
   count_old d =
-      let whole = ap (count_by (same_dart d)) (flat_map-append (λ around. around) P crossings) ∙ sum_by-append (λ c. one (same_dart d c)) (darts_in P) (darts_in crossings) in
-      let first = ap (count_by (same_dart d)) (flat_map-append (λ around. around) before ((z ∷ zs ++ ys) ∷ after)) ∙ sum_by-append (λ c. one (same_dart d c)) (darts_in before) ((z ∷ zs ++ ys) ++ darts_in after) in
+      let whole = ap (count_by (same_dart d)) (flat_map-append (λ around. around) P crossings)
+      ∙ sum_by-append (λ c. one (same_dart d c)) (darts_in P) (darts_in crossings) in
+      let first = ap (count_by (same_dart d)) (flat_map-append (λ around. around) before ((z ∷ zs ++ ys) ∷ after))
+      ∙ sum_by-append (λ c. one (same_dart d c)) (darts_in before) ((z ∷ zs ++ ys) ++ darts_in after) in
       let second = sum_by-append (λ c. one (same_dart d c)) (z ∷ zs ++ ys) (darts_in after) in
       let third = sum_by-append (λ c. one (same_dart d c)) (z ∷ zs) ys in omega arith
 
@@ -207,7 +218,8 @@ module _ (before after crossings : System) (z : Dart) (zs ys : List Dart) (x y :
 
     x_not_around : has_dart (z ∷ zs) x ≡ false
     x_not_around = or_left_false (has_dart (z ∷ zs) x) (has_dart ys x) (sym (has_dart-append (z ∷ zs) ys x)
-        ∙ or_left_false (has_dart (z ∷ zs ++ ys) x) (stands_in after x) (or_right_false (stands_in before x) _ (or_left_false _ (stands_in crossings x) x_in_parts)))
+        ∙ or_left_false (has_dart (z ∷ zs ++ ys) x) (stands_in after x)
+        (or_right_false (stands_in before x) _ (or_left_false _ (stands_in crossings x) x_in_parts)))
 
     in_new_list : has_dart (z ∷ zs ++ x ∷ ys) x ≡ true
     in_new_list = has_dart-append (z ∷ zs) (x ∷ ys) x ∙ or_right (has_dart (z ∷ zs) x) (has_dart (x ∷ ys) x) (ap (λ b. b || has_dart ys x) (same_dart_self x))
@@ -220,7 +232,8 @@ module _ (before after crossings : System) (z : Dart) (zs ys : List Dart) (x y :
     pub turn_of_old : (d : Dart) → same_dart d x ≡ false → same_dart d y ≡ false
         → (turn new_system d ≡ turn old_system d) ⊎ ((turn new_system d ≡ x) × (turn new_system x ≡ turn old_system d))
     turn_of_old d not_x not_y = elim (cases_Bool (stands_in before d)) [
-      | inl e ↦ inl (new_in_parts d not_y ∙ turn_first before ((z ∷ zs ++ x ∷ ys) ∷ (after ++ crossings)) d e ∙ sym (turn_first before ((z ∷ zs ++ ys) ∷ (after ++ crossings)) d e) ∙ sym (old_in_parts d))
+      | inl e ↦ inl (new_in_parts d not_y ∙ turn_first before ((z ∷ zs ++ x ∷ ys) ∷ (after ++ crossings)) d e
+          ∙ sym (turn_first before ((z ∷ zs ++ ys) ∷ (after ++ crossings)) d e) ∙ sym (old_in_parts d))
       | inr e ↦
           let now = new_in_parts d not_y ∙ turn_second before ((z ∷ zs ++ x ∷ ys) ∷ (after ++ crossings)) d e in
           let was = old_in_parts d ∙ turn_second before ((z ∷ zs ++ ys) ∷ (after ++ crossings)) d e in
@@ -240,14 +253,29 @@ module _ (before after crossings : System) (z : Dart) (zs ys : List Dart) (x y :
 
     -- y turns to itself
     pub turn_of_twin : turn new_system y ≡ y
-    turn_of_twin = grind (arith, stands_old, or_left_false, twin_apart, same_dart_true, stands_in-append, has_dart-append, same_list, turn_second, turn_at, or_left, same_dart_self)
+    turn_of_twin = grind (
+      arith,
+      stands_old,
+      or_left_false,
+      twin_apart,
+      same_dart_true,
+      stands_in-append,
+      has_dart-append,
+      same_list,
+      turn_second,
+      turn_at,
+      or_left,
+      same_dart_self,
+    )
 
     -- so what an old turn leads to is joined by new turns
     old_turn_joined : (d : Dart) → Joined (turn new_system) dart_twin d (turn old_system d)
     old_turn_joined d = elim (cases_Bool (same_dart d x)) [
-      | inl e ↦ subst (Joined (turn new_system) dart_twin d) (sym (turn_outside old_system d (ap (stands_in old_system) (same_dart_true d x e) ∙ new_x))) (joined_self (turn new_system) dart_twin d)
+      | inl e ↦ subst (Joined (turn new_system) dart_twin d) (sym (turn_outside old_system d (ap (stands_in old_system) (same_dart_true d x e) ∙ new_x)))
+          (joined_self (turn new_system) dart_twin d)
       | inr not_x ↦ elim (cases_Bool (same_dart d y)) [
-        | inl e ↦ subst (Joined (turn new_system) dart_twin d) (sym (turn_outside old_system d (ap (stands_in old_system) (same_dart_true d y e) ∙ new_y))) (joined_self (turn new_system) dart_twin d)
+        | inl e ↦ subst (Joined (turn new_system) dart_twin d) (sym (turn_outside old_system d (ap (stands_in old_system) (same_dart_true d y e) ∙ new_y)))
+            (joined_self (turn new_system) dart_twin d)
         | inr not_y ↦ elim (turn_of_old d not_x not_y) [
           | inl same ↦ subst (Joined (turn new_system) dart_twin d) same (joined_move (turn new_system) dart_twin Turn d)
           | inr between ↦ joined_through (turn new_system) dart_twin d x (turn old_system d)
@@ -259,8 +287,10 @@ module _ (before after crossings : System) (z : Dart) (zs ys : List Dart) (x y :
 
     moves_joined : (moves : List Move) (c : Dart) → Joined (turn new_system) dart_twin c (along (turn old_system) dart_twin moves c)
     moves_joined [] c = joined_self (turn new_system) dart_twin c
-    moves_joined (Turn ∷ moves) c = joined_through (turn new_system) dart_twin c (along (turn old_system) dart_twin moves c) _ (moves_joined moves c) (old_turn_joined (along (turn old_system) dart_twin moves c))
-    moves_joined (Cross ∷ moves) c = joined_through (turn new_system) dart_twin c (along (turn old_system) dart_twin moves c) _ (moves_joined moves c) (joined_move (turn new_system) dart_twin Cross (along (turn old_system) dart_twin moves c))
+    moves_joined (Turn ∷ moves) c = joined_through (turn new_system) dart_twin c (along (turn old_system) dart_twin moves c) _ (moves_joined moves c)
+        (old_turn_joined (along (turn old_system) dart_twin moves c))
+    moves_joined (Cross ∷ moves) c = joined_through (turn new_system) dart_twin c (along (turn old_system) dart_twin moves c) _ (moves_joined moves c)
+        (joined_move (turn new_system) dart_twin Cross (along (turn old_system) dart_twin moves c))
 
     -- what was joined stays joined
     pub stays_joined : (c d : Dart) → Joined (turn old_system) dart_twin c d → Joined (turn new_system) dart_twin c d
@@ -276,7 +306,8 @@ module _ (before after crossings : System) (z : Dart) (zs ys : List Dart) (x y :
           let last = dart_before z x z zs ys few_around in
           let d = last.0 in
           let in_list : has_dart (z ∷ zs ++ ys) d ≡ true = has_dart-append (z ∷ zs) ys d ∙ or_left (has_dart (z ∷ zs) d) (has_dart ys d) last.1 in
-          let in_new : has_dart (z ∷ zs ++ x ∷ ys) d ≡ true = has_dart-append (z ∷ zs) (x ∷ ys) d ∙ or_left (has_dart (z ∷ zs) d) (has_dart (x ∷ ys) d) last.1 in
+          let in_new : has_dart (z ∷ zs ++ x ∷ ys) d ≡ true = has_dart-append (z ∷ zs) (x ∷ ys) d
+          ∙ or_left (has_dart (z ∷ zs) d) (has_dart (x ∷ ys) d) last.1 in
           let old = in_old d in_list in
           let not_y : same_dart d y ≡ false = grind (arith, cases_Bool, false≢true, same_dart_true) in
           let not_before : stands_in before d ≡ false = elim (cases_Bool (stands_in before d)) [
@@ -322,7 +353,8 @@ module _ (before after crossings : System) (z : Dart) (zs ys : List Dart) (x y :
       led_from_old : (c : Dart) → stands_in new_system c ≡ true → LedFromOld c
       led_from_old c h =
           let o = (reaches_new once).0 in
-          let to_x : Joined (turn new_system) dart_twin o x = subst (Joined (turn new_system) dart_twin o) (reaches_new once).2 (joined_move (turn new_system) dart_twin Turn o) in
+          let to_x : Joined (turn new_system) dart_twin o x =
+          subst (Joined (turn new_system) dart_twin o) (reaches_new once).2 (joined_move (turn new_system) dart_twin Turn o) in
           elim (new_or_old c h) [
             | inl old ↦ (c, old, joined_self (turn new_system) dart_twin c)
             | inr k ↦ elim k [
@@ -342,4 +374,5 @@ module _ (before after crossings : System) (z : Dart) (zs ys : List Dart) (x y :
             (joined_through (turn new_system) dart_twin first.0 last.0 d (stays_joined first.0 last.0 (connected.joined first.0 last.0 first.1 last.1)) last.2);
       } where
         bare_new : any_bare new_system ≡ false
-        bare_new = no_bare before after crossings (z ∷ zs ++ ys) (z ∷ zs ++ x ∷ ys) y (eqb_more (length (z ∷ zs ++ x ∷ ys)) 0 (omega arith)) connected.no_bare_point
+        bare_new = no_bare before after crossings (z ∷ zs ++ ys) (z ∷ zs ++ x ∷ ys) y (eqb_more (length (z ∷ zs ++ x ∷ ys)) 0 (omega arith))
+            connected.no_bare_point

@@ -23,17 +23,20 @@ pub point_of : (s : System) (d : Dart) → stands_in s d ≡ true → (around : 
 point_of [] d h = cc
 point_of (around ∷ s) d h = elim (cases_Bool (has_dart around d)) [
   | inl e ↦ (around, inl refl, e)
-  | inr e ↦ let rest = point_of s d (or_second (has_dart around d) (stands_in s d) e (sym (has_dart-append around (darts_in s) d) ∙ h)) in (rest.0, inr rest.1, rest.2)
+  | inr e ↦ let rest = point_of s d (or_second (has_dart around d) (stands_in s d) e (sym (has_dart-append around (darts_in s) d) ∙ h)) in
+      (rest.0, inr rest.1, rest.2)
 ]
 
 -- what stands at a point stands in the system
 pub at_point_in : (s : System) (around : List Dart) (d : Dart) → IsIn around s → has_dart around d ≡ true → stands_in s d ≡ true
 at_point_in [] around d at h = absurd at
-at_point_in (first ∷ s) around d (inl e) h = has_dart-append first (darts_in s) d ∙ or_left (has_dart first d) (stands_in s d) (ap (λ ds. has_dart ds d) (sym e) ∙ h)
+at_point_in (first ∷ s) around d (inl e) h = has_dart-append first (darts_in s) d
+    ∙ or_left (has_dart first d) (stands_in s d) (ap (λ ds. has_dart ds d) (sym e) ∙ h)
 at_point_in (first ∷ s) around d (inr k) h = has_dart-append first (darts_in s) d ∙ or_right (has_dart first d) (stands_in s d) (at_point_in s around d k h)
 
 -- where no dart stands twice, the turn of a dart is the next one round its point
-pub turn_at_point : (s : System) → IsDistinct (darts_in s) → (around : List Dart) (d : Dart) → IsIn around s → has_dart around d ≡ true → turn s d ≡ next_around around d
+pub turn_at_point : (s : System) → IsDistinct (darts_in s) → (around : List Dart) (d : Dart) → IsIn around s → has_dart around d ≡ true
+    → turn s d ≡ next_around around d
 turn_at_point [] distinct around d at h = absurd at
 turn_at_point (first ∷ s) distinct around d (inl e) h = turn_at first s d (ap (λ ds. has_dart ds d) (sym e) ∙ h) ∙ ap (λ ds. next_around ds d) (sym e)
 turn_at_point (first ∷ s) distinct around d (inr k) h =
@@ -74,12 +77,14 @@ images_apart g (b ∷ ds) distinct c d c_in d_in e =
       | inl c_is ↦ grind (arith, cases_Bool, same_dart_true, or_second)
       | inr c_not ↦ elim (cases_Bool (same_dart d b)) [
         | inl d_is ↦ absurd (twice d c d_is (or_second (same_dart c b) (has_dart ds c) c_not c_in) (sym e))
-        | inr d_not ↦ images_apart g ds (distinct_tail (g b) (map g ds) distinct) c d (or_second (same_dart c b) (has_dart ds c) c_not c_in) (or_second (same_dart d b) (has_dart ds d) d_not d_in) e
+        | inr d_not ↦ images_apart g ds (distinct_tail (g b) (map g ds) distinct) c d (or_second (same_dart c b) (has_dart ds c) c_not c_in)
+            (or_second (same_dart d b) (has_dart ds d) d_not d_in) e
       ]
     ]
 
 -- a map that keeps the test of darts keeps what follows
-pub follower_of_image : (g : Dart → Dart) (first d : Dart) (ds : List Dart) → ((c : Dart) → has_dart ds c ≡ true → same_dart (g d) (g c) ≡ same_dart d c) → follower (g first) (map g ds) (g d) ≡ g (follower first ds d)
+pub follower_of_image : (g : Dart → Dart) (first d : Dart) (ds : List Dart) → ((c : Dart) → has_dart ds c ≡ true → same_dart (g d) (g c) ≡ same_dart d c)
+    → follower (g first) (map g ds) (g d) ≡ g (follower first ds d)
 follower_of_image g first d [] same = refl
 follower_of_image g first d (c ∷ ds) same =
     let rest = follower_of_image g first d ds (λ b h. same b (or_right (same_dart b c) (has_dart ds b) h)) in
@@ -93,7 +98,8 @@ follower_of_image g first d (c ∷ ds) same =
       by_test false = refl
 
 -- and what comes next round a point
-pub next_of_image : (g : Dart → Dart) (d : Dart) (ds : List Dart) → ((c : Dart) → has_dart ds c ≡ true → same_dart (g d) (g c) ≡ same_dart d c) → next_around (map g ds) (g d) ≡ g (next_around ds d)
+pub next_of_image : (g : Dart → Dart) (d : Dart) (ds : List Dart) → ((c : Dart) → has_dart ds c ≡ true → same_dart (g d) (g c) ≡ same_dart d c)
+    → next_around (map g ds) (g d) ≡ g (next_around ds d)
 next_of_image g d ds same = ap (λ first. follower first (map g ds) (g d)) (get_or-map g ds 0 d) ∙ follower_of_image g (slice_index_or ds 0 d) d ds same
 
 -- ---- Darts that pass a test
@@ -102,7 +108,8 @@ next_of_image g d ds same = ap (λ first. follower first (map g ds) (g d)) (get_
 pub has_passing : (keep : Dart → Bool) (ds : List Dart) (d : Dart) → has_dart (filter keep ds) d ≡ true → has_dart ds d ≡ true
 has_passing keep [] d h = cc
 has_passing keep (c ∷ ds) d h = by_test (has_passing keep ds d) (keep c) h where
-  by_test : (has_dart (filter keep ds) d ≡ true → has_dart ds d ≡ true) → (t : Bool) → has_dart (cond t (c ∷ filter keep ds) (filter keep ds)) d ≡ true → (same_dart d c || has_dart ds d) ≡ true
+  by_test : (has_dart (filter keep ds) d ≡ true → has_dart ds d ≡ true) → (t : Bool) → has_dart (cond t (c ∷ filter keep ds) (filter keep ds)) d ≡ true
+      → (same_dart d c || has_dart ds d) ≡ true
   by_test rest true k = grind (arith, or_cases, or_left, or_right)
   by_test rest false k = or_right (same_dart d c) (has_dart ds d) (rest k)
 
@@ -142,7 +149,8 @@ image_points g (around ∷ s) = ap (λ ds. map g around ++ ds) (image_points g s
 -- ---- Points of a system of their own
 
 -- where no dart stands twice, two items whose points have one dart are the same
-pub points_apart : {X : Type 0} (h : X → List Dart) (xs : List X) → IsDistinct (darts_in (map h xs)) → (a b : X) (d : Dart) → IsIn a xs → IsIn b xs → has_dart (h a) d ≡ true → has_dart (h b) d ≡ true → a ≡ b
+pub points_apart : {X : Type 0} (h : X → List Dart) (xs : List X) → IsDistinct (darts_in (map h xs)) → (a b : X) (d : Dart) → IsIn a xs → IsIn b xs
+    → has_dart (h a) d ≡ true → has_dart (h b) d ≡ true → a ≡ b
 points_apart h [] distinct a b d a_in b_in p q = absurd a_in
 points_apart h (x ∷ xs) distinct a b d (inl e) (inl k) p q = e ∙ sym k
 points_apart h (x ∷ xs) distinct a b d (inl e) (inr k) p q = grind (arith, not_in_both, at_point_in, in_map)

@@ -1,5 +1,6 @@
 -- What comes next round a point: the list may begin anywhere, and one dart may be taken out.
-use Rattle.std.proofs.Common.{◌≡◌, ◌≤◌, ◌||◌, ap, append-nil, append_assoc, arith, Bool, cond, false, inl, inr, List, refl, subst, sym, true, ℕ, [], ◌++◌, ◌∙◌, ◌∷◌}
+use Rattle.std.proofs.Common.{◌≡◌, ◌≤◌, ◌||◌, ap, append-nil, append_assoc, arith, Bool, cond}
+use Rattle.std.proofs.Common.{false, inl, inr, List, refl, subst, sym, true, ℕ, [], ◌++◌, ◌∙◌, ◌∷◌}
 use Rattle.std.specs.Prelude.{filter, not, slice_index_or, ◌==◌, ◌⊎◌}
 use Rattle.std.proofs.lemmas.List.Sums.{sum_by-append, sum_by-cons}
 use Rattle.std.proofs.lemmas.Bool.{cases_Bool, eqb-true, or_left, or_right}
@@ -66,7 +67,8 @@ next_turned x (y ∷ ys) d distinct h = elim (cases_Bool (same_dart d x)) [
 ]
 
 -- the list may begin anywhere
-pub next_rotated : (front back : List Dart) (d : Dart) → IsDistinct (front ++ back) → has_dart (front ++ back) d ≡ true → next_around (front ++ back) d ≡ next_around (back ++ front) d
+pub next_rotated : (front back : List Dart) (d : Dart) → IsDistinct (front ++ back) → has_dart (front ++ back) d ≡ true
+    → next_around (front ++ back) d ≡ next_around (back ++ front) d
 next_rotated [] back d distinct h = ap (λ ds. next_around ds d) (sym (append-nil back))
 next_rotated (x ∷ front) back d distinct h =
     let moved = append_assoc front back (x ∷ []) in
@@ -80,7 +82,8 @@ next_rotated (x ∷ front) back d distinct h =
 -- ---- A dart taken out
 
 -- what follows, where the last is followed by another
-follower_by : (first other d : Dart) (zs : List Dart) → (follower first zs d ≡ follower other zs d) ⊎ ((follower first zs d ≡ first) × (follower other zs d ≡ other))
+follower_by : (first other d : Dart) (zs : List Dart) → (follower first zs d ≡ follower other zs d)
+    ⊎ ((follower first zs d ≡ first) × (follower other zs d ≡ other))
 follower_by first other d [] = inr (refl, refl)
 follower_by first other d (z ∷ []) = grind (arith, cases_Bool, first)
 follower_by first other d (z ∷ y ∷ zs) = elim (cases_Bool (same_dart d z)) [
@@ -110,14 +113,16 @@ next_but_first x d (z ∷ zs) other h =
 
 -- wherever x stands
 pub next_without : (front back : List Dart) (x d : Dart) → IsDistinct (front ++ x ∷ back) → same_dart d x ≡ false → has_dart (front ++ back) d ≡ true
-    → (next_around (front ++ x ∷ back) d ≡ next_around (front ++ back) d) ⊎ ((next_around (front ++ x ∷ back) d ≡ x) × (next_around (front ++ x ∷ back) x ≡ next_around (front ++ back) d))
+    → (next_around (front ++ x ∷ back) d ≡ next_around (front ++ back) d)
+    ⊎ ((next_around (front ++ x ∷ back) d ≡ x) × (next_around (front ++ x ∷ back) x ≡ next_around (front ++ back) d))
 next_without front back x d distinct other h =
     let turned = distinct_exchanged front (x ∷ back) distinct in
     let fewer : IsDistinct (back ++ front) = distinct_right (x ∷ []) (back ++ front) turned in
     grind (arith, back, front, has_exchanged, or_right, or_left, same_dart_self, next_rotated, next_but_first)
 
 -- what follows x: the first behind it, or from the start
-pub next_of_taken : (front back : List Dart) (x : Dart) → IsDistinct (front ++ x ∷ back) → next_around (front ++ x ∷ back) x ≡ slice_index_or (back ++ front) 0 x
+pub next_of_taken : (front back : List Dart) (x : Dart) → IsDistinct (front ++ x ∷ back)
+    → next_around (front ++ x ∷ back) x ≡ slice_index_or (back ++ front) 0 x
 next_of_taken front back x distinct = grind (arith, next_rotated, front, back, has_exchanged, or_left, same_dart_self, next_of_first)
 
 -- ---- Four darts

@@ -48,11 +48,13 @@ vertex_in rows v inside = in_range 0 (length rows.rotations) v (omega arith) (om
 
 -- the darts round a vertex are a point
 pub vertex_point : (rows : Rows) (v : ℕ) → IsIn v (vertices rows) → IsIn (around_vertex rows v) (system rows)
-vertex_point rows v there = in_left (around_vertex rows v) (map (around_vertex rows) (vertices rows)) (map (around_crossing rows) rows.crossings) (in_map (around_vertex rows) v (vertices rows) there)
+vertex_point rows v there = in_left (around_vertex rows v) (map (around_vertex rows) (vertices rows)) (map (around_crossing rows) rows.crossings)
+    (in_map (around_vertex rows) v (vertices rows) there)
 
 -- and so are those round a crossing
 pub crossing_point : (rows : Rows) (x : CrossRow) → IsIn x rows.crossings → IsIn (around_crossing rows x) (system rows)
-crossing_point rows x there = in_right (around_crossing rows x) (map (around_vertex rows) (vertices rows)) (map (around_crossing rows) rows.crossings) (in_map (around_crossing rows) x rows.crossings there)
+crossing_point rows x there = in_right (around_crossing rows x) (map (around_vertex rows) (vertices rows)) (map (around_crossing rows) rows.crossings)
+    (in_map (around_crossing rows) x rows.crossings there)
 
 -- a dart round a vertex is in the system
 pub at_vertex_in : (rows : Rows) (v : ℕ) (d : Dart) → v < length rows.rotations → IsIn d (around_vertex rows v) → IsIn d (darts_in (system rows))
@@ -65,7 +67,8 @@ eqb_self n = grind (arith, nat_tests)
 -- ---- Crossings on a path
 
 -- a path names crossings that are there
-pub crossing_there : (rows : Rows) → has_good_paths rows ≡ true → (row : EdgeRow) → IsIn row rows.edges → (x : ℕ) → IsIn x row.crossings → is_some (cross_row rows x) ≡ true
+pub crossing_there : (rows : Rows) → has_good_paths rows ≡ true → (row : EdgeRow) → IsIn row rows.edges → (x : ℕ) → IsIn x row.crossings
+    → is_some (cross_row rows x) ≡ true
 crossing_there rows good row h x named = grind (arith, test_of_each, right_true)
 
 -- what an option holds that is not empty

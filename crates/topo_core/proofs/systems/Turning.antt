@@ -63,16 +63,19 @@ follower_behind first c d (b ∷ cs) h = elim (cases_Bool (same_dart d c)) [
 ]
 
 -- the head follows no dart behind it
-head_follows_none : (first b d : Dart) (cs : List Dart) → IsDistinct (b ∷ cs) → has_dart (b ∷ cs) first ≡ false → has_dart (b ∷ cs) d ≡ true → b ≡ follower first (b ∷ cs) d → ⊥
+head_follows_none : (first b d : Dart) (cs : List Dart) → IsDistinct (b ∷ cs) → has_dart (b ∷ cs) first ≡ false → has_dart (b ∷ cs) d ≡ true
+    → b ≡ follower first (b ∷ cs) d → ⊥
 head_follows_none first b d cs distinct outside there e =
     let behind = subst (λ y. has_dart (first ∷ cs) y ≡ true) (sym e) (follower_behind first b d cs there) in
     elim (or_cases (same_dart b first) (has_dart cs b) behind) [
-      | inl same ↦ false≢true (sym outside ∙ or_left (same_dart first b) (has_dart cs first) (ap (same_dart first) (same_dart_true b first same) ∙ same_dart_self first))
+      | inl same ↦ false≢true
+          (sym outside ∙ or_left (same_dart first b) (has_dart cs first) (ap (same_dart first) (same_dart_true b first same) ∙ same_dart_self first))
       | inr again ↦ false≢true (sym (head_not_later b cs distinct) ∙ again)
     ]
 
 -- no two darts of a list are followed by the same
-follower_apart : (first z : Dart) (cs : List Dart) → IsDistinct (z ∷ cs) → has_dart cs first ≡ false → (c d : Dart) → has_dart (z ∷ cs) c ≡ true → has_dart (z ∷ cs) d ≡ true
+follower_apart : (first z : Dart) (cs : List Dart) → IsDistinct (z ∷ cs) → has_dart cs first ≡ false → (c d : Dart) → has_dart (z ∷ cs) c ≡ true
+    → has_dart (z ∷ cs) d ≡ true
     → follower first (z ∷ cs) c ≡ follower first (z ∷ cs) d → c ≡ d
 follower_apart first z [] distinct outside c d c_in d_in e = grind (arith, or_cases, same_dart_true, false≢true)
 follower_apart first z (b ∷ cs) distinct outside c d c_in d_in e =
@@ -100,7 +103,8 @@ next_around_in : (around : List Dart) (d : Dart) → has_dart around d ≡ true 
 next_around_in [] d h = cc
 next_around_in (c ∷ cs) d h = follower_behind c c d cs h
 
-next_around_apart : (around : List Dart) → IsDistinct around → (c d : Dart) → has_dart around c ≡ true → has_dart around d ≡ true → next_around around c ≡ next_around around d → c ≡ d
+next_around_apart : (around : List Dart) → IsDistinct around → (c d : Dart) → has_dart around c ≡ true → has_dart around d ≡ true
+    → next_around around c ≡ next_around around d → c ≡ d
 next_around_apart [] distinct c d c_in d_in e = cc
 next_around_apart (z ∷ cs) distinct c d c_in d_in e = follower_apart z z cs distinct (head_not_later z cs distinct) c d c_in d_in e
 
@@ -111,7 +115,8 @@ pub turn_in : (s : System) (d : Dart) → stands_in s d ≡ true → stands_in s
 turn_in [] d h = cc
 turn_in (around ∷ s) d h = elim (cases_Bool (has_dart around d)) [
   | inl e ↦ subst (λ y. stands_in (around ∷ s) y ≡ true) (sym (turn_at around s d e))
-      (has_dart-append around (darts_in s) (next_around around d) ∙ or_left (has_dart around (next_around around d)) (stands_in s (next_around around d)) (next_around_in around d e))
+      (has_dart-append around (darts_in s) (next_around around d)
+      ∙ or_left (has_dart around (next_around around d)) (stands_in s (next_around around d)) (next_around_in around d e))
   | inr e ↦ subst (λ y. stands_in (around ∷ s) y ≡ true) (sym (turn_past around s d e))
       (has_dart-append around (darts_in s) (turn s d) ∙ or_right (has_dart around (turn s d)) (stands_in s (turn s d))
       (turn_in s d (or_second (has_dart around d) (stands_in s d) e (sym (has_dart-append around (darts_in s) d) ∙ h))))
@@ -121,16 +126,19 @@ turn_in (around ∷ s) d h = elim (cases_Bool (has_dart around d)) [
 pub turn_apart : (s : System) → IsDistinct (darts_in s) → (c d : Dart) → stands_in s c ≡ true → stands_in s d ≡ true → turn s c ≡ turn s d → c ≡ d
 turn_apart [] distinct c d c_in d_in e = cc
 turn_apart (around ∷ s) distinct c d c_in d_in e =
-    let inside : (y : Dart) → has_dart around y ≡ false → stands_in (around ∷ s) y ≡ true → stands_in s y ≡ true = λ y no h. or_second (has_dart around y) (stands_in s y) no (sym (has_dart-append around (darts_in s) y) ∙ h) in
+    let inside : (y : Dart) → has_dart around y ≡ false → stands_in (around ∷ s) y ≡ true → stands_in s y ≡ true =
+    λ y no h. or_second (has_dart around y) (stands_in s y) no (sym (has_dart-append around (darts_in s) y) ∙ h) in
     elim (cases_Bool (has_dart around c)) [
       | inl c_here ↦ elim (cases_Bool (has_dart around d)) [
-        | inl d_here ↦ next_around_apart around (distinct_left around (darts_in s) distinct) c d c_here d_here (sym (turn_at around s c c_here) ∙ e ∙ turn_at around s d d_here)
+        | inl d_here ↦ next_around_apart around (distinct_left around (darts_in s) distinct) c d c_here d_here
+            (sym (turn_at around s c c_here) ∙ e ∙ turn_at around s d d_here)
         | inr d_not ↦ absurd (not_in_both around (darts_in s) (next_around around c) distinct (next_around_in around c c_here)
             (subst (λ y. stands_in s y ≡ true) (sym (sym (turn_at around s c c_here) ∙ e ∙ turn_past around s d d_not)) (turn_in s d (inside d d_not d_in))))
       ]
       | inr c_not ↦ elim (cases_Bool (has_dart around d)) [
         | inl d_here ↦ absurd (not_in_both around (darts_in s) (next_around around d) distinct (next_around_in around d d_here)
             (subst (λ y. stands_in s y ≡ true) (sym (turn_past around s c c_not) ∙ e ∙ turn_at around s d d_here) (turn_in s c (inside c c_not c_in))))
-        | inr d_not ↦ turn_apart s (distinct_right around (darts_in s) distinct) c d (inside c c_not c_in) (inside d d_not d_in) (sym (turn_past around s c c_not) ∙ e ∙ turn_past around s d d_not)
+        | inr d_not ↦ turn_apart s (distinct_right around (darts_in s) distinct) c d (inside c c_not c_in) (inside d d_not d_in)
+            (sym (turn_past around s c c_not) ∙ e ∙ turn_past around s d d_not)
       ]
     ]

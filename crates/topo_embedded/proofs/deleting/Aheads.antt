@@ -32,7 +32,8 @@ first_place h zero a inside = absurd inside
 first_place h (suc n) a (inl e) = (n, omega arith, e)
 first_place h (suc n) a (inr later) = let (i, less, is) = first_place h n a later in (i, omega (arith, less), is)
 
-module _ (p : RowsWithPaths) (good : IsWellFormed p.rows) (r : Rotation) (s : ShowsRows p r) (e : ℕ) (row : EdgeRow) (known : edge_row p.rows e ≡ Some row) (connected : Connected (system p.rows)) (zero_genus : HasGenusZero p.rows) where
+module _ (p : RowsWithPaths) (good : IsWellFormed p.rows) (r : Rotation) (s : ShowsRows p r) (e : ℕ) (row : EdgeRow) (known : edge_row p.rows e ≡ Some row)
+    (connected : Connected (system p.rows)) (zero_genus : HasGenusZero p.rows) where
   abbrev nu : ℕ → ℕ
   nu = half_at p
 
@@ -56,13 +57,17 @@ module _ (p : RowsWithPaths) (good : IsWellFormed p.rows) (r : Rotation) (s : Sh
       each = λ c x is.
           let d : Dart = ahead p.rows c x.id in
           let here : has_dart (darts p.rows) d ≡ true = (hidden.crossed_there c x is).0 in
-          let alive : IsAlive (left p.rows good e row known connected zero_genus) (n p.rows good e row known connected zero_genus) (index_of p.rows d) = record {
+          let alive : IsAlive (left p.rows good e row known connected zero_genus) (n p.rows good e row known connected zero_genus)
+          (index_of p.rows d) = record {
             within = number_less p.rows good d here;
-            alive = off_left p.rows e row good known (without p.rows e) hidden d here (hidden.other_edge c x is).0 (segments p.rows good e row known connected zero_genus) (omega arith);
+            alive = off_left p.rows e row good known (without p.rows e) hidden d here (hidden.other_edge c x is).0
+                (segments p.rows good e row known connected zero_genus) (omega arith);
           } in
-          let (i, less, same) = first_place middle last (index_of p.rows d) (path_mids_all p.rows good e row known connected zero_genus (index_of p.rows d) alive (c, x, is, refl)) in
+          let (i, less, same) =
+          first_place middle last (index_of p.rows d) (path_mids_all p.rows good e row known connected zero_genus (index_of p.rows d) alive (c, x, is, refl)) in
           let half : get_or hs i 0 ≡ half_in p d = are.each i less ∙ ap nu (sym same) ∙ half_of_number p good d here in
-          has_id_in (half_in p d) hs (subst (λ (k : ℕ). IsIn k hs) half (item_at (get_or hs i 0) hs i (slice_get-get_or hs i 0 (omega (arith, are.as_many, less)))));
+          has_id_in (half_in p d) hs
+          (subst (λ (k : ℕ). IsIn k hs) half (item_at (get_or hs i 0) hs i (slice_get-get_or hs i 0 (omega (arith, are.as_many, less)))));
       others = λ h test.
           let (i, less, got) = in_place h hs (in_has_id h hs test) in
           let li : i < last = omega (arith, less, are.as_many) in
@@ -77,8 +82,11 @@ module _ (p : RowsWithPaths) (good : IsWellFormed p.rows) (r : Rotation) (s : Sh
     }
 
     -- the segments of the edge taken out, the midpoints smoothed, and the paths without their halves
-    pub deleted_shows : IsEmbedding r → (w : Turning) (r' : Rotation) → IsRun half_limit (turning_of r) (unchords_of (λ j. nu (index_of p.rows (forward e j))) (last + 1)) w → IsRun half_limit w (smooths_of nu (first_of middle last)) (turning_of r')
-        → KeepsLabels (is_live r') (edge_of r) (edge_of r') → (paths : List (List ℕ)) → ArePathsLeft p e (has_id hs) paths → ShowsRows (record { rows = without p.rows e; paths = paths }) r'
+    pub deleted_shows : IsEmbedding r → (w : Turning) (r' : Rotation) → IsRun half_limit (turning_of r)
+        (unchords_of (λ j. nu (index_of p.rows (forward e j))) (last + 1)) w → IsRun half_limit w (smooths_of nu (first_of middle last)) (turning_of r')
+        → KeepsLabels (is_live r') (edge_of r) (edge_of r') → (paths : List (List ℕ)) → ArePathsLeft p e (has_id hs) paths
+        → ShowsRows (record { rows = without p.rows e; paths = paths }) r'
     deleted_shows whole w r' unchords smooths keeps paths lists =
         without_shows p good r s e (ap is_some known) (has_id hs) aheads paths lists r'
-        (deleted_along p.rows good e row known connected zero_genus nu s.back half_limit (turning_of r) w (turning_of r') s.renumbers whole.slab unchords smooths) keeps
+        (deleted_along p.rows good e row known connected zero_genus nu s.back half_limit (turning_of r) w (turning_of r')
+        s.renumbers whole.slab unchords smooths) keeps

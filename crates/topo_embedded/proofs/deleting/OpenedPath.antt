@@ -58,14 +58,16 @@ module _ (p : RowsWithPaths) (good : IsWellFormed p.rows) (r : Rotation) (s : Sh
   on_list c seg h =
       let inside = segment_of_dart p.rows good (forward c seg) h in
       let many = path_many c (edge_of_dart p.rows good (forward c seg) h) in
-      has_id_in (half_in p (forward c seg)) (path_of p c) (item_at (half_in p (forward c seg)) (path_of p c) seg (slice_get-get_or (path_of p c) seg 0 (omega (arith, inside, many))))
+      has_id_in (half_in p (forward c seg)) (path_of p c)
+      (item_at (half_in p (forward c seg)) (path_of p c) seg (slice_get-get_or (path_of p c) seg 0 (omega (arith, inside, many))))
 
   off_list : (c seg : ℕ) → has_dart (darts p.rows) (back c seg) ≡ true → has_id (path_of p c) (half_in p (back c seg)) ≡ false
   off_list c seg h = not_true (has_id (path_of p c) (half_in p (back c seg))) (λ test.
       let there = edge_of_dart p.rows good (back c seg) h in
       let (k, less, got) = in_place (half_in p (back c seg)) (path_of p c) (in_has_id (half_in p (back c seg)) (path_of p c) test) in
       let inside : k ≤ length (edge_at p.rows c).crossings = omega (arith, less, path_many c there) in
-      let same : forward c k ≡ back c seg = halves_apart p good r s (forward c k) (back c seg) (dart_of_segment p.rows good c k Forward there inside) h (get_or_from_slice_get (path_of p c) k (half_in p (back c seg)) 0 got) in
+      let same : forward c k ≡ back c seg = halves_apart p good r s (forward c k) (back c seg) (dart_of_segment p.rows good c k Forward there inside) h
+      (get_or_from_slice_get (path_of p c) k (half_in p (back c seg)) 0 got) in
       absurd (ways_apart (ap (λ (d : Dart). d.way) same))) where
         ways_apart : Forward ≡ Back → ⊥
         ways_apart w = cc
@@ -77,7 +79,8 @@ module _ (p : RowsWithPaths) (good : IsWellFormed p.rows) (r : Rotation) (s : Sh
       let is : index_of p.rows (back c seg) ≡ twin (index_of p.rows (forward c seg)) = index_twin p.rows (forward c seg) f in
       ne_eqb (index_of p.rows (back c seg) % 2) 0 (λ w. absurd (omega (arith, w, even, is, twin-cases (index_of p.rows (forward c seg)))))
 
-  pub leads_even : (c seg : ℕ) (way : Way) → (let d : Dart = record { edge = c; seg = seg; way = way } in has_dart (darts p.rows) d ≡ true → has_id (path_of p c) (half_in p d) ≡ is_even (index_of p.rows d))
+  pub leads_even : (c seg : ℕ) (way : Way) → (let d : Dart = record { edge = c; seg = seg; way = way } in has_dart (darts p.rows) d ≡ true
+      → has_id (path_of p c) (half_in p d) ≡ is_even (index_of p.rows d))
   leads_even c seg Forward h = on_list c seg h ∙ sym (eq-eqb (index_of p.rows (forward c seg) % 2) 0 (index_forward p.rows (forward c seg) h refl))
   leads_even c seg Back h = off_list c seg h ∙ sym (odd_back c seg h)
 
@@ -127,28 +130,35 @@ module _ (rows : Rows) (others : List (List ℕ)) (e : ℕ) (path0 : List ℕ) (
   module _ (i : ℕ) (now : Rotation) (path : List ℕ) (st : IsOpenTo p e r i now path) where
     pub next_live : i ≤ last → (half : ℕ) → half ≡ slice_index_or path i 0 → is_live now half ≡ true
     next_live li half is = ap (is_live now) (is ∙ st.left i (omega arith) li)
-        ∙ (segment_alive rows good e row known o.lawful.embedding.connected o.lawful.genus_zero nu o.shows.back half_limit (turning_of r) o.shows.renumbers o.whole.slab i (turning_of now) st.run li).alive
+        ∙ (segment_alive rows good e row known o.lawful.embedding.connected o.lawful.genus_zero nu o.shows.back half_limit (turning_of r)
+        o.shows.renumbers o.whole.slab i (turning_of now) st.run li).alive
 
     module _ (li : i < last) (half : ℕ) (is : half ≡ slice_index_or path i 0) where
       twin_is : twin half ≡ nu (num (back e i))
       twin_is = ap twin (is ∙ st.left i (omega arith) (omega arith)) ∙ twin_number i (omega arith)
 
       pub back_live : is_live now (twin half) ≡ true
-      back_live = ap (is_live now) twin_is ∙ (back_alive rows good e row known o.lawful.embedding.connected o.lawful.genus_zero nu o.shows.back half_limit (turning_of r) o.shows.renumbers o.whole.slab i (turning_of now) st.run li).alive
+      back_live = ap (is_live now) twin_is
+          ∙ (back_alive rows good e row known o.lawful.embedding.connected o.lawful.genus_zero nu o.shows.back half_limit (turning_of r)
+          o.shows.renumbers o.whole.slab i (turning_of now) st.run li).alive
 
       over : Dart
-      over = over_dart rows good e row known o.lawful.embedding.connected o.lawful.genus_zero nu o.shows.back half_limit (turning_of r) o.shows.renumbers o.whole.slab i (turning_of now) st.run li
+      over = over_dart rows good e row known o.lawful.embedding.connected o.lawful.genus_zero nu o.shows.back half_limit (turning_of r)
+          o.shows.renumbers o.whole.slab i (turning_of now) st.run li
 
       over_is : (has_dart (darts rows) over ≡ true) × (over.edge ≢ e)
       unfolding over
-      over_is = over_off rows good e row known o.lawful.embedding.connected o.lawful.genus_zero nu o.shows.back half_limit (turning_of r) o.shows.renumbers o.whole.slab i (turning_of now) st.run li
+      over_is = over_off rows good e row known o.lawful.embedding.connected o.lawful.genus_zero nu o.shows.back half_limit (turning_of r)
+          o.shows.renumbers o.whole.slab i (turning_of now) st.run li
 
       turned : turn now (twin half) ≡ nu (num over)
       unfolding over
-      turned = ap (turn now) twin_is ∙ over_turn rows good e row known o.lawful.embedding.connected o.lawful.genus_zero nu o.shows.back half_limit (turning_of r) o.shows.renumbers o.whole.slab i (turning_of now) st.run li
+      turned = ap (turn now) twin_is ∙ over_turn rows good e row known o.lawful.embedding.connected o.lawful.genus_zero nu o.shows.back half_limit
+          (turning_of r) o.shows.renumbers o.whole.slab i (turning_of now) st.run li
 
       over_live : is_live now (nu (num over)) ≡ true
-      over_live = ap (is_live now) (sym turned) ∙ (alive_turn (is_live now) (turn now) half_limit (twin half) st.whole.slab (live_half now (twin half) st.whole back_live)).alive
+      over_live = ap (is_live now) (sym turned)
+          ∙ (alive_turn (is_live now) (turn now) half_limit (twin half) st.whole.slab (live_half now (twin half) st.whole back_live)).alive
 
       over_label : edge_of now (nu (num over)) ≡ over.edge
       over_label = st.keeps (nu (num over)) over_live ∙ ap (edge_of r) (half_of_number p good over over_is.0) ∙ o.shows.labels over over_is.0
@@ -161,7 +171,8 @@ module _ (rows : Rows) (others : List (List ℕ)) (e : ℕ) (path0 : List ℕ) (
 
       pub next_back_live : (behind : ℕ) → behind ≡ slice_index_or path (i + 1) 0 → is_live now behind ≡ true
       next_back_live behind at = ap (is_live now) (at ∙ st.left (i + 1) (omega arith) (omega arith))
-          ∙ (forward_alive rows good e row known o.lawful.embedding.connected o.lawful.genus_zero nu o.shows.back half_limit (turning_of r) o.shows.renumbers o.whole.slab i (turning_of now) st.run li).alive
+          ∙ (forward_alive rows good e row known o.lawful.embedding.connected o.lawful.genus_zero nu o.shows.back half_limit (turning_of r)
+          o.shows.renumbers o.whole.slab i (turning_of now) st.run li).alive
 
       leads_same : leads_in rows others (edge_of now) (nu (num over)) ≡ is_even (num over)
       leads_same =
@@ -170,22 +181,31 @@ module _ (rows : Rows) (others : List (List ℕ)) (e : ℕ) (path0 : List ℕ) (
           ∙ ap (has_id (path_of p over.edge)) (half_of_number p good over over_is.0)
           ∙ leads_even p good r o.shows over.edge over.seg over.way over_is.0
 
-      pub mid_here : (behind : ℕ) → behind ≡ slice_index_or path (i + 1) 0 → across (leads_in rows others (edge_of now)) (turn now) (twin half) behind ≡ nu (mid_at rows e i)
+      pub mid_here : (behind : ℕ) → behind ≡ slice_index_or path (i + 1) 0
+          → across (leads_in rows others (edge_of now)) (turn now) (twin half) behind ≡ nu (mid_at rows e i)
       unfolding over
       mid_here behind at =
           ap (λ (h : ℕ). across (leads_in rows others (edge_of now)) (turn now) h behind) twin_is
           ∙ ap (across (leads_in rows others (edge_of now)) (turn now) (nu (num (back e i)))) (at ∙ st.left (i + 1) (omega arith) (omega arith))
-          ∙ mid_found rows good e row known o.lawful.embedding.connected o.lawful.genus_zero nu o.shows.back half_limit (turning_of r) o.shows.renumbers o.whole.slab i (turning_of now) st.run li (leads_in rows others (edge_of now)) leads_same
+          ∙ mid_found rows good e row known o.lawful.embedding.connected o.lawful.genus_zero nu o.shows.back half_limit (turning_of r)
+          o.shows.renumbers o.whole.slab i (turning_of now) st.run li (leads_in rows others (edge_of now)) leads_same
 
     -- ---- The next segment goes
 
-    module _ (inside : i ≤ last) (half : ℕ) (is : half ≡ slice_index_or path i 0) (after : Rotation) (edit : IsUnchord (turn now) (turn after) half_limit half) (shrinks : Shrinks now after half) (labels : KeepsLabels (is_live after) (edge_of now) (edge_of after)) where
+    module _ (inside : i ≤ last) (half : ℕ) (is : half ≡ slice_index_or path i 0) (after : Rotation) (edit : IsUnchord (turn now) (turn after) half_limit half)
+        (shrinks : Shrinks now after half) (labels : KeepsLabels (is_live after) (edge_of now) (edge_of after)) where
       half_is : half ≡ nu (num (forward e i))
       half_is = is ∙ st.left i (omega arith) inside
 
-      opened_next : (list : List ℕ) → length list ≡ length path → ((j : ℕ) → j ≢ i → slice_index_or list j 0 ≡ slice_index_or path j 0) → (i < last → slice_index_or list i 0 ≡ nu (mid_at rows e i)) → IsOpenTo p e r (suc i) after list
+      opened_next : (list : List ℕ) → length list ≡ length path → ((j : ℕ) → j ≢ i → slice_index_or list j 0 ≡ slice_index_or path j 0)
+          → (i < last → slice_index_or list i 0 ≡ nu (mid_at rows e i)) → IsOpenTo p e r (suc i) after list
       opened_next list many_same others_same here = record {
-        run = (turning_of now, st.run, subst (λ (h : ℕ). IsStep half_limit (turning_of now) (Unchord h) (turning_of after)) half_is (unchord_step now after half st.whole (next_live inside half is) edit shrinks));
+        run = (
+          turning_of now,
+          st.run,
+          subst (λ (h : ℕ). IsStep half_limit (turning_of now) (Unchord h) (turning_of after)) half_is
+              (unchord_step now after half st.whole (next_live inside half is) edit shrinks),
+        );
         whole = shrinks.embedding;
         keeps = λ a live. labels a live ∙ st.keeps a (still_live a live);
         as_many = many_same ∙ st.as_many;
@@ -199,13 +219,15 @@ module _ (rows : Rows) (others : List (List ℕ)) (e : ℕ) (path0 : List ℕ) (
         still_live a live = (still_alive (is_live after) (is_live now) half_limit half a shrinks.live (live_half after a shrinks.embedding live)).alive
 
       pub opened_more : i < last → (mid : ℕ) → mid ≡ nu (mid_at rows e i) → IsOpenTo p e r (i + 1) after (set path i mid)
-      opened_more li mid mid_is = subst (λ (k : ℕ). IsOpenTo p e r k after (set path i mid)) next (opened_next (set path i mid) (length-set path i mid) (λ j differs. get_or-set_other path i j mid 0 differs)
+      opened_more li mid mid_is = subst (λ (k : ℕ). IsOpenTo p e r k after (set path i mid)) next
+          (opened_next (set path i mid) (length-set path i mid) (λ j differs. get_or-set_other path i j mid 0 differs)
           (λ _. get_or-set_same path i mid 0 (omega (arith, st.as_many)) ∙ mid_is)) where
             next : suc i ≡ i + 1
             next = omega arith
 
       pub opened_last : i ≡ last → IsOpenTo p e r (length path) after path
-      opened_last end = subst (λ (k : ℕ). IsOpenTo p e r k after path) (omega (arith, st.as_many)) (opened_next path refl (λ j differs. refl) (λ li. absurd (omega arith)))
+      opened_last end = subst (λ (k : ℕ). IsOpenTo p e r k after path) (omega (arith, st.as_many))
+          (opened_next path refl (λ j differs. refl) (λ li. absurd (omega arith)))
 
 -- ---- As it is read
 
@@ -213,7 +235,8 @@ module _ (rows : Rows) (others : List (List ℕ)) (path0 : List ℕ) (r : Rotati
   pub some_segments : 1 ≤ length path0
   some_segments = omega (arith, many rows others w.0 path0 r w.1)
 
-  module _ (i : ℕ) (now : Rotation) (path : List ℕ) (st : (e : ℕ) (o : IsSetOut rows others e path0 r) → IsOpenTo (record { rows = rows; paths = o.paths }) e r i now path) where
+  module _ (i : ℕ) (now : Rotation) (path : List ℕ)
+      (st : (e : ℕ) (o : IsSetOut rows others e path0 r) → IsOpenTo (record { rows = rows; paths = o.paths }) e r i now path) where
     pub as_long : length path ≡ length path0
     as_long = (st w.0 w.1).as_many ∙ sym (many rows others w.0 path0 r w.1)
 
@@ -236,16 +259,23 @@ module _ (rows : Rows) (others : List (List ℕ)) (path0 : List ℕ) (r : Rotati
       pub read_known : is_some (edge_row rows (edge_of now (turn now (twin half)))) ≡ true
       read_known = over_known rows others w.0 path0 r w.1 i now path (st w.0 w.1) (more w.0 w.1) half read
 
-      pub read_more : (behind mid : ℕ) → behind ≡ slice_index_or path (i + 1) 0 → mid ≡ across (leads_in rows others (edge_of now)) (turn now) (twin half) behind
-          → (after : Rotation) → IsUnchord (turn now) (turn after) half_limit half → Shrinks now after half → KeepsLabels (is_live after) (edge_of now) (edge_of after)
-          → (list : List ℕ) → list ≡ set path i mid → (e : ℕ) (o : IsSetOut rows others e path0 r) → IsOpenTo (record { rows = rows; paths = o.paths }) e r (i + 1) after list
-      read_more behind mid read_behind mid_is after edit shrinks labels list list_is e o = subst (IsOpenTo (record { rows = rows; paths = o.paths }) e r (i + 1) after) (sym list_is)
-          (opened_more rows others e path0 r o i now path (st e o) (inside_of e o (omega (arith, before_last))) half read after edit shrinks labels (more e o) mid
+      pub read_more : (behind mid : ℕ) → behind ≡ slice_index_or path (i + 1) 0
+          → mid ≡ across (leads_in rows others (edge_of now)) (turn now) (twin half) behind
+          → (after : Rotation) → IsUnchord (turn now) (turn after) half_limit half → Shrinks now after half
+          → KeepsLabels (is_live after) (edge_of now) (edge_of after)
+          → (list : List ℕ) → list ≡ set path i mid → (e : ℕ) (o : IsSetOut rows others e path0 r)
+          → IsOpenTo (record { rows = rows; paths = o.paths }) e r (i + 1) after list
+      read_more behind mid read_behind mid_is after edit shrinks labels list list_is e o =
+          subst (IsOpenTo (record { rows = rows; paths = o.paths }) e r (i + 1) after) (sym list_is)
+          (opened_more rows others e path0 r o i now path (st e o)
+          (inside_of e o (omega (arith, before_last))) half read after edit shrinks labels (more e o) mid
           (mid_is ∙ mid_here rows others e path0 r o i now path (st e o) (more e o) half read behind read_behind))
 
-    pub read_last : i ≡ length path0 - 1 → (half : ℕ) → half ≡ slice_index_or path i 0 → (after : Rotation) → IsUnchord (turn now) (turn after) half_limit half → Shrinks now after half → KeepsLabels (is_live after) (edge_of now) (edge_of after)
+    pub read_last : i ≡ length path0 - 1 → (half : ℕ) → half ≡ slice_index_or path i 0 → (after : Rotation) → IsUnchord (turn now) (turn after) half_limit half
+        → Shrinks now after half → KeepsLabels (is_live after) (edge_of now) (edge_of after)
         → (e : ℕ) (o : IsSetOut rows others e path0 r) → IsOpenTo (record { rows = rows; paths = o.paths }) e r (length path0) after path
     read_last end half read after edit shrinks labels e o =
         let li : i < length path0 = omega (arith, end, some_segments) in
         subst (λ (k : ℕ). IsOpenTo (record { rows = rows; paths = o.paths }) e r k after path) as_long
-        (opened_last rows others e path0 r o i now path (st e o) (inside_of e o li) half read after edit shrinks labels (omega (arith, end, many rows others e path0 r o)))
+        (opened_last rows others e path0 r o i now path (st e o) (inside_of e o li) half read after edit shrinks labels
+        (omega (arith, end, many rows others e path0 r o)))

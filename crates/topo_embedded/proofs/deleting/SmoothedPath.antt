@@ -1,5 +1,6 @@
 -- The midpoints that an edge has left are smoothed, and their halves go from the lists of the other edges.
-use Rattle.std.proofs.Common.{◌≡◌, ◌≢◌, ◌+◌, ◌-◌, ◌<◌, ◌||◌, ◌&&◌, ap, arith, Bool, false, filter, get_or, inl, inr, length, List, [], ◌∷◌, not, refl, set, subst, sym, suc, take, true, zero, ℕ, ◌∙◌}
+use Rattle.std.proofs.Common.{◌≡◌, ◌≢◌, ◌+◌, ◌-◌, ◌<◌, ◌||◌, ◌&&◌, ap, arith, Bool, false, filter, get_or, inl, inr}
+use Rattle.std.proofs.Common.{length, List, [], ◌∷◌, not, refl, set, subst, sym, suc, take, true, zero, ℕ, ◌∙◌}
 use Rattle.std.specs.Prelude.{◌==◌, is_some, map, slice_get, slice_index_or, Some}
 use Rattle.std.specs.List.{position_or_len, remove}
 use Rattle.std.proofs.lemmas.Bool.{cases_Bool, cases_eq, cases_lt, false≢true, ne_eqb}
@@ -85,7 +86,8 @@ module _ (mids : List ℕ) (i h : ℕ) (inside : i < length mids) (is : h ≡ ge
   spared_more xs =
       filter_twice (λ x. not (x == h)) (λ x. not (has_id (take i mids) x)) xs
       ∙ filter_alike (λ x. not (has_id (take i mids) x) && not (x == h)) (λ x. not (has_id (take (suc i) mids) x)) xs (λ x k.
-      neither (has_id (take i mids) x) (x == h) ∙ ap not (ap (λ b. has_id (take i mids) x || b) (eqb_symm x h ∙ ap (λ (n : ℕ). n == x) is) ∙ sym (one_more mids i x inside))) where
+      neither (has_id (take i mids) x) (x == h)
+      ∙ ap not (ap (λ b. has_id (take i mids) x || b) (eqb_symm x h ∙ ap (λ (n : ℕ). n == x) is) ∙ sym (one_more mids i x inside))) where
         neither : (a b : Bool) → (not a && not b) ≡ not (a || b)
         neither true b = refl
         neither false b = refl
@@ -93,7 +95,8 @@ module _ (mids : List ℕ) (i h : ℕ) (inside : i < length mids) (is : h ≡ ge
   -- where h is none of them
   spared_same : (xs : List ℕ) → ((x : ℕ) → IsIn x xs → x ≢ h) → spared (has_id (take i mids)) xs ≡ spared (has_id (take (suc i) mids)) xs
   spared_same xs apart = filter_alike (λ x. not (has_id (take i mids) x)) (λ x. not (has_id (take (suc i) mids) x)) xs (λ x k.
-      ap not (sym (one_more mids i x inside ∙ ap (λ b. has_id (take i mids) x || b) (ne_eqb (get_or mids i 0) x (λ same. apart x k (sym same ∙ sym is))) ∙ or_none (has_id (take i mids) x))))
+      ap not (sym (one_more mids i x inside ∙ ap (λ b. has_id (take i mids) x || b) (ne_eqb (get_or mids i 0) x (λ same. apart x k (sym same ∙ sym is)))
+      ∙ or_none (has_id (take i mids) x))))
 
 -- ---- Lists by edge
 
@@ -111,7 +114,8 @@ module _ (rows : Rows) (paths : List (List ℕ)) (many : length paths ≡ length
   places_apart c d c_there d_there apart same = grind (arith, placed)
 
   -- of another edge
-  pub set_apart : (c d : ℕ) (xs : List ℕ) → is_some (edge_row rows c) ≡ true → is_some (edge_row rows d) ≡ true → d ≢ c → path_of (record { rows = rows; paths = set paths (place c) xs }) d ≡ path_of (record { rows = rows; paths = paths }) d
+  pub set_apart : (c d : ℕ) (xs : List ℕ) → is_some (edge_row rows c) ≡ true → is_some (edge_row rows d) ≡ true → d ≢ c
+      → path_of (record { rows = rows; paths = set paths (place c) xs }) d ≡ path_of (record { rows = rows; paths = paths }) d
   set_apart c d xs c_there d_there apart = get_or-set_other paths (place c) (place d) xs [] (places_apart c d c_there d_there apart)
 
   set_here : (c : ℕ) (xs : List ℕ) → is_some (edge_row rows c) ≡ true → path_of (record { rows = rows; paths = set paths (place c) xs }) c ≡ xs
@@ -148,7 +152,8 @@ module _ (rows : Rows) (others : List (List ℕ)) (e : ℕ) (mids : List ℕ) (o
   label_on : (c : ℕ) → is_some (edge_row rows c) ≡ true → (h : ℕ) → IsIn h (path_of p c) → edge_of r h ≡ c
   label_on c there h inside =
       let (k, less, got) = in_place h (path_of p c) inside in
-      let on : has_dart (darts rows) (forward c k) ≡ true = dart_of_segment rows good c k Forward there (omega (arith, less, path_many p good r o.set_out.shows c there)) in
+      let on : has_dart (darts rows) (forward c k) ≡ true =
+      dart_of_segment rows good c k Forward there (omega (arith, less, path_many p good r o.set_out.shows c there)) in
       ap (edge_of r) (sym (get_or_from_slice_get (path_of p c) k h 0 got)) ∙ o.set_out.shows.labels (forward c k) on
 
   are_mids : AreMidHalves p good r o.set_out.shows e row known o.set_out.lawful.embedding.connected o.set_out.lawful.genus_zero mids
@@ -178,10 +183,12 @@ module _ (rows : Rows) (others : List (List ℕ)) (e : ℕ) (mids : List ℕ) (o
         apart = edge.apart;
         there = edge.before;
         left = edge.left;
-        label = ap (λ (a : ℕ). edge_of r (nu a)) at ∙ ap (edge_of r) (half_of_number p good (ahead rows c x.id) here) ∙ o.set_out.shows.labels (ahead rows c x.id) here;
+        label = ap (λ (a : ℕ). edge_of r (nu a)) at ∙ ap (edge_of r) (half_of_number p good (ahead rows c x.id) here)
+            ∙ o.set_out.shows.labels (ahead rows c x.id) here;
       }
 
-  module _ (i : ℕ) (now : Rotation) (paths : List (List ℕ)) (st : IsSmoothedTo p e r opened mids i now paths) (li : i < length mids) (half : ℕ) (is : half ≡ slice_index_or mids i 0) where
+  module _ (i : ℕ) (now : Rotation) (paths : List (List ℕ)) (st : IsSmoothedTo p e r opened mids i now paths) (li : i < length mids) (half : ℕ)
+      (is : half ≡ slice_index_or mids i 0) where
     before_last : i < last
     before_last = omega (arith, o.opened.as_many)
 
@@ -190,7 +197,8 @@ module _ (rows : Rows) (others : List (List ℕ)) (e : ℕ) (mids : List ℕ) (o
 
     pub can_smooth : IsSmoothable (turning_of now) half_limit half
     can_smooth = subst (IsSmoothable (turning_of now) half_limit) (sym half_is)
-        (smoothable_along rows good e row known o.set_out.lawful.embedding.connected o.set_out.lawful.genus_zero nu o.set_out.shows.back half_limit (turning_of r) o.set_out.shows.renumbers o.set_out.whole.slab (turning_of opened) (turning_of now) o.opened.run i before_last st.run)
+        (smoothable_along rows good e row known o.set_out.lawful.embedding.connected o.set_out.lawful.genus_zero nu o.set_out.shows.back half_limit
+        (turning_of r) o.set_out.shows.renumbers o.set_out.whole.slab (turning_of opened) (turning_of now) o.opened.run i before_last st.run)
 
     on : IsMidOn half
     on = subst IsMidOn (sym half_is) (mid_on i before_last)
@@ -211,14 +219,17 @@ module _ (rows : Rows) (others : List (List ℕ)) (e : ℕ) (mids : List ℕ) (o
         let listed : has_id mids half ≡ true = has_id_in half mids (item_at half mids i (slice_get-get_or mids i 0 li ∙ ap Some (sym is))) in
         false≢true (sym stays ∙ ap (has_id mids) (sym first ∙ same) ∙ listed)
 
-    module _ (after : Rotation) (edit : IsSmooth (turn now) (turn after) half_limit half) (shrinks : Shrinks now after half) (labels : KeepsLabels (is_live after) (edge_of now) (edge_of after)) (list : List (List ℕ)) (list_is : list ≡ without_half rows (edge_of now half) half paths) where
+    module _ (after : Rotation) (edit : IsSmooth (turn now) (turn after) half_limit half) (shrinks : Shrinks now after half)
+        (labels : KeepsLabels (is_live after) (edge_of now) (edge_of after)) (list : List (List ℕ))
+        (list_is : list ≡ without_half rows (edge_of now half) half paths) where
       list_here : list ≡ without_half rows on.other half paths
       list_here = list_is ∙ ap (λ (c : ℕ). without_half rows c half paths) label_now
 
       still_live : (a : ℕ) → is_live after a ≡ true → is_live now a ≡ true
       still_live a live = (still_alive (is_live after) (is_live now) half_limit half a shrinks.live (live_half after a shrinks.embedding live)).alive
 
-      left_here : (c : ℕ) → is_some (edge_row rows c) ≡ true → c ≢ e → path_of (record { rows = rows; paths = list }) c ≡ spared (has_id (take (suc i) mids)) (path_of p c)
+      left_here : (c : ℕ) → is_some (edge_row rows c) ≡ true → c ≢ e
+          → path_of (record { rows = rows; paths = list }) c ≡ spared (has_id (take (suc i) mids)) (path_of p c)
       left_here c there apart = elim (cases_eq c on.other) [
         | inl same ↦
             ap (λ (ls : List (List ℕ)). path_of (record { rows = rows; paths = ls }) c) list_here
@@ -229,17 +240,24 @@ module _ (rows : Rows) (others : List (List ℕ)) (e : ℕ) (mids : List ℕ) (o
             ∙ spared_more mids i half li is (path_of p c)
         | inr differs ↦
             ap (λ (ls : List (List ℕ)). path_of (record { rows = rows; paths = ls }) c) list_here
-            ∙ set_apart rows paths st.as_many on.other c (filter (λ x. not (x == half)) (path_of (record { rows = rows; paths = paths }) on.other)) on.there there differs
+            ∙ set_apart rows paths st.as_many on.other c (filter (λ x. not (x == half)) (path_of (record { rows = rows; paths = paths }) on.other))
+            on.there there differs
             ∙ st.lists c there apart
             ∙ spared_same mids i half li is (path_of p c) (λ x inside same. differs (sym (label_on c there x inside) ∙ ap (edge_of r) same ∙ on.label))
       ]
 
       smoothed_next : IsSmoothedTo p e r opened mids (suc i) after list
       smoothed_next = record {
-        run = (turning_of now, st.run, subst (λ (h : ℕ). IsStep half_limit (turning_of now) (Smooth h) (turning_of after)) half_is (smooth_step now after half st.whole can_smooth.there.alive can_smooth.two_segments edit shrinks));
+        run = (
+          turning_of now,
+          st.run,
+          subst (λ (h : ℕ). IsStep half_limit (turning_of now) (Smooth h) (turning_of after)) half_is
+              (smooth_step now after half st.whole can_smooth.there.alive can_smooth.two_segments edit shrinks),
+        );
         whole = shrinks.embedding;
         keeps = λ a live. labels a live ∙ st.keeps a (still_live a live);
-        as_many = ap length list_here ∙ length-set paths (position_or_len (λ row. row.id == on.other) rows.edges) (filter (λ x. not (x == half)) (path_of (record { rows = rows; paths = paths }) on.other)) ∙ st.as_many;
+        as_many = ap length list_here ∙ length-set paths (position_or_len (λ row. row.id == on.other) rows.edges) (filter (λ x. not (x == half))
+            (path_of (record { rows = rows; paths = paths }) on.other)) ∙ st.as_many;
         lists = left_here;
       }
 
@@ -250,7 +268,8 @@ module _ (rows : Rows) (others : List (List ℕ)) (e : ℕ) (mids : List ℕ) (o
 
   -- ---- All smoothed, and the list of the edge out
 
-  module _ (now : Rotation) (paths : List (List ℕ)) (st : IsSmoothedTo p e r opened mids (length mids) now paths) (read : List EdgeRow) (at : ℕ) (read_is : read ≡ rows.edges) (placed_at : IsPlaceOf read (λ row. row.id) e at) where
+  module _ (now : Rotation) (paths : List (List ℕ)) (st : IsSmoothedTo p e r opened mids (length mids) now paths) (read : List EdgeRow) (at : ℕ)
+      (read_is : read ≡ rows.edges) (placed_at : IsPlaceOf read (λ row. row.id) e at) where
     edges_left : remove rows.edges at ≡ filter (λ row. not (row.id == e)) rows.edges
     edges_left = rest_is rows good e rows.edges read (remove rows.edges at) at refl read_is placed_at refl
 
@@ -292,45 +311,57 @@ module _ (rows : Rows) (others : List (List ℕ)) (e : ℕ) (mids : List ℕ) (o
       }
     ]
 
-    list_left : (k : ℕ) (left : EdgeRow) → slice_get (without rows e).edges k ≡ Some left → slice_index_or (remove paths at) k [] ≡ spared (has_id mids) (path_of p left.id)
+    list_left : (k : ℕ) (left : EdgeRow) → slice_get (without rows e).edges k ≡ Some left
+        → slice_index_or (remove paths at) k [] ≡ spared (has_id mids) (path_of p left.id)
     list_left k left got =
         let got_here : slice_get (map uncrossed (remove rows.edges at)) k ≡ Some left = ap (λ (es : List EdgeRow). slice_get es k) (sym left_edges) ∙ got in
-        let less : k < length (remove rows.edges at) = omega (arith, slice_get_within (map uncrossed (remove rows.edges at)) k left got_here, length-map (remove rows.edges at) uncrossed) in
+        let less : k < length (remove rows.edges at) =
+        omega (arith, slice_get_within (map uncrossed (remove rows.edges at)) k left got_here, length-map (remove rows.edges at) uncrossed) in
         let was : WasAt k = was_at k less in
         let old : EdgeRow = get_or rows.edges was.place left in
         let old_at : slice_get rows.edges was.place ≡ Some old = slice_get-get_or rows.edges was.place left was.within in
-        let is : left ≡ uncrossed old = sym (get_or_from_slice_get (map uncrossed (remove rows.edges at)) k left left got_here) ∙ get_or-map uncrossed (remove rows.edges at) k left left less ∙ ap uncrossed (was.row left) in
+        let is : left ≡ uncrossed old = sym (get_or_from_slice_get (map uncrossed (remove rows.edges at)) k left left got_here)
+        ∙ get_or-map uncrossed (remove rows.edges at) k left left less ∙ ap uncrossed (was.row left) in
         let same_id : left.id ≡ old.id = ap (λ (row : EdgeRow). row.id) is in
         let apart : left.id ≢ e = id_apart left (item_at left (without rows e).edges k got) in
-        let there : is_some (edge_row rows left.id) ≡ true = ap (λ (c : ℕ). is_some (edge_row rows c)) same_id ∙ ap is_some (row_found rows good.paths old (item_at old rows.edges was.place old_at)) in
-        let first : was.place ≡ position_or_len (λ row. row.id == left.id) rows.edges = (placed_here (λ (row : EdgeRow). row.id) rows.edges left.id (edges_rise rows rows.edges good.paths refl) was.place old old_at (sym same_id)).first in
-        was.list ∙ ap (λ (n : ℕ). slice_index_or paths n []) first ∙ st.lists left.id there apart ∙ ap (λ (hs : List ℕ). spared (has_id hs) (path_of p left.id)) (take_all (length mids) mids (omega arith)) where
+        let there : is_some (edge_row rows left.id) ≡ true = ap (λ (c : ℕ). is_some (edge_row rows c)) same_id
+        ∙ ap is_some (row_found rows good.paths old (item_at old rows.edges was.place old_at)) in
+        let first : was.place ≡ position_or_len (λ row. row.id == left.id) rows.edges =
+        (placed_here (λ (row : EdgeRow). row.id) rows.edges left.id (edges_rise rows rows.edges good.paths refl) was.place old old_at (sym same_id)).first in
+        was.list ∙ ap (λ (n : ℕ). slice_index_or paths n []) first ∙ st.lists left.id there apart
+        ∙ ap (λ (hs : List ℕ). spared (has_id hs) (path_of p left.id)) (take_all (length mids) mids (omega arith)) where
           id_apart : (left : EdgeRow) → IsIn left (without rows e).edges → left.id ≢ e
-          id_apart left there = let (old, old_there, apart, is) = without_rows rows e left there in λ same. apart (sym (ap (λ (row : EdgeRow). row.id) is) ∙ same)
+          id_apart left there = let (old, old_there, apart, is) = without_rows rows e left there in
+              λ same. apart (sym (ap (λ (row : EdgeRow). row.id) is) ∙ same)
 
     all_left : ArePathsLeft p e (has_id mids) (remove paths at)
     all_left = grind (arith, length-remove, inside_paths, many_left, left_edges, length-map, list_left)
 
     pub deleted : ShowsRows (record { rows = without rows e; paths = remove paths at }) now
-    deleted = deleted_shows p good r o.set_out.shows e row known o.set_out.lawful.embedding.connected o.set_out.lawful.genus_zero mids are_mids o.set_out.whole (turning_of opened) now o.opened.run all_smoothed st.keeps (remove paths at) all_left where
-      all_smoothed : IsRun half_limit (turning_of opened) (smooths_of nu (first_of (mid_at rows e) last)) (turning_of now)
-      all_smoothed = subst (λ (k : ℕ). IsRun half_limit (turning_of opened) (smooths_of nu (first_of (mid_at rows e) k)) (turning_of now)) o.opened.as_many st.run
+    deleted = deleted_shows p good r o.set_out.shows e row known o.set_out.lawful.embedding.connected o.set_out.lawful.genus_zero mids are_mids o.set_out.whole
+        (turning_of opened) now o.opened.run all_smoothed st.keeps (remove paths at) all_left where
+          all_smoothed : IsRun half_limit (turning_of opened) (smooths_of nu (first_of (mid_at rows e) last)) (turning_of now)
+          all_smoothed = subst (λ (k : ℕ). IsRun half_limit (turning_of opened) (smooths_of nu (first_of (mid_at rows e) k)) (turning_of now))
+              o.opened.as_many st.run
 
 -- ---- Between the two passes
 
 -- the segments of an edge are out, and the midpoints are all on its list but the last half
-are_opened : (rows : Rows) (others : List (List ℕ)) (e : ℕ) (path : List ℕ) (before now : Rotation) (list mids : List ℕ) (o : IsSetOut rows others e path before) → IsOpenTo (record { rows = rows; paths = o.paths }) e before (length path) now list
+are_opened : (rows : Rows) (others : List (List ℕ)) (e : ℕ) (path : List ℕ) (before now : Rotation) (list mids : List ℕ)
+    (o : IsSetOut rows others e path before) → IsOpenTo (record { rows = rows; paths = o.paths }) e before (length path) now list
     → mids ≡ take (length list - 1) list → IsOpened rows others e mids now
 are_opened rows others e path before now list mids o done is = record {
   before = before;
   path = path;
   set_out = o;
   opened = record {
-    run = subst (λ (k : ℕ). IsRun half_limit (turning_of before) (unchords_of (λ j. half_at (record { rows = rows; paths = o.paths }) (index_of rows (forward e j))) k) (turning_of now)) many_path done.run;
+    run = subst (λ (k : ℕ). IsRun half_limit (turning_of before)
+        (unchords_of (λ j. half_at (record { rows = rows; paths = o.paths }) (index_of rows (forward e j))) k) (turning_of now)) many_path done.run;
     whole = done.whole;
     keeps = done.keeps;
     as_many = ap length is ∙ length-take (length list - 1) list ∙ (let many = done.as_many in omega arith);
-    each = λ i li. ap (λ (hs : List ℕ). slice_index_or hs i 0) is ∙ get_or-take (length list - 1) list i 0 (omega (arith, li, done.as_many)) ∙ done.mids i (omega (arith, li, many_path)) li;
+    each = λ i li. ap (λ (hs : List ℕ). slice_index_or hs i 0) is ∙ get_or-take (length list - 1) list i 0 (omega (arith, li, done.as_many))
+        ∙ done.mids i (omega (arith, li, many_path)) li;
   };
 } where
   many_path : length path ≡ length (edge_at rows e).crossings + 1
@@ -338,7 +369,8 @@ are_opened rows others e path before now list mids o done is = record {
 
 -- ---- As it is read
 
-module _ (rows : Rows) (e : ℕ) (paths : List (List ℕ)) (r : Rotation) (lawful : Lawful rows) (there : is_some (edge_row rows e) ≡ true) (shows : ShowsRows (record { rows = rows; paths = paths }) r) (whole : IsEmbedding r)
+module _ (rows : Rows) (e : ℕ) (paths : List (List ℕ)) (r : Rotation) (lawful : Lawful rows) (there : is_some (edge_row rows e) ≡ true)
+    (shows : ShowsRows (record { rows = rows; paths = paths }) r) (whole : IsEmbedding r)
     (read : List EdgeRow) (at : ℕ) (read_is : read ≡ rows.edges) (placed_at : IsPlaceOf read (λ row. row.id) e at)
     (blank d path : List ℕ) (others : List (List ℕ)) (path_is : path ≡ slice_index_or paths at d) (others_are : others ≡ set paths at blank) where
   place_is : at ≡ position_or_len (λ row. row.id == e) rows.edges
@@ -348,11 +380,14 @@ module _ (rows : Rows) (e : ℕ) (paths : List (List ℕ)) (r : Rotation) (lawfu
   pub handed_out : IsSetOut rows others e path r
   handed_out = grind (arith, length-set, place_is, get_or_default, place_inside, set_apart)
 
-  module _ (now : Rotation) (list mids : List ℕ) (done : (e : ℕ) (o : IsSetOut rows others e path r) → IsOpenTo (record { rows = rows; paths = o.paths }) e r (length path) now list) (mids_are : mids ≡ take (length list - 1) list) where
+  module _ (now : Rotation) (list mids : List ℕ) (done : (e : ℕ) (o : IsSetOut rows others e path r)
+      → IsOpenTo (record { rows = rows; paths = o.paths }) e r (length path) now list) (mids_are : mids ≡ take (length list - 1) list) where
     pub opened_here : IsOpened rows (set paths at blank) e mids now
-    opened_here = subst (λ (ls : List (List ℕ)). IsOpened rows ls e mids now) others_are (are_opened rows others e path r now list mids handed_out (done e handed_out) mids_are)
+    opened_here = subst (λ (ls : List (List ℕ)). IsOpened rows ls e mids now) others_are
+        (are_opened rows others e path r now list mids handed_out (done e handed_out) mids_are)
 
-    module _ (after : Rotation) (lists : List (List ℕ)) (smoothed : (e : ℕ) (o : IsOpened rows (set paths at blank) e mids now) → IsSmoothedTo (record { rows = rows; paths = o.set_out.paths }) e o.before now mids (length mids) after lists) where
+    module _ (after : Rotation) (lists : List (List ℕ)) (smoothed : (e : ℕ) (o : IsOpened rows (set paths at blank) e mids now)
+        → IsSmoothedTo (record { rows = rows; paths = o.set_out.paths }) e o.before now mids (length mids) after lists) where
       pub inside_lists : at < length lists
       inside_lists = inside_paths rows (set paths at blank) e mids now opened_here after lists (smoothed e opened_here) read at read_is placed_at
 

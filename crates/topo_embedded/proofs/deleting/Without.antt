@@ -31,11 +31,14 @@ use Rattle.topo_embedded.proofs.halves.Numbers.{half_of_number, twin_half}
 use Rattle.topo_embedded.proofs.deleting.Uncrossed.{half_after, left_many}
 
 -- what is seen of rows well formed is so without the edge
-pub without_formed : (p : RowsWithPaths) (rows after : Rows) (paths : List (List ℕ)) (e : ℕ) → (let q : RowsWithPaths = record { rows = rows; paths = paths } in q ≡ p) → IsWellFormed rows → is_some (edge_row p.rows e) ≡ true → after ≡ without rows e → IsWellFormed after
+pub without_formed : (p : RowsWithPaths) (rows after : Rows) (paths : List (List ℕ)) (e : ℕ)
+    → (let q : RowsWithPaths = record { rows = rows; paths = paths } in q ≡ p) → IsWellFormed rows → is_some (edge_row p.rows e) ≡ true → after ≡ without rows e
+    → IsWellFormed after
 without_formed p rows after paths e view good there is =
     subst IsWellFormed (sym is) (without_well_formed rows e good (ap (λ (q : RowsWithPaths). is_some (edge_row q.rows e)) view ∙ there))
 
-module _ (p : RowsWithPaths) (good : IsWellFormed p.rows) (r : Rotation) (s : ShowsRows p r) (e : ℕ) (there : is_some (edge_row p.rows e) ≡ true) (goes : ℕ → Bool) (are : AreAheads p e goes) where
+module _ (p : RowsWithPaths) (good : IsWellFormed p.rows) (r : Rotation) (s : ShowsRows p r) (e : ℕ) (there : is_some (edge_row p.rows e) ≡ true)
+    (goes : ℕ → Bool) (are : AreAheads p e goes) where
   abbrev after : Rows
   after = without p.rows e
 
@@ -52,7 +55,9 @@ module _ (p : RowsWithPaths) (good : IsWellFormed p.rows) (r : Rotation) (s : Sh
   abbrev pub name : ℕ → ℕ
   name a = index_of p.rows (lift (unwrap_or (slice_get (darts after) a) (record { edge = 0; seg = 0; way = Forward })))
 
-  module _ (paths : List (List ℕ)) (lists : ArePathsLeft p e goes paths) (r' : Rotation) (under : IsSmoothedUnder (map_of (turn_images after)) m name (half_at p) (turning_of r') half_limit) (keeps : KeepsLabels (is_live r') (edge_of r) (edge_of r')) where
+  module _ (paths : List (List ℕ)) (lists : ArePathsLeft p e goes paths) (r' : Rotation)
+      (under : IsSmoothedUnder (map_of (turn_images after)) m name (half_at p) (turning_of r') half_limit)
+      (keeps : KeepsLabels (is_live r') (edge_of r) (edge_of r')) where
     abbrev q : RowsWithPaths
     q = record { rows = after; paths = paths }
 
@@ -64,7 +69,8 @@ module _ (p : RowsWithPaths) (good : IsWellFormed p.rows) (r : Rotation) (s : Sh
     live_number a la = under.renumbers.turn.numbers.alive a la
 
     less : (a : ℕ) (d : Dart) → slice_get (darts after) a ≡ Some d → a < m
-    less a d got = subst (λ (k : ℕ). k < m) (index_of_get after good_after.paths a d got) (index_less after good_after.paths good_after.crossings good_after.rotations d (has_at (darts after) a d got))
+    less a d got = subst (λ (k : ℕ). k < m) (index_of_get after good_after.paths a d got)
+        (index_less after good_after.paths good_after.crossings good_after.rotations d (has_at (darts after) a d got))
 
     module _ (c seg : ℕ) (h : has_dart (darts after) (forward c seg) ≡ true) where
       here : has_dart (darts p.rows) (lift (forward c seg)) ≡ true
@@ -78,9 +84,12 @@ module _ (p : RowsWithPaths) (good : IsWellFormed p.rows) (r : Rotation) (s : Sh
 
       forward_number : (a : ℕ) → slice_get (darts after) a ≡ Some (forward c seg) → HasHalf a (forward c seg)
       forward_number a got =
-          let named : name a ≡ index_of p.rows (lift (forward c seg)) = ap (λ (o : Option Dart). index_of p.rows (lift (unwrap_or o (record { edge = 0; seg = 0; way = Forward })))) got in
-          let even : index_of p.rows (lift (forward c seg)) % 2 ≡ 0 = index_forward p.rows (lift (forward c seg)) here (ap (λ (d : Dart). d.way) (lifted_forward after p.rows c seg)) in
-          let numbered : under.number a ≡ half_in q (forward c seg) = under.forward a (less a (forward c seg) got) (ap (λ k. k % 2) named ∙ even) ∙ ap (half_at p) named ∙ half_of_number p good (lift (forward c seg)) here ∙ sym half in
+          let named : name a ≡ index_of p.rows (lift (forward c seg)) =
+          ap (λ (o : Option Dart). index_of p.rows (lift (unwrap_or o (record { edge = 0; seg = 0; way = Forward })))) got in
+          let even : index_of p.rows (lift (forward c seg)) % 2 ≡ 0 =
+          index_forward p.rows (lift (forward c seg)) here (ap (λ (d : Dart). d.way) (lifted_forward after p.rows c seg)) in
+          let numbered : under.number a ≡ half_in q (forward c seg) = under.forward a (less a (forward c seg) got) (ap (λ k. k % 2) named ∙ even)
+          ∙ ap (half_at p) named ∙ half_of_number p good (lift (forward c seg)) here ∙ sym half in
           grind (arith, live_number, less, half, here, lifted_edge)
 
       back_number : (a : ℕ) → slice_get (darts after) a ≡ Some (back c seg) → HasHalf a (back c seg)
@@ -89,15 +98,18 @@ module _ (p : RowsWithPaths) (good : IsWellFormed p.rows) (r : Rotation) (s : Sh
           let b_got : slice_get (darts after) b ≡ Some (forward c seg) = get_index after good_after.paths (forward c seg) h in
           let place : a ≡ twin b = sym (index_of_get after good_after.paths a (back c seg) got) ∙ index_twin after (forward c seg) h in
           let first : HasHalf b (forward c seg) = forward_number b b_got in
-          let numbered : under.number a ≡ half_in q (back c seg) = ap under.number place ∙ sym (under.renumbers.twins.each b (less b (forward c seg) b_got)) ∙ ap twin first.numbered in
+          let numbered : under.number a ≡ half_in q (back c seg) = ap under.number place ∙ sym (under.renumbers.twins.each b (less b (forward c seg) b_got))
+          ∙ ap twin first.numbered in
           let live : is_live r' (half_in q (back c seg)) ≡ true = ap (is_live r') (sym numbered) ∙ live_number a (less a (back c seg) got) in
           let l : Dart = lift (forward c seg) in
           record {
             numbered = numbered;
-            label = keeps (half_in q (back c seg)) live ∙ ap (λ (k : ℕ). edge_of r (twin k)) half ∙ ap (edge_of r) (twin_half p good r s l here) ∙ s.labels (dart_twin l) (twin_in p.rows l here) ∙ lifted_edge after p.rows (forward c seg);
+            label = keeps (half_in q (back c seg)) live ∙ ap (λ (k : ℕ). edge_of r (twin k)) half ∙ ap (edge_of r) (twin_half p good r s l here)
+                ∙ s.labels (dart_twin l) (twin_in p.rows l here) ∙ lifted_edge after p.rows (forward c seg);
           }
 
-    has_half : (c seg : ℕ) (way : Way) (a : ℕ) → slice_get (darts after) a ≡ Some (record { edge = c; seg = seg; way = way }) → HasHalf a (record { edge = c; seg = seg; way = way })
+    has_half : (c seg : ℕ) (way : Way) (a : ℕ) → slice_get (darts after) a ≡ Some (record { edge = c; seg = seg; way = way })
+        → HasHalf a (record { edge = c; seg = seg; way = way })
     has_half c seg Forward a got = forward_number c seg (has_at (darts after) a (forward c seg) got) a got
     has_half c seg Back a got = back_number c seg (twin_in after (back c seg) (has_at (darts after) a (back c seg) got)) a got
 
@@ -106,9 +118,11 @@ module _ (p : RowsWithPaths) (good : IsWellFormed p.rows) (r : Rotation) (s : Sh
       as_many = lists.as_many;
       along = λ k row got. ap length (lists.each k row got) ∙ row_many k row got;
       back = under.back_number;
-      renumbers = agreeing_numbers under.number (half_at q) under.back_number (map_of (turn_images after)) (turn r') m (is_live r') half_limit under.renumbers (λ a la.
+      renumbers = agreeing_numbers under.number (half_at q) under.back_number (map_of (turn_images after))
+          (turn r') m (is_live r') half_limit under.renumbers (λ a la.
           let (d, got) = get_there (darts after) a (subst (λ (n : ℕ). a < n) (images_length after) la) in
-          (has_half d.edge d.seg d.way a got).numbered ∙ sym (ap (λ (o : Option Dart). half_in q (unwrap_or o (record { edge = 0; seg = 0; way = Forward }))) got));
+          (has_half d.edge d.seg d.way a got).numbered
+          ∙ sym (ap (λ (o : Option Dart). half_in q (unwrap_or o (record { edge = 0; seg = 0; way = Forward }))) got));
       labels = λ d h. (has_half d.edge d.seg d.way (index_of after d) (get_index after good_after.paths d h)).label;
     } where
       row_many : (k : ℕ) (row : EdgeRow) → slice_get after.edges k ≡ Some row → length (spared goes (path_of p row.id)) ≡ segment_count row

@@ -1,5 +1,6 @@
 -- Rows with their embedding after a growth.
-use Rattle.std.proofs.Common.{◌≡◌, ◌+◌, ◌<◌, ◌++◌, ap, arith, Bool, cond, false, inl, inr, length, length-append, List, [], ◌∷◌, Err, Ok, OnErr, OnOk, Result, not, refl, subst, sym, suc, true, zero, ℕ, ◌∙◌, ◌⊎◌}
+use Rattle.std.proofs.Common.{◌≡◌, ◌+◌, ◌<◌, ◌++◌, ap, arith, Bool, cond, false, inl, inr, length, length-append, List}
+use Rattle.std.proofs.Common.{[], ◌∷◌, Err, Ok, OnErr, OnOk, Result, not, refl, subst, sym, suc, true, zero, ℕ, ◌∙◌, ◌⊎◌}
 use Rattle.std.specs.Prelude.{◌==◌, find, None, Option, slice_get, slice_index, slice_index_or, Some, unwrap_or}
 use Rattle.std.specs.List.{position_or_len}
 use Rattle.std.proofs.lemmas.Bool.{cases_Bool, ne_eqb}
@@ -43,14 +44,16 @@ use Rattle.topo_embedded.proofs.halves.Numbers.{StandsAt, half_alive, half_of_nu
 position_more : {X : Type 0} (q : X → Bool) (xs ys : List X) (x : X) → find q xs ≡ Some x → position_or_len q (xs ++ ys) ≡ position_or_len q xs
 position_more q [] ys x h = cc
 position_more q (y ∷ xs) ys x h = elim (cases_Bool (q y)) [
-  | inl t ↦ ap (λ (b : Bool). cond {A = ℕ} (not b) (1 + position_or_len q (xs ++ ys)) 0) t ∙ sym (ap (λ (b : Bool). cond {A = ℕ} (not b) (1 + position_or_len q xs) 0) t)
+  | inl t ↦ ap (λ (b : Bool). cond {A = ℕ} (not b) (1 + position_or_len q (xs ++ ys)) 0) t
+      ∙ sym (ap (λ (b : Bool). cond {A = ℕ} (not b) (1 + position_or_len q xs) 0) t)
   | inr f ↦
       let rest = position_more q xs ys x (sym (ap (λ (b : Bool). cond b (Some y) (find q xs)) f) ∙ h) in
       ap (λ (k : ℕ). cond {A = ℕ} (not (q y)) (1 + k) 0) rest
 ]
 
 -- where it is the new one alone
-position_new : {X : Type 0} (q : X → Bool) (xs : List X) (y : X) → ((x : X) → IsIn x xs → q x ≡ false) → q y ≡ true → position_or_len q (xs ++ y ∷ []) ≡ length xs
+position_new : {X : Type 0} (q : X → Bool) (xs : List X) (y : X) → ((x : X) → IsIn x xs → q x ≡ false) → q y ≡ true
+    → position_or_len q (xs ++ y ∷ []) ≡ length xs
 position_new q [] y other is = ap (λ (b : Bool). cond {A = ℕ} (not b) (1 + position_or_len q []) 0) is
 position_new q (x ∷ xs) y other is =
     let rest = position_new q xs y (λ z h. other z (inr h)) is in
@@ -65,7 +68,8 @@ got_one_more [] y d (suc a) h = absurd (none h) where
 got_one_more (x ∷ xs) y d zero h = inl h
 got_one_more (x ∷ xs) y d (suc a) h = grind (arith, got_one_more xs y d a h)
 
-got_two_more : {X : Type 0} (xs : List X) (y z d : X) (a : ℕ) → slice_get (xs ++ y ∷ z ∷ []) a ≡ Some d → (slice_get xs a ≡ Some d) ⊎ (((a ≡ length xs) × (d ≡ y)) ⊎ ((a ≡ suc (length xs)) × (d ≡ z)))
+got_two_more : {X : Type 0} (xs : List X) (y z d : X) (a : ℕ) → slice_get (xs ++ y ∷ z ∷ []) a ≡ Some d → (slice_get xs a ≡ Some d)
+    ⊎ (((a ≡ length xs) × (d ≡ y)) ⊎ ((a ≡ suc (length xs)) × (d ≡ z)))
 got_two_more [] y z d zero h = inr (inl (refl, cc))
 got_two_more [] y z d (suc zero) h = inr (inr (refl, cc))
 got_two_more [] y z d (suc (suc a)) h = absurd (none h) where
@@ -76,7 +80,8 @@ got_two_more (x ∷ xs) y z d (suc a) h = grind (arith, got_two_more xs y z d a 
 
 -- ---- The grown rows
 
-module _ (rows : Rows) (good : IsWellFormed rows) (u v kind : ℕ) (u_in : u < length rows.rotations) (v_in : v < length (rotation rows u)) (known : kind < 64) (paths : List (List ℕ)) (r : Rotation)
+module _ (rows : Rows) (good : IsWellFormed rows) (u v kind : ℕ) (u_in : u < length rows.rotations) (v_in : v < length (rotation rows u)) (known : kind < 64)
+    (paths : List (List ℕ)) (r : Rotation)
     (s : ShowsRows (record { rows = rows; paths = paths }) r) (x : ℕ) where
   abbrev p : RowsWithPaths
   p = record { rows = rows; paths = paths }
@@ -110,7 +115,9 @@ module _ (rows : Rows) (good : IsWellFormed rows) (u v kind : ℕ) (u_in : u < l
 
   new_path : path_of q f ≡ x ∷ []
   new_path =
-      let place : position_or_len (λ r. r.id == f) after.edges ≡ length rows.edges = position_new (λ (r : EdgeRow). r.id == f) rows.edges row (λ r h. ne_eqb r.id f (λ e. (let less = old_edge rows u v kind good u_in v_in known r h in absurd (omega arith)))) (eqb_self f) in
+      let place : position_or_len (λ r. r.id == f) after.edges ≡ length rows.edges =
+      position_new (λ (r : EdgeRow). r.id == f) rows.edges row
+      (λ r h. ne_eqb r.id f (λ e. (let less = old_edge rows u v kind good u_in v_in known r h in absurd (omega arith)))) (eqb_self f) in
       ap (λ k. slice_index_or (paths ++ (x ∷ []) ∷ []) k []) (place ∙ sym s.as_many) ∙ get_or_at paths (x ∷ []) [] [] (length paths) refl
 
   new_half : half_in q (forward f 0) ≡ x
@@ -119,7 +126,8 @@ module _ (rows : Rows) (good : IsWellFormed rows) (u v kind : ℕ) (u_in : u < l
   new_twin : half_in q (back f 0) ≡ twin x
   new_twin = ap twin new_half
 
-  module _ (r' : Rotation) (whole : IsEmbedding r) (named : ℕ) (c : Dart) (at : corner rows u v ≡ Some c) (is : named ≡ half_in p c) (edit : IsHang (turn r) (turn r') half_limit named x) (grows : Grows r r' x)
+  module _ (r' : Rotation) (whole : IsEmbedding r) (named : ℕ) (c : Dart) (at : corner rows u v ≡ Some c) (is : named ≡ half_in p c)
+      (edit : IsHang (turn r) (turn r') half_limit named x) (grows : Grows r r' x)
       (labels : AddsLabel (is_live r) (edge_of r) (edge_of r') x f) where
     corner_there : has_dart (darts rows) c ≡ true
     corner_there = corner_in rows good u v c at
@@ -150,7 +158,8 @@ module _ (rows : Rows) (good : IsWellFormed rows) (u v kind : ℕ) (u_in : u < l
           let h : has_dart (darts rows) d ≡ true = has_at (darts rows) a d old in
           let less : a < m = omega (arith, images_length rows, slice_get_within (darts rows) a d old) in
           record {
-            numbered = under.old_number a less ∙ ap (λ (o : Option Dart). half_in p (unwrap_or o (record { edge = 0; seg = 0; way = Forward }))) old ∙ sym (old_half d h);
+            numbered = under.old_number a less ∙ ap (λ (o : Option Dart). half_in p (unwrap_or o (record { edge = 0; seg = 0; way = Forward }))) old
+                ∙ sym (old_half d h);
             label = ap (edge_of r') (old_half d h) ∙ labels.others (half_in p d) (alive d h) ∙ s.labels d h;
           }
       | inr (inl new) ↦ grind (arith, images_length, under, new_half)
@@ -173,8 +182,10 @@ module _ (rows : Rows) (good : IsWellFormed rows) (u v kind : ℕ) (u_in : u < l
         | inr new ↦ grind (arith, get_or_at)
       ];
       back = under.back_number;
-      renumbers = agreeing_numbers under.number (half_at q) under.back_number (map_of (turn_images after)) (turn r') (length (turn_images after)) (is_live r') half_limit
-          (subst (λ (n : ℕ). RenumbersTurn under.number under.back_number (map_of (turn_images after)) (turn r') n (is_live r') half_limit) (sym as_many) under.renumbers) (λ a la.
+      renumbers = agreeing_numbers under.number (half_at q) under.back_number (map_of (turn_images after)) (turn r') (length (turn_images after))
+          (is_live r') half_limit
+          (subst (λ (n : ℕ). RenumbersTurn under.number under.back_number (map_of (turn_images after)) (turn r') n (is_live r') half_limit)
+          (sym as_many) under.renumbers) (λ a la.
           let (d, got) = get_there (darts after) a (subst (λ (n : ℕ). a < n) (images_length after) la) in
           (has_half a d got).numbered ∙ sym (ap (λ (o : Option Dart). half_in q (unwrap_or o (record { edge = 0; seg = 0; way = Forward }))) got));
       labels = λ d h. (has_half (index_of after d) d (get_index after good_after.paths d h)).label;
@@ -186,28 +197,39 @@ module _ (rows : Rows) (good : IsWellFormed rows) (u v kind : ℕ) (u_in : u < l
 pub kept_shows : (p : RowsWithPaths) (r r' : Rotation) → r'.slots ≡ r.slots → ShowsRows p r → ShowsRows p r'
 kept_shows p r r' same s = grind (arith, as_many)
 
-pub corner_alive : (p : RowsWithPaths) → IsWellFormed p.rows → (r r' : Rotation) → r'.slots ≡ r.slots → ShowsRows p r → (u v named : ℕ) → u < length p.rows.rotations → v < length (rotation p.rows u) → ((c : Dart) → corner p.rows u v ≡ Some c → named ≡ half_in p c)
+pub corner_alive : (p : RowsWithPaths) → IsWellFormed p.rows → (r r' : Rotation) → r'.slots ≡ r.slots → ShowsRows p r → (u v named : ℕ)
+    → u < length p.rows.rotations → v < length (rotation p.rows u) → ((c : Dart) → corner p.rows u v ≡ Some c → named ≡ half_in p c)
     → is_live r' named ≡ true
 corner_alive p good r r' same s u v named u_in v_in is =
     let c : Dart = end_dart p.rows u (slice_index (rotation p.rows u) v) in
     let at : corner p.rows u v ≡ Some c = corner_is p.rows good u u_in v v_in in
-    ap (is_live r') (is c at) ∙ half_alive p good r' (kept_shows p r r' same s) (half_in p c) (record { dart = c; there = corner_in p.rows good u v c at; is = refl })
+    ap (is_live r') (is c at)
+    ∙ half_alive p good r' (kept_shows p r r' same s) (half_in p c) (record { dart = c; there = corner_in p.rows good u v c at; is = refl })
 
-pub grown_parts : (rows : Rows) → IsWellFormed rows → (u v kind : ℕ) → u < length rows.rotations → v < length (rotation rows u) → kind < 64 → (paths : List (List ℕ)) (r r' r'' : Rotation) → ShowsRows (record { rows = rows; paths = paths }) r → r'.slots ≡ r.slots
-    → IsEmbedding r' → (named x : ℕ) → ((c : Dart) → corner rows u v ≡ Some c → named ≡ half_in (record { rows = rows; paths = paths }) c) → IsHang (turn r') (turn r'') half_limit named x → Grows r' r'' x → AddsLabel (is_live r') (edge_of r') (edge_of r'') x rows.next_edge
-    → (after : Rows) (path : List ℕ) (paths_after : List (List ℕ)) → after ≡ grown rows u v kind → path ≡ x ∷ [] → paths_after ≡ paths ++ path ∷ [] → ShowsRows (record { rows = after; paths = paths_after }) r''
+pub grown_parts : (rows : Rows) → IsWellFormed rows → (u v kind : ℕ) → u < length rows.rotations → v < length (rotation rows u) → kind < 64
+    → (paths : List (List ℕ)) (r r' r'' : Rotation) → ShowsRows (record { rows = rows; paths = paths }) r → r'.slots ≡ r.slots
+    → IsEmbedding r' → (named x : ℕ) → ((c : Dart) → corner rows u v ≡ Some c → named ≡ half_in (record { rows = rows; paths = paths }) c)
+    → IsHang (turn r') (turn r'') half_limit named x → Grows r' r'' x → AddsLabel (is_live r') (edge_of r') (edge_of r'') x rows.next_edge
+    → (after : Rows) (path : List ℕ) (paths_after : List (List ℕ)) → after ≡ grown rows u v kind → path ≡ x ∷ [] → paths_after ≡ paths ++ path ∷ []
+    → ShowsRows (record { rows = after; paths = paths_after }) r''
 grown_parts rows good u v kind u_in v_in known paths r r' r'' s same whole named x is edit grows labels after path paths_after rows_are path_is paths_are =
     let c : Dart = end_dart rows u (slice_index (rotation rows u) v) in
     let at : corner rows u v ≡ Some c = corner_is rows good u u_in v v_in in
     let shows : ShowsRows (record { rows = grown rows u v kind; paths = paths ++ (x ∷ []) ∷ [] }) r'' =
-    grown_shows rows good u v kind u_in v_in known paths r' (kept_shows (record { rows = rows; paths = paths }) r r' same s) x r'' whole named c at (is c at) edit grows labels in
-    subst (λ (q : RowsWithPaths). ShowsRows q r'') (ap (λ (rs : Rows). (let q : RowsWithPaths = record { rows = rs; paths = paths ++ (x ∷ []) ∷ [] } in q)) (sym rows_are)
-    ∙ ap (λ (ps : List (List ℕ)). (let q : RowsWithPaths = record { rows = after; paths = ps } in q)) (ap (λ (l : List ℕ). paths ++ l ∷ []) (sym path_is) ∙ sym paths_are)) shows
+    grown_shows rows good u v kind u_in v_in known paths r' (kept_shows (record { rows = rows; paths = paths }) r r' same s) x r'' whole named c at (is c at)
+    edit grows labels in
+    subst (λ (q : RowsWithPaths). ShowsRows q r'')
+    (ap (λ (rs : Rows). (let q : RowsWithPaths = record { rows = rs; paths = paths ++ (x ∷ []) ∷ [] } in q)) (sym rows_are)
+    ∙ ap (λ (ps : List (List ℕ)). (let q : RowsWithPaths = record { rows = after; paths = ps } in q))
+    (ap (λ (l : List ℕ). paths ++ l ∷ []) (sym path_is) ∙ sym paths_are)) shows
 
 -- grown or not
-pub grown_formed : {A E : Type 0} (result : Result A E) (p : RowsWithPaths) (rows new : Rows) (paths : List (List ℕ)) → (let q : RowsWithPaths = record { rows = rows; paths = paths } in q ≡ p) → IsWellFormed rows → (u v kind : ℕ) → u < length p.rows.rotations → v < length (rotation p.rows u) → kind < 64
+pub grown_formed : {A E : Type 0} (result : Result A E) (p : RowsWithPaths) (rows new : Rows) (paths : List (List ℕ))
+    → (let q : RowsWithPaths = record { rows = rows; paths = paths } in q ≡ p) → IsWellFormed rows → (u v kind : ℕ) → u < length p.rows.rotations
+    → v < length (rotation p.rows u) → kind < 64
     → OnOk result (new ≡ grown rows u v kind) → OnErr result (new ≡ rows) → IsWellFormed new
 grown_formed (Ok a) p rows new paths seen good u v kind u_in v_in known ok err =
     let same : p.rows ≡ rows = ap (λ (q : RowsWithPaths). q.rows) (sym seen) in
-    subst IsWellFormed (sym ok) (grown_good rows u v kind good (subst (λ (rs : Rows). u < length rs.rotations) same u_in) (subst (λ (rs : Rows). v < length (rotation rs u)) same v_in) known)
+    subst IsWellFormed (sym ok) (grown_good rows u v kind good (subst (λ (rs : Rows). u < length rs.rotations) same u_in)
+    (subst (λ (rs : Rows). v < length (rotation rs u)) same v_in) known)
 grown_formed (Err e) p rows new paths seen good u v kind u_in v_in known ok err = subst IsWellFormed (sym err) good

@@ -55,7 +55,8 @@ module _ (p : RowsWithPaths) (good : IsWellFormed p.rows) (r : Rotation) (s : Sh
   halves_apart c d hc hd same = index_apart p.rows good.paths c d hc hd (sym (number_back c hc) ∙ ap s.back same ∙ number_back d hd)
 
   at_most : (size : ℕ) → ((a : ℕ) → a < length (turn_images p.rows) → half_at p a < size) → length (darts p.rows) ≤ size
-  at_most size within = subst (λ (n : ℕ). n ≤ size) (images_length p.rows) (no_more (half_at p) s.back (length (turn_images p.rows)) size within s.renumbers.turn.numbers.returns)
+  at_most size within =
+      subst (λ (n : ℕ). n ≤ size) (images_length p.rows) (no_more (half_at p) s.back (length (turn_images p.rows)) size within s.renumbers.turn.numbers.returns)
 
   module _ (size : ℕ) (above : (a : ℕ) → is_live r a ≡ true → a < size) where
     pub halves_named : IsNamed (named_in p size)

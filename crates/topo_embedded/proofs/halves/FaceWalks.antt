@@ -30,7 +30,8 @@ use Rattle.topo_rows.proofs.Rounds.{got_within}
 use Rattle.topo_map.specs.Rotation.{Rotation, edge_of, half_limit, is_live, turn}
 use Rattle.topo_map.proofs.Stored.{limit-is}
 use Rattle.topo_changes.specs.Cuts.{IsLeft, IsNextLeft}
-use Rattle.topo_changes.proofs.deleting.OpenedFaces.{face_told, forth_of_face, not_opened, one_face_forth, one_face_round, Passes, passes_few, passes_more, passes_none, passes_to, round_of_face, Walks, walks_home, walks_met, walks_more, walks_never, walks_none}
+use Rattle.topo_changes.proofs.deleting.OpenedFaces.{face_told, forth_of_face, not_opened, one_face_forth, one_face_round, Passes, passes_few, passes_more}
+use Rattle.topo_changes.proofs.deleting.OpenedFaces.{passes_none, passes_to, round_of_face, Walks, walks_home, walks_met, walks_more, walks_never, walks_none}
 use Rattle.topo_embedded.specs.Cutting.{IsOpenedOn}
 use Rattle.topo_embedded.specs.Halves.{RowsWithPaths, by_way, half_at, half_in}
 use Rattle.topo_embedded.specs.Walking.{IsOnPath}
@@ -77,8 +78,10 @@ module _ (p : RowsWithPaths) (r : Rotation) (e out : ℕ) (path : List ℕ) (o :
   path_few =
       let at : StandsAt rows (forward e 0) = stands_at rows good (forward e 0) (dart_on 0 Forward (omega arith)) in
       let read : EdgeRead rows e (position_or_len (λ row. row.id == e) rows.edges) at.row = record { found = at.found; at = at.at; id = at.id; first = refl } in
-      let inside : position_or_len (λ row. row.id == e) rows.edges < length p.paths = let many = o.shows.as_many in omega (arith, many, got_within rows.edges (position_or_len (λ row. row.id == e) rows.edges) at.row at.at) in
-      let list = list_few p good r o.shows e (position_or_len (λ row. row.id == e) rows.edges) at.row read path (o.own ∙ get_or_default p.paths (position_or_len (λ row. row.id == e) rows.edges) [] path inside) in
+      let inside : position_or_len (λ row. row.id == e) rows.edges < length p.paths = let many = o.shows.as_many in
+      omega (arith, many, got_within rows.edges (position_or_len (λ row. row.id == e) rows.edges) at.row at.at) in
+      let list = list_few p good r o.shows e (position_or_len (λ row. row.id == e) rows.edges) at.row read path
+      (o.own ∙ get_or_default p.paths (position_or_len (λ row. row.id == e) rows.edges) [] path inside) in
       omega (arith, list, few)
 
   -- ---- What a half is
@@ -221,7 +224,8 @@ module _ (p : RowsWithPaths) (r : Rotation) (e out : ℕ) (path : List ℕ) (o :
 
     module _ (left right steps : ℕ) (h : InStep left right steps) where
       pub in_step_never : length (darts rows) ≤ steps → HasOneFace rows e out → ⊥
-      in_step_never many one = walks_never rows good e o.row o.there out o.inside (forward e out) (back e out) forward_here back_here h.left_dart steps h.forth many (forth_of_face rows good e o.row o.there out o.inside one)
+      in_step_never many one = walks_never rows good e o.row o.there out o.inside (forward e out)
+          (back e out) forward_here back_here h.left_dart steps h.forth many (forth_of_face rows good e o.row o.there out o.inside one)
 
       module _ (left_next right_next : ℕ) (l : Follows h.left_dart left_next) (k : Follows h.right_dart right_next) where
         pub met_left : left_next ≡ twin half → HasOneFace rows e out
@@ -235,12 +239,16 @@ module _ (p : RowsWithPaths) (r : Rotation) (e out : ℕ) (path : List ℕ) (o :
             (one_dart k.0 (forward e out) k.1.left.there forward_here right_next half k.1.left.named half_is same))
 
         pub home_left : left_next ≡ half → HasOneFace rows e out → ⊥
-        home_left same one = walks_home rows good e o.row o.there out o.inside (forward e out) (back e out) forward_here back_here h.left_dart l.0 steps h.forth l.1.follows
-            (one_dart l.0 (forward e out) l.1.left.there forward_here left_next half l.1.left.named half_is same) (forth_of_face rows good e o.row o.there out o.inside one)
+        home_left same one =
+            walks_home rows good e o.row o.there out o.inside (forward e out) (back e out) forward_here back_here h.left_dart l.0 steps h.forth l.1.follows
+            (one_dart l.0 (forward e out) l.1.left.there forward_here left_next half l.1.left.named half_is same)
+            (forth_of_face rows good e o.row o.there out o.inside one)
 
         pub home_right : right_next ≡ twin half → HasOneFace rows e out → ⊥
-        home_right same one = walks_home rows good e o.row o.there out o.inside (back e out) (forward e out) back_here forward_here h.right_dart k.0 steps h.round k.1.follows
-            (one_dart k.0 (back e out) k.1.left.there back_here right_next (twin half) k.1.left.named twin_named same) (round_of_face rows good e o.row o.there out o.inside one)
+        home_right same one =
+            walks_home rows good e o.row o.there out o.inside (back e out) (forward e out) back_here forward_here h.right_dart k.0 steps h.round k.1.follows
+            (one_dart k.0 (back e out) k.1.left.there back_here right_next (twin half) k.1.left.named twin_named same)
+            (round_of_face rows good e o.row o.there out o.inside one)
 
         pub in_step_more : left_next ≢ twin half → right_next ≢ half → InStep left_next right_next (suc steps)
         in_step_more not_twin not_half = record {
@@ -248,9 +256,11 @@ module _ (p : RowsWithPaths) (r : Rotation) (e out : ℕ) (path : List ℕ) (o :
           right_dart = k.0;
           left_is = l.1.left;
           right_is = k.1.left;
-          forth = walks_more rows good e o.row o.there out o.inside (forward e out) (back e out) forward_here back_here h.left_dart l.0 steps h.forth l.1.follows l.1.left.there
+          forth = walks_more rows good e o.row o.there out o.inside (forward e out)
+              (back e out) forward_here back_here h.left_dart l.0 steps h.forth l.1.follows l.1.left.there
               (λ same. not_twin (l.1.left.named ∙ ap (half_in p) same ∙ sym twin_named));
-          round = walks_more rows good e o.row o.there out o.inside (back e out) (forward e out) back_here forward_here h.right_dart k.0 steps h.round k.1.follows k.1.left.there
+          round = walks_more rows good e o.row o.there out o.inside (back e out)
+              (forward e out) back_here forward_here h.right_dart k.0 steps h.round k.1.follows k.1.left.there
               (λ same. not_half (k.1.left.named ∙ ap (half_in p) same ∙ sym half_is));
         }
 
@@ -273,8 +283,10 @@ module _ (p : RowsWithPaths) (r : Rotation) (e : ℕ) (path : List ℕ) (o : IsO
   darts_even : length (darts p.rows) % 2 ≡ 0
   darts_even = ap (λ n. n % 2) (sym (images_length p.rows)) ∙ even_images p.rows
 
-  faces_carried : Renumbers (half_at p) o.shows.back (face_next (map_of (turn_images p.rows))) (face_next (turn r)) (length (turn_images p.rows)) (is_live r) half_limit
-  faces_carried = renumbered_faces (half_at p) o.shows.back (map_of (turn_images p.rows)) (turn r) (length (turn_images p.rows)) (is_live r) half_limit o.shows.renumbers
+  faces_carried : Renumbers (half_at p) o.shows.back (face_next (map_of (turn_images p.rows))) (face_next (turn r)) (length (turn_images p.rows))
+      (is_live r) half_limit
+  faces_carried = renumbered_faces (half_at p) o.shows.back (map_of (turn_images p.rows)) (turn r) (length (turn_images p.rows))
+      (is_live r) half_limit o.shows.renumbers
 
   -- on numbers
   whole_faces : SameCycle (face_next (map_of (turn_images p.rows))) ahead_number back_number ↔ HasOneFace p.rows e 0
@@ -282,21 +294,27 @@ module _ (p : RowsWithPaths) (r : Rotation) (e : ℕ) (path : List ℕ) (o : IsO
       let good = o.well_formed in
       let all = opens p.rows good.paths good.crossings good.rotations e in
       let n = length (darts p.rows) in
-      let shut : (a : ℕ) → a < n → face_next (opened_turn p.rows e 0) a ≡ face_next (map_of (turn_images p.rows)) a = λ a less. all.shut (twin a) (twin-within n a darts_even less) in
+      let shut : (a : ℕ) → a < n → face_next (opened_turn p.rows e 0) a ≡ face_next (map_of (turn_images p.rows)) a =
+      λ a less. all.shut (twin a) (twin-within n a darts_even less) in
       let opened : IsPermutation (face_next (opened_turn p.rows e 0)) n = face_next-permutation (opened_turn p.rows e 0) n (all.permutes 0) darts_even in
-      let whole : IsPermutation (face_next (map_of (turn_images p.rows))) n = subst (λ (m : ℕ). IsPermutation (face_next (map_of (turn_images p.rows))) m) (images_length p.rows) faces_carried.before in
+      let whole : IsPermutation (face_next (map_of (turn_images p.rows))) n =
+      subst (λ (m : ℕ). IsPermutation (face_next (map_of (turn_images p.rows))) m) (images_length p.rows) faces_carried.before in
       let told = face_told p.rows good e o.row o.there 0 o.inside in (
-        λ same. told.0 (SameCycle-same (face_next (map_of (turn_images p.rows))) (face_next (opened_turn p.rows e 0)) n whole (λ a less. sym (shut a less)) ahead_number back_number ahead_less same),
-        λ one. SameCycle-same (face_next (opened_turn p.rows e 0)) (face_next (map_of (turn_images p.rows))) n opened shut ahead_number back_number ahead_less (told.1 one),
+        λ same. told.0 (SameCycle-same (face_next (map_of (turn_images p.rows))) (face_next (opened_turn p.rows e 0)) n whole (λ a less. sym (shut a less))
+            ahead_number back_number ahead_less same),
+        λ one. SameCycle-same (face_next (opened_turn p.rows e 0))
+            (face_next (map_of (turn_images p.rows))) n opened shut ahead_number back_number ahead_less (told.1 one),
       )
 
   number_few : (a : ℕ) → a < length (darts p.rows) → a < length (turn_images p.rows)
   number_few a less = omega (arith, less, images_length p.rows)
 
   -- on halves
-  halves_together : SameCycle (face_next (map_of (turn_images p.rows))) ahead_number back_number ↔ SameCycle (face_next (turn r)) (half_at p ahead_number) (half_at p back_number)
+  halves_together : SameCycle (face_next (map_of (turn_images p.rows))) ahead_number back_number
+      ↔ SameCycle (face_next (turn r)) (half_at p ahead_number) (half_at p back_number)
   halves_together =
-      renumbered_same_cycle (half_at p) o.shows.back (face_next (map_of (turn_images p.rows))) (face_next (turn r)) (length (turn_images p.rows)) (is_live r) half_limit ahead_number back_number faces_carried (number_few ahead_number ahead_less) (number_few back_number back_less)
+      renumbered_same_cycle (half_at p) o.shows.back (face_next (map_of (turn_images p.rows))) (face_next (turn r)) (length (turn_images p.rows))
+      (is_live r) half_limit ahead_number back_number faces_carried (number_few ahead_number ahead_less) (number_few back_number back_less)
 
   module _ (half : ℕ) (read : half ≡ slice_index_or path 0 0) where
     ahead_half : half_at p ahead_number ≡ half

@@ -34,7 +34,8 @@ module _ (rows : Rows) (paths : has_good_paths rows ≡ true) where
 
   -- a dart past the last segment of an edge is none
   dart_past : (d : Dart) (row : EdgeRow) → edge_row rows d.edge ≡ Some row → segment_count row ≤ d.seg → has_dart (darts rows) d ≡ false
-  dart_past d row there past = listed_test rows paths d ∙ ap (λ (o : Option EdgeRow). is_some o && nat_lt d.seg (segment_count (edge_at rows d.edge))) there ∙ ap (λ (r : EdgeRow). nat_lt d.seg (segment_count r)) (edge_at_row rows d.edge row there) ∙ past_all d.seg (segment_count row) past
+  dart_past d row there past = listed_test rows paths d ∙ ap (λ (o : Option EdgeRow). is_some o && nat_lt d.seg (segment_count (edge_at rows d.edge))) there
+      ∙ ap (λ (r : EdgeRow). nat_lt d.seg (segment_count r)) (edge_at_row rows d.edge row there) ∙ past_all d.seg (segment_count row) past
 
   -- no dart lies on an edge that is not there
   pub no_dart : (d : Dart) → edge_row rows d.edge ≡ None → has_dart (darts rows) d ≡ false
@@ -59,7 +60,8 @@ module _ (p : RowsWithPaths) (good : IsWellFormed p.rows) (r : Rotation) (s : Sh
   pub found_half : (half : ℕ) → half ≡ slice_index_or path d.seg 0 → by_way half d.way ≡ half_in p d
   found_half half is =
       let on_list = list_read p good r s e place row at path path_is in
-      ap (λ (h : ℕ). by_way h d.way) (is ∙ ap (λ (xs : List ℕ). slice_index_or xs d.seg 0) on_list) ∙ ap (λ (edge : ℕ). half_in p (record { edge = edge; seg = d.seg; way = d.way })) same
+      ap (λ (h : ℕ). by_way h d.way) (is ∙ ap (λ (xs : List ℕ). slice_index_or xs d.seg 0) on_list)
+      ∙ ap (λ (edge : ℕ). half_in p (record { edge = edge; seg = d.seg; way = d.way })) same
 
 -- ---- Where a dart starts
 
@@ -78,4 +80,5 @@ module _ (rows : Rows) (e place : ℕ) (row read : EdgeRow) (at : EdgeRead rows 
 
   pub start_told : (point : Point) → point ≡ slice_index_or (points_of read) (start_place d.seg d.way) (Vertex 0) → point ≡ start rows d
   start_told point told =
-      told ∙ ap (λ (x : EdgeRow). slice_index_or (points_of x) (start_place d.seg d.way) (Vertex 0)) (is ∙ sym (edge_at_row rows e row at.found) ∙ ap (edge_at rows) same)
+      told ∙ ap (λ (x : EdgeRow). slice_index_or (points_of x) (start_place d.seg d.way) (Vertex 0))
+      (is ∙ sym (edge_at_row rows e row at.found) ∙ ap (edge_at rows) same)

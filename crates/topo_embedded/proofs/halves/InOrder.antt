@@ -27,15 +27,18 @@ along f e a zero (x ∷ xs) many l = absurd (omega arith)
 along f e a (suc n) (x ∷ xs) many l =
     let first : a + 0 ≡ a = omega arith in
     let next = λ (s : ℕ). (let is : (a + 1) + s ≡ a + suc s = omega arith in is) in
-    let here : f (record { edge = e; seg = a; way = Forward }) ≡ x = ap (λ (s : ℕ). f (record { edge = e; seg = s; way = Forward })) (sym first) ∙ l.ahead 0 (omega arith) in
-    let back : f (record { edge = e; seg = a; way = Back }) ≡ twin x = ap (λ (s : ℕ). f (record { edge = e; seg = s; way = Back })) (sym first) ∙ l.behind 0 (omega arith) in
+    let here : f (record { edge = e; seg = a; way = Forward }) ≡ x = ap (λ (s : ℕ). f (record { edge = e; seg = s; way = Forward })) (sym first)
+    ∙ l.ahead 0 (omega arith) in
+    let back : f (record { edge = e; seg = a; way = Back }) ≡ twin x = ap (λ (s : ℕ). f (record { edge = e; seg = s; way = Back })) (sym first)
+    ∙ l.behind 0 (omega arith) in
     let rest = along f e (a + 1) n xs (omega arith) (record {
       ahead = λ s less. ap (λ (k : ℕ). f (record { edge = e; seg = k; way = Forward })) (next s) ∙ l.ahead (suc s) (omega arith);
       behind = λ s less. ap (λ (k : ℕ). f (record { edge = e; seg = k; way = Back })) (next s) ∙ l.behind (suc s) (omega arith);
     }) in
     cc
 
-edge_by_edge : (f : Dart → ℕ) (edges : List EdgeRow) (paths : List (List ℕ)) → length paths ≡ length edges → ((k : ℕ) (row : EdgeRow) → slice_get edges k ≡ Some row → map f (darts_of row) ≡ halves_of (slice_index_or paths k []))
+edge_by_edge : (f : Dart → ℕ) (edges : List EdgeRow) (paths : List (List ℕ)) → length paths ≡ length edges
+    → ((k : ℕ) (row : EdgeRow) → slice_get edges k ≡ Some row → map f (darts_of row) ≡ halves_of (slice_index_or paths k []))
     → map f (flat_map darts_of edges) ≡ flat_map halves_of paths
 edge_by_edge f [] [] many each = refl
 edge_by_edge f [] (path ∷ paths) many each = absurd (omega arith)
@@ -47,7 +50,8 @@ edge_by_edge f (row ∷ edges) (path ∷ paths) many each =
 module _ (p : RowsWithPaths) (good : IsWellFormed p.rows) (r : Rotation) (s : ShowsRows p r) where
   of_edge : (k : ℕ) (row : EdgeRow) → slice_get p.rows.edges k ≡ Some row → map (half_in p) (darts_of row) ≡ halves_of (slice_index_or p.paths k [])
   of_edge k row at =
-      let first : position_or_len (λ other. other.id == row.id) p.rows.edges ≡ k = sym (placed_here (λ other. other.id) p.rows.edges row.id (edges_rise p.rows p.rows.edges good.paths refl) k row at refl).first in
+      let first : position_or_len (λ other. other.id == row.id) p.rows.edges ≡ k =
+      sym (placed_here (λ other. other.id) p.rows.edges row.id (edges_rise p.rows p.rows.edges good.paths refl) k row at refl).first in
       let read = λ (i : ℕ). ap (λ (place : ℕ). slice_index_or (slice_index_or p.paths place []) i 0) first in
       let same = λ (i : ℕ). (let is : 0 + i ≡ i = omega arith in is) in
       along (half_in p) row.id 0 (segment_count row) (slice_index_or p.paths k []) (s.along k row at) (record {

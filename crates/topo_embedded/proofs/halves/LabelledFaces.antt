@@ -36,8 +36,10 @@ module _ (p : RowsWithPaths) (good : IsWellFormed p.rows) (r : Rotation) (s : Sh
       faces_told read = record {
         within = λ k h. subst (λ (v : ℕ). v < bound) (sym (read k h)) (above (half k) (alive k h));
         same = λ j k hj hk f.
-            read j hj ∙ tell.same_label (half j) (half k) (alive j hj) (alive k hk) ((same_faces p good r s (dart_named g j) (dart_named g k) hj.there hk.there).1 f) ∙ sym (read k hk);
-        one = λ j k hj hk e. (same_faces p good r s (dart_named g j) (dart_named g k) hj.there hk.there).0 (tell.same_face (half j) (half k) (alive j hj) (alive k hk) (sym (read j hj) ∙ e ∙ read k hk));
+            read j hj ∙ tell.same_label (half j) (half k) (alive j hj) (alive k hk)
+            ((same_faces p good r s (dart_named g j) (dart_named g k) hj.there hk.there).1 f) ∙ sym (read k hk);
+        one = λ j k hj hk e. (same_faces p good r s (dart_named g j) (dart_named g k) hj.there hk.there).0
+            (tell.same_face (half j) (half k) (alive j hj) (alive k hk) (sym (read j hj) ∙ e ∙ read k hk));
       }
 
     -- by their halves
@@ -51,7 +53,8 @@ module _ (p : RowsWithPaths) (good : IsWellFormed p.rows) (r : Rotation) (s : Sh
     as_many = ap length in_order ∙ length-map (darts p.rows) (half_in p)
 
     half_there : (i : ℕ) (d : Dart) → i < length (darts p.rows) → slice_get (darts p.rows) i ≡ Some d → slice_index halves i ≡ half_in p d
-    half_there i d inside at = ap (λ (hs : List ℕ). slice_index hs i) in_order ∙ get_or-map (half_in p) (darts p.rows) i d 0 inside ∙ ap (half_in p) (get_or_from_slice_get (darts p.rows) i d d at)
+    half_there i d inside at = ap (λ (hs : List ℕ). slice_index hs i) in_order ∙ get_or-map (half_in p) (darts p.rows) i d 0 inside
+        ∙ ap (half_in p) (get_or_from_slice_get (darts p.rows) i d d at)
 
     pub listed_live : (i : ℕ) → i < length halves → is_live r (slice_index halves i) ≡ true
     listed_live i less =
@@ -59,7 +62,8 @@ module _ (p : RowsWithPaths) (good : IsWellFormed p.rows) (r : Rotation) (s : Sh
         let (d, at) = get_there (darts p.rows) i inside in
         half_alive p good r s (slice_index halves i) (record { dart = d; there = has_at (darts p.rows) i d at; is = sym (half_there i d inside at) })
 
-    pub listed_faces : (faces : List ℕ) (bound : ℕ) → TellsFaces r → ((a : ℕ) → is_live r a ≡ true → face_of r a < bound) → ((i : ℕ) → i < length halves → slice_index faces i ≡ face_of r (slice_index halves i))
+    pub listed_faces : (faces : List ℕ) (bound : ℕ) → TellsFaces r → ((a : ℕ) → is_live r a ≡ true → face_of r a < bound)
+        → ((i : ℕ) → i < length halves → slice_index faces i ≡ face_of r (slice_index halves i))
         → HasFaces (canonical p.rows) (slice_index faces) bound
     listed_faces faces bound tell above written =
         faces_told tell bound above (index_of p.rows) (length (darts p.rows)) (slice_index faces) (λ k h.
@@ -70,7 +74,8 @@ module _ (p : RowsWithPaths) (good : IsWellFormed p.rows) (r : Rotation) (s : Sh
         written k less ∙ ap (face_of r) (half_there k d inside at))
 
 -- one label more is written
-pub label_more : (label : ℕ → ℕ) (labels : List ℕ) (k value : ℕ) → k < length labels → value ≡ label k → ((i : ℕ) → i < k → slice_index labels i ≡ label i) → (i : ℕ) → i < k + 1 → slice_index (slice_set labels k value) i ≡ label i
+pub label_more : (label : ℕ → ℕ) (labels : List ℕ) (k value : ℕ) → k < length labels → value ≡ label k → ((i : ℕ) → i < k → slice_index labels i ≡ label i)
+    → (i : ℕ) → i < k + 1 → slice_index (slice_set labels k value) i ≡ label i
 label_more label labels k value inside is so_far i less = elim (cases_lt i k) [
   | inl before ↦
       let other : i ≢ k = (λ e. (let z : ⊥ = omega arith in z)) in

@@ -1,5 +1,6 @@
 -- The halves along a path, when those ahead of some of its crossings go.
-use Rattle.std.proofs.Common.{◌≡◌, ◌+◌, ◌<◌, ◌≤◌, ap, arith, Bool, cond, false, get_or, inl, inr, length, List, [], ◌∷◌, not, refl, sym, suc, true, zero, ℕ, ◌∙◌}
+use Rattle.std.proofs.Common.{◌≡◌, ◌+◌, ◌<◌, ◌≤◌, ap, arith, Bool, cond, false, get_or, inl, inr}
+use Rattle.std.proofs.Common.{length, List, [], ◌∷◌, not, refl, sym, suc, true, zero, ℕ, ◌∙◌}
 use Rattle.std.proofs.lemmas.Bool.{cases_Bool, ne_eqb}
 use Rattle.topo_core.specs.Items.{has_id, IsIn, occurrences}
 use Rattle.topo_core.proofs.deleting.GonePaths.{item_place, left_of, left_taken, left_kept}
@@ -41,7 +42,8 @@ record StoodAt (gone path hs left halves : List ℕ) (s : ℕ) : Type 0 where
   crossing : get_or left s 0 ≡ get_or path place 0
   half : get_or halves s 0 ≡ get_or hs place 0
 
-stood_at : (goes : ℕ → Bool) (gone path hs : List ℕ) → GoTogether goes gone path hs → (s : ℕ) → s < length (left_of gone path) → StoodAt gone path hs (left_of gone path) (spared goes hs) s
+stood_at : (goes : ℕ → Bool) (gone path hs : List ℕ) → GoTogether goes gone path hs → (s : ℕ) → s < length (left_of gone path)
+    → StoodAt gone path hs (left_of gone path) (spared goes hs) s
 stood_at goes gone [] hs g s ls = absurd (omega (arith, ls))
 stood_at goes gone (x ∷ path) [] g s ls = absurd (omega (arith, g.as_many))
 stood_at goes gone (x ∷ path) (h ∷ hs) g s ls =
@@ -61,7 +63,8 @@ stood_at goes gone (x ∷ path) (h ∷ hs) g s ls =
       | inr f ↦ kept_at s ls (left_kept gone x path f) (spared_kept goes h hs (first ∙ f)) (stood_at goes gone path hs later)
     ] where
       kept_at : (s : ℕ) → s < length (left_of gone (x ∷ path)) → left_of gone (x ∷ path) ≡ x ∷ left_of gone path → spared goes (h ∷ hs) ≡ h ∷ spared goes hs
-          → ((j : ℕ) → j < length (left_of gone path) → StoodAt gone path hs (left_of gone path) (spared goes hs) j) → StoodAt gone (x ∷ path) (h ∷ hs) (left_of gone (x ∷ path)) (spared goes (h ∷ hs)) s
+          → ((j : ℕ) → j < length (left_of gone path) → StoodAt gone path hs (left_of gone path) (spared goes hs) j)
+          → StoodAt gone (x ∷ path) (h ∷ hs) (left_of gone (x ∷ path)) (spared goes (h ∷ hs)) s
       kept_at zero ls is_left is_spared rest = grind arith
       kept_at (suc j) ls is_left is_spared rest =
           let before = rest j (omega (arith, ls, ap length is_left)) in
@@ -80,14 +83,18 @@ pub record IsUncrossed (goes : ℕ → Bool) (gone path hs : List ℕ) : Type 0 
 
 module _ (goes : ℕ → Bool) (gone path : List ℕ) where
   behind_first : (h : ℕ) (hs : List ℕ) → IsUncrossed goes gone path (h ∷ hs) → GoTogether goes gone path hs
-  behind_first h hs u = record { as_many = omega (arith, u.as_many); each = λ i li. (let next : i + 1 ≡ suc i = omega arith in sym (ap (λ k. goes (get_or (h ∷ hs) k 0)) next) ∙ u.each i li) }
+  behind_first h hs u = record {
+    as_many = omega (arith, u.as_many);
+    each = λ i li. (let next : i + 1 ≡ suc i = omega arith in sym (ap (λ k. goes (get_or (h ∷ hs) k 0)) next) ∙ u.each i li);
+  }
 
   pub uncrossed_length : (hs : List ℕ) → IsUncrossed goes gone path hs → length (spared goes hs) ≡ length (left_of gone path) + 1
   uncrossed_length [] u = absurd (omega (arith, u.as_many))
   uncrossed_length (h ∷ hs) u = omega (arith, ap length (spared_kept goes h hs u.first), spared_length goes gone path hs (behind_first h hs u))
 
   -- each segment that is left has the half of its first part
-  pub uncrossed_halves : (hs : List ℕ) → IsUncrossed goes gone path hs → ((y : ℕ) → IsIn y path → occurrences y path ≤ 1) → (s : ℕ) → s ≤ length (left_of gone path) → get_or (spared goes hs) s 0 ≡ get_or hs (first_part (left_of gone path) path s) 0
+  pub uncrossed_halves : (hs : List ℕ) → IsUncrossed goes gone path hs → ((y : ℕ) → IsIn y path → occurrences y path ≤ 1) → (s : ℕ)
+      → s ≤ length (left_of gone path) → get_or (spared goes hs) s 0 ≡ get_or hs (first_part (left_of gone path) path s) 0
   uncrossed_halves [] u once s ls = absurd (omega (arith, u.as_many))
   uncrossed_halves (h ∷ hs) u once zero ls = ap (λ (l : List ℕ). get_or l 0 0) (spared_kept goes h hs u.first)
   uncrossed_halves (h ∷ hs) u once (suc j) ls =

@@ -28,7 +28,8 @@ use Rattle.topo_embedded.proofs.halves.Numbers.{StandsAt, stands_at}
 
 -- ---- Numbers that agree
 
-pub agreeing_numbers : (h k back f g : ℕ → ℕ) (n : ℕ) (live : ℕ → Bool) (m : ℕ) → RenumbersTurn h back f g n live m → ((a : ℕ) → a < n → h a ≡ k a) → RenumbersTurn k back f g n live m
+pub agreeing_numbers : (h k back f g : ℕ → ℕ) (n : ℕ) (live : ℕ → Bool) (m : ℕ) → RenumbersTurn h back f g n live m → ((a : ℕ) → a < n → h a ≡ k a)
+    → RenumbersTurn k back f g n live m
 agreeing_numbers h k back f g n live m r same = record {
   turn = record {
     before = r.turn.before;
@@ -51,7 +52,8 @@ agreeing_numbers h k back f g n live m r same = record {
 
 pub labels_length : (edges : List EdgeRow) → length (labels_of edges) ≡ sum_by segment_count edges
 labels_length [] = refl
-labels_length (row ∷ rest) = let total = sum_by-cons segment_count row rest in let more = labels_length rest in omega (arith, length-append (replicate (segment_count row) row.id) (labels_of rest), length-replicate (segment_count row) row.id)
+labels_length (row ∷ rest) = let total = sum_by-cons segment_count row rest in let more = labels_length rest in
+    omega (arith, length-append (replicate (segment_count row) row.id) (labels_of rest), length-replicate (segment_count row) row.id)
 
 -- the edge at place k, before which so many segments come
 record LabelsAt (n : ℕ) (edges : List EdgeRow) (k : ℕ) (row : EdgeRow) : Type 0 where
@@ -68,13 +70,16 @@ labels_at n (e ∷ rest) (suc k) row at =
       before = segment_count e + later.before;
       here = (let w = later.here in omega arith);
       labelled = λ s ls.
-          let place : segment_count e + later.before + s ≡ length (replicate (segment_count e) e.id) + (later.before + s) = omega (arith, length-replicate (segment_count e) e.id) in
-          ap (slice_index (labels_of (e ∷ rest))) place ∙ get_or-append-add (replicate (segment_count e) e.id) (labels_of rest) (later.before + s) 0 ∙ later.labelled s ls;
+          let place : segment_count e + later.before + s ≡ length (replicate (segment_count e) e.id) + (later.before + s) =
+          omega (arith, length-replicate (segment_count e) e.id) in
+          ap (slice_index (labels_of (e ∷ rest))) place ∙ get_or-append-add (replicate (segment_count e) e.id) (labels_of rest) (later.before + s) 0
+          ∙ later.labelled s ls;
     }
 
 -- ---- The halves
 
-module _ (rows : Rows) (good : IsWellFormed rows) (begins halves : List ℕ) (paths : List (List ℕ)) (r : Rotation) (begin : begins ≡ begins_from 0 rows.edges) (made : IsMadeFrom (turn_images rows) halves r)
+module _ (rows : Rows) (good : IsWellFormed rows) (begins halves : List ℕ) (paths : List (List ℕ)) (r : Rotation) (begin : begins ≡ begins_from 0 rows.edges)
+    (made : IsMadeFrom (turn_images rows) halves r)
     (labels : AreLabelled (labels_of rows.edges) halves (edge_of r)) (are : ArePathsOf rows.edges begins halves (length rows.edges) paths) where
   abbrev p : RowsWithPaths
   p = record { rows = rows; paths = paths }
@@ -102,7 +107,8 @@ module _ (rows : Rows) (good : IsWellFormed rows) (begins halves : List ℕ) (pa
     made_half Forward h = first_half
     made_half Back h =
         let there : Is (on Forward) = twin_in rows (on Back) h in
-        ap twin first_half ∙ made.renumbers.twins.each (index_of rows (on Forward)) (number_less (on Forward) there) ∙ ap (map_of halves) (sym (index_twin rows (on Forward) there))
+        ap twin first_half ∙ made.renumbers.twins.each (index_of rows (on Forward)) (number_less (on Forward) there)
+        ∙ ap (map_of halves) (sym (index_twin rows (on Forward) there))
 
     segment_of : (l : LabelsAt 0 rows.edges k row) (way : Way) → index_of rows (on way) / 2 ≡ l.before + i
     segment_of l Forward = omega (arith, l.here, number_forward rows good.paths k row at i li)
@@ -122,9 +128,11 @@ module _ (rows : Rows) (good : IsWellFormed rows) (begins halves : List ℕ) (pa
   has_half d h =
       let s : StandsAt rows d = stands_at rows good d h in
       let k : ℕ = position_or_len (λ row. row.id == d.edge) rows.edges in
-      let same : record { edge = s.row.id; seg = d.seg; way = d.way } ≡ d = ap (λ (e : ℕ). (let c : Dart = record { edge = e; seg = d.seg; way = d.way } in c)) s.id in
+      let same : record { edge = s.row.id; seg = d.seg; way = d.way } ≡ d =
+      ap (λ (e : ℕ). (let c : Dart = record { edge = e; seg = d.seg; way = d.way } in c)) s.id in
       let there : Is (record { edge = s.row.id; seg = d.seg; way = d.way }) = subst Is (sym same) h in
-      let is : half_in p d ≡ map_of halves (index_of rows d) = made_half k s.row s.at d.seg s.on_path d.way there ∙ ap (λ (c : Dart). map_of halves (index_of rows c)) same in
+      let is : half_in p d ≡ map_of halves (index_of rows d) = made_half k s.row s.at d.seg s.on_path d.way there
+      ∙ ap (λ (c : Dart). map_of halves (index_of rows c)) same in
       grind (arith, made_label)
 
   pub made_shows : ShowsRows p r
@@ -132,7 +140,8 @@ module _ (rows : Rows) (good : IsWellFormed rows) (begins halves : List ℕ) (pa
     as_many = are.as_many;
     along = λ k row at. (are.each k row (got_within rows.edges k row at) at).as_many;
     back = made.place_of;
-    renumbers = agreeing_numbers (map_of halves) (half_at p) made.place_of (map_of (turn_images rows)) (turn r) (length (turn_images rows)) (is_live r) half_limit made.renumbers (λ a la.
+    renumbers = agreeing_numbers (map_of halves) (half_at p) made.place_of (map_of (turn_images rows)) (turn r) (length (turn_images rows))
+        (is_live r) half_limit made.renumbers (λ a la.
         let (d, got) = get_there (darts rows) a (subst (λ (n : ℕ). a < n) (images_length rows) la) in
         let named : half_at p a ≡ half_in p d = ap (λ (o : Option Dart). half_in p (unwrap_or o (record { edge = 0; seg = 0; way = Forward }))) got in
         sym (named ∙ (has_half d (has_at (darts rows) a d got)).is ∙ ap (map_of halves) (index_of_get rows good.paths a d got)));
@@ -140,9 +149,12 @@ module _ (rows : Rows) (good : IsWellFormed rows) (begins halves : List ℕ) (pa
   }
 
 -- as they are read
-pub made_from : (rows : Rows) (good : IsWellFormed rows) (edges : List EdgeRow) (turns labels begins halves again : List ℕ) (paths : List (List ℕ)) (r : Rotation) → edges ≡ rows.edges → turns ≡ turn_images rows → labels ≡ labels_of edges
-    → begins ≡ begins_from 0 rows.edges → again ≡ halves → IsMadeFrom turns halves r → AreLabelled labels halves (edge_of r) → ArePathsOf edges begins again (length edges) paths → ShowsRows (record { rows = rows; paths = paths }) r
+pub made_from : (rows : Rows) (good : IsWellFormed rows) (edges : List EdgeRow) (turns labels begins halves again : List ℕ) (paths : List (List ℕ))
+    (r : Rotation) → edges ≡ rows.edges → turns ≡ turn_images rows → labels ≡ labels_of edges
+    → begins ≡ begins_from 0 rows.edges → again ≡ halves → IsMadeFrom turns halves r → AreLabelled labels halves (edge_of r)
+    → ArePathsOf edges begins again (length edges) paths → ShowsRows (record { rows = rows; paths = paths }) r
 made_from rows good edges turns labels begins halves again paths r edges_are turns_are labels_are begins_are again_are made labelled are =
     made_shows rows good begins halves paths r begins_are (subst (λ (l : List ℕ). IsMadeFrom l halves r) turns_are made)
     (subst (λ (l : List ℕ). AreLabelled l halves (edge_of r)) (labels_are ∙ ap labels_of edges_are) labelled)
-    (subst (λ (l : List ℕ). ArePathsOf rows.edges begins l (length rows.edges) paths) again_are (subst (λ (es : List EdgeRow). ArePathsOf es begins again (length es) paths) edges_are are))
+    (subst (λ (l : List ℕ). ArePathsOf rows.edges begins l (length rows.edges) paths) again_are
+    (subst (λ (es : List EdgeRow). ArePathsOf es begins again (length es) paths) edges_are are))

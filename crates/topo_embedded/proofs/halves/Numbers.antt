@@ -54,7 +54,8 @@ module _ (p : RowsWithPaths) (good : IsWellFormed p.rows) where
     number_less d h = index_less p.rows good.paths good.crossings good.rotations d h
 
     pub half_alive : (h : ℕ) → IsHalf p h → is_live r h ≡ true
-    half_alive h half = subst (λ (v : ℕ). is_live r v ≡ true) (half_of_number half.dart half.there ∙ half.is) (s.renumbers.turn.numbers.alive (index_of p.rows half.dart) (number_less half.dart half.there))
+    half_alive h half = subst (λ (v : ℕ). is_live r v ≡ true) (half_of_number half.dart half.there ∙ half.is)
+        (s.renumbers.turn.numbers.alive (index_of p.rows half.dart) (number_less half.dart half.there))
 
     -- the next half clockwise is that of the next dart
     pub turned_half : (d : Dart) → has_dart (darts p.rows) d ≡ true → turn r (half_in p d) ≡ half_in p (dart_turn (system p.rows) d)

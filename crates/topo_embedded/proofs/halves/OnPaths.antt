@@ -1,5 +1,6 @@
 -- Where a crossed half lies among the halves along the edges, while others are split.
-use Rattle.std.proofs.Common.{◌≡◌, ◌≢◌, ◌<◌, ◌+◌, ap, arith, Bool, drop, false, get_or, inl, inr, length, List, [], ◌∷◌, ◌++◌, refl, subst, suc, sym, take, true, ℕ, ◌∙◌}
+use Rattle.std.proofs.Common.{◌≡◌, ◌≢◌, ◌<◌, ◌+◌, ap, arith, Bool, drop, false, get_or, inl, inr}
+use Rattle.std.proofs.Common.{length, List, [], ◌∷◌, ◌++◌, refl, subst, suc, sym, take, true, ℕ, ◌∙◌}
 use Rattle.std.specs.Prelude.{◌&&◌, ◌==◌, cond, flat_map, slice_get, slice_index_or, Some}
 use Rattle.std.specs.List.{AllByRecursion, position_or_len}
 use Rattle.std.proofs.Math.Seq.{drop-cons}
@@ -61,11 +62,14 @@ piece_is_off near j h off new back = by_tests (h == j.near) (h == twin j.near) w
   by_tests false true = (back, (off, tt))
   by_tests false false = (off, tt)
 
-pieces_are_off : (near : ℕ) (j : Subdivision) (hs : List ℕ) → AllByRecursion (IsOff near) hs → IsOff near j.beyond → IsOff near (twin j.beyond) → AllByRecursion (IsOff near) (flat_map (piece j) hs)
+pieces_are_off : (near : ℕ) (j : Subdivision) (hs : List ℕ) → AllByRecursion (IsOff near) hs → IsOff near j.beyond → IsOff near (twin j.beyond)
+    → AllByRecursion (IsOff near) (flat_map (piece j) hs)
 pieces_are_off near j [] off new back = tt
-pieces_are_off near j (h ∷ hs) off new back = append_off near (piece j h) (flat_map (piece j) hs) (piece_is_off near j h off.0 new back) (pieces_are_off near j hs off.1 new back)
+pieces_are_off near j (h ∷ hs) off new back =
+    append_off near (piece j h) (flat_map (piece j) hs) (piece_is_off near j h off.0 new back) (pieces_are_off near j hs off.1 new back)
 
-put_are_off : (near : ℕ) (js : List Subdivision) (hs : List ℕ) → AllByRecursion (IsOff near) hs → NewOff near js → AllByRecursion (IsOff near) (put_halves js hs)
+put_are_off : (near : ℕ) (js : List Subdivision) (hs : List ℕ) → AllByRecursion (IsOff near) hs → NewOff near js
+    → AllByRecursion (IsOff near) (put_halves js hs)
 put_are_off near [] hs off new = off
 put_are_off near (j ∷ js) hs off new = pieces_are_off near j (put_halves js hs) (put_are_off near js hs off new.1) new.0.0 new.0.1
 
@@ -88,13 +92,15 @@ pub record IsAmong (near : ℕ) (hs : List ℕ) : Type 0 where
   pub behind_off : AreOff near behind
 
 -- it stays so
-pub still_among : (near : ℕ) (js : List Subdivision) (hs : List ℕ) → NewOff near js → (a : IsAmong near hs) → AllByRecursion (λ j. IsOff j.near a.half) js → IsAmong near (put_halves js hs)
+pub still_among : (near : ℕ) (js : List Subdivision) (hs : List ℕ) → NewOff near js → (a : IsAmong near hs) → AllByRecursion (λ j. IsOff j.near a.half) js
+    → IsAmong near (put_halves js hs)
 still_among near js hs new a alone = record {
   before = put_halves js a.before;
   half = a.half;
   behind = put_halves js a.behind;
   is = ap (put_halves js) a.is ∙ put_append js a.before (a.half ∷ a.behind)
-      ∙ ap (λ (xs : List ℕ). put_halves js a.before ++ xs) (put_append js (a.half ∷ []) a.behind ∙ ap (λ (xs : List ℕ). xs ++ put_halves js a.behind) (put_one js a.half alone));
+      ∙ ap (λ (xs : List ℕ). put_halves js a.before ++ xs) (put_append js (a.half ∷ []) a.behind
+      ∙ ap (λ (xs : List ℕ). xs ++ put_halves js a.behind) (put_one js a.half alone));
   on = a.on;
   before_off = put_off near js a.before a.before_off new;
   behind_off = put_off near js a.behind a.behind_off new;
@@ -111,7 +117,8 @@ module _ (p : RowsWithPaths) (good : IsWellFormed p.rows) (r : Rotation) (s : Sh
   Is d = has_dart (darts p.rows) d ≡ true
 
   on_itself : (c d : Dart) → d.edge ≡ c.edge → d.seg ≡ c.seg → same_segment c d ≡ true
-  on_itself c d edge seg = and_from (c.edge == d.edge) (c.seg == d.seg) (ap (λ (e : ℕ). c.edge == e) edge ∙ eqb_self c.edge) (ap (λ (g : ℕ). c.seg == g) seg ∙ eqb_self c.seg)
+  on_itself c d edge seg =
+      and_from (c.edge == d.edge) (c.seg == d.seg) (ap (λ (e : ℕ). c.edge == e) edge ∙ eqb_self c.edge) (ap (λ (g : ℕ). c.seg == g) seg ∙ eqb_self c.seg)
 
   -- darts of two segments
   pub darts_off : (c d : Dart) → Is c → Is d → same_segment c d ≡ false → IsOff (half_in p c) (half_in p d)
@@ -140,14 +147,17 @@ module _ (p : RowsWithPaths) (good : IsWellFormed p.rows) (r : Rotation) (s : Sh
   off_by_way near e g Back off = grind (arith, twin-twin)
 
   -- the halves of one path are those of darts
-  pub along_there : (k : ℕ) (row : EdgeRow) → slice_get p.rows.edges k ≡ Some row → (i : ℕ) → i < length (slice_index_or p.paths k []) → Is (forward row.id i) × (slice_index_or (slice_index_or p.paths k []) i 0 ≡ half_in p (forward row.id i))
+  pub along_there : (k : ℕ) (row : EdgeRow) → slice_get p.rows.edges k ≡ Some row → (i : ℕ) → i < length (slice_index_or p.paths k []) → Is (forward row.id i)
+      × (slice_index_or (slice_index_or p.paths k []) i 0 ≡ half_in p (forward row.id i))
   along_there k row at i less =
       let place = placed_here (λ (x : EdgeRow). x.id) p.rows.edges row.id (edges_rise p.rows p.rows.edges good.paths refl) k row at refl in
       let both : Some place.row ≡ Some row = sym place.at ∙ at in
       let same : place.row ≡ row = cc in
       let found : edge_row p.rows row.id ≡ Some row = place.found ∙ ap Some same in
-      let long = s.along k row at in
-      (dart_there p.rows good.paths (forward row.id i) row found (omega (arith, long, less)), ap (λ (j : ℕ). slice_index_or (slice_index_or p.paths j []) i 0) place.first)
+      let long = s.along k row at in (
+        dart_there p.rows good.paths (forward row.id i) row found (omega (arith, long, less)),
+        ap (λ (j : ℕ). slice_index_or (slice_index_or p.paths j []) i 0) place.first,
+      )
 
   other_edge : (c d : Dart) → d.edge ≢ c.edge → same_segment c d ≡ false
   other_edge c d ne = ap (λ (b : Bool). b && c.seg == d.seg) (ne_eqb c.edge d.edge (λ e. ne (sym e)))
@@ -170,7 +180,8 @@ module _ (p : RowsWithPaths) (good : IsWellFormed p.rows) (r : Rotation) (s : Sh
     other_paths k less ne = (
         let row : EdgeRow = get_or p.rows.edges k stands.row in
         let at : slice_get p.rows.edges k ≡ Some row = slice_get-get_or p.rows.edges k stands.row (omega (arith, s.as_many, less)) in
-        let apart : row.id ≢ d.edge = λ e. ne (placed_here (λ (x : EdgeRow). x.id) p.rows.edges d.edge (edges_rise p.rows p.rows.edges good.paths refl) k row at e).first in
+        let apart : row.id ≢ d.edge =
+        λ e. ne (placed_here (λ (x : EdgeRow). x.id) p.rows.edges d.edge (edges_rise p.rows p.rows.edges good.paths refl) k row at e).first in
         All-from_get_or (IsOff (half_in p d)) (slice_index_or p.paths k []) 0 (λ i li.
         let (there, is) = along_there k row at i li in
         subst (IsOff (half_in p d)) (sym is) (darts_off d (forward row.id i) h there (other_edge d (forward row.id i) apart))))

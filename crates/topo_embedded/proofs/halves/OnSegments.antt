@@ -42,7 +42,8 @@ way_back half h on other = grind (arith, on_is, twin-twin)
 -- ---- The first place
 
 -- behind halves on other segments
-pub first_place : (half : ℕ) (path xs ys : List ℕ) (h : ℕ) → path ≡ xs ++ h ∷ ys → AreOff half xs → IsOn half h → position_or_len (on_segment half) path ≡ length xs
+pub first_place : (half : ℕ) (path xs ys : List ℕ) (h : ℕ) → path ≡ xs ++ h ∷ ys → AreOff half xs → IsOn half h
+    → position_or_len (on_segment half) path ≡ length xs
 first_place half path xs ys h is off on =
     ap (position_or_len (on_segment half)) is
     ∙ position_or_len_is (on_segment half) (xs ++ h ∷ ys) (length xs) 0 (omega (arith, length-append xs (h ∷ ys)))

@@ -33,13 +33,16 @@ pub record EdgeRead (rows : Rows) (e place : ℕ) (row : EdgeRow) : Type 0 where
   pub id : row.id ≡ e
   pub first : place ≡ position_or_len (λ row. row.id == e) rows.edges
 
-pub edge_read : (rows : Rows) (e place : ℕ) (edges : List EdgeRow) → edges ≡ rows.edges → (p : IsPlaceOf edges (λ row. row.id) e place) → EdgeRead rows e place p.row
+pub edge_read : (rows : Rows) (e place : ℕ) (edges : List EdgeRow) → edges ≡ rows.edges → (p : IsPlaceOf edges (λ row. row.id) e place)
+    → EdgeRead rows e place p.row
 edge_read rows e place edges same p = grind (arith, row_id)
 
-pub row_read : (rows : Rows) (e place : ℕ) (edges : List EdgeRow) (row read : EdgeRow) → edges ≡ rows.edges → EdgeRead rows e place row → read ≡ slice_index_or edges place read → read ≡ row
+pub row_read : (rows : Rows) (e place : ℕ) (edges : List EdgeRow) (row read : EdgeRow) → edges ≡ rows.edges → EdgeRead rows e place row
+    → read ≡ slice_index_or edges place read → read ≡ row
 row_read rows e place edges row read same at is = is ∙ get_or_from_slice_get edges place row read (ap (λ (es : List EdgeRow). slice_get es place) same ∙ at.at)
 
-pub facts_read : (rows : Rows) (e place : ℕ) (edges : List EdgeRow) (row read : EdgeRow) → edges ≡ rows.edges → EdgeRead rows e place row → read ≡ slice_index_or edges place read → read ≡ edge_at rows e
+pub facts_read : (rows : Rows) (e place : ℕ) (edges : List EdgeRow) (row read : EdgeRow) → edges ≡ rows.edges → EdgeRead rows e place row
+    → read ≡ slice_index_or edges place read → read ≡ edge_at rows e
 facts_read rows e place edges row read same at is = row_read rows e place edges row read same at is ∙ sym (edge_at_row rows e row at.found)
 
 -- ---- The dart of an edge at its end
@@ -55,18 +58,22 @@ end_inside : (row : EdgeRow) (b : Bool) → end_seg row b < segment_count row
 end_inside row true = omega arith
 end_inside row false = omega arith
 
-end_is : (rows : Rows) (v e place : ℕ) (row : EdgeRow) → EdgeRead rows e place row → end_dart rows v e ≡ record { edge = e; seg = end_seg row (row.a == v); way = end_way (row.a == v) }
+end_is : (rows : Rows) (v e place : ℕ) (row : EdgeRow) → EdgeRead rows e place row
+    → end_dart rows v e ≡ record { edge = e; seg = end_seg row (row.a == v); way = end_way (row.a == v) }
 end_is rows v e place row at = ap (λ (r : EdgeRow). end_by e r (r.a == v)) (edge_at_row rows e row at.found) ∙ end_parts e row (row.a == v)
 
 -- the edges round a vertex are there
-pub entry_known : (rows : Rows) → IsWellFormed rows → (v p e : ℕ) (around : List ℕ) → v < length rows.rotations → around ≡ rotation rows v → p < length around → e ≡ slice_index around p → is_some (edge_row rows e) ≡ true
+pub entry_known : (rows : Rows) → IsWellFormed rows → (v p e : ℕ) (around : List ℕ) → v < length rows.rotations → around ≡ rotation rows v → p < length around
+    → e ≡ slice_index around p → is_some (edge_row rows e) ≡ true
 entry_known rows good v p e around inside is below at =
     let known = (good_rotation rows good.rotations v (vertex_in rows v inside)).known in
     known e (in_at e (rotation rows v) p (ap (λ (xs : List ℕ). slice_get xs p) (sym is) ∙ slice_get-get_or around p 0 below ∙ ap Some (sym at)))
 
 -- the edges round a vertex, as they are read
-pub around_read : (rows : Rows) (v : ℕ) (lists : List (List ℕ)) (x read : List ℕ) → v < length lists → lists ≡ rows.rotations → x ≡ slice_index_or lists v x → read ≡ x → read ≡ rotation rows v
-around_read rows v lists x read inside same is read_is = read_is ∙ is ∙ get_or_default lists v x [] inside ∙ ap (λ (ls : List (List ℕ)). slice_index_or ls v []) same
+pub around_read : (rows : Rows) (v : ℕ) (lists : List (List ℕ)) (x read : List ℕ) → v < length lists → lists ≡ rows.rotations → x ≡ slice_index_or lists v x
+    → read ≡ x → read ≡ rotation rows v
+around_read rows v lists x read inside same is read_is = read_is ∙ is ∙ get_or_default lists v x [] inside
+    ∙ ap (λ (ls : List (List ℕ)). slice_index_or ls v []) same
 
 pub vertex_there : (rows : Rows) (v p : ℕ) → p < length (rotation rows v) → v < length rows.rotations
 vertex_there rows v p h = grind (arith, cases_lt, get_or_past)
@@ -106,11 +113,13 @@ module _ (p : RowsWithPaths) (good : IsWellFormed p.rows) (r : Rotation) (s : Sh
   -- the path is among all darts
   pub list_few : length path ≤ length (darts p.rows)
   list_few =
-      let most : segment_count (slice_index_or p.rows.edges place row) ≤ sum_by segment_count p.rows.edges = get_or-le-sum_by segment_count p.rows.edges place row (got_within p.rows.edges place row at.at) in
+      let most : segment_count (slice_index_or p.rows.edges place row) ≤ sum_by segment_count p.rows.edges =
+      get_or-le-sum_by segment_count p.rows.edges place row (got_within p.rows.edges place row at.at) in
       grind (arith, get_or_from_slice_get, list_many, darts_total)
 
   -- the half at an end of the edge
-  module _ (v : ℕ) (read : EdgeRow) (seg : ℕ) (way : Way) (same : read ≡ row) (seg_is : seg ≡ end_seg read (read.a == v)) (way_is : way ≡ end_way (read.a == v)) where
+  module _ (v : ℕ) (read : EdgeRow) (seg : ℕ) (way : Way) (same : read ≡ row) (seg_is : seg ≡ end_seg read (read.a == v))
+      (way_is : way ≡ end_way (read.a == v)) where
     pub end_on_list : seg < length path
     end_on_list = grind (arith, end_inside, list_many)
 

@@ -21,16 +21,20 @@ module _ (p : RowsWithPaths) (good : IsWellFormed p.rows) (r : Rotation) (s : Sh
       let at = after (face_step (system p.rows)) k d in
       turn_stays p.rows good.paths good.crossings good.rotations (dart_twin at) (twin_in p.rows at (steps_stay k d h))
 
-  half_after : (k : ℕ) (d : Dart) → has_dart (darts p.rows) d ≡ true → after (face_next (turn r)) k (half_in p d) ≡ half_in p (after (face_step (system p.rows)) k d)
+  half_after : (k : ℕ) (d : Dart) → has_dart (darts p.rows) d ≡ true
+      → after (face_next (turn r)) k (half_in p d) ≡ half_in p (after (face_step (system p.rows)) k d)
   half_after zero d h = refl
   half_after (suc k) d h =
-      ap (face_next (turn r)) (half_after k d h) ∙ face_half p good r s (half_in p (after (face_step (system p.rows)) k d)) (after (face_step (system p.rows)) k d) (steps_stay k d h) refl
+      ap (face_next (turn r)) (half_after k d h)
+      ∙ face_half p good r s (half_in p (after (face_step (system p.rows)) k d)) (after (face_step (system p.rows)) k d) (steps_stay k d h) refl
 
-  pub same_faces : (c d : Dart) → has_dart (darts p.rows) c ≡ true → has_dart (darts p.rows) d ≡ true → SameCycle (face_next (turn r)) (half_in p c) (half_in p d) ↔ SameFace (system p.rows) c d
+  pub same_faces : (c d : Dart) → has_dart (darts p.rows) c ≡ true → has_dart (darts p.rows) d ≡ true
+      → SameCycle (face_next (turn r)) (half_in p c) (half_in p d) ↔ SameFace (system p.rows) c d
   same_faces c d hc hd = (
     (λ same. record {
       steps = same.steps;
-      leads = halves_apart p good r s (after (face_step (system p.rows)) same.steps c) d (steps_stay same.steps c hc) hd (sym (half_after same.steps c hc) ∙ same.leads);
+      leads = halves_apart p good r s (after (face_step (system p.rows)) same.steps c) d (steps_stay same.steps c hc) hd
+          (sym (half_after same.steps c hc) ∙ same.leads);
     }),
     (λ same. record { steps = same.steps; leads = half_after same.steps c hc ∙ ap (half_in p) same.leads }),
   )

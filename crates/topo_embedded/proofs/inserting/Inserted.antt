@@ -1,5 +1,6 @@
 -- Rows with their embedding after an insertion: each dart has the half with its number.
-use Rattle.std.proofs.Common.{◌≡◌, ◌<◌, ◌≤◌, ◌+◌, ap, arith, Bool, cond, false, inl, inr, length, List, [], ◌∷◌, ◌++◌, not, refl, subst, suc, sym, true, zero, ℕ, ◌∙◌}
+use Rattle.std.proofs.Common.{◌≡◌, ◌<◌, ◌≤◌, ◌+◌, ap, arith, Bool, cond, false, inl, inr, length}
+use Rattle.std.proofs.Common.{List, [], ◌∷◌, ◌++◌, not, refl, subst, suc, sym, true, zero, ℕ, ◌∙◌}
 use Rattle.std.specs.Prelude.{◌==◌, find, map, slice_index_or, Some}
 use Rattle.std.specs.List.{enumerate_from, position_or_len}
 use Rattle.std.proofs.lemmas.Bool.{cases_Bool, ne_eqb}
@@ -41,33 +42,43 @@ got_map f none (x ∷ xs) zero = refl
 got_map f none (x ∷ xs) (suc k) = got_map f none xs k
 
 module _ (rows : Rows) (r : Route) (e : ℕ) where
-  place_old : (edges ys : List EdgeRow) (row : EdgeRow) → find (λ x. x.id == e) edges ≡ Some row → position_or_len (λ (x : EdgeRow). x.id == e) (map (crossed_row rows r) edges ++ ys) ≡ position_or_len (λ (x : EdgeRow). x.id == e) edges
+  place_old : (edges ys : List EdgeRow) (row : EdgeRow) → find (λ x. x.id == e) edges ≡ Some row
+      → position_or_len (λ (x : EdgeRow). x.id == e) (map (crossed_row rows r) edges ++ ys) ≡ position_or_len (λ (x : EdgeRow). x.id == e) edges
   place_old [] ys row h = cc
   place_old (x ∷ edges) ys row h = elim (cases_Bool (x.id == e)) [
-    | inl t ↦ ap (λ (b : Bool). cond {A = ℕ} (not b) (1 + position_or_len (λ (x : EdgeRow). x.id == e) (map (crossed_row rows r) edges ++ ys)) 0) t ∙ sym (ap (λ (b : Bool). cond {A = ℕ} (not b) (1 + position_or_len (λ (x : EdgeRow). x.id == e) edges) 0) t)
+    | inl t ↦ ap (λ (b : Bool). cond {A = ℕ} (not b) (1 + position_or_len (λ (x : EdgeRow). x.id == e) (map (crossed_row rows r) edges ++ ys)) 0) t
+        ∙ sym (ap (λ (b : Bool). cond {A = ℕ} (not b) (1 + position_or_len (λ (x : EdgeRow). x.id == e) edges) 0) t)
     | inr n ↦
         let rest = place_old edges ys row (sym (ap (λ (b : Bool). cond b (Some x) (find (λ x. x.id == e) edges)) n) ∙ h) in
         ap (λ (k : ℕ). cond {A = ℕ} (not (x.id == e)) (1 + k) 0) rest
   ]
 
-  place_new : (edges : List EdgeRow) (y : EdgeRow) → ((x : EdgeRow) → IsIn x edges → (x.id == e) ≡ false) → (y.id == e) ≡ true → position_or_len (λ (x : EdgeRow). x.id == e) (map (crossed_row rows r) edges ++ y ∷ []) ≡ length edges
+  place_new : (edges : List EdgeRow) (y : EdgeRow) → ((x : EdgeRow) → IsIn x edges → (x.id == e) ≡ false) → (y.id == e) ≡ true
+      → position_or_len (λ (x : EdgeRow). x.id == e) (map (crossed_row rows r) edges ++ y ∷ []) ≡ length edges
   place_new [] y other is = ap (λ (b : Bool). cond {A = ℕ} (not b) (1 + position_or_len (λ (x : EdgeRow). x.id == e) []) 0) is
   place_new (x ∷ edges) y other is =
       let rest = place_new edges y (λ z h. other z (inr h)) is in
-      ap (λ (b : Bool). cond {A = ℕ} (not b) (1 + position_or_len (λ (x : EdgeRow). x.id == e) (map (crossed_row rows r) edges ++ y ∷ [])) 0) (other x (inl refl)) ∙ omega arith
+      ap (λ (b : Bool). cond {A = ℕ} (not b) (1 + position_or_len (λ (x : EdgeRow). x.id == e) (map (crossed_row rows r) edges ++ y ∷ [])) 0)
+      (other x (inl refl)) ∙ omega arith
 
 -- ---- The numbers of the darts of the rows with the new edge
 
--- a lifted dart has the half of the first part of its segment, the darts at crossings those of the subdivision vertices, and the darts of the new edge those of a line
+-- a lifted dart has the half of the first part of its segment, the darts at crossings those of the subdivision vertices, and the darts of the new edge those of
+-- a line
 pub record AreInserted (p : RowsWithPaths) (u v kind : ℕ) (route : Route) (js : List Subdivision) (line : List ℕ) (number : ℕ → ℕ) : Type 0 where
-  pub names : (c : Dart) → has_dart (darts p.rows) c ≡ true → number (index_of (shown p.rows u v kind route) (lifted p.rows (shown p.rows u v kind route) c)) ≡ subdivided_number (half_at p) js (index_of p.rows c)
+  pub names : (c : Dart) → has_dart (darts p.rows) c ≡ true
+      → number (index_of (shown p.rows u v kind route) (lifted p.rows (shown p.rows u v kind route) c)) ≡ subdivided_number (half_at p) js (index_of p.rows c)
   pub met : (x : ℕ) (d : Dart) (j : Subdivision) → AreAt x d j p.rows.next_crossing route.crossed js
-      → (number (index_of (shown p.rows u v kind route) (onward (shown p.rows u v kind route) x d)) ≡ j.beyond) × (number (index_of (shown p.rows u v kind route) (backward (shown p.rows u v kind route) x d)) ≡ twin j.near)
+      → (number (index_of (shown p.rows u v kind route) (onward (shown p.rows u v kind route) x d)) ≡ j.beyond)
+      × (number (index_of (shown p.rows u v kind route) (backward (shown p.rows u v kind route) x d)) ≡ twin j.near)
   pub line_there : (i : ℕ) → i ≤ length route.crossed → number (index_of (shown p.rows u v kind route) (forward p.rows.next_edge i)) ≡ slice_index_or line i 0
-  pub line_back : (i : ℕ) → i ≤ length route.crossed → number (index_of (shown p.rows u v kind route) (back p.rows.next_edge i)) ≡ twin (slice_index_or line i 0)
+  pub line_back : (i : ℕ) → i ≤ length route.crossed
+      → number (index_of (shown p.rows u v kind route) (back p.rows.next_edge i)) ≡ twin (slice_index_or line i 0)
 
-module _ (p : RowsWithPaths) (good : IsWellFormed p.rows) (r : Rotation) (s : ShowsRows p r) (u v kind : ℕ) (route : Route) (once : CrossesOnce route.crossed) (now : IsWellFormed (shown p.rows u v kind route))
-    (turns : ShowsTurns p.rows p.rows.next_edge u v route (shown p.rows u v kind route)) (js : List Subdivision) (all : AreCrossedAt p r route.crossed js) (line : List ℕ) where
+module _ (p : RowsWithPaths) (good : IsWellFormed p.rows) (r : Rotation) (s : ShowsRows p r) (u v kind : ℕ) (route : Route) (once : CrossesOnce route.crossed)
+    (now : IsWellFormed (shown p.rows u v kind route))
+    (turns : ShowsTurns p.rows p.rows.next_edge u v route (shown p.rows u v kind route)) (js : List Subdivision) (all : AreCrossedAt p r route.crossed js)
+    (line : List ℕ) where
   abbrev q : Rows
   q = shown p.rows u v kind route
 
@@ -84,7 +95,8 @@ module _ (p : RowsWithPaths) (good : IsWellFormed p.rows) (r : Rotation) (s : Sh
   path_new = grind (arith, place_new, newcomer_row, ne_eqb, edge_below, eqb_self, length-map, get_or_at)
 
   -- the subdivision vertex of a crossed dart
-  subdivision_for : (n x : ℕ) (d : Dart) (ds : List Dart) (ks : List Subdivision) → AreCrossedAt p r ds ks → IsIn (x, d) (enumerate_from n ds) → (j : Subdivision) × (has_dart (darts p.rows) d ≡ true) × AreAt x d j n ds ks
+  subdivision_for : (n x : ℕ) (d : Dart) (ds : List Dart) (ks : List Subdivision) → AreCrossedAt p r ds ks → IsIn (x, d) (enumerate_from n ds)
+      → (j : Subdivision) × (has_dart (darts p.rows) d ≡ true) × AreAt x d j n ds ks
   subdivision_for n x d [] ks a i = absurd i
   subdivision_for n x d (c ∷ ds) [] a i = absurd a
   subdivision_for n x d (c ∷ ds) (k ∷ ks) a (inl same) =
@@ -100,38 +112,46 @@ module _ (p : RowsWithPaths) (good : IsWellFormed p.rows) (r : Rotation) (s : Sh
     many : (c : Dart) (st : StandsAt p.rows c) → c.seg < length (path_of p c.edge)
     many c st = (let long = s.along (position_or_len (λ (x : EdgeRow). x.id == c.edge) p.rows.edges) st.row st.at in omega (arith, long, st.on_path))
 
-    lifted_put : (e g : ℕ) (w : Way) (row : EdgeRow) → edge_row p.rows e ≡ Some row → g < length (path_of p e) → put (lifted p.rows q (record { edge = e; seg = g; way = w })) ≡ subdivided_number (half_at p) js (index_of p.rows (record { edge = e; seg = g; way = w }))
+    lifted_put : (e g : ℕ) (w : Way) (row : EdgeRow) → edge_row p.rows e ≡ Some row → g < length (path_of p e)
+        → put (lifted p.rows q (record { edge = e; seg = g; way = w }))
+        ≡ subdivided_number (half_at p) js (index_of p.rows (record { edge = e; seg = g; way = w }))
     lifted_put e g Forward row found less = forward_put p good r s u v kind route once now js all e row found g less
     lifted_put e g Back row found less = back_put p good r s u v kind route once now js all e row found g less
 
     lifted_has : (c : Dart) → has_dart (darts p.rows) c ≡ true → half_in inserted (lifted p.rows q c) ≡ number (index_of q (lifted p.rows q c))
     lifted_has c h =
         let st : StandsAt p.rows c = stands_at p.rows good c h in
-        half_old (lifted p.rows q c) c.edge st.row (lifted_edge p.rows q c) st.found ∙ lifted_put c.edge c.seg c.way st.row st.found (many c st) ∙ sym (n.names c h)
+        half_old (lifted p.rows q c) c.edge st.row (lifted_edge p.rows q c) st.found ∙ lifted_put c.edge c.seg c.way st.row st.found (many c st)
+        ∙ sym (n.names c h)
 
     by_edge : (x e : ℕ) (w : Way) → (onward_by q x e w).edge ≡ e
     by_edge x e Forward = refl
     by_edge x e Back = refl
 
-    onward_has : (x : ℕ) (d : Dart) (j : Subdivision) → has_dart (darts p.rows) d ≡ true → AreAt x d j p.rows.next_crossing route.crossed js → half_in inserted (onward q x d) ≡ number (index_of q (onward q x d))
+    onward_has : (x : ℕ) (d : Dart) (j : Subdivision) → has_dart (darts p.rows) d ≡ true → AreAt x d j p.rows.next_crossing route.crossed js
+        → half_in inserted (onward q x d) ≡ number (index_of q (onward q x d))
     onward_has x d j h at =
         let st : StandsAt p.rows d = stands_at p.rows good d h in
         let less = many d st in
         half_old (onward q x d) d.edge st.row (by_edge x d.edge d.way) st.found
         ∙ onward_put p good r s u v kind route once now js all d.edge st.row st.found d.seg less x j d.way
-        (crossed_there p good r s d.edge d.seg (here p good r s u v kind route once now js all d.edge st.row st.found d.seg less) x d.way j p.rows.next_crossing route.crossed js all once at)
+        (crossed_there p good r s d.edge d.seg (here p good r s u v kind route once now js all d.edge st.row st.found d.seg less)
+        x d.way j p.rows.next_crossing route.crossed js all once at)
         ∙ sym (n.met x d j at).0
 
-    backward_has : (x : ℕ) (d : Dart) (j : Subdivision) → has_dart (darts p.rows) d ≡ true → AreAt x d j p.rows.next_crossing route.crossed js → half_in inserted (backward q x d) ≡ number (index_of q (backward q x d))
+    backward_has : (x : ℕ) (d : Dart) (j : Subdivision) → has_dart (darts p.rows) d ≡ true → AreAt x d j p.rows.next_crossing route.crossed js
+        → half_in inserted (backward q x d) ≡ number (index_of q (backward q x d))
     backward_has x d j h at =
         let st : StandsAt p.rows d = stands_at p.rows good d h in
         let less = many d st in
         half_old (backward q x d) d.edge st.row (by_edge x d.edge (reversed d.way)) st.found
         ∙ backward_put p good r s u v kind route once now js all d.edge st.row st.found d.seg less x j d.way
-        (crossed_there p good r s d.edge d.seg (here p good r s u v kind route once now js all d.edge st.row st.found d.seg less) x d.way j p.rows.next_crossing route.crossed js all once at)
+        (crossed_there p good r s d.edge d.seg (here p good r s u v kind route once now js all d.edge st.row st.found d.seg less)
+        x d.way j p.rows.next_crossing route.crossed js all once at)
         ∙ sym (n.met x d j at).1
 
-    line_has : (i : ℕ) (w : Way) → i ≤ length route.crossed → half_in inserted (record { edge = p.rows.next_edge; seg = i; way = w }) ≡ number (index_of q (record { edge = p.rows.next_edge; seg = i; way = w }))
+    line_has : (i : ℕ) (w : Way) → i ≤ length route.crossed
+        → half_in inserted (record { edge = p.rows.next_edge; seg = i; way = w }) ≡ number (index_of q (record { edge = p.rows.next_edge; seg = i; way = w }))
     line_has i Forward le = ap (λ (xs : List ℕ). slice_index_or xs i 0) path_new ∙ sym (n.line_there i le)
     line_has i Back le = ap (λ (xs : List ℕ). twin (slice_index_or xs i 0)) path_new ∙ sym (n.line_back i le)
 
@@ -139,7 +159,8 @@ module _ (p : RowsWithPaths) (good : IsWellFormed p.rows) (r : Rotation) (s : Sh
     pub all_have : (d : Dart) → has_dart (darts q) d ≡ true → half_in inserted d ≡ number (index_of q d)
     all_have d h = elim (turns.no_others d h) [
       | inl new ↦ (
-          let same : d ≡ record { edge = p.rows.next_edge; seg = d.seg; way = d.way } = ap (λ (e : ℕ). (let c : Dart = record { edge = e; seg = d.seg; way = d.way } in c)) new.0 in
+          let same : d ≡ record { edge = p.rows.next_edge; seg = d.seg; way = d.way } =
+          ap (λ (e : ℕ). (let c : Dart = record { edge = e; seg = d.seg; way = d.way } in c)) new.0 in
           ap (half_in inserted) same ∙ line_has d.seg d.way new.1 ∙ ap (λ (c : Dart). number (index_of q c)) (sym same))
       | inr w ↦ elim w [
         | inl old ↦ ap (half_in inserted) old.2 ∙ lifted_has old.0 old.1 ∙ ap (λ (c : Dart). number (index_of q c)) (sym old.2)

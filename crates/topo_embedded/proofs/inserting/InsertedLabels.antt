@@ -35,7 +35,12 @@ module _ (r r' : Rotation) (x label : ℕ) (grows : Grows r r' x) (adds : AddsLa
   label_new = record { alive = grows.live.here; alive_back = grows.live.here_twin; here = adds.here; behind = adds.here_twin }
 
   label_turned : HasLabel r' label (twin x)
-  label_turned = record { alive = grows.live.here_twin; alive_back = ap (is_live r') (twin-twin x) ∙ grows.live.here; here = adds.here_twin; behind = ap (edge_of r') (twin-twin x) ∙ adds.here }
+  label_turned = record {
+    alive = grows.live.here_twin;
+    alive_back = ap (is_live r') (twin-twin x) ∙ grows.live.here;
+    here = adds.here_twin;
+    behind = ap (edge_of r') (twin-twin x) ∙ adds.here;
+  }
 
   -- a path keeps its label, where the new segment has that of the half that was split
   module _ (j : Subdivision) (is : j.beyond ≡ x) (split : label ≡ edge_of r j.near) where
@@ -50,19 +55,22 @@ module _ (r r' : Rotation) (x label : ℕ) (grows : Grows r r' x) (adds : AddsLa
     path_labels id [] a = tt
     path_labels id (h ∷ path) a = labels_append id (piece j h) (flat_map (piece j) path) (piece_labels id h a.0) (path_labels id path a.1)
 
-    pub split_labels : (edges : List EdgeRow) (js : List Subdivision) (paths : List (List ℕ)) → HaveLabels r edges (map (put_halves js) paths) → HaveLabels r' edges (map (put_halves (j ∷ js)) paths)
+    pub split_labels : (edges : List EdgeRow) (js : List Subdivision) (paths : List (List ℕ)) → HaveLabels r edges (map (put_halves js) paths)
+        → HaveLabels r' edges (map (put_halves (j ∷ js)) paths)
     split_labels edges js paths a k row got = grind (arith, got_map, put_none, path_labels)
 
 -- ---- In the end
 
-labelled_path : (r : Rotation) (id : ℕ) (path : List ℕ) → HaveLabel r id path → (i : ℕ) (w : Way) → i < length path → edge_of r (by_way (slice_index_or path i 0) w) ≡ id
+labelled_path : (r : Rotation) (id : ℕ) (path : List ℕ) → HaveLabel r id path → (i : ℕ) (w : Way) → i < length path
+    → edge_of r (by_way (slice_index_or path i 0) w) ≡ id
 labelled_path r id [] a i w less = absurd (omega arith)
 labelled_path r id (h ∷ path) a zero Forward less = a.0.here
 labelled_path r id (h ∷ path) a zero Back less = a.0.behind
 labelled_path r id (h ∷ path) a (suc i) w less = labelled_path r id path a.1 i w (omega arith)
 
 -- a row of the rows with the new edge is that of an old one, or the last
-got_shown : (rows : Rows) (route : Route) (edges : List EdgeRow) (y row : EdgeRow) (k : ℕ) → slice_get (map (crossed_row rows route) edges ++ y ∷ []) k ≡ Some row
+got_shown : (rows : Rows) (route : Route) (edges : List EdgeRow) (y row : EdgeRow) (k : ℕ)
+    → slice_get (map (crossed_row rows route) edges ++ y ∷ []) k ≡ Some row
     → ((old : EdgeRow) × (slice_get edges k ≡ Some old) × (row.id ≡ old.id)) ⊎ ((k ≡ length edges) × (row ≡ y))
 got_shown rows route [] y row zero h = inr (refl, cc)
 got_shown rows route [] y row (suc k) h = absurd (none h) where
@@ -71,6 +79,8 @@ got_shown rows route [] y row (suc k) h = absurd (none h) where
 got_shown rows route (x ∷ edges) y row zero h = (let same : crossed_row rows route x ≡ row = cc in inl (x, refl, sym (ap (λ (e : EdgeRow). e.id) same)))
 got_shown rows route (x ∷ edges) y row (suc k) h = grind (arith, got_shown rows route edges y row k h)
 
-pub shown_labels : (rows : Rows) (u v kind : ℕ) (route : Route) (paths : List (List ℕ)) (js : List Subdivision) (line : List ℕ) (r : Rotation) → length paths ≡ length rows.edges → HaveLabels r rows.edges (map (put_halves js) paths) → HaveLabel r rows.next_edge line
+pub shown_labels : (rows : Rows) (u v kind : ℕ) (route : Route) (paths : List (List ℕ)) (js : List Subdivision) (line : List ℕ) (r : Rotation)
+    → length paths ≡ length rows.edges → HaveLabels r rows.edges (map (put_halves js) paths) → HaveLabel r rows.next_edge line
     → AreLabelledPaths (edge_of r) (shown rows u v kind route).edges (map (put_halves js) paths ++ line ∷ [])
-shown_labels rows u v kind route paths js line r as_many old new = grind (arith, got_shown, got_within, length-map, get_or_append_left, labelled_path, get_or_at)
+shown_labels rows u v kind route paths js line r as_many old new =
+    grind (arith, got_shown, got_within, length-map, get_or_append_left, labelled_path, get_or_at)

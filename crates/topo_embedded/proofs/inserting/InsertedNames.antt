@@ -34,10 +34,12 @@ use Rattle.topo_embedded.proofs.inserting.Pieces.{AreAt}
 at_number : (x : ℕ) (d : Dart) (j : Subdivision) (n : ℕ) (ds : List Dart) (js : List Subdivision) → AreAt x d j n ds js → IsIn (x, d) (enumerate_from n ds)
 at_number x d j n [] js i = absurd i
 at_number x d j n (c ∷ ds) [] i = absurd i
-at_number x d j n (c ∷ ds) (k ∷ js) (inl same) = inl (ap (λ (y : ℕ). (let w : ℕ × Dart = (y, d) in w)) same.0 ∙ ap (λ (b : Dart). (let w : ℕ × Dart = (n, b) in w)) same.1)
+at_number x d j n (c ∷ ds) (k ∷ js) (inl same) =
+    inl (ap (λ (y : ℕ). (let w : ℕ × Dart = (y, d) in w)) same.0 ∙ ap (λ (b : Dart). (let w : ℕ × Dart = (n, b) in w)) same.1)
 at_number x d j n (c ∷ ds) (k ∷ js) (inr i) = inr (at_number x d j (n + 1) ds js i)
 
-at_there : (p : RowsWithPaths) (r : Rotation) (x : ℕ) (d : Dart) (j : Subdivision) (n : ℕ) (ds : List Dart) (js : List Subdivision) → AreCrossedAt p r ds js → AreAt x d j n ds js → has_dart (darts p.rows) d ≡ true
+at_there : (p : RowsWithPaths) (r : Rotation) (x : ℕ) (d : Dart) (j : Subdivision) (n : ℕ) (ds : List Dart) (js : List Subdivision) → AreCrossedAt p r ds js
+    → AreAt x d j n ds js → has_dart (darts p.rows) d ≡ true
 at_there p r x d j n [] js a i = absurd i
 at_there p r x d j n (c ∷ ds) [] a i = absurd i
 at_there p r x d j n (c ∷ ds) (k ∷ js) a (inl same) = subst (λ (b : Dart). has_dart (darts p.rows) b ≡ true) (sym same.1) a.0.there
@@ -53,12 +55,14 @@ module _ (rows : Rows) (u v kind : ℕ) (route : Route) (good : IsWellFormed row
   abbrev num : Dart → ℕ
   num d = index_of q d
 
-  subdivisions_met : (x : ℕ) (d : Dart) (j : Subdivision) (n : ℕ) (ds : List Dart) (js : List Subdivision) → AreSubdivisionsAt number (subdivisions_of rows q f u v route good h.form h.turns n ds) js → AreAt x d j n ds js
+  subdivisions_met : (x : ℕ) (d : Dart) (j : Subdivision) (n : ℕ) (ds : List Dart) (js : List Subdivision)
+      → AreSubdivisionsAt number (subdivisions_of rows q f u v route good h.form h.turns n ds) js → AreAt x d j n ds js
       → (number (num (onward q x d)) ≡ j.beyond) × (number (twin (num (lifted rows q d))) ≡ twin j.near)
   subdivisions_met x d j n [] js b i = absurd i
   subdivisions_met x d j n (c ∷ ds) [] b i = absurd i
   subdivisions_met x d j n (c ∷ ds) (k ∷ js) b (inl same) = (
-    ap (λ (y : ℕ). number (num (onward q y d))) same.0 ∙ ap (λ (a : Dart). number (num (onward q n a))) same.1 ∙ b.0 ∙ ap (λ (a : Subdivision). a.beyond) (sym same.2),
+    ap (λ (y : ℕ). number (num (onward q y d))) same.0 ∙ ap (λ (a : Dart). number (num (onward q n a))) same.1 ∙ b.0
+        ∙ ap (λ (a : Subdivision). a.beyond) (sym same.2),
     ap (λ (a : Dart). number (twin (num (lifted rows q a)))) same.1 ∙ b.2 ∙ ap (λ (a : Subdivision). twin a.near) (sym same.2),
   )
   subdivisions_met x d j n (c ∷ ds) (k ∷ js) b (inr i) = subdivisions_met x d j (n + 1) ds js b.3 i
@@ -67,7 +71,9 @@ module _ (rows : Rows) (u v kind : ℕ) (route : Route) (good : IsWellFormed row
     here : number (num (forward f j)) ≡ half
     behind : number (twin (num (forward f j))) ≡ twin half
 
-  line_made : (x z : ℕ) (ds : List Dart) (e : ℕ) (is : List NewChord) (i j : ℕ) → rows.next_crossing ≤ x → AreNumbered number (chords_of (new_chords_of rows q f u v route good h.form h.turns x z ds e)) (chords_of is) → i ≤ length ds → j + rows.next_crossing ≡ x + i
+  line_made : (x z : ℕ) (ds : List Dart) (e : ℕ) (is : List NewChord) (i j : ℕ) → rows.next_crossing ≤ x
+      → AreNumbered number (chords_of (new_chords_of rows q f u v route good h.form h.turns x z ds e)) (chords_of is) → i ≤ length ds
+      → j + rows.next_crossing ≡ x + i
       → IsMade j (slice_index_or (halves_of is) i 0)
   line_made x z [] e [] i j low a le at = absurd a
   line_made x z [] e (l ∷ is) zero j low a le at =
@@ -81,15 +87,20 @@ module _ (rows : Rows) (u v kind : ℕ) (route : Route) (good : IsWellFormed row
   line_made x z (d ∷ ds) e (l ∷ is) (suc i) j low a le at =
       line_made (x + 1) (num (backward q x d)) ds e is i j (omega arith) a.2 (omega arith) (omega arith)
 
-module _ (p : RowsWithPaths) (r : Rotation) (u v kind : ℕ) (route : Route) (good : IsWellFormed p.rows) (h : HasInsertionPath p.rows u v kind route good) (js : List Subdivision) (all : AreCrossedAt p r route.crossed js) (is : List NewChord) (t : Turning) (limit : ℕ)
-    (under : IsInsertionPathUnder (map_of (turn_images (shown p.rows u v kind route))) (length (turn_images (shown p.rows u v kind route))) (length (turn_images p.rows)) (name p.rows (shown p.rows u v kind route) p.rows.next_edge u v route good h.form h.turns)
-    (path_subdivisions p.rows (shown p.rows u v kind route) p.rows.next_edge u v route good h.form h.turns (lifted p.rows (shown p.rows u v kind route) h.from) (lifted p.rows (shown p.rows u v kind route) h.to) h.path)
-    (path_chords p.rows (shown p.rows u v kind route) p.rows.next_edge u v route good h.form h.turns (lifted p.rows (shown p.rows u v kind route) h.from) (lifted p.rows (shown p.rows u v kind route) h.to)) (half_at p) js is t limit) where
+module _ (p : RowsWithPaths) (r : Rotation) (u v kind : ℕ) (route : Route) (good : IsWellFormed p.rows) (h : HasInsertionPath p.rows u v kind route good)
+    (js : List Subdivision) (all : AreCrossedAt p r route.crossed js) (is : List NewChord) (t : Turning) (limit : ℕ)
+    (under : IsInsertionPathUnder (map_of (turn_images (shown p.rows u v kind route))) (length (turn_images (shown p.rows u v kind route)))
+    (length (turn_images p.rows)) (name p.rows (shown p.rows u v kind route) p.rows.next_edge u v route good h.form h.turns)
+    (path_subdivisions p.rows (shown p.rows u v kind route) p.rows.next_edge u v route good h.form h.turns (lifted p.rows (shown p.rows u v kind route) h.from)
+    (lifted p.rows (shown p.rows u v kind route) h.to) h.path)
+    (path_chords p.rows (shown p.rows u v kind route) p.rows.next_edge u v route good h.form h.turns (lifted p.rows (shown p.rows u v kind route) h.from)
+    (lifted p.rows (shown p.rows u v kind route) h.to)) (half_at p) js is t limit) where
   abbrev after : Rows
   after = shown p.rows u v kind route
 
   line_is : (i : ℕ) → i ≤ length route.crossed → IsMade p.rows u v kind route good h under.number i (slice_index_or (halves_of is) i 0)
-  line_is i le = line_made p.rows u v kind route good h under.number p.rows.next_crossing (index_of after (lifted p.rows after h.from)) route.crossed (index_of after (lifted p.rows after h.to)) is i i (omega arith) under.new_chords le (omega arith)
+  line_is i le = line_made p.rows u v kind route good h under.number p.rows.next_crossing (index_of after (lifted p.rows after h.from)) route.crossed
+      (index_of after (lifted p.rows after h.to)) is i i (omega arith) under.new_chords le (omega arith)
 
   pub numbers_inserted : AreInserted p u v kind route js (halves_of is) under.number
   numbers_inserted = record {
@@ -99,7 +110,9 @@ module _ (p : RowsWithPaths) (r : Rotation) (u v kind : ℕ) (route : Route) (go
     met = λ x d j at.
         let (on, back_to) = subdivisions_met p.rows u v kind route good h under.number x d j p.rows.next_crossing route.crossed js under.subdivisions at in
         let was : has_dart (darts p.rows) d ≡ true = at_there p r x d j p.rows.next_crossing route.crossed js all at in
-        let place : index_of after (backward after x d) ≡ twin (index_of after (lifted p.rows after d)) = ap (index_of after) (sym (h.turns.before_crossing x d (at_number x d j p.rows.next_crossing route.crossed js at))) ∙ index_twin after (lifted p.rows after d) (h.turns.lifts d was) in
+        let place : index_of after (backward after x d) ≡ twin (index_of after (lifted p.rows after d)) =
+        ap (index_of after) (sym (h.turns.before_crossing x d (at_number x d j p.rows.next_crossing route.crossed js at)))
+        ∙ index_twin after (lifted p.rows after d) (h.turns.lifts d was) in
         (on, ap under.number place ∙ back_to);
     line_there = λ i le. (line_is i le).here;
     line_back = λ i le. ap under.number (index_twin after (forward p.rows.next_edge i) (h.turns.newcomer_there i Forward le)) ∙ (line_is i le).behind;

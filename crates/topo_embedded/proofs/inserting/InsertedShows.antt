@@ -39,8 +39,10 @@ pub record IsLabelledPath (label : ℕ → ℕ) (id : ℕ) (path : List ℕ) : T
 pub record AreLabelledPaths (label : ℕ → ℕ) (edges : List EdgeRow) (paths : List (List ℕ)) : Type 0 where
   pub each : (k : ℕ) (row : EdgeRow) → slice_get edges k ≡ Some row → IsLabelledPath label row.id (slice_index_or paths k [])
 
-module _ (p : RowsWithPaths) (good : IsWellFormed p.rows) (r : Rotation) (s : ShowsRows p r) (u v kind : ℕ) (route : Route) (once : CrossesOnce route.crossed) (now : IsWellFormed (shown p.rows u v kind route))
-    (turns : ShowsTurns p.rows p.rows.next_edge u v route (shown p.rows u v kind route)) (js : List Subdivision) (all : AreCrossedAt p r route.crossed js) (line : List ℕ) (long : length line ≡ length route.crossed + 1) where
+module _ (p : RowsWithPaths) (good : IsWellFormed p.rows) (r : Rotation) (s : ShowsRows p r) (u v kind : ℕ) (route : Route) (once : CrossesOnce route.crossed)
+    (now : IsWellFormed (shown p.rows u v kind route))
+    (turns : ShowsTurns p.rows p.rows.next_edge u v route (shown p.rows u v kind route)) (js : List Subdivision) (all : AreCrossedAt p r route.crossed js)
+    (line : List ℕ) (long : length line ≡ length route.crossed + 1) where
   abbrev q : Rows
   q = shown p.rows u v kind route
 
@@ -65,11 +67,14 @@ module _ (p : RowsWithPaths) (good : IsWellFormed p.rows) (r : Rotation) (s : Sh
         ap (λ (xs : List ℕ). length xs) (path_old p good r s u v kind route once now turns js all line e old.0 old.1)
         ∙ put_many p good r s u v kind route once now js all e old.0 old.1 ∙ ap segment_count (edge_at_row q e row found)
     | inr new ↦
-        let row_long : length row.crossings ≡ length route.crossed = ap (λ (x : EdgeRow). length x.crossings) new.1 ∙ length-map (numbered p.rows route) (λ x. x.0) ∙ length-enumerate_from p.rows.next_crossing route.crossed in
-        ap (λ (f : ℕ). length (path_of after f)) new.0 ∙ ap (λ (xs : List ℕ). length xs) (path_new p good r s u v kind route once now turns js all line) ∙ omega (arith, row_long, long)
+        let row_long : length row.crossings ≡ length route.crossed = ap (λ (x : EdgeRow). length x.crossings) new.1
+        ∙ length-map (numbered p.rows route) (λ x. x.0) ∙ length-enumerate_from p.rows.next_crossing route.crossed in
+        ap (λ (f : ℕ). length (path_of after f)) new.0 ∙ ap (λ (xs : List ℕ). length xs) (path_new p good r s u v kind route once now turns js all line)
+        ∙ omega (arith, row_long, long)
   ]
 
-  module _ (r' : Rotation) (number back : ℕ → ℕ) (renumbers : RenumbersTurn number back (map_of (turn_images q)) (turn r') (length (turn_images q)) (is_live r') half_limit) (n : AreInserted p u v kind route js line number)
+  module _ (r' : Rotation) (number back : ℕ → ℕ) (renumbers : RenumbersTurn number back (map_of (turn_images q)) (turn r') (length (turn_images q))
+      (is_live r') half_limit) (n : AreInserted p u v kind route js line number)
       (labels : AreLabelledPaths (edge_of r') q.edges after.paths) where
     label_of : (d : Dart) → has_dart (darts q) d ≡ true → edge_of r' (half_in after d) ≡ d.edge
     label_of d h =
@@ -83,9 +88,12 @@ module _ (p : RowsWithPaths) (good : IsWellFormed p.rows) (r : Rotation) (s : Sh
       as_many = grind (arith, length-append, length-map, newcomer_row);
       along = λ k row got. ap (λ (xs : List ℕ). length xs) (path_at k row got) ∙ long_path row.id row (found_row k row got);
       back = back;
-      renumbers = agreeing_numbers number (half_at after) back (map_of (turn_images q)) (turn r') (length (turn_images q)) (is_live r') half_limit renumbers (λ a la.
+      renumbers = agreeing_numbers number (half_at after) back (map_of (turn_images q)) (turn r') (length (turn_images q))
+          (is_live r') half_limit renumbers (λ a la.
           let (d, got) = get_there (darts q) a (subst (λ (m : ℕ). a < m) (images_length q) la) in
-          let named : half_at after a ≡ half_in after d = ap (λ (o : Option Dart). half_in after (unwrap_or o (record { edge = 0; seg = 0; way = Forward }))) got in
-          sym (named ∙ all_have p good r s u v kind route once now turns js all line number n d (has_at (darts q) a d got) ∙ ap number (index_of_get q now.paths a d got)));
+          let named : half_at after a ≡ half_in after d =
+          ap (λ (o : Option Dart). half_in after (unwrap_or o (record { edge = 0; seg = 0; way = Forward }))) got in
+          sym (named ∙ all_have p good r s u v kind route once now turns js all line number n d (has_at (darts q) a d got)
+          ∙ ap number (index_of_get q now.paths a d got)));
       labels = label_of;
     }

@@ -37,19 +37,29 @@ one_more name z [] e (l ∷ (k ∷ is)) a = absurd a
 one_more name z (j ∷ js) e [] a = absurd a
 one_more name z (j ∷ js) e (l ∷ is) a = omega (arith, one_more name (twin j.near) js e is a.2)
 
-crossed_halves : (p : RowsWithPaths) (good : IsWellFormed p.rows) (r : Rotation) (ds : List Dart) (js : List Subdivision) → AreCrossedAt p r ds js → AreCrossedHalves (half_at p) p.rows ds js
+crossed_halves : (p : RowsWithPaths) (good : IsWellFormed p.rows) (r : Rotation) (ds : List Dart) (js : List Subdivision) → AreCrossedAt p r ds js
+    → AreCrossedHalves (half_at p) p.rows ds js
 crossed_halves p good r [] [] a = tt
 crossed_halves p good r [] (j ∷ js) a = absurd a
 crossed_halves p good r (d ∷ ds) [] a = absurd a
 crossed_halves p good r (d ∷ ds) (j ∷ js) a = (a.0.dart, a.0.near ∙ sym (half_of_number p good d a.0.there), crossed_halves p good r ds js a.1)
 
 -- the halves along the edges are then those of the crossed paths, and of the line of chords
-pub insertion_shows : (p : RowsWithPaths) (good : IsWellFormed p.rows) (r : Rotation) (s : ShowsRows p r) → IsEmbedding r → (u v kind : ℕ) (route : Route) → CrossesOnce route.crossed → (h : HasInsertionPath p.rows u v kind route good)
+pub insertion_shows : (p : RowsWithPaths) (good : IsWellFormed p.rows) (r : Rotation) (s : ShowsRows p r) → IsEmbedding r → (u v kind : ℕ) (route : Route)
+    → CrossesOnce route.crossed → (h : HasInsertionPath p.rows u v kind route good)
     → (js : List Subdivision) → AreCrossedAt p r route.crossed js → (is : List NewChord) (middle : Turning) (r' : Rotation)
-    → AreAlong (subdivided_number (half_at p) js) (subdivided_number (half_at p) js (index_of p.rows h.from)) js (index_of p.rows h.to) is → IsRun half_limit (turning_of r) (splits_of js) middle → IsRun half_limit middle (chords_of is) (turning_of r')
-    → AreLabelledPaths (edge_of r') (shown p.rows u v kind route).edges (map (put_halves js) p.paths ++ halves_of is ∷ []) → ShowsRows (record { rows = shown p.rows u v kind route; paths = map (put_halves js) p.paths ++ halves_of is ∷ [] }) r'
+    → AreAlong (subdivided_number (half_at p) js) (subdivided_number (half_at p) js (index_of p.rows h.from)) js (index_of p.rows h.to) is
+    → IsRun half_limit (turning_of r) (splits_of js) middle → IsRun half_limit middle (chords_of is) (turning_of r')
+    → AreLabelledPaths (edge_of r') (shown p.rows u v kind route).edges (map (put_halves js) p.paths ++ halves_of is ∷ [])
+    → ShowsRows (record { rows = shown p.rows u v kind route; paths = map (put_halves js) p.paths ++ halves_of is ∷ [] }) r'
 insertion_shows p good r s whole u v kind route once h js all is middle r' along splits chords labels =
-    let under = inserted_slab p.rows u v kind route good h (half_at p) s.back half_limit (turning_of r) middle (turning_of r') js is s.renumbers whole.slab (crossed_halves p good r route.crossed js all) along splits chords in
-    let long : length (halves_of is) ≡ length route.crossed + 1 = length-map is (λ l. l.half) ∙ omega (arith, one_more (subdivided_number (half_at p) js) (subdivided_number (half_at p) js (index_of p.rows h.from)) js (index_of p.rows h.to) is along, as_many p r route.crossed js all) in
+    let under = inserted_slab p.rows u v kind route good h (half_at p) s.back half_limit (turning_of r) middle (turning_of r') js is s.renumbers whole.slab
+    (crossed_halves p good r route.crossed js all) along splits chords in
+    let long : length (halves_of is) ≡ length route.crossed + 1 = length-map is (λ l. l.half)
+    ∙ omega (
+      arith,
+      one_more (subdivided_number (half_at p) js) (subdivided_number (half_at p) js (index_of p.rows h.from)) js (index_of p.rows h.to) is along,
+      as_many p r route.crossed js all,
+    ) in
     inserted_shows p good r s u v kind route once h.form h.turns js all (halves_of is) long r' under.number under.back under.renumbers
     (numbers_inserted p r u v kind route good h js all is (turning_of r') half_limit under) labels

@@ -135,28 +135,35 @@ module _ (p : RowsWithPaths) (good : IsWellFormed p.rows) (r : Rotation) (s : Sh
 
     -- ---- A crossed dart elsewhere
 
-    subdivided_past : (d : Dart) (j : Subdivision) (js : List Subdivision) (w : Way) → IsCrossedAt p r d j → same_segment d (forward e g) ≡ false → subdivided_number (half_at p) (j ∷ js) (index_of p.rows (on_seg w)) ≡ subdivided_number (half_at p) js (index_of p.rows (on_seg w))
+    subdivided_past : (d : Dart) (j : Subdivision) (js : List Subdivision) (w : Way) → IsCrossedAt p r d j → same_segment d (forward e g) ≡ false
+        → subdivided_number (half_at p) (j ∷ js) (index_of p.rows (on_seg w)) ≡ subdivided_number (half_at p) js (index_of p.rows (on_seg w))
     subdivided_past d j js w c off = cond-false _ _ _ (ne_eqb _ _ (λ same.
-        let other : on_seg w ≡ dart_twin d = index_apart p.rows good.paths (on_seg w) (dart_twin d) (seg_there w) (twin_in p.rows d c.there) (same ∙ ap twin c.dart ∙ sym (index_twin p.rows d c.there)) in
+        let other : on_seg w ≡ dart_twin d = index_apart p.rows good.paths (on_seg w) (dart_twin d) (seg_there w) (twin_in p.rows d c.there)
+        (same ∙ ap twin c.dart ∙ sym (index_twin p.rows d c.there)) in
         off_segment d (reversed w) off (sym (twin_twin_dart d) ∙ ap dart_twin (sym other))))
 
-    past_uncrossed : (n : ℕ) (d : Dart) (ds : List Dart) (j : Subdivision) (js : List Subdivision) → IsCrossedAt p r d j → same_segment d (forward e g) ≡ false → IsUncrossed (n + 1) ds js → IsUncrossed n (d ∷ ds) (j ∷ js)
+    past_uncrossed : (n : ℕ) (d : Dart) (ds : List Dart) (j : Subdivision) (js : List Subdivision) → IsCrossedAt p r d j → same_segment d (forward e g) ≡ false
+        → IsUncrossed (n + 1) ds js → IsUncrossed n (d ∷ ds) (j ∷ js)
     past_uncrossed n d ds j js c off u = grind (arith, off_half, skipped, put_on_one, piece_other, subdivided_past)
 
     -- what is along a crossed segment is not split again
-    two_stay : (d : Dart) (j k : Subdivision) (w : Way) → IsCrossedAt p r d j → same_segment d (forward e g) ≡ false → is_live r k.beyond ≡ false → is_live r (twin k.beyond) ≡ false
+    two_stay : (d : Dart) (j k : Subdivision) (w : Way) → IsCrossedAt p r d j → same_segment d (forward e g) ≡ false → is_live r k.beyond ≡ false
+        → is_live r (twin k.beyond) ≡ false
         → flat_map (piece j) (first_of w k h ∷ last_of w k h ∷ []) ≡ first_of w k h ∷ last_of w k h ∷ []
     two_stay d j k Forward c off dead dead_back = grind (arith, off_half, strange, put_on_two)
     two_stay d j k Back c off dead dead_back = grind (arith, off_half, strange, put_on_two)
 
     -- the subdivision vertex at a place is new
-    new_at : (x : ℕ) (d : Dart) (k : Subdivision) (n : ℕ) (ds : List Dart) (js : List Subdivision) → AreCrossedAt p r ds js → AreAt x d k n ds js → IsCrossedAt p r d k
+    new_at : (x : ℕ) (d : Dart) (k : Subdivision) (n : ℕ) (ds : List Dart) (js : List Subdivision) → AreCrossedAt p r ds js → AreAt x d k n ds js
+        → IsCrossedAt p r d k
     new_at x d k n [] js a i = absurd i
     new_at x d k n (c ∷ ds) [] a i = absurd i
-    new_at x d k n (c ∷ ds) (j ∷ js) a (inl same) = subst (λ (b : Subdivision). IsCrossedAt p r d b) (sym same.2) (subst (λ (b : Dart). IsCrossedAt p r b j) (sym same.1) a.0)
+    new_at x d k n (c ∷ ds) (j ∷ js) a (inl same) =
+        subst (λ (b : Subdivision). IsCrossedAt p r d b) (sym same.2) (subst (λ (b : Dart). IsCrossedAt p r b j) (sym same.1) a.0)
     new_at x d k n (c ∷ ds) (j ∷ js) a (inr i) = new_at x d k (n + 1) ds js a.1 i
 
-    past_crossed : (x : ℕ) (w : Way) (k : Subdivision) (n : ℕ) (d : Dart) (ds : List Dart) (j : Subdivision) (js : List Subdivision) → IsCrossedAt p r d j → same_segment d (forward e g) ≡ false → AreCrossedAt p r ds js → IsCrossed x w k (n + 1) ds js
+    past_crossed : (x : ℕ) (w : Way) (k : Subdivision) (n : ℕ) (d : Dart) (ds : List Dart) (j : Subdivision) (js : List Subdivision) → IsCrossedAt p r d j
+        → same_segment d (forward e g) ≡ false → AreCrossedAt p r ds js → IsCrossed x w k (n + 1) ds js
         → IsCrossed x w k n (d ∷ ds) (j ∷ js)
     past_crossed x w k n d ds j js c off all u = grind (arith, new_at, skipped, two_stay, subdivided_past)
 
@@ -165,26 +172,34 @@ module _ (p : RowsWithPaths) (good : IsWellFormed p.rows) (r : Rotation) (s : Sh
     on_way : (d : Dart) → same_segment d (forward e g) ≡ true → (w : Way) × (d ≡ on_seg w)
     on_way d on = grind (arith, same_or_twins)
 
-    subdivided_first : (j : Subdivision) (js : List Subdivision) (w : Way) → j.dart ≡ index_of p.rows (on_seg w) → subdivided_number (half_at p) js (index_of p.rows (forward e g)) ≡ h → subdivided_number (half_at p) (j ∷ js) (index_of p.rows (forward e g)) ≡ first_of w j h
+    subdivided_first : (j : Subdivision) (js : List Subdivision) (w : Way) → j.dart ≡ index_of p.rows (on_seg w)
+        → subdivided_number (half_at p) js (index_of p.rows (forward e g)) ≡ h
+        → subdivided_number (half_at p) (j ∷ js) (index_of p.rows (forward e g)) ≡ first_of w j h
     subdivided_first j js Forward is rest = cond-false _ _ _ (ne_eqb _ _ (λ same. twin-other (index_of p.rows (forward e g)) (sym (same ∙ ap twin is)))) ∙ rest
-    subdivided_first j js Back is rest = cond-true _ _ _ (eq-eqb _ _ (sym (ap twin is ∙ ap twin (index_twin p.rows (forward e g) here) ∙ twin-twin (index_of p.rows (forward e g)))))
+    subdivided_first j js Back is rest =
+        cond-true _ _ _ (eq-eqb _ _ (sym (ap twin is ∙ ap twin (index_twin p.rows (forward e g) here) ∙ twin-twin (index_of p.rows (forward e g)))))
 
-    subdivided_last : (j : Subdivision) (js : List Subdivision) (w : Way) → j.dart ≡ index_of p.rows (on_seg w) → subdivided_number (half_at p) js (index_of p.rows (back e g)) ≡ twin h → subdivided_number (half_at p) (j ∷ js) (index_of p.rows (back e g)) ≡ twin (last_of w j h)
+    subdivided_last : (j : Subdivision) (js : List Subdivision) (w : Way) → j.dart ≡ index_of p.rows (on_seg w)
+        → subdivided_number (half_at p) js (index_of p.rows (back e g)) ≡ twin h
+        → subdivided_number (half_at p) (j ∷ js) (index_of p.rows (back e g)) ≡ twin (last_of w j h)
     subdivided_last j js Forward is rest = cond-true _ _ _ (eq-eqb _ _ (index_twin p.rows (forward e g) here ∙ sym (ap twin is)))
     subdivided_last j js Back is rest = cond-false _ _ _ (ne_eqb _ _ (λ same. twin-other (index_of p.rows (back e g)) (sym (same ∙ ap twin is)))) ∙ rest
 
-    here_crossed : (n : ℕ) (d : Dart) (w : Way) (ds : List Dart) (j : Subdivision) (js : List Subdivision) → IsCrossedAt p r d j → d ≡ on_seg w → IsUncrossed (n + 1) ds js → IsCrossed n w j n (d ∷ ds) (j ∷ js)
+    here_crossed : (n : ℕ) (d : Dart) (w : Way) (ds : List Dart) (j : Subdivision) (js : List Subdivision) → IsCrossedAt p r d j → d ≡ on_seg w
+        → IsUncrossed (n + 1) ds js → IsCrossed n w j n (d ∷ ds) (j ∷ js)
     here_crossed n d w ds j js c is u = grind (arith, on_itself, taken, put_on_one, piece_split, subdivided_first, subdivided_last)
 
     -- ---- All crossed darts
 
-    none_crossed : (n : ℕ) (ds : List Dart) (js : List Subdivision) → AreCrossedAt p r ds js → AllByRecursion (λ c. same_segment c (forward e g) ≡ false) ds → IsUncrossed n ds js
+    none_crossed : (n : ℕ) (ds : List Dart) (js : List Subdivision) → AreCrossedAt p r ds js → AllByRecursion (λ c. same_segment c (forward e g) ≡ false) ds
+        → IsUncrossed n ds js
     none_crossed n [] [] all off = grind (arith, half_of_number, there)
     none_crossed n [] (j ∷ js) all off = absurd all
     none_crossed n (d ∷ ds) [] all off = absurd all
     none_crossed n (d ∷ ds) (j ∷ js) all off = past_uncrossed n d ds j js all.0 off.0 (none_crossed (n + 1) ds js all.1 off.1)
 
-    others_off : (d : Dart) (ds : List Dart) → same_segment d (forward e g) ≡ true → AllByRecursion (λ c. same_segment d c ≡ false) ds → AllByRecursion (λ c. same_segment c (forward e g) ≡ false) ds
+    others_off : (d : Dart) (ds : List Dart) → same_segment d (forward e g) ≡ true → AllByRecursion (λ c. same_segment d c ≡ false) ds
+        → AllByRecursion (λ c. same_segment c (forward e g) ≡ false) ds
     others_off d [] on off = tt
     others_off d (c ∷ ds) on off = (same_to_off d c on off.0, others_off d ds on off.1) where
       same_to_off : (d c : Dart) → same_segment d (forward e g) ≡ true → same_segment d c ≡ false → same_segment c (forward e g) ≡ false
@@ -199,27 +214,31 @@ module _ (p : RowsWithPaths) (good : IsWellFormed p.rows) (r : Rotation) (s : Sh
     crossed_or_not n [] (j ∷ js) all once = absurd all
     crossed_or_not n (d ∷ ds) [] all once = absurd all
     crossed_or_not n (d ∷ ds) (j ∷ js) all once = elim (cases_Bool (same_segment d (forward e g))) [
-      | inl on ↦ (let (w, is) = on_way d on in inr (n, w, j, here_crossed n d w ds j js all.0 is (none_crossed (n + 1) ds js all.1 (others_off d ds on once.0))))
+      | inl on ↦ (let (w, is) = on_way d on in
+          inr (n, w, j, here_crossed n d w ds j js all.0 is (none_crossed (n + 1) ds js all.1 (others_off d ds on once.0))))
       | inr off ↦ elim (crossed_or_not (n + 1) ds js all.1 once.1) [
         | inl u ↦ inl (past_uncrossed n d ds j js all.0 off u)
         | inr u ↦ inr (u.0, u.1, u.2, past_crossed u.0 u.1 u.2 n d ds j js all.0 off all.1 u.3)
       ]
     ]
 
-    off_at : (c : Dart) (x : ℕ) (d : Dart) (k : Subdivision) (n : ℕ) (ds : List Dart) (js : List Subdivision) → AllByRecursion (λ b. same_segment c b ≡ false) ds → AreAt x d k n ds js → same_segment c d ≡ false
+    off_at : (c : Dart) (x : ℕ) (d : Dart) (k : Subdivision) (n : ℕ) (ds : List Dart) (js : List Subdivision)
+        → AllByRecursion (λ b. same_segment c b ≡ false) ds → AreAt x d k n ds js → same_segment c d ≡ false
     off_at c x d k n [] js off i = absurd i
     off_at c x d k n (b ∷ ds) [] off i = absurd i
     off_at c x d k n (b ∷ ds) (j ∷ js) off (inl same) = ap (same_segment c) same.1 ∙ off.0
     off_at c x d k n (b ∷ ds) (j ∷ js) off (inr i) = off_at c x d k (n + 1) ds js off.1 i
 
     -- the one that does
-    pub crossed_there : (x : ℕ) (w : Way) (k : Subdivision) (n : ℕ) (ds : List Dart) (js : List Subdivision) → AreCrossedAt p r ds js → CrossesOnce ds → AreAt x (on_seg w) k n ds js → IsCrossed x w k n ds js
+    pub crossed_there : (x : ℕ) (w : Way) (k : Subdivision) (n : ℕ) (ds : List Dart) (js : List Subdivision) → AreCrossedAt p r ds js → CrossesOnce ds
+        → AreAt x (on_seg w) k n ds js → IsCrossed x w k n ds js
     crossed_there x w k n [] js all once i = absurd i
     crossed_there x w k n (d ∷ ds) [] all once i = absurd i
     crossed_there x w k n (d ∷ ds) (j ∷ js) all once (inl same) =
         let on : same_segment d (forward e g) ≡ true = ap (λ (b : Dart). same_segment b (forward e g)) (sym same.1) ∙ on_itself w in
         subst (λ (y : ℕ). IsCrossed y w k n (d ∷ ds) (j ∷ js)) (sym same.0)
-        (subst (λ (b : Subdivision). IsCrossed n w b n (d ∷ ds) (j ∷ js)) (sym same.2) (here_crossed n d w ds j js all.0 (sym same.1) (none_crossed (n + 1) ds js all.1 (others_off d ds on once.0))))
+        (subst (λ (b : Subdivision). IsCrossed n w b n (d ∷ ds) (j ∷ js)) (sym same.2)
+        (here_crossed n d w ds j js all.0 (sym same.1) (none_crossed (n + 1) ds js all.1 (others_off d ds on once.0))))
     crossed_there x w k n (d ∷ ds) (j ∷ js) all once (inr i) =
         let apart : same_segment d (on_seg w) ≡ false = off_at d x (on_seg w) k (n + 1) ds js once.0 i in
         past_crossed x w k n d ds j js all.0 apart all.1 (crossed_there x w k (n + 1) ds js all.1 once.1 i)

@@ -44,22 +44,27 @@ module _ (js : List Subdivision) (hs : List ℕ) where
 
   before_more : (g : ℕ) → g < length hs → before (g + 1) ≡ before g + length (put_halves js (slice_index_or hs g 0 ∷ []))
   before_more g less =
-      ap (λ (xs : List ℕ). length (put_halves js xs)) (take_more hs g 0 less) ∙ ap (λ (xs : List ℕ). length xs) (put_append js (take g hs) (slice_index_or hs g 0 ∷ []))
+      ap (λ (xs : List ℕ). length (put_halves js xs)) (take_more hs g 0 less)
+      ∙ ap (λ (xs : List ℕ). length xs) (put_append js (take g hs) (slice_index_or hs g 0 ∷ []))
       ∙ length-append (put_halves js (take g hs)) (put_halves js (slice_index_or hs g 0 ∷ []))
 
-  parted_at : (g : ℕ) → g < length hs → put_halves js hs ≡ put_halves js (take g hs) ++ (put_halves js (slice_index_or hs g 0 ∷ []) ++ put_halves js (drop (suc g) hs))
+  parted_at : (g : ℕ) → g < length hs
+      → put_halves js hs ≡ put_halves js (take g hs) ++ (put_halves js (slice_index_or hs g 0 ∷ []) ++ put_halves js (drop (suc g) hs))
   parted_at g less =
-      ap (put_halves js) (sym (take-append-drop g hs) ∙ ap (λ (xs : List ℕ). take g hs ++ xs) (drop-cons hs g 0 less)) ∙ put_append js (take g hs) (slice_index_or hs g 0 ∷ drop (suc g) hs)
+      ap (put_halves js) (sym (take-append-drop g hs) ∙ ap (λ (xs : List ℕ). take g hs ++ xs) (drop-cons hs g 0 less))
+      ∙ put_append js (take g hs) (slice_index_or hs g 0 ∷ drop (suc g) hs)
       ∙ ap (λ (xs : List ℕ). put_halves js (take g hs) ++ xs) (put_append js (slice_index_or hs g 0 ∷ []) (drop (suc g) hs))
 
   -- what is read there
-  at_place : (g i : ℕ) → g < length hs → i < length (put_halves js (slice_index_or hs g 0 ∷ [])) → slice_index_or (put_halves js hs) (before g + i) 0 ≡ slice_index_or (put_halves js (slice_index_or hs g 0 ∷ [])) i 0
+  at_place : (g i : ℕ) → g < length hs → i < length (put_halves js (slice_index_or hs g 0 ∷ []))
+      → slice_index_or (put_halves js hs) (before g + i) 0 ≡ slice_index_or (put_halves js (slice_index_or hs g 0 ∷ [])) i 0
   at_place g i less inside =
       ap (λ (xs : List ℕ). slice_index_or xs (before g + i) 0) (parted_at g less)
       ∙ get_or-append-add (put_halves js (take g hs)) (put_halves js (slice_index_or hs g 0 ∷ []) ++ put_halves js (drop (suc g) hs)) i 0
       ∙ get_or_append_left (put_halves js (slice_index_or hs g 0 ∷ [])) (put_halves js (drop (suc g) hs)) 0 i inside
 
-module _ (p : RowsWithPaths) (good : IsWellFormed p.rows) (r : Rotation) (s : ShowsRows p r) (u v kind : ℕ) (route : Route) (once : CrossesOnce route.crossed) (now : IsWellFormed (shown p.rows u v kind route))
+module _ (p : RowsWithPaths) (good : IsWellFormed p.rows) (r : Rotation) (s : ShowsRows p r) (u v kind : ℕ) (route : Route) (once : CrossesOnce route.crossed)
+    (now : IsWellFormed (shown p.rows u v kind route))
     (js : List Subdivision) (all : AreCrossedAt p r route.crossed js) where
   abbrev q : Rows
   q = shown p.rows u v kind route
@@ -96,7 +101,8 @@ module _ (p : RowsWithPaths) (good : IsWellFormed p.rows) (r : Rotation) (s : Sh
     pub here : (g : ℕ) → g < length hs → has_dart (darts p.rows) (forward e g) ≡ true
     here g less = dart_there p.rows good.paths (forward e g) row found (omega (arith, many))
 
-    crossing : (g : ℕ) (less : g < length hs) → IsUncrossed p good r s e g (here g less) p.rows.next_crossing route.crossed js ⊎ SomeCrossed p good r s e g (here g less) p.rows.next_crossing route.crossed js
+    crossing : (g : ℕ) (less : g < length hs) → IsUncrossed p good r s e g (here g less) p.rows.next_crossing route.crossed js
+        ⊎ SomeCrossed p good r s e g (here g less) p.rows.next_crossing route.crossed js
     crossing g less = crossed_or_not p good r s e g (here g less) p.rows.next_crossing route.crossed js all once
 
     bits_long : (g : ℕ) → g < length hs → length (bits g) ≡ length (new g) + 1
@@ -112,7 +118,8 @@ module _ (p : RowsWithPaths) (good : IsWellFormed p.rows) (r : Rotation) (s : Sh
     first_is g less = ap (λ (d : Dart). d.seg) (sym (parts g less).lifts_forward ∙ lifted_forward p.rows q e g)
 
     last_is : (g : ℕ) → g < length hs → last_part path whole g ≡ first g + length (new g)
-    last_is g less = ap (λ (d : Dart). d.seg) (sym (lifted_back p.rows q e g) ∙ (parts g less).lifts_back) ∙ ap (λ (n : ℕ). n + length (new g)) (first_is g less)
+    last_is g less = ap (λ (d : Dart). d.seg) (sym (lifted_back p.rows q e g) ∙ (parts g less).lifts_back)
+        ∙ ap (λ (n : ℕ). n + length (new g)) (first_is g less)
 
     offset : (g : ℕ) → g < length hs → length (put_halves js (take g hs)) ≡ first g
     offset zero less = ap (λ (xs : List ℕ). length xs) (put_none js)
@@ -153,27 +160,35 @@ module _ (p : RowsWithPaths) (good : IsWellFormed p.rows) (r : Rotation) (s : Sh
       pub back_put : put_in (lifted p.rows q (back e g)) ≡ subdivided_number (half_at p) js (index_of p.rows (back e g))
       back_put =
           let long = bits_long g less in
-          ap put_in (lifted_back p.rows q e g ∙ ap (back e) (last_is g less)) ∙ ap twin (at g (length (new g)) less (omega (arith, long)) ∙ elim (crossing g less) as (λ _. slice_index_or (bits g) (length (new g)) 0 ≡ twin (subdivided_number (half_at p) js (index_of p.rows (back e g)))) [
+          ap put_in (lifted_back p.rows q e g ∙ ap (back e) (last_is g less)) ∙ ap twin (at g (length (new g)) less (omega (arith, long))
+          ∙ elim (crossing g less) as (λ _. slice_index_or (bits g) (length (new g)) 0 ≡ twin (subdivided_number (half_at p) js (index_of p.rows (back e g)))) [
             | inl n ↦
-                ap (λ (k : ℕ). slice_index_or (bits g) k 0) (ap (λ (xs : List ℕ). length xs) n.ids) ∙ ap (λ (xs : List ℕ). slice_index_or xs 0 0) n.one ∙ sym (ap twin n.last ∙ twin-twin (slice_index_or hs g 0))
+                ap (λ (k : ℕ). slice_index_or (bits g) k 0) (ap (λ (xs : List ℕ). length xs) n.ids) ∙ ap (λ (xs : List ℕ). slice_index_or xs 0 0) n.one
+                ∙ sym (ap twin n.last ∙ twin-twin (slice_index_or hs g 0))
             | inr y ↦
-                ap (λ (k : ℕ). slice_index_or (bits g) k 0) (ap (λ (xs : List ℕ). length xs) y.3.ids) ∙ ap (λ (xs : List ℕ). slice_index_or xs 1 0) y.3.two ∙ sym (ap twin y.3.last ∙ twin-twin (last_of y.1 y.2 (slice_index_or hs g 0)))
+                ap (λ (k : ℕ). slice_index_or (bits g) k 0) (ap (λ (xs : List ℕ). length xs) y.3.ids) ∙ ap (λ (xs : List ℕ). slice_index_or xs 1 0) y.3.two
+                ∙ sym (ap twin y.3.last ∙ twin-twin (last_of y.1 y.2 (slice_index_or hs g 0)))
           ]) ∙ twin-twin (subdivided_number (half_at p) js (index_of p.rows (back e g)))
 
       module _ (x : ℕ) (j : Subdivision) where
         place_is : (w : Way) → IsCrossed p good r s e g (here g less) x w j p.rows.next_crossing route.crossed js → place_on q e x ≡ first g
         place_is w c = (parts g less).crossing x c.ids ∙ first_is g less
 
-        read_first : (w : Way) (c : IsCrossed p good r s e g (here g less) x w j p.rows.next_crossing route.crossed js) → slice_index_or (put_halves js hs) (place_on q e x) 0 ≡ first_of w j (slice_index_or hs g 0)
-        read_first w c = ap (λ (k : ℕ). slice_index_or (put_halves js hs) k 0) (place_is w c) ∙ at_first g less ∙ ap (λ (xs : List ℕ). slice_index_or xs 0 0) c.two
+        read_first : (w : Way) (c : IsCrossed p good r s e g (here g less) x w j p.rows.next_crossing route.crossed js)
+            → slice_index_or (put_halves js hs) (place_on q e x) 0 ≡ first_of w j (slice_index_or hs g 0)
+        read_first w c = ap (λ (k : ℕ). slice_index_or (put_halves js hs) k 0) (place_is w c) ∙ at_first g less
+            ∙ ap (λ (xs : List ℕ). slice_index_or xs 0 0) c.two
 
-        read_last : (w : Way) (c : IsCrossed p good r s e g (here g less) x w j p.rows.next_crossing route.crossed js) → slice_index_or (put_halves js hs) (place_on q e x + 1) 0 ≡ last_of w j (slice_index_or hs g 0)
+        read_last : (w : Way) (c : IsCrossed p good r s e g (here g less) x w j p.rows.next_crossing route.crossed js)
+            → slice_index_or (put_halves js hs) (place_on q e x + 1) 0 ≡ last_of w j (slice_index_or hs g 0)
         read_last w c = grind (arith, place_is, at)
 
-        pub onward_put : (w : Way) → IsCrossed p good r s e g (here g less) x w j p.rows.next_crossing route.crossed js → put_in (onward q x (record { edge = e; seg = g; way = w })) ≡ j.beyond
+        pub onward_put : (w : Way) → IsCrossed p good r s e g (here g less) x w j p.rows.next_crossing route.crossed js
+            → put_in (onward q x (record { edge = e; seg = g; way = w })) ≡ j.beyond
         onward_put Forward c = read_last Forward c
         onward_put Back c = ap twin (read_first Back c) ∙ twin-twin j.beyond
 
-        pub backward_put : (w : Way) → IsCrossed p good r s e g (here g less) x w j p.rows.next_crossing route.crossed js → put_in (backward q x (record { edge = e; seg = g; way = w })) ≡ twin j.near
+        pub backward_put : (w : Way) → IsCrossed p good r s e g (here g less) x w j p.rows.next_crossing route.crossed js
+            → put_in (backward q x (record { edge = e; seg = g; way = w })) ≡ twin j.near
         backward_put Forward c = ap twin (read_first Forward c) ∙ ap twin (sym c.near)
         backward_put Back c = read_last Back c ∙ sym (twin-twin (slice_index_or hs g 0)) ∙ ap twin (sym c.near)

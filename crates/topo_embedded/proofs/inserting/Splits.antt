@@ -1,5 +1,6 @@
 -- One crossed segment more is split.
-use Rattle.std.proofs.Common.{◌≡◌, ◌≢◌, ◌<◌, ◌+◌, ap, append-nil, append_assoc, arith, Bool, drop, false, get_or, length, length-set, List, [], ◌∷◌, ◌++◌, refl, set, subst, suc, sym, take, true, zero, ℕ, ◌∙◌}
+use Rattle.std.proofs.Common.{◌≡◌, ◌≢◌, ◌<◌, ◌+◌, ap, append-nil, append_assoc, arith, Bool, drop, false, get_or, length}
+use Rattle.std.proofs.Common.{length-set, List, [], ◌∷◌, ◌++◌, refl, set, subst, suc, sym, take, true, zero, ℕ, ◌∙◌}
 use Rattle.std.specs.Prelude.{◌&&◌, ◌==◌, map, slice_get, slice_index_or, Some}
 use Rattle.std.specs.List.{All, AllByRecursion, position_or_len}
 use Rattle.std.proofs.lemmas.Bool.{false≢true, cases_Bool}
@@ -35,7 +36,8 @@ use Rattle.topo_embedded.proofs.halves.Apart.{twin_in_path}
 use Rattle.topo_embedded.proofs.inserting.Inserted.{got_map}
 use Rattle.topo_embedded.proofs.inserting.InsertedLabels.{split_labels}
 use Rattle.topo_embedded.proofs.halves.Numbers.{StandsAt, half_alive, stands_at}
-use Rattle.topo_embedded.proofs.halves.OnPaths.{IsAmong, NewOff, along_there, among_split, darts_off, dead_off, off_by_way, other_paths, own_half, own_path, pieces_stay, put_off, still_among}
+use Rattle.topo_embedded.proofs.halves.OnPaths.{IsAmong, NewOff, along_there, among_split, darts_off, dead_off, off_by_way}
+use Rattle.topo_embedded.proofs.halves.OnPaths.{other_paths, own_half, own_path, pieces_stay, put_off, still_among}
 use Rattle.topo_embedded.proofs.inserting.Pads.{subdivision, one_changed, pads_fewer, pads_here, pads_same}
 use Rattle.topo_embedded.proofs.inserting.Pieces.{put_none}
 
@@ -46,21 +48,25 @@ same_many cs was same = sym (length-map cs (λ c. c.dart)) ∙ ap (λ (ds : List
 -- ---- Runs of splits
 
 -- what was live is
-pub alive_still : (before now : Rotation) (js : List Subdivision) (h : ℕ) → IsEmbedding before → IsRun half_limit (turning_of before) (splits_of js) (turning_of now) → is_live before h ≡ true → is_live now h ≡ true
-alive_still before now js h whole run alive = (kept_alive half_limit (turning_of before) (turning_of now) (splits_of js) h (splits_add js) run (live_half before h whole alive)).alive
+pub alive_still : (before now : Rotation) (js : List Subdivision) (h : ℕ) → IsEmbedding before
+    → IsRun half_limit (turning_of before) (splits_of js) (turning_of now) → is_live before h ≡ true → is_live now h ≡ true
+alive_still before now js h whole run alive =
+    (kept_alive half_limit (turning_of before) (turning_of now) (splits_of js) h (splits_add js) run (live_half before h whole alive)).alive
 
 -- with no room more the lists are the changed ones
 put_everywhere : (js : List Subdivision) (was now : List (List ℕ)) → ArePadded (put_halves js) was [] now → now ≡ map (put_halves js) was
 put_everywhere js was now p =
     let long = length-map was (put_halves js) in
-    ext_get_or [] now (map (put_halves js) was) (p.as_many ∙ sym long) (λ k less. p.each k (omega (arith, p.as_many, less)) ∙ append-nil (put_halves js (slice_index_or was k [])) ∙ sym (got_map (put_halves js) (put_none js) was k))
+    ext_get_or [] now (map (put_halves js) was) (p.as_many ∙ sym long) (λ k less. p.each k (omega (arith, p.as_many, less))
+    ∙ append-nil (put_halves js (slice_index_or was k [])) ∙ sym (got_map (put_halves js) (put_none js) was k))
 
 -- ---- Crossed darts
 
 turned_about : (c d : Dart) → same_segment d c ≡ false → same_segment c d ≡ false
 turned_about c d off = ap (λ (b : Bool). b && c.seg == d.seg) (eqb_symm c.edge d.edge) ∙ ap (λ (b : Bool). d.edge == c.edge && b) (eqb_symm c.seg d.seg) ∙ off
 
-once_at : (cs : List Crossed) (n : ℕ) (c : Crossed) → n < length cs → CrossesOnce (crossed_darts cs) → AllByRecursion (λ b. same_segment (get_or cs n c).dart b ≡ false) (crossed_darts (drop (suc n) cs))
+once_at : (cs : List Crossed) (n : ℕ) (c : Crossed) → n < length cs → CrossesOnce (crossed_darts cs)
+    → AllByRecursion (λ b. same_segment (get_or cs n c).dart b ≡ false) (crossed_darts (drop (suc n) cs))
 once_at [] n c less once = absurd (omega arith)
 once_at (k ∷ cs) zero c less once = once.0
 once_at (k ∷ cs) (suc n) c less once = once_at cs n c (omega arith) once.1
@@ -86,17 +92,21 @@ module _ (p : RowsWithPaths) (good : IsWellFormed p.rows) (r : Rotation) (s : Sh
   new_off d h (c ∷ ds) [] a = absurd a
   new_off d h (c ∷ ds) (j ∷ js) a = ((dead_off p good r s d j.beyond h a.0.new, dead_off p good r s d (twin j.beyond) h a.0.new_back), new_off d h ds js a.1)
 
-  alone : (d : Dart) (h : Is d) (ds : List Dart) (js : List Subdivision) → AreCrossedAt p r ds js → AllByRecursion (λ c. same_segment d c ≡ false) ds → AllByRecursion (λ j. IsOff j.near (half_in p (forward d.edge d.seg))) js
+  alone : (d : Dart) (h : Is d) (ds : List Dart) (js : List Subdivision) → AreCrossedAt p r ds js → AllByRecursion (λ c. same_segment d c ≡ false) ds
+      → AllByRecursion (λ j. IsOff j.near (half_in p (forward d.edge d.seg))) js
   alone d h [] [] a off = tt
   alone d h [] (j ∷ js) a off = absurd a
   alone d h (c ∷ ds) [] a off = absurd a
   alone d h (c ∷ ds) (j ∷ js) a off = (
-    off_by_way p good r s j.near d.edge d.seg d.way (subst (λ (near : ℕ). IsOff near (half_in p d)) (sym a.0.near) (darts_off p good r s c d a.0.there h (turned_about c d off.0))),
+    off_by_way p good r s j.near d.edge d.seg d.way (subst (λ (near : ℕ). IsOff near (half_in p d)) (sym a.0.near)
+        (darts_off p good r s c d a.0.there h (turned_about c d off.0))),
     alone d h ds js a.1 off.1,
   )
 
-  module _ (now now' : Rotation) (x : ℕ) (c : Crossed) (cs : List Crossed) (sp : AreSplit p r now cs) (is : IsMarked p c) (once : AllByRecursion (λ b. same_segment c.dart b ≡ false) (crossed_darts cs))
-      (edit : IsSplit (turn now) (turn now') half_limit c.near x) (grows : Grows now now' x) (adds : AddsLabel (is_live now) (edge_of now) (edge_of now') x (edge_of now c.near)) where
+  module _ (now now' : Rotation) (x : ℕ) (c : Crossed) (cs : List Crossed) (sp : AreSplit p r now cs) (is : IsMarked p c)
+      (once : AllByRecursion (λ b. same_segment c.dart b ≡ false) (crossed_darts cs))
+      (edit : IsSplit (turn now) (turn now') half_limit c.near x) (grows : Grows now now' x)
+      (adds : AddsLabel (is_live now) (edge_of now) (edge_of now') x (edge_of now c.near)) where
     abbrev c' : Crossed
     c' = record { dart = c.dart; place = c.place; near = c.near; beyond = x }
 
@@ -114,12 +124,22 @@ module _ (p : RowsWithPaths) (good : IsWellFormed p.rows) (r : Rotation) (s : Sh
 
     pub one_split : AreSplit p r now' (c' ∷ cs)
     one_split = record {
-      crossed = (record { there = is.there; dart = refl; near = is.near; new = dead_before x grows.live.new; new_back = dead_before (twin x) grows.live.new_twin }, sp.crossed);
+      crossed = (
+        record {
+          there = is.there;
+          dart = refl;
+          near = is.near;
+          new = dead_before x grows.live.new;
+          new_back = dead_before (twin x) grows.live.new_twin;
+        },
+        sp.crossed,
+      );
       run = (turning_of now, sp.run, split_step now now' c.near x sp.whole (alive_still r now js c.near whole sp.run near_alive) edit grows);
       whole = grows.embedding;
       alive = (
         (grows.live.here, grows.live.here_twin),
-        all_map (λ b. (is_live now b.beyond ≡ true) × (is_live now (twin b.beyond) ≡ true)) (λ b. (is_live now' b.beyond ≡ true) × (is_live now' (twin b.beyond) ≡ true)) (λ b a. (grows.stays b.beyond a.0, grows.stays (twin b.beyond) a.1)) cs sp.alive,
+        all_map (λ b. (is_live now b.beyond ≡ true) × (is_live now (twin b.beyond) ≡ true)) (λ b. (is_live now' b.beyond ≡ true)
+            × (is_live now' (twin b.beyond) ≡ true)) (λ b a. (grows.stays b.beyond a.0, grows.stays (twin b.beyond) a.1)) cs sp.alive,
       );
       labels = split_labels now now' x (edge_of now c.near) grows adds j refl refl p.rows.edges js p.paths sp.labels;
     }
@@ -128,9 +148,11 @@ module _ (p : RowsWithPaths) (good : IsWellFormed p.rows) (r : Rotation) (s : Sh
     among : IsAmong c.near (put_halves js (slice_index_or p.paths c.place []))
     among =
         let own = own_path p good r s c.dart is.there in
-        let there : IsAmong (half_in p c.dart) (put_halves js (slice_index_or p.paths c.place [])) = subst (λ (k : ℕ). IsAmong (half_in p c.dart) (put_halves js (slice_index_or p.paths k []))) (sym is.place)
+        let there : IsAmong (half_in p c.dart) (put_halves js (slice_index_or p.paths c.place [])) =
+        subst (λ (k : ℕ). IsAmong (half_in p c.dart) (put_halves js (slice_index_or p.paths k []))) (sym is.place)
         (still_among (half_in p c.dart) js _ (new_off c.dart is.there (crossed_darts cs) js sp.crossed) own
-        (subst (λ (half : ℕ). AllByRecursion (λ j. IsOff j.near half) js) (sym (own_half p good r s c.dart is.there)) (alone c.dart is.there (crossed_darts cs) js sp.crossed once))) in
+        (subst (λ (half : ℕ). AllByRecursion (λ j. IsOff j.near half) js) (sym (own_half p good r s c.dart is.there))
+        (alone c.dart is.there (crossed_darts cs) js sp.crossed once))) in
         subst (λ (near : ℕ). IsAmong near (put_halves js (slice_index_or p.paths c.place []))) (sym is.near) there
 
     -- the other paths
@@ -138,56 +160,75 @@ module _ (p : RowsWithPaths) (good : IsWellFormed p.rows) (r : Rotation) (s : Sh
     elsewhere k less ne =
         let off : AreOff (half_in p c.dart) (slice_index_or p.paths k []) = other_paths p good r s c.dart is.there k less (λ e. ne (e ∙ sym is.place)) in
         pieces_stay j (put_halves js (slice_index_or p.paths k []))
-        (subst (λ (near : ℕ). AreOff near (put_halves js (slice_index_or p.paths k []))) (sym is.near) (put_off (half_in p c.dart) js (slice_index_or p.paths k []) off (new_off c.dart is.there (crossed_darts cs) js sp.crossed)))
+        (subst (λ (near : ℕ). AreOff near (put_halves js (slice_index_or p.paths k []))) (sym is.near)
+        (put_off (half_in p c.dart) js (slice_index_or p.paths k []) off (new_off c.dart is.there (crossed_darts cs) js sp.crossed)))
 
-    pub one_put : (all : List Crossed) (n : ℕ) (paths : List (List ℕ)) (list : List ℕ) → n < length all → c ≡ get_or all n c → c.place < length p.paths → ArePadded (put_halves js) p.paths (take (n + 1) all) paths
-        → ((xs ys : List ℕ) (h last : ℕ) → get_or paths c.place [] ≡ xs ++ h ∷ (ys ++ last ∷ []) → AreOff c.near xs → IsOn c.near h → list ≡ xs ++ (piece (subdivision c.near x) h ++ ys))
+    pub one_put : (all : List Crossed) (n : ℕ) (paths : List (List ℕ)) (list : List ℕ) → n < length all → c ≡ get_or all n c → c.place < length p.paths
+        → ArePadded (put_halves js) p.paths (take (n + 1) all) paths
+        → ((xs ys : List ℕ) (h last : ℕ) → get_or paths c.place [] ≡ xs ++ h ∷ (ys ++ last ∷ []) → AreOff c.near xs → IsOn c.near h
+        → list ≡ xs ++ (piece (subdivision c.near x) h ++ ys))
         → ArePadded (put_halves (j ∷ js)) p.paths (take n all) (set paths c.place list)
     one_put all n paths list less at placed pad put =
         let hs : List ℕ = slice_index_or p.paths c.place [] in
         let rest : List ℕ = pads c.place (take n all) in
         let here : get_or paths c.place [] ≡ among.before ++ among.half ∷ ((among.behind ++ rest) ++ 0 ∷ []) =
-        pad.each c.place placed ∙ ap (λ (xs : List ℕ). put_halves js hs ++ xs) (pads_here c.place all n c less (ap (λ (b : Crossed). b.place) at)) ∙ ap (λ (xs : List ℕ). xs ++ (rest ++ 0 ∷ [])) among.is
-        ∙ append_assoc among.before (among.half ∷ among.behind) (rest ++ 0 ∷ []) ∙ ap (λ (xs : List ℕ). among.before ++ among.half ∷ xs) (sym (append_assoc among.behind rest (0 ∷ []))) in
-        let made : list ≡ among.before ++ (piece j among.half ++ (among.behind ++ rest)) = put among.before (among.behind ++ rest) among.half 0 here among.before_off among.on in
+        pad.each c.place placed ∙ ap (λ (xs : List ℕ). put_halves js hs ++ xs) (pads_here c.place all n c less (ap (λ (b : Crossed). b.place) at))
+        ∙ ap (λ (xs : List ℕ). xs ++ (rest ++ 0 ∷ [])) among.is
+        ∙ append_assoc among.before (among.half ∷ among.behind) (rest ++ 0 ∷ [])
+        ∙ ap (λ (xs : List ℕ). among.before ++ among.half ∷ xs) (sym (append_assoc among.behind rest (0 ∷ []))) in
+        let made : list ≡ among.before ++ (piece j among.half ++ (among.behind ++ rest)) =
+        put among.before (among.behind ++ rest) among.half 0 here among.before_off among.on in
         one_changed (put_halves js) (put_halves (j ∷ js)) p.paths paths (set paths c.place list) (take (n + 1) all) (take n all) c.place list pad placed refl
-        (λ k lk ne. ap (λ (xs : List ℕ). xs ++ pads k (take n all)) (elsewhere k lk ne) ∙ ap (λ (xs : List ℕ). put_halves js (slice_index_or p.paths k []) ++ xs) (sym (pads_same k all n c less (λ e. ne (e ∙ ap (λ (b : Crossed). b.place) (sym at))))))
-        (made ∙ ap (λ (xs : List ℕ). among.before ++ xs) (sym (append_assoc (piece j among.half) among.behind rest)) ∙ sym (append_assoc among.before (piece j among.half ++ among.behind) rest)
+        (λ k lk ne. ap (λ (xs : List ℕ). xs ++ pads k (take n all)) (elsewhere k lk ne)
+        ∙ ap (λ (xs : List ℕ). put_halves js (slice_index_or p.paths k []) ++ xs)
+        (sym (pads_same k all n c less (λ e. ne (e ∙ ap (λ (b : Crossed). b.place) (sym at))))))
+        (made ∙ ap (λ (xs : List ℕ). among.before ++ xs) (sym (append_assoc (piece j among.half) among.behind rest))
+        ∙ sym (append_assoc among.before (piece j among.half ++ among.behind) rest)
         ∙ ap (λ (xs : List ℕ). xs ++ rest) (sym (among_split j (put_halves js hs) among)))
         (λ k lk more. pad.some k lk (pads_fewer k all n c less more))
 
   -- one step of the loop
-  pub split_more : (was cs : List Crossed) (n : ℕ) (c : Crossed) (now now' : Rotation) (x : ℕ) (paths : List (List ℕ)) (list : List ℕ) → CrossesOnce (crossed_darts was) → n < length cs → c ≡ get_or cs n c → c.place < length p.paths → AreSplitFrom p r now was cs (n + 1) paths
+  pub split_more : (was cs : List Crossed) (n : ℕ) (c : Crossed) (now now' : Rotation) (x : ℕ) (paths : List (List ℕ)) (list : List ℕ)
+      → CrossesOnce (crossed_darts was) → n < length cs → c ≡ get_or cs n c → c.place < length p.paths → AreSplitFrom p r now was cs (n + 1) paths
       → IsSplit (turn now) (turn now') half_limit c.near x → Grows now now' x → AddsLabel (is_live now) (edge_of now) (edge_of now') x (edge_of now c.near)
-      → ((xs ys : List ℕ) (h last : ℕ) → get_or paths c.place [] ≡ xs ++ h ∷ (ys ++ last ∷ []) → AreOff c.near xs → IsOn c.near h → list ≡ xs ++ (piece (subdivision c.near x) h ++ ys))
+      → ((xs ys : List ℕ) (h last : ℕ) → get_or paths c.place [] ≡ xs ++ h ∷ (ys ++ last ∷ []) → AreOff c.near xs → IsOn c.near h
+      → list ≡ xs ++ (piece (subdivision c.near x) h ++ ys))
       → AreSplitFrom p r now' was (set cs n (record { dart = c.dart; place = c.place; near = c.near; beyond = x })) n (set paths c.place list)
   split_more was cs n c now now' x paths list once less at placed from edit grows adds put =
       let new : Crossed = record { dart = c.dart; place = c.place; near = c.near; beyond = x } in
       let rest : List Crossed = drop (n + 1) cs in
       let next : n + 1 ≡ suc n = omega arith in
       let is : IsMarked p c = subst (IsMarked p) (sym at) (from.marked n c less) in
-      let once_here : AllByRecursion (λ b. same_segment c.dart b ≡ false) (crossed_darts rest) = subst (λ (b : Crossed). AllByRecursion (λ d. same_segment b.dart d ≡ false) (crossed_darts rest)) (sym at)
-      (subst (λ (k : ℕ). AllByRecursion (λ d. same_segment (get_or cs n c).dart d ≡ false) (crossed_darts (drop k cs))) (sym next) (once_at cs n c less (subst CrossesOnce (sym from.darts) once))) in
+      let once_here : AllByRecursion (λ b. same_segment c.dart b ≡ false) (crossed_darts rest) =
+      subst (λ (b : Crossed). AllByRecursion (λ d. same_segment b.dart d ≡ false) (crossed_darts rest)) (sym at)
+      (subst (λ (k : ℕ). AllByRecursion (λ d. same_segment (get_or cs n c).dart d ≡ false) (crossed_darts (drop k cs))) (sym next)
+      (once_at cs n c less (subst CrossesOnce (sym from.darts) once))) in
       let dropped : drop n (set cs n new) ≡ new ∷ rest = drop-set cs n new less in
       let taken : take n (set cs n new) ≡ take n cs = take-set cs n new in
       let split : AreSplit p r now' (new ∷ rest) = one_split now now' x c rest from.split is once_here edit grows adds in
-      let put_now : ArePadded (put_halves (subdivisions_of p.rows (new ∷ rest))) p.paths (take n cs) (set paths c.place list) = one_put now now' x c rest from.split is once_here edit grows adds cs n paths list less at placed from.padded put in
+      let put_now : ArePadded (put_halves (subdivisions_of p.rows (new ∷ rest))) p.paths (take n cs) (set paths c.place list) =
+      one_put now now' x c rest from.split is once_here edit grows adds cs n paths list less at placed from.padded put in
       let long = length-set cs n new in
       record {
         within = omega (arith, less, long);
         darts = map-set_same (λ (b : Crossed). b.dart) cs n new c (ap (λ (b : Crossed). b.dart) at) ∙ from.darts;
         marked = All-set (IsMarked p) cs n new (record { there = is.there; near = is.near; place = is.place }) from.marked;
         split = subst (AreSplit p r now') (sym dropped) split;
-        padded = subst (λ (xs : List Crossed). ArePadded (put_halves (subdivisions_of p.rows xs)) p.paths (take n (set cs n new)) (set paths c.place list)) (sym dropped)
-            (subst (λ (xs : List Crossed). ArePadded (put_halves (subdivisions_of p.rows (new ∷ rest))) p.paths xs (set paths c.place list)) (sym taken) put_now);
+        padded = subst (λ (xs : List Crossed). ArePadded (put_halves (subdivisions_of p.rows xs)) p.paths (take n (set cs n new)) (set paths c.place list))
+            (sym dropped)
+            (subst (λ (xs : List Crossed). ArePadded (put_halves (subdivisions_of p.rows (new ∷ rest))) p.paths xs (set paths c.place list))
+            (sym taken) put_now);
         room = (let less_room = grows.room_less in let so_far = from.room in omega (arith, less_room, so_far, long));
       }
 
-  pub marked_alive : (now : Rotation) (was cs : List Crossed) (n : ℕ) (c : Crossed) (paths : List (List ℕ)) → AreSplitFrom p r now was cs n paths → IsMarked p c → is_live now c.near ≡ true
-  marked_alive now was cs n c paths from is = alive_still r now (subdivisions_of p.rows (drop n cs)) c.near whole from.split.run (half_alive p good r s c.near (record { dart = c.dart; there = is.there; is = sym is.near }))
+  pub marked_alive : (now : Rotation) (was cs : List Crossed) (n : ℕ) (c : Crossed) (paths : List (List ℕ)) → AreSplitFrom p r now was cs n paths → IsMarked p c
+      → is_live now c.near ≡ true
+  marked_alive now was cs n c paths from is = alive_still r now (subdivisions_of p.rows (drop n cs)) c.near whole from.split.run
+      (half_alive p good r s c.near (record { dart = c.dart; there = is.there; is = sym is.near }))
 
   -- before and behind the loop
-  pub split_none : (cs : List Crossed) (paths : List (List ℕ)) → All (IsMarked p) cs → ArePadded (λ hs. hs) p.paths cs paths → AreSplitFrom p r r cs cs (length cs) paths
+  pub split_none : (cs : List Crossed) (paths : List (List ℕ)) → All (IsMarked p) cs → ArePadded (λ hs. hs) p.paths cs paths
+      → AreSplitFrom p r r cs cs (length cs) paths
   split_none cs paths all pad =
       let none : drop (length cs) cs ≡ [] = drop_all (length cs) cs (omega arith) in
       let every : take (length cs) cs ≡ cs = take_all (length cs) cs (omega arith) in
@@ -202,18 +243,22 @@ module _ (p : RowsWithPaths) (good : IsWellFormed p.rows) (r : Rotation) (s : Sh
           alive = tt;
           labels = λ k row at. subst (HaveLabel r row.id) (sym (got_map (put_halves []) refl p.paths k)) (path_labels k row at);
         });
-        padded = subst (λ (xs : List Crossed). ArePadded (put_halves (subdivisions_of p.rows xs)) p.paths (take (length cs) cs) paths) (sym none) (subst (λ (xs : List Crossed). ArePadded (λ hs. hs) p.paths xs paths) (sym every) pad);
+        padded = subst (λ (xs : List Crossed). ArePadded (put_halves (subdivisions_of p.rows xs)) p.paths (take (length cs) cs) paths) (sym none)
+            (subst (λ (xs : List Crossed). ArePadded (λ hs. hs) p.paths xs paths) (sym every) pad);
         room = refl;
       }
     where
-      label_at : (k : ℕ) (row : EdgeRow) → slice_get p.rows.edges k ≡ Some row → (i : ℕ) → i < length (slice_index_or p.paths k []) → HasLabel r row.id (slice_index_or (slice_index_or p.paths k []) i 0)
+      label_at : (k : ℕ) (row : EdgeRow) → slice_get p.rows.edges k ≡ Some row → (i : ℕ) → i < length (slice_index_or p.paths k [])
+          → HasLabel r row.id (slice_index_or (slice_index_or p.paths k []) i 0)
       label_at k row at i less =
           let (there, is) = along_there p good r s k row at i less in
           let back : has_dart (darts p.rows) (dart_twin (forward row.id i)) ≡ true = twin_in p.rows (forward row.id i) there in
           grind (arith, twin_in_path, half_alive)
 
       path_labels : (k : ℕ) (row : EdgeRow) → slice_get p.rows.edges k ≡ Some row → HaveLabel r row.id (slice_index_or p.paths k [])
-      path_labels k row at = recursion_from_All (HasLabel r row.id) (slice_index_or p.paths k []) (All-from_get_or (HasLabel r row.id) (slice_index_or p.paths k []) 0 (label_at k row at))
+      path_labels k row at = recursion_from_All (HasLabel r row.id) (slice_index_or p.paths k [])
+          (All-from_get_or (HasLabel r row.id) (slice_index_or p.paths k []) 0 (label_at k row at))
 
-  pub split_all : (now : Rotation) (was cs : List Crossed) (n : ℕ) (paths : List (List ℕ)) → n ≡ 0 → AreSplitFrom p r now was cs n paths → AreSplit p r now cs × (paths ≡ map (put_halves (subdivisions_of p.rows cs)) p.paths)
+  pub split_all : (now : Rotation) (was cs : List Crossed) (n : ℕ) (paths : List (List ℕ)) → n ≡ 0 → AreSplitFrom p r now was cs n paths → AreSplit p r now cs
+      × (paths ≡ map (put_halves (subdivisions_of p.rows cs)) p.paths)
   split_all now was cs n paths none from = grind (arith, put_everywhere)

@@ -1,6 +1,8 @@
 //! What is asked of rows with their embedding by the canonical numbers of darts.
 
-ghost use Rattle.std.specs.Prelude.{◌≡◌, ◌+◌, ◌++◌, ◌<◌, ◌≤◌, ℕ, true, IfOk, None, OnOk, Some, flat_map, if◌then◌else◌, length, map, slice_index, slice_index_or};
+ghost use Rattle.std.specs.Prelude.{◌≡◌, ◌+◌, ◌++◌, ◌<◌, ◌≤◌, ℕ, true, IfOk};
+ghost use Rattle.std.specs.Prelude.{None, OnOk, Some, flat_map, if◌then◌else◌};
+ghost use Rattle.std.specs.Prelude.{length, map, slice_index, slice_index_or};
 ghost use Rattle.topo_core.specs.declared.darts.Dart.{Dart};
 ghost use Rattle.topo_core.specs.Picture.{darts, points_of, rotation, start, start_place};
 ghost use Rattle.topo_core.specs.Systems.{has_dart};
@@ -43,9 +45,11 @@ fn write_paths(halves: &mut Vec<u32>, paths: &[Path]) -> Result<(), AllocError>
 
 /// Writes for each half of a list the label of the face on its left.
 fn write_faces(faces: &mut [u32], segments: &Embedding, halves: &[u32])
-    requires live { (i : ℕ) → i < length halves.now → is_live segments.now (slice_index halves.now i) ≡ true }
+    requires live { (i : ℕ) → i < length halves.now
+        → is_live segments.now (slice_index halves.now i) ≡ true }
     requires as_many { length faces.old ≡ length halves.now }
-    ensures { (i : ℕ) → i < length halves.now → slice_index faces.new i ≡ face_of segments.now (slice_index halves.now i) }
+    ensures { (i : ℕ) → i < length halves.now
+        → slice_index faces.new i ≡ face_of segments.now (slice_index halves.now i) }
 {
     for place in 0..halves.len() {
         faces[place] = segments.face(Half::numbered(halves[place]));
@@ -109,8 +113,8 @@ impl Embedded {
         Ok(())
     }
 
-    /// Writes for each dart, in canonical order, the label of the face on its left, by the halves of the
-    /// darts. Answers a number that all labels are below.
+    /// Writes for each dart, in canonical order, the label of the face on its left, by the halves
+    /// of the darts. Answers a number that all labels are below.
     pub fn fill_faces(&self, faces: &mut [u32], halves: &[u32]) -> u32
         requires halves { halves.now ≡ map (half_in self.now) (darts self.now.rows) }
         requires as_many { length faces.old ≡ length halves.now }
@@ -123,7 +127,8 @@ impl Embedded {
 
     /// The half of a dart; none where it is no dart of the rows.
     pub fn find_half(&self, dart: Dart) -> Option<Half>
-        ensures { result ≡ (if has_dart (darts self.now.rows) dart then Some (half_in self.now dart) else None) }
+        ensures { result ≡ (if has_dart (darts self.now.rows) dart then Some
+            (half_in self.now dart) else None) }
     {
         let edges = self.parts.rows.edges();
         let place = edge_place(edges, &self.parts.index, dart.edge.number())?;
@@ -139,7 +144,8 @@ impl Embedded {
     /// Where the dart of a half starts. It looks along the path of the edge.
     pub fn start_of(&self, half: Half) -> Point
         requires { IsHalf self.now half }
-        ensures { (d : Dart) → has_dart (darts self.now.rows) d ≡ true → half_in self.now d ≡ half → result ≡ start self.now.rows d }
+        ensures { (d : Dart) → has_dart (darts self.now.rows) d ≡ true → half_in self.now d ≡ half
+            → result ≡ start self.now.rows d }
     {
         let dart = self.dart_of(half);
         let edges = self.parts.rows.edges();

@@ -6,7 +6,8 @@ use Rattle.topo_perm.proofs.count_cycles.Goals as goal
 use Rattle.topo_perm.proofs.count_cycles.Goals.{then-not-seen-start, else-not-seen-start}
 
 pub overflow_add-count : goal.overflow_add-count
-overflow_add-count c = omega (arith, c.loop-start.invariant.counted, count_below-le (is_first (is_met (map_of c.args.images.now) (length c.args.images.now))) c.loop-start.start)
+overflow_add-count c =
+    omega (arith, c.loop-start.invariant.counted, count_below-le (is_first (is_met (map_of c.args.images.now) (length c.args.images.now))) c.loop-start.start)
 
 pub loop-start-preserved : goal.loop-start-preserved
 loop-start-preserved c =
@@ -21,6 +22,7 @@ loop-start-preserved c =
           record {
             counted = w.count-is ∙ c.loop-start.invariant.counted ∙ sym (later_not_counted r k met);
             marked = λ a la. ap (λ s. slice_index_or s a false) w.seen-is ∙ c.loop-start.invariant.marked a la
-                ∙ sym (marked_already r (length c.args.images.now) k a (is_met-equivalence f (length c.args.images.now) c.requires.permutation) c.loop-start-test.true la met);
+                ∙ sym (marked_already r (length c.args.images.now) k a (is_met-equivalence f (length c.args.images.now) c.requires.permutation)
+                c.loop-start-test.true la met);
           }
     ]

@@ -7,7 +7,8 @@ use Rattle.topo_perm.specs.Edits.{AreTurns, IsApart, IsAllowedHang, IsAllowedCho
 use Rattle.topo_perm.proofs.permutations.Walks.{twin-within}
 use Rattle.topo_perm.proofs.permutations.Faces.{twin-twin, twin-apart, twin-other}
 use Rattle.topo_perm.proofs.permutations.Splitting.{without, without-self, without-onward, without-elsewhere, without-bypass, bypassed-permutation}
-use Rattle.topo_perm.proofs.edits.EditCounts.{put, put-self, put-led, put-elsewhere, put-is, put_permutation, put_before, smoothing_permutation, smoothing_smooth}
+use Rattle.topo_perm.proofs.edits.EditCounts.{put, put-self, put-led, put-elsewhere, put-is, put_permutation}
+use Rattle.topo_perm.proofs.edits.EditCounts.{put_before, smoothing_permutation, smoothing_smooth}
 
 -- f turns the darts below n, which are those of n / 2 segments
 pub record AreDarts (f : ℕ → ℕ) (n : ℕ) : Type 0 where
@@ -25,7 +26,8 @@ pub record IsChordPut (f g : ℕ → ℕ) (n c d x : ℕ) : Type 0 where
   pub corner : IsApart n c x
   pub edit : IsChord f g n c d x
 
-pub chord_put : (f : ℕ → ℕ) (n c d x : ℕ) → AreDarts f n → x < n → IsIsolated f x → IsApart n c x → IsApart n d x → IsChordPut f (put (put f x c) (twin x) d) n c d x
+pub chord_put : (f : ℕ → ℕ) (n c d x : ℕ) → AreDarts f n → x < n → IsIsolated f x → IsApart n c x → IsApart n d x
+    → IsChordPut f (put (put f x c) (twin x) d) n c d x
 chord_put f n c d x h lx room k m =
     let lt : twin x < n = twin-within n x h.even lx in
     let ld : d < n = m.within in
@@ -53,18 +55,26 @@ chord_allowed f g n c d x w one = record { turns = w.turns; corner = w.corner; o
 pub unchord_made : (f : ℕ → ℕ) (n h : ℕ) → IsUnchord f (without (without f h) (twin h)) n h
 unchord_made f n h = record { half = without f h; first = without-bypass f n h; second = without-bypass (without f h) n (twin h) }
 
-pub unchord_allowed : (f : ℕ → ℕ) (n h : ℕ) → AreDarts f n → h < n → ¬ SameCycle (face_next f) h (twin h) → (f h ≡ twin h → f (twin h) ≢ h) → IsAllowedUnchord f (without (without f h) (twin h)) n h
+pub unchord_allowed : (f : ℕ → ℕ) (n h : ℕ) → AreDarts f n → h < n → ¬ SameCycle (face_next f) h (twin h) → (f h ≡ twin h → f (twin h) ≢ h)
+    → IsAllowedUnchord f (without (without f h) (twin h)) n h
 unchord_allowed f n h d lh two not_alone =
     let half : ℕ → ℕ = without f h in
     let hh : IsPermutation half n = bypassed-permutation f half n h d.permutation lh (without-bypass f n h) in
     record {
-      turns = record { before = d.permutation; after = bypassed-permutation half (without half (twin h)) n (twin h) hh (twin-within n h d.even lh) (without-bypass half n (twin h)); even = d.even; within = lh };
+      turns = record {
+        before = d.permutation;
+        after = bypassed-permutation half (without half (twin h)) n (twin h) hh (twin-within n h d.even lh)
+            (without-bypass half n (twin h));
+        even = d.even;
+        within = lh;
+      };
       two_faces = two;
       not_alone = not_alone;
       edit = unchord_made f n h;
     }
 
-pub split_allowed : (f : ℕ → ℕ) (n h x : ℕ) → AreDarts f n → x < n → IsIsolated f x → IsApart n h x → IsAllowedSplit f (put (without (put f (twin x) (twin h)) (twin h)) x (twin h)) n h x
+pub split_allowed : (f : ℕ → ℕ) (n h x : ℕ) → AreDarts f n → x < n → IsIsolated f x → IsApart n h x
+    → IsAllowedSplit f (put (without (put f (twin x) (twin h)) (twin h)) x (twin h)) n h x
 split_allowed f n h x d lx room s =
     let t : ℕ = twin h in
     let y : ℕ = twin x in
@@ -108,7 +118,8 @@ split_allowed f n h x d lx room s =
       };
     }
 
-pub smooth_allowed : (f : ℕ → ℕ) (n x : ℕ) → AreDarts f n → x < n → f (f x) ≡ x → f x ≢ x → f x ≢ twin x → IsAllowedSmooth f (without (put (without f x) (f x) (twin x)) (twin x)) n x
+pub smooth_allowed : (f : ℕ → ℕ) (n x : ℕ) → AreDarts f n → x < n → f (f x) ≡ x → f x ≢ x → f x ≢ twin x
+    → IsAllowedSmooth f (without (put (without f x) (f x) (twin x)) (twin x)) n x
 smooth_allowed f n x d lx back na nl =
     let hf : IsPermutation f n = d.permutation in
     let even : n % 2 ≡ 0 = d.even in

@@ -4,9 +4,11 @@ use Rattle.std.proofs.lemmas.Bool.{cases_eq, cond-true, cond-false, eq-eqb, ne_e
 use Rattle.topo_core.specs.Cycles.{IsPermutation, SameCycle, IsBypass, count_below}
 use Rattle.topo_core.specs.Rotations.{twin, face_next, partly, Joined}
 use Rattle.topo_core.specs.Edits.{IsIsolated}
-use Rattle.topo_perm.specs.Cuts.{all_but, IsElsewhere, JoinedWithout, IsSegmentOf, TwoFacesJoined, TwoFacesKeep, OneFaceParts, TakenOutJoined, TakenOutKeeps, TakenOutParts}
+use Rattle.topo_perm.specs.Cuts.{all_but, IsElsewhere, JoinedWithout, IsSegmentOf, TwoFacesJoined}
+use Rattle.topo_perm.specs.Cuts.{TwoFacesKeep, OneFaceParts, TakenOutJoined, TakenOutKeeps, TakenOutParts}
 use Rattle.topo_core.proofs.systems.Orbits.{SameCycle-sym}
-use Rattle.topo_perm.proofs.permutations.Walks.{Joined-refl, Joined-trans, Joined-turned, Joined-crossed, Joined-SameCycle, kept_joined, twin-within, twin-cases, face_next-permutation}
+use Rattle.topo_perm.proofs.permutations.Walks.{Joined-refl, Joined-trans, Joined-turned, Joined-crossed, Joined-SameCycle}
+use Rattle.topo_perm.proofs.permutations.Walks.{kept_joined, twin-within, twin-cases, face_next-permutation}
 use Rattle.topo_perm.proofs.edits.Cuts.{IsWithout, two_faces_joined, one_face_cuts, around, Joined-sym, partly-within}
 use Rattle.topo_perm.proofs.permutations.Faces.{twin-twin, twin-apart, twin-other}
 use Rattle.topo_perm.proofs.permutations.Splitting.{bypassed-permutation}
@@ -22,7 +24,8 @@ abbrev Through : (ℕ → ℕ) → (ℕ → ℕ) → (ℕ → ℕ) → ℕ → �
 Through f g o n i a v = (v < n) × (((v ≢ i) × Joined g o a v) ⊎ ((v ≡ i) × Joined g o a (f i)))
 
 -- a walk of f past i is one of g
-pub bypassed_joined : {f g o : ℕ → ℕ} {n i a b : ℕ} → IsPermutation f n → i < n → IsBypass f g n i → IsAside o n i → a < n → a ≢ i → b ≢ i → Joined f o a b → Joined g o a b
+pub bypassed_joined : {f g o : ℕ → ℕ} {n i a b : ℕ} → IsPermutation f n → i < n → IsBypass f g n i → IsAside o n i → a < n → a ≢ i → b ≢ i → Joined f o a b
+    → Joined g o a b
 bypassed_joined {f} {g} {o} {n} {i} {a} {b} h li x w la na nb j =
     elim (kept_joined f o (Through f g o n i a) turned crossed a b j (la, inl (na, Joined-refl g o a))).1 [
       | inl v ↦ v.1
@@ -44,7 +47,8 @@ bypassed_joined {f} {g} {o} {n} {i} {a} {b} h li x w la na nb j =
     crossed v (lv, inr (e, k)) = (w.within v lv, inr (ap o e ∙ w.still, k))
 
 -- a walk of g is one of f
-pub unbypassed_joined : {f g o : ℕ → ℕ} {n i a b : ℕ} → IsPermutation g n → IsBypass f g n i → ((a : ℕ) → a < n → o a < n) → a < n → Joined g o a b → Joined f o a b
+pub unbypassed_joined : {f g o : ℕ → ℕ} {n i a b : ℕ} → IsPermutation g n → IsBypass f g n i → ((a : ℕ) → a < n → o a < n) → a < n → Joined g o a b
+    → Joined f o a b
 unbypassed_joined {f} {g} {o} {n} {i} {a} {b} h x w la j = (kept_joined g o (λ v. (v < n) × Joined f o a v) turned crossed a b j (la, Joined-refl f o a)).1
   where
     turned : (v : ℕ) → (v < n) × Joined f o a v → (g v < n) × Joined f o a (g v)
@@ -84,11 +88,13 @@ aside_self n h i even e = grind (arith, partly-within, crossed_not, cases_eq, cr
 Outside : (ℕ → ℕ) → (ℕ → ℕ) → ℕ → ℕ → ℕ → ℕ → Type 0
 Outside g o n h a v = (v < n) × (v ≢ h) × (v ≢ twin h) × Joined g o a v
 
-isolated_joined : {g : ℕ → ℕ} {n h a : ℕ} (b : ℕ) → IsPermutation g n → n % 2 ≡ 0 → h < n → IsIsolated g h → IsElsewhere n h a → Joined g (partly (all_but h)) a b ↔ Joined g twin a b
+isolated_joined : {g : ℕ → ℕ} {n h a : ℕ} (b : ℕ) → IsPermutation g n → n % 2 ≡ 0 → h < n → IsIsolated g h → IsElsewhere n h a
+    → Joined g (partly (all_but h)) a b ↔ Joined g twin a b
 unfolding Outside
 isolated_joined {g} {n} {h} {a} b hg even lh alone off = (
   λ j. (kept_joined g (partly (all_but h)) (Outside g twin n h a) turned1 crossed1 a b j (off.within, off.not_self, off.not_twin, Joined-refl g twin a)).3,
-  λ j. (kept_joined g twin (Outside g (partly (all_but h)) n h a) turned2 crossed2 a b j (off.within, off.not_self, off.not_twin, Joined-refl g (partly (all_but h)) a)).3,
+  λ j. (kept_joined g twin (Outside g (partly (all_but h)) n h a) turned2 crossed2 a b j
+      (off.within, off.not_self, off.not_twin, Joined-refl g (partly (all_but h)) a)).3,
 )
   where
     lt : twin h < n
@@ -111,8 +117,12 @@ isolated_joined {g} {n} {h} {a} b hg even lh alone off = (
     turned2 v (lv, nv, nw, k) = (hg.within v lv, (away v lv nv nw).0, (away v lv nv nw).1, Joined-turned g (partly (all_but h)) a v k)
 
     crossed2 : (v : ℕ) → Outside g (partly (all_but h)) n h a v → Outside g (partly (all_but h)) n h a (twin v)
-    crossed2 v (lv, nv, nw, k) =
-        (twin-within n v even lv, (twins v nv nw).0, (twins v nv nw).1, subst (λ z. Joined g (partly (all_but h)) a z) (crossed_else h v nv nw) (Joined-crossed g (partly (all_but h)) a v k))
+    crossed2 v (lv, nv, nw, k) = (
+      twin-within n v even lv,
+      (twins v nv nw).0,
+      (twins v nv nw).1,
+      subst (λ z. Joined g (partly (all_but h)) a z) (crossed_else h v nv nw) (Joined-crossed g (partly (all_but h)) a v k),
+    )
 
 -- ---- The laws
 
@@ -161,7 +171,8 @@ one_face_law f n h k z same j =
     let low : 2 * (h / 2) + 1 < n = omega (arith, halves h, lt) in
     let one : SameCycle (face_next f) (2 * (h / 2)) (2 * (h / 2) + 1) = elim (halves h) [
       | inl e ↦ subst (λ v. SameCycle (face_next f) (2 * (h / 2)) v) e.1 (subst (λ v. SameCycle (face_next f) v (twin h)) e.0 same)
-      | inr e ↦ subst (λ v. SameCycle (face_next f) (2 * (h / 2)) v) e.0 (subst (λ v. SameCycle (face_next f) v h) e.1 (SameCycle-sym (face_next f) n hff h (twin h) k.within same))
+      | inr e ↦ subst (λ v. SameCycle (face_next f) (2 * (h / 2)) v) e.0
+          (subst (λ v. SameCycle (face_next f) v h) e.1 (SameCycle-sym (face_next f) n hff h (twin h) k.within same))
     ] in
     let all : count_below (λ _. true) (n / 2) ≡ n / 2 = every (n / 2) in
     one_face_cuts k.permutation k.even hff low (without_is h) z.counted (z.formula ∙ ap (λ v. v + 2 * z.components) (sym all)) one (low_ends f n h k j)

@@ -13,7 +13,8 @@ use Rattle.topo_perm.proofs.edits.EditCounts.{hung, chorded}
 use Rattle.topo_perm.proofs.edits.Bypassing.{taken_out_keeps}
 
 -- where each turn of f is a walk of g, a walk of f is one too
-pub walked_by : (f g : ℕ → ℕ) (n : ℕ) → IsPermutation f n → n % 2 ≡ 0 → ((v : ℕ) → v < n → Joined g twin v (f v)) → (a b : ℕ) → a < n → Joined f twin a b → Joined g twin a b
+pub walked_by : (f g : ℕ → ℕ) (n : ℕ) → IsPermutation f n → n % 2 ≡ 0 → ((v : ℕ) → v < n → Joined g twin v (f v)) → (a b : ℕ) → a < n → Joined f twin a b
+    → Joined g twin a b
 walked_by f g n h even each a b la j = (kept_joined f twin (λ v. (v < n) × Joined g twin a v) turned crossed a b j (la, Joined-refl g twin a)).1
   where
     turned : (v : ℕ) → (v < n) × Joined g twin a v → (f v < n) × Joined g twin a (f v)
@@ -36,7 +37,8 @@ insert_walks f g n x c alone p turns v lv =
     ]
 
 -- one segment more, joined to a live dart
-with_segment : {g : ℕ → ℕ} {live live' : ℕ → Bool} {n c x : ℕ} → IsPermutation g n → n % 2 ≡ 0 → c < n → live c ≡ true → AddsSegment live live' n x → ((a b : ℕ) → a < n → b < n → live a ≡ true → live b ≡ true → Joined g twin a b) → Joined g twin c x → IsConnectedAmong live' g n
+with_segment : {g : ℕ → ℕ} {live live' : ℕ → Bool} {n c x : ℕ} → IsPermutation g n → n % 2 ≡ 0 → c < n → live c ≡ true → AddsSegment live live' n x
+    → ((a b : ℕ) → a < n → b < n → live a ≡ true → live b ≡ true → Joined g twin a b) → Joined g twin c x → IsConnectedAmong live' g n
 with_segment {g} {live'} {n} {c} {x} hg even lc alive s all j a b la lb va vb =
     Joined-trans g twin a c b (Joined-back g n hg even c a lc (from_c a la va)) (from_c b lb vb)
   where
@@ -162,7 +164,11 @@ smooth_connects f g live live' n x k s all a b la lb va vb =
                 | inl alone ↦ inl (inr (ap f e ∙ alone), q.1)
                 | inr more ↦
                     let moved : g t ≡ f v = grind (arith, cases_eq) in
-                    inr (λ z. yt (to_x (twin x) ly (ap f (sym e) ∙ z)), λ z. more (ap f (sym e) ∙ z), subst (λ z. Joined g twin a z) moved (Joined-turned g twin a t q.1))
+                    inr (
+                      λ z. yt (to_x (twin x) ly (ap f (sym e) ∙ z)),
+                      λ z. more (ap f (sym e) ∙ z),
+                      subst (λ z. Joined g twin a z) moved (Joined-turned g twin a t q.1),
+                    )
               ]
             ]
             | inr q ↦ elim (cases_eq v t) [

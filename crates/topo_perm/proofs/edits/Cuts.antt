@@ -1,16 +1,20 @@
 -- The bound for a part of the segments, and which segments cut.
-use Rattle.std.proofs.Common.{◌≡◌, ◌≢◌, ℕ, zero, suc, ◌+◌, ◌*◌, ◌/◌, ◌%◌, ◌<◌, ◌≤◌, ◌==◌, Bool, true, false, cond, ◌&&◌, List, [], ◌∷◌, inl, inr, refl, sym, ◌∙◌, ap, subst, arith, ltb}
+use Rattle.std.proofs.Common.{◌≡◌, ◌≢◌, ℕ, zero, suc, ◌+◌, ◌*◌, ◌/◌, ◌%◌, ◌<◌, ◌≤◌, ◌==◌, Bool, true, false}
+use Rattle.std.proofs.Common.{cond, ◌&&◌, List, [], ◌∷◌, inl, inr, refl, sym, ◌∙◌, ap, subst, arith, ltb}
 use mathlib.Core.Path.{fun_ext}
-use Rattle.std.proofs.lemmas.Bool.{cases_Bool, cases_eq, cases_lt, eqb-true, eq-eqb, ne_eqb, both_ways, cond-true, cond-false, lt-ltb, le-ltb, and_from, and_left, and_right}
+use Rattle.std.proofs.lemmas.Bool.{cases_Bool, cases_eq, cases_lt, eqb-true, eq-eqb, ne_eqb, both_ways}
+use Rattle.std.proofs.lemmas.Bool.{cond-true, cond-false, lt-ltb, le-ltb, and_from, and_left, and_right}
 use Rattle.topo_core.specs.Cycles.{IsPermutation, after, SameCycle, is_met, class_count, count_below, cycle_count}
 use Rattle.topo_core.specs.Rotations.{twin, partly, face_by, Move, along, Joined, IsClassCount}
 use Rattle.topo_core.specs.Rotations.Move.{Turn, Cross}
 use Rattle.topo_core.proofs.systems.Orbits.{SameCycle-sym, is_met-SameCycle, SameCycle-is_met}
 use Rattle.topo_perm.proofs.permutations.Classes.{class_count-same, count_below-same, count_below-more}
-use Rattle.topo_perm.proofs.permutations.Points.{IsExchangeBelow, cycle_count-same, IsPermutation-same, exchanged-permutation, exchanged_splits, exchanged_joins, exchanged_apart, leader, leader-first, leaders_same, IsFirstOf, firsts_same}
+use Rattle.topo_perm.proofs.permutations.Points.{IsExchangeBelow, cycle_count-same, IsPermutation-same, exchanged-permutation, exchanged_splits}
+use Rattle.topo_perm.proofs.permutations.Points.{exchanged_joins, exchanged_apart, leader, leader-first, leaders_same, IsFirstOf, firsts_same}
 use Rattle.topo_perm.proofs.permutations.Labels.{same_label, IsRelabel, relabel-keeps, relabel-meets, relabel-from, relabel-apart, relabel-same}
 use Rattle.topo_perm.proofs.permutations.Exchange.{is_met-equivalence}
-use Rattle.topo_perm.proofs.permutations.Walks.{twin-within, twin-cases, Joined-refl, Joined-trans, Joined-cross, Joined-turn, Joined-SameCycle, keeps_label, IsClassCount-unique}
+use Rattle.topo_perm.proofs.permutations.Walks.{twin-within, twin-cases, Joined-refl, Joined-trans, Joined-cross}
+use Rattle.topo_perm.proofs.permutations.Walks.{Joined-turn, Joined-SameCycle, keeps_label, IsClassCount-unique}
 
 -- t has segment k, and s has all of t but k
 pub record IsWithout (s t : ℕ → Bool) (k : ℕ) : Type 0 where
@@ -76,14 +80,16 @@ along-within f s n h even [] a la = la
 along-within f s n h even (Turn ∷ ms) a la = h.within _ (along-within f s n h even ms a la)
 along-within f s n h even (Cross ∷ ms) a la = partly-within s n _ even (along-within f s n h even ms a la)
 
-cut_step_along : (f : ℕ → ℕ) (n : ℕ) (s : ℕ → Bool) (l : ℕ → ℕ) → IsPermutation f n → n % 2 ≡ 0 → CutStep f n s l → (ms : List Move) (a : ℕ) → a < n → l a ≡ l (along f (partly s) ms a)
+cut_step_along : (f : ℕ → ℕ) (n : ℕ) (s : ℕ → Bool) (l : ℕ → ℕ) → IsPermutation f n → n % 2 ≡ 0 → CutStep f n s l → (ms : List Move) (a : ℕ) → a < n
+    → l a ≡ l (along f (partly s) ms a)
 cut_step_along f n s l h even t [] a la = refl
 cut_step_along f n s l h even t (Turn ∷ ms) a la =
     cut_step_along f n s l h even t ms a la ∙ t.turned _ (along-within f s n h even ms a la)
 cut_step_along f n s l h even t (Cross ∷ ms) a la =
     cut_step_along f n s l h even t ms a la ∙ t.crossed _ (along-within f s n h even ms a la)
 
-pub cut_step_complete : {f : ℕ → ℕ} {n : ℕ} {s : ℕ → Bool} {l : ℕ → ℕ} → IsPermutation f n → n % 2 ≡ 0 → CutStep f n s l → {a b : ℕ} → a < n → Joined f (partly s) a b → l a ≡ l b
+pub cut_step_complete : {f : ℕ → ℕ} {n : ℕ} {s : ℕ → Bool} {l : ℕ → ℕ} → IsPermutation f n → n % 2 ≡ 0 → CutStep f n s l → {a b : ℕ} → a < n
+    → Joined f (partly s) a b → l a ≡ l b
 cut_step_complete {f} {n} {s} {l} h even t {a} la j = cut_step_along f n s l h even t j.moves a la ∙ ap l j.leads
 
 -- no segment
@@ -131,7 +137,8 @@ face_keeps : (f : ℕ → ℕ) (n : ℕ) (s : ℕ → Bool) (l : ℕ → ℕ) �
 face_keeps f n s l even t a la = t.crossed a la ∙ t.turned (partly s a) (partly-within s n a even la)
 
 -- one segment more
-pub cut_step_more : {f : ℕ → ℕ} {n : ℕ} {s t : ℕ → Bool} {k : ℕ} {l : ℕ → ℕ} → IsPermutation f n → n % 2 ≡ 0 → 2 * k + 1 < n → IsWithout s t k → CutStep f n s l → CutStep f n t (relabelled l (2 * k) (2 * k + 1))
+pub cut_step_more : {f : ℕ → ℕ} {n : ℕ} {s t : ℕ → Bool} {k : ℕ} {l : ℕ → ℕ} → IsPermutation f n → n % 2 ≡ 0 → 2 * k + 1 < n → IsWithout s t k → CutStep f n s l
+    → CutStep f n t (relabelled l (2 * k) (2 * k + 1))
 cut_step_more {f} {n} {s} {t} {k} {l} h even lk w st = record {
   turned = λ a la. relabel-keeps a (f a) r la (h.within a la) (st.turned a la);
   crossed = λ a la. elim (cases_eq a i) [
@@ -222,7 +229,10 @@ pub record HasCutStep (f : ℕ → ℕ) (n : ℕ) (s : ℕ → Bool) : Type 0 wh
 cut_step_below : (f : ℕ → ℕ) (n : ℕ) (s : ℕ → Bool) → IsPermutation f n → n % 2 ≡ 0 → (k : ℕ) → 2 * k ≤ n → HasCutStep f n (below s k)
 unfolding below
 cut_step_below f n s h even zero l =
-    record { labels = leader (is_met f n); cut_step = cut_step_same f n (λ _. false) (below s 0) _ (λ i. sym (and_right (s i) (ltb i 0) (le-ltb i 0 (omega arith)))) (cut_step_none f n h) }
+    record {
+      labels = leader (is_met f n);
+      cut_step = cut_step_same f n (λ _. false) (below s 0) _ (λ i. sym (and_right (s i) (ltb i 0) (le-ltb i 0 (omega arith)))) (cut_step_none f n h);
+    }
 cut_step_below f n s h even (suc k) l =
     let before : HasCutStep f n (below s k) = cut_step_below f n s h even k (omega arith) in
     elim (cases_Bool (s k)) [
@@ -276,20 +286,24 @@ components_of f n s h even =
     walk u v e (Turn ∷ ms) a la = ap f (walk u v e ms a la)
     walk u v e (Cross ∷ ms) a la = e _ (along-within f u n h even ms a la) ∙ ap (partly v) (walk u v e ms a la)
 
-    moved_to : ((d : ℕ) → d < n → partly (below s (n / 2)) d ≡ partly s d) → (a b : ℕ) → a < n → Joined f (partly (below s (n / 2))) a b → Joined f (partly s) a b
+    moved_to : ((d : ℕ) → d < n → partly (below s (n / 2)) d ≡ partly s d) → (a b : ℕ) → a < n → Joined f (partly (below s (n / 2))) a b
+        → Joined f (partly s) a b
     moved_to e a b la j = record { moves = j.moves; leads = sym (walk (below s (n / 2)) s e j.moves a la) ∙ j.leads }
 
-    moved_back : ((d : ℕ) → d < n → partly (below s (n / 2)) d ≡ partly s d) → (a b : ℕ) → a < n → Joined f (partly s) a b → Joined f (partly (below s (n / 2))) a b
+    moved_back : ((d : ℕ) → d < n → partly (below s (n / 2)) d ≡ partly s d) → (a b : ℕ) → a < n → Joined f (partly s) a b
+        → Joined f (partly (below s (n / 2))) a b
     moved_back e a b la j = record { moves = j.moves; leads = sym (walk s (below s (n / 2)) (λ d ld. sym (e d ld)) j.moves a la) ∙ j.leads }
 
 -- points and faces are at most as many as the segments and twice the components
-pub euler_bound : (f : ℕ → ℕ) (n : ℕ) (s : ℕ → Bool) (c : ℕ) → IsPermutation f n → n % 2 ≡ 0 → IsClassCount (Joined f (partly s)) n c → cycle_count f n + cycle_count (face_by f s) n ≤ count_below s (n / 2) + 2 * c
+pub euler_bound : (f : ℕ → ℕ) (n : ℕ) (s : ℕ → Bool) (c : ℕ) → IsPermutation f n → n % 2 ≡ 0 → IsClassCount (Joined f (partly s)) n c
+    → cycle_count f n + cycle_count (face_by f s) n ≤ count_below s (n / 2) + 2 * c
 euler_bound f n s c h even comps =
     let k : HasComponents f n s = components_of f n s h even in
     omega (arith, k.bound, IsClassCount-unique (Joined f (partly s)) n k.count c k.components comps)
 
 -- a segment with two faces does not cut: without it its ends are still joined
-pub two_faces_joined : (f : ℕ → ℕ) (n : ℕ) (s t : ℕ → Bool) (k : ℕ) → IsPermutation (face_by f t) n → 2 * k + 1 < n → IsWithout s t k → (SameCycle (face_by f t) (2 * k) (2 * k + 1) → ⊥) → Joined f (partly s) (2 * k) (2 * k + 1)
+pub two_faces_joined : (f : ℕ → ℕ) (n : ℕ) (s t : ℕ → Bool) (k : ℕ) → IsPermutation (face_by f t) n → 2 * k + 1 < n → IsWithout s t k
+    → (SameCycle (face_by f t) (2 * k) (2 * k + 1) → ⊥) → Joined f (partly s) (2 * k) (2 * k + 1)
 two_faces_joined f n s t k h lk w differ =
     round (exchanged_apart h (omega arith) lk (omega arith) (back (face_by-exchange f s t n k w)) differ)
   where
@@ -309,7 +323,8 @@ two_faces_joined f n s t k h lk w differ =
 pub partly-partly : (s : ℕ → Bool) (d : ℕ) → partly s (partly s d) ≡ d
 partly-partly s d = grind (arith, cases_Bool, partly-out, twin-cases, partly-in)
 
-returned : (f : ℕ → ℕ) (s : ℕ → Bool) (n : ℕ) → IsPermutation f n → n % 2 ≡ 0 → (ms : List Move) (a : ℕ) → a < n → Joined f (partly s) (along f (partly s) ms a) a
+returned : (f : ℕ → ℕ) (s : ℕ → Bool) (n : ℕ) → IsPermutation f n → n % 2 ≡ 0 → (ms : List Move) (a : ℕ) → a < n
+    → Joined f (partly s) (along f (partly s) ms a) a
 returned f s n h even [] a la = Joined-refl f (partly s) a
 returned f s n h even (Turn ∷ ms) a la =
     let b : ℕ = along f (partly s) ms a in
@@ -327,7 +342,8 @@ pub Joined-back : (f : ℕ → ℕ) (n : ℕ) → IsPermutation f n → n % 2 �
 Joined-back f n h even a b la j = Joined-sym f (λ _. true) n h even a b la j
 
 -- where the ends are joined without the segment, all is joined as with it
-pub around : {f : ℕ → ℕ} {n : ℕ} {s t : ℕ → Bool} {k : ℕ} → IsPermutation f n → n % 2 ≡ 0 → 2 * k + 1 < n → IsWithout s t k → Joined f (partly s) (2 * k) (2 * k + 1) → (ms : List Move) (a : ℕ) → Joined f (partly s) a (along f (partly t) ms a)
+pub around : {f : ℕ → ℕ} {n : ℕ} {s t : ℕ → Bool} {k : ℕ} → IsPermutation f n → n % 2 ≡ 0 → 2 * k + 1 < n → IsWithout s t k
+    → Joined f (partly s) (2 * k) (2 * k + 1) → (ms : List Move) (a : ℕ) → Joined f (partly s) a (along f (partly t) ms a)
 around {f} {s} h even lk w j [] a = Joined-refl f (partly s) a
 around {f} {n} {s} {t} {k} h even lk w j (Turn ∷ ms) a =
     Joined-trans f (partly s) a _ _ (around h even lk w j ms a) (Joined-turn f (partly s) _ _ refl)
@@ -350,7 +366,9 @@ around {f} {n} {s} {t} {k} h even lk w j (Cross ∷ ms) a =
     ]
 
 -- in genus zero a segment with one face on both sides cuts
-pub one_face_cuts : {f : ℕ → ℕ} {n : ℕ} {s t : ℕ → Bool} {k c : ℕ} → IsPermutation f n → n % 2 ≡ 0 → IsPermutation (face_by f t) n → 2 * k + 1 < n → IsWithout s t k → IsClassCount (Joined f (partly t)) n c → cycle_count f n + cycle_count (face_by f t) n ≡ count_below t (n / 2) + 2 * c → SameCycle (face_by f t) (2 * k) (2 * k + 1) → Joined f (partly s) (2 * k) (2 * k + 1) → ⊥
+pub one_face_cuts : {f : ℕ → ℕ} {n : ℕ} {s t : ℕ → Bool} {k c : ℕ} → IsPermutation f n → n % 2 ≡ 0 → IsPermutation (face_by f t) n → 2 * k + 1 < n
+    → IsWithout s t k → IsClassCount (Joined f (partly t)) n c → cycle_count f n + cycle_count (face_by f t) n ≡ count_below t (n / 2) + 2 * c
+    → SameCycle (face_by f t) (2 * k) (2 * k + 1) → Joined f (partly s) (2 * k) (2 * k + 1) → ⊥
 one_face_cuts {f} {n} {s} {t} {k} {c} h even hf lk w comps flat one j =
     let ex : IsExchangeBelow (face_by f t) (face_by f s) n (2 * k) (2 * k + 1) = back (face_by-exchange f s t n k w) in
     let up : cycle_count (face_by f s) n ≡ cycle_count (face_by f t) n + 1 =

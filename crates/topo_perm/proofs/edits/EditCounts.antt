@@ -4,16 +4,22 @@ use Rattle.std.proofs.lemmas.Bool.{cases_eq, cond-true, cond-false, eq-eqb, ne_e
 use Rattle.topo_core.specs.Cycles.{IsPermutation, SameCycle}
 use Rattle.topo_core.specs.Rotations.{twin, face_next}
 use Rattle.topo_core.specs.Edits.{IsBefore, IsIsolated}
-use Rattle.topo_perm.specs.Edits.{IsPutBefore, IsApart, IsAllowedHang, IsAllowedChord, IsAllowedUnchord, IsAllowedSplit, IsAllowedSmooth, PutBeforeIsPermutation, PutBeforeIsBefore, BypassIsPermutation, BypassSplits, BypassStays, SplitIsPermutation, SmoothingIsPermutation, SmoothingIsSmooth, HangPoints, HangFaces, ChordPoints, ChordFaces, UnchordPoints, UnchordFaces, SplitPoints, SplitFaces, SmoothPoints, SmoothFaces}
+use Rattle.topo_perm.specs.Edits.{IsPutBefore, IsApart, IsAllowedHang, IsAllowedChord, IsAllowedUnchord, IsAllowedSplit, IsAllowedSmooth}
+use Rattle.topo_perm.specs.Edits.{PutBeforeIsPermutation, PutBeforeIsBefore, BypassIsPermutation, BypassSplits, BypassStays}
+use Rattle.topo_perm.specs.Edits.{SplitIsPermutation, SmoothingIsPermutation, SmoothingIsSmooth, HangPoints, HangFaces, ChordPoints}
+use Rattle.topo_perm.specs.Edits.{ChordFaces, UnchordPoints, UnchordFaces, SplitPoints, SplitFaces, SmoothPoints, SmoothFaces}
 use Rattle.topo_core.proofs.systems.Orbits.{SameCycle-sym, SameCycle-trans}
 use Rattle.topo_perm.proofs.permutations.Points.{IsExchangeBelow, HasBefore, before_of, exchanged-permutation, bypass_splits, cycle_count-same}
 use Rattle.topo_perm.proofs.permutations.Walks.{twin-within, face_next-permutation}
-use Rattle.topo_perm.proofs.permutations.Faces.{Hung, Chord, twin-twin, twin-apart, twin-other, insert_points, hang_faces, chord_points, chord_faces, unchord_faces, isolated_face}
-use Rattle.topo_perm.proofs.permutations.Splitting.{Splitting, without, without-self, without-onward, without-elsewhere, without-bypass, bypassed-permutation, split_points, split_faces}
+use Rattle.topo_perm.proofs.permutations.Faces.{Hung, Chord, twin-twin, twin-apart, twin-other, insert_points}
+use Rattle.topo_perm.proofs.permutations.Faces.{hang_faces, chord_points, chord_faces, unchord_faces, isolated_face}
+use Rattle.topo_perm.proofs.permutations.Splitting.{Splitting, without, without-self, without-onward, without-elsewhere}
+use Rattle.topo_perm.proofs.permutations.Splitting.{without-bypass, bypassed-permutation, split_points, split_faces}
 
 -- ---- Permutations
 
-put_exchange : {f g : ℕ → ℕ} {n x c : ℕ} → IsPermutation f n → x < n → c < n → c ≢ x → IsPutBefore f g n x c → (p : HasBefore f n c) → IsExchangeBelow f g n p.place x
+put_exchange : {f g : ℕ → ℕ} {n x c : ℕ} → IsPermutation f n → x < n → c < n → c ≢ x → IsPutBefore f g n x c → (p : HasBefore f n c)
+    → IsExchangeBelow f g n p.place x
 put_exchange h lx lc ne e p = grind arith
 
 pub put_permutation : PutBeforeIsPermutation
@@ -54,11 +60,46 @@ split_permutation f g n h x hf even lx s e =
     let y : ℕ = twin x in
     let lt : t < n = twin-within n h even s.within in
     let ly : y < n = twin-within n x even lx in
-    grind (arith, twin-twin, twin-apart, twin-other, put, put_permutation, put-is, without, bypassed-permutation, without-bypass, without-self, put-elsewhere, without-elsewhere, cases_eq, without-onward, put-self, put-led)
+    grind (
+      arith,
+      twin-twin,
+      twin-apart,
+      twin-other,
+      put,
+      put_permutation,
+      put-is,
+      without,
+      bypassed-permutation,
+      without-bypass,
+      without-self,
+      put-elsewhere,
+      without-elsewhere,
+      cases_eq,
+      without-onward,
+      put-self,
+      put-led,
+    )
 
 -- x taken out, the dart after it put before the twin of x, and then the twin taken out
 pub smoothing_permutation : SmoothingIsPermutation
-smoothing_permutation f g n x hf even lx na nl e = grind (arith, twin-within, twin-other, without, bypassed-permutation, without-bypass, without-onward, without-self, put, put_permutation, put-is, put-self, without-elsewhere, cases_eq, put-led, put-elsewhere)
+smoothing_permutation f g n x hf even lx na nl e = grind (
+  arith,
+  twin-within,
+  twin-other,
+  without,
+  bypassed-permutation,
+  without-bypass,
+  without-onward,
+  without-self,
+  put,
+  put_permutation,
+  put-is,
+  put-self,
+  without-elsewhere,
+  cases_eq,
+  put-led,
+  put-elsewhere,
+)
 
 pub smoothing_smooth : SmoothingIsSmooth
 smoothing_smooth f g n x hf even lx na nl e = grind (arith, twin-within, twin-other, twin-twin, cases_eq)
@@ -75,7 +116,8 @@ pub hang_faces_law : HangFaces
 hang_faces_law f g n c x k = hang_faces f g n x c (hung f g n c x k)
 
 -- the other corner is no corner of the new segment
-pub far_apart : (f : ℕ → ℕ) (n c d x : ℕ) → IsPermutation f n → n % 2 ≡ 0 → IsApart n c x → IsIsolated f x → SameCycle (face_next f) c d → (d ≢ x) × (d ≢ twin x)
+pub far_apart : (f : ℕ → ℕ) (n c d x : ℕ) → IsPermutation f n → n % 2 ≡ 0 → IsApart n c x → IsIsolated f x → SameCycle (face_next f) c d
+    → (d ≢ x) × (d ≢ twin x)
 far_apart f n c d x hf even k room s =
     let hff : IsPermutation (face_next f) n = face_next-permutation f n hf even in
     let back : SameCycle (face_next f) d c = SameCycle-sym (face_next f) n hff c d k.within s in

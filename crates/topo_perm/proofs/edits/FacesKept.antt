@@ -9,7 +9,8 @@ use Rattle.topo_perm.specs.Faces.{HangKeepsFaces, HangSides, SplitKeepsFaces, Sp
 use Rattle.topo_core.proofs.systems.Orbits.{after-within, SameCycle-refl, SameCycle-trans, SameCycle-sym, SameCycle-step}
 use Rattle.topo_perm.proofs.permutations.Points.{IsExchangeBelow, exchanged_splits, exchanged_spread, exchanged_keeps, exchanged_apart, exchanged-permutation}
 use Rattle.topo_perm.proofs.permutations.Walks.{twin-within, face_next-permutation}
-use Rattle.topo_perm.proofs.permutations.Faces.{Hung, Chord, Insertion, insertion, exchange_faces, IsExchangeBelow-back, hang_keeps, hang_twin, isolated_face, twin-twin, twin-apart, twin-other}
+use Rattle.topo_perm.proofs.permutations.Faces.{Hung, Chord, Insertion, insertion, exchange_faces, IsExchangeBelow-back}
+use Rattle.topo_perm.proofs.permutations.Faces.{hang_keeps, hang_twin, isolated_face, twin-twin, twin-apart, twin-other}
 use Rattle.topo_perm.proofs.edits.EditCounts.{hung, chorded, Unchorded, unchorded}
 
 -- ---- Hang
@@ -40,7 +41,10 @@ split_step f g n h x v k lv nx ny =
       | inl e ↦
           let first : face_next g v ≡ x = ap g e ∙ s.point_back in
           elim (cases_eq (f t) t) [
-            | inl alone ↦ record { steps = 3; leads = ap (λ z. face_next g (face_next g z)) first ∙ ap (face_next g) (s.leads_itself alone) ∙ y_to ∙ sym (ap f e ∙ alone) }
+            | inl alone ↦ record {
+              steps = 3;
+              leads = ap (λ z. face_next g (face_next g z)) first ∙ ap (face_next g) (s.leads_itself alone) ∙ y_to ∙ sym (ap f e ∙ alone);
+            }
             | inr more ↦ record { steps = 2; leads = ap (face_next g) first ∙ s.leads_on more ∙ sym (ap f e) }
           ]
       | inr nt ↦ elim (cases_eq (f (twin v)) t) [
@@ -55,13 +59,18 @@ split_keeps_faces f g n h x a b k p s = subst (λ v. SameCycle (face_next g) a v
     away : (v : ℕ) → v < n → v ≢ x → v ≢ twin x → (face_next f v ≢ x) × (face_next f v ≢ twin x)
     away v lv nx ny = grind (arith, twin-within, twin-twin, twin-apart)
 
-    walked : (m : ℕ) → (after (face_next f) m a < n) × (after (face_next f) m a ≢ x) × (after (face_next f) m a ≢ twin x) × SameCycle (face_next g) a (after (face_next f) m a)
+    walked : (m : ℕ) → (after (face_next f) m a < n) × (after (face_next f) m a ≢ x) × (after (face_next f) m a ≢ twin x)
+        × SameCycle (face_next g) a (after (face_next f) m a)
     walked zero = (p.within, p.not_self, p.not_twin, SameCycle-refl (face_next g) a)
     walked (suc m) =
         let (lv, nx, ny, w) = walked m in
         let v : ℕ = after (face_next f) m a in
-        let (ox, oy) = away v lv nx ny in
-        (k.turns.before.within (twin v) (twin-within n v k.turns.even lv), ox, oy, SameCycle-trans (face_next g) a v (face_next f v) w (split_step f g n h x v k lv nx ny))
+        let (ox, oy) = away v lv nx ny in (
+          k.turns.before.within (twin v) (twin-within n v k.turns.even lv),
+          ox,
+          oy,
+          SameCycle-trans (face_next g) a v (face_next f v) w (split_step f g n h x v k lv nx ny),
+        )
 
 pub split_sides : SplitSides
 split_sides f g n h x k = grind (arith, twin-twin)
@@ -69,13 +78,15 @@ split_sides f g n h x k = grind (arith, twin-twin)
 -- ---- Chord
 
 -- an exchange leaves the cycles of neither as they are
-exchange_elsewhere : {f g : ℕ → ℕ} {n i j : ℕ} → IsPermutation f n → IsExchangeBelow f g n i j → {a b : ℕ} → a < n → (SameCycle f a i → ⊥) → (SameCycle f a j → ⊥) → SameCycle f a b → SameCycle g a b
+exchange_elsewhere : {f g : ℕ → ℕ} {n i j : ℕ} → IsPermutation f n → IsExchangeBelow f g n i j → {a b : ℕ} → a < n → (SameCycle f a i → ⊥)
+    → (SameCycle f a j → ⊥) → SameCycle f a b → SameCycle g a b
 exchange_elsewhere {f} {g} {n} h x {a} la ni nj s = record { steps = s.steps; leads = walked s.steps ∙ s.leads }
   where
     walked : (m : ℕ) → after g m a ≡ after f m a
     walked zero = refl
     walked (suc m) =
-        ap g (walked m) ∙ x.elsewhere (after f m a) (after-within f n h m a la) (λ e. ni (record { steps = m; leads = e })) (λ e. nj (record { steps = m; leads = e }))
+        ap g (walked m) ∙ x.elsewhere (after f m a) (after-within f n h m a la) (λ e. ni (record { steps = m; leads = e }))
+        (λ e. nj (record { steps = m; leads = e }))
 
 -- an exchange within one cycle parts the two
 exchange_parted : {f g : ℕ → ℕ} {n i j : ℕ} → IsPermutation f n → i < n → j < n → i ≢ j → IsExchangeBelow f g n i j → SameCycle f i j → SameCycle g i j → ⊥
@@ -87,7 +98,8 @@ exchange_parted {f} {g} {n} {i} {j} h li lj ne x s t =
     )
 
 -- a dart of another face, after the first end: not in the face of the new segment
-half_apart : {f half : ℕ → ℕ} {n c x a : ℕ} → Hung f half n x c → IsPermutation f n → a < n → a ≢ x → a ≢ twin x → (SameCycle (face_next f) a c → ⊥) → SameCycle (face_next half) a x → ⊥
+half_apart : {f half : ℕ → ℕ} {n c x a : ℕ} → Hung f half n x c → IsPermutation f n → a < n → a ≢ x → a ≢ twin x → (SameCycle (face_next f) a c → ⊥)
+    → SameCycle (face_next half) a x → ⊥
 half_apart {f} {half} {n} {c} {x} {a} h hf la nx ny out s =
     let p : Insertion f half n x c = insertion f half n x c h.permutation h.within h.not_self h.before in
     let lp : twin p.place < n = twin-within n p.place h.even p.within in
@@ -137,7 +149,8 @@ second_end f g n c d x k =
       exchange = subst (λ v. IsExchangeBelow (face_next half) (face_next g) n (twin q.place) v) (twin-twin x) ey;
       led = to_d;
       leads = ap g (twin-twin q.place) ∙ q.leads;
-      met = SameCycle-trans (face_next half) (twin q.place) d x (record { steps = 1; leads = to_d }) (SameCycle-sym (face_next half) n hh x d k.hung.within x_to_d);
+      met = SameCycle-trans (face_next half) (twin q.place) d x (record { steps = 1; leads = to_d })
+          (SameCycle-sym (face_next half) n hh x d k.hung.within x_to_d);
     }
 
 pub chord_keeps_faces : ChordKeepsFaces
@@ -166,7 +179,8 @@ chord_sides f g n c d x k other =
 -- ---- Unchord
 
 -- with one end of a segment left, and that taken out too, no face is parted
-pub unhung_faces : (f g : ℕ → ℕ) {n x : ℕ} (c : ℕ) {a b : ℕ} → Hung f g n x c → a < n → a ≢ x → a ≢ twin x → b ≢ x → b ≢ twin x → SameCycle (face_next g) a b → SameCycle (face_next f) a b
+pub unhung_faces : (f g : ℕ → ℕ) {n x : ℕ} (c : ℕ) {a b : ℕ} → Hung f g n x c → a < n → a ≢ x → a ≢ twin x → b ≢ x → b ≢ twin x → SameCycle (face_next g) a b
+    → SameCycle (face_next f) a b
 unhung_faces f g {n} {x} c {a} {b} h la ax ay bx by' s =
     let p : Insertion f g n x c = insertion f g n x c h.permutation h.within h.not_self h.before in
     let lp : twin p.place < n = twin-within n p.place h.even p.within in
@@ -208,7 +222,8 @@ unchord_keeps_faces f g n h a b k pa pb s =
 -- where a walk round a face is after the smoothing, which passes by the segment that goes
 Passed : (ℕ → ℕ) → (ℕ → ℕ) → ℕ → ℕ → ℕ → ℕ → Type 0
 Passed f g n x a v =
-    (v < n) × (((v ≡ x) × SameCycle (face_next g) a (g (f x))) ⊎ (((v ≡ twin x) × SameCycle (face_next g) a (f x)) ⊎ ((v ≢ x) × (v ≢ twin x) × SameCycle (face_next g) a v)))
+    (v < n) × (((v ≡ x) × SameCycle (face_next g) a (g (f x)))
+    ⊎ (((v ≡ twin x) × SameCycle (face_next g) a (f x)) ⊎ ((v ≢ x) × (v ≢ twin x) × SameCycle (face_next g) a v)))
 
 pass_step : (f g : ℕ → ℕ) (n x a v : ℕ) → IsAllowedSmooth f g n x → Passed f g n x a v → Passed f g n x a (face_next f v)
 unfolding Passed

@@ -5,10 +5,12 @@ use Rattle.topo_core.specs.Cycles.{IsPermutation, SameCycle, after, is_met}
 use Rattle.topo_core.specs.Rotations.{twin, face_next}
 use Rattle.topo_core.proofs.systems.Orbits.{SameCycle-refl, SameCycle-trans, SameCycle-sym, SameCycle-step, SameCycle-is_met, is_met-SameCycle}
 use Rattle.topo_perm.specs.Edits.{IsAllowedChord, IsAllowedUnchord, IsAllowedSplit, IsAllowedSmooth, IsApart}
-use Rattle.topo_perm.specs.FaceLabels.{AddsBelow, AreJoinedLabels, AreKept, ArePartLabels, ChordLabels, HangLabels, LabelsFaces, SmoothLabels, SplitLabels, UnchordLabels}
+use Rattle.topo_perm.specs.FaceLabels.{AddsBelow, AreJoinedLabels, AreKept, ArePartLabels, ChordLabels}
+use Rattle.topo_perm.specs.FaceLabels.{HangLabels, LabelsFaces, SmoothLabels, SplitLabels, UnchordLabels}
 use Rattle.topo_perm.proofs.edits.EditCounts.{hung, smoothed}
 use Rattle.topo_perm.proofs.permutations.Faces.{twin-twin, twin-apart, twin-other}
-use Rattle.topo_perm.proofs.edits.FacesKept.{chord_keeps_faces, chord_sides, hang_keeps_faces, hang_sides, smooth_keeps_faces, split_keeps_faces, split_sides, unchord_keeps_faces, unhung_faces}
+use Rattle.topo_perm.proofs.edits.FacesKept.{chord_keeps_faces, chord_sides, hang_keeps_faces, hang_sides, smooth_keeps_faces}
+use Rattle.topo_perm.proofs.edits.FacesKept.{split_keeps_faces, split_sides, unchord_keeps_faces, unhung_faces}
 use Rattle.topo_perm.proofs.permutations.Points.{HasBefore, before_of}
 use Rattle.topo_perm.proofs.permutations.Walks.{face_next-permutation, twin-within}
 
@@ -22,7 +24,8 @@ record HasOld (live : ℕ → Bool) (g l l' : ℕ → ℕ) (a : ℕ) : Type 0 wh
   label : l' a ≡ l old
 
 -- where darts that were live lie in one face after just when they did before
-labelled : {live : ℕ → Bool} (live' : ℕ → Bool) {f : ℕ → ℕ} (g : ℕ → ℕ) {l : ℕ → ℕ} (l' : ℕ → ℕ) {n : ℕ} → IsPermutation (face_next g) n → ((a : ℕ) → live' a ≡ true → a < n) → LabelsFaces live f l
+labelled : {live : ℕ → Bool} (live' : ℕ → Bool) {f : ℕ → ℕ} (g : ℕ → ℕ) {l : ℕ → ℕ} (l' : ℕ → ℕ) {n : ℕ} → IsPermutation (face_next g) n
+    → ((a : ℕ) → live' a ≡ true → a < n) → LabelsFaces live f l
     → ((a b : ℕ) → live a ≡ true → live b ≡ true → SameCycle (face_next f) a b → SameCycle (face_next g) a b)
     → ((a b : ℕ) → live a ≡ true → live b ≡ true → SameCycle (face_next g) a b → SameCycle (face_next f) a b)
     → ((a : ℕ) → live' a ≡ true → HasOld live g l l' a) → LabelsFaces live' g l'
@@ -31,12 +34,14 @@ labelled live' g l' {n} perm below labels onward back old = record {
       let r = old a t in
       let q = old b s in
       let met : SameCycle (face_next g) r.old q.old = onward r.old q.old r.was q.was (labels.same_face r.old q.old r.was q.was (sym r.label ∙ e ∙ q.label)) in
-      SameCycle-trans (face_next g) a r.old b r.in_face (SameCycle-trans (face_next g) r.old q.old b met (SameCycle-sym (face_next g) n perm b q.old (below b s) q.in_face));
+      SameCycle-trans (face_next g) a r.old b r.in_face
+      (SameCycle-trans (face_next g) r.old q.old b met (SameCycle-sym (face_next g) n perm b q.old (below b s) q.in_face));
   same_label = λ a b t s e.
       let r = old a t in
       let q = old b s in
       let met : SameCycle (face_next g) r.old q.old =
-      SameCycle-trans (face_next g) r.old a q.old (SameCycle-sym (face_next g) n perm a r.old (below a t) r.in_face) (SameCycle-trans (face_next g) a b q.old e q.in_face) in
+      SameCycle-trans (face_next g) r.old a q.old (SameCycle-sym (face_next g) n perm a r.old (below a t) r.in_face)
+      (SameCycle-trans (face_next g) a b q.old e q.in_face) in
       r.label ∙ labels.same_label r.old q.old r.was q.was (back r.old q.old r.was q.was met) ∙ sym q.label;
 }
 
@@ -53,10 +58,13 @@ away : (live live' : ℕ → Bool) (n x a : ℕ) → AddsBelow live live' n x �
 away live live' n x a k t = grind (arith, false≢true)
 
 -- with a dart for each half of the new segment
-old_by : {live : ℕ → Bool} (live' : ℕ → Bool) (g l l' : ℕ → ℕ) {x r q a : ℕ} → AreKept live l l' → live r ≡ true → live q ≡ true → SameCycle (face_next g) x r → SameCycle (face_next g) (twin x) q → l' x ≡ l r → l' (twin x) ≡ l q
+old_by : {live : ℕ → Bool} (live' : ℕ → Bool) (g l l' : ℕ → ℕ) {x r q a : ℕ} → AreKept live l l' → live r ≡ true → live q ≡ true → SameCycle (face_next g) x r
+    → SameCycle (face_next g) (twin x) q → l' x ≡ l r → l' (twin x) ≡ l q
     → Comes live x a → HasOld live g l l' a
-old_by live' g l l' {r} kept tr tq sr sq er eq (IsNew e) = record { old = r; was = tr; in_face = subst (λ (v : ℕ). SameCycle (face_next g) v r) (sym e) sr; label = ap l' e ∙ er }
-old_by live' g l l' {q} kept tr tq sr sq er eq (IsNewTwin e) = record { old = q; was = tq; in_face = subst (λ (v : ℕ). SameCycle (face_next g) v q) (sym e) sq; label = ap l' e ∙ eq }
+old_by live' g l l' {r} kept tr tq sr sq er eq (IsNew e) =
+    record { old = r; was = tr; in_face = subst (λ (v : ℕ). SameCycle (face_next g) v r) (sym e) sr; label = ap l' e ∙ er }
+old_by live' g l l' {q} kept tr tq sr sq er eq (IsNewTwin e) =
+    record { old = q; was = tq; in_face = subst (λ (v : ℕ). SameCycle (face_next g) v q) (sym e) sq; label = ap l' e ∙ eq }
 old_by live' g l l' {a} kept tr tq sr sq er eq (WasLive t) = record { old = a; was = t; in_face = SameCycle-refl (face_next g) a; label = kept a t }
 
 -- ---- Hang
@@ -65,7 +73,8 @@ pub hang_labels : HangLabels
 hang_labels live live' f g l l' n c x adds tc k labels kept here there =
     let sides = hang_sides f g n c x k in
     let perm : IsPermutation (face_next g) n = face_next-permutation g n k.turns.after k.turns.even in
-    let twin_c : SameCycle (face_next g) (twin x) c = SameCycle-trans (face_next g) (twin x) x c (SameCycle-sym (face_next g) n perm x (twin x) k.turns.within sides.0) sides.1 in
+    let twin_c : SameCycle (face_next g) (twin x) c =
+    SameCycle-trans (face_next g) (twin x) x c (SameCycle-sym (face_next g) n perm x (twin x) k.turns.within sides.0) sides.1 in
     labelled live' g l' perm adds.below_after labels
     (λ a b t s. hang_keeps_faces f g n c x a b k (adds.below a t))
     (λ a b t s.
@@ -92,10 +101,13 @@ split_labels live live' f g l l' n h x adds th tt' k labels kept here there =
 
 pub smooth_labels : SmoothLabels
 smooth_labels live live' f g l l' n x takes k labels kept =
-    let was : (a : ℕ) → live' a ≡ true → live a ≡ true = λ a t. (let p = away live' live n x a takes t in takes.adds.others a p.within p.not_self p.not_twin ∙ t) in
+    let was : (a : ℕ) → live' a ≡ true → live a ≡ true =
+    λ a t. (let p = away live' live n x a takes t in takes.adds.others a p.within p.not_self p.not_twin ∙ t) in
     record {
-      same_face = λ a b t s e. smooth_keeps_faces f g n x a b k (away live' live n x a takes t) (away live' live n x b takes s) (labels.same_face a b (was a t) (was b s) (sym (kept a t) ∙ e ∙ kept b s));
-      same_label = λ a b t s e. kept a t ∙ labels.same_label a b (was a t) (was b s) (split_keeps_faces g f n (twin (f x)) x a b (smoothed f g n x k) (away live' live n x a takes t) e) ∙ sym (kept b s);
+      same_face = λ a b t s e. smooth_keeps_faces f g n x a b k (away live' live n x a takes t) (away live' live n x b takes s)
+          (labels.same_face a b (was a t) (was b s) (sym (kept a t) ∙ e ∙ kept b s));
+      same_label = λ a b t s e. kept a t ∙ labels.same_label a b (was a t) (was b s) (split_keeps_faces g f n (twin (f x)) x a b (smoothed f g n x k)
+          (away live' live n x a takes t) e) ∙ sym (kept b s);
     }
 
 -- ---- Chord
@@ -106,7 +118,8 @@ same_or_not g n a b perm la = elim (cases_Bool (is_met g n a b)) [
   | inr f ↦ inr (λ s. false≢true (sym f ∙ SameCycle-is_met g n perm a b la s))
 ]
 
-module _ {live live' : ℕ → Bool} {f g l l' : ℕ → ℕ} {n c d x y new : ℕ} (adds : AddsBelow live live' n x) (tc : live c ≡ true) (td : live d ≡ true) (apart : c ≢ d) (k : IsAllowedChord f g n c d x)
+module _ {live live' : ℕ → Bool} {f g l l' : ℕ → ℕ} {n c d x y new : ℕ} (adds : AddsBelow live live' n x) (tc : live c ≡ true) (td : live d ≡ true)
+    (apart : c ≢ d) (k : IsAllowedChord f g n c d x)
     (labels : LabelsFaces live f l) (side : (y ≡ x) ⊎ (y ≡ twin x)) (part : ArePartLabels live live' g l l' c y new) where
   abbrev Met : ℕ → ℕ → Type 0
   Met a b = SameCycle (face_next g) a b
@@ -260,7 +273,8 @@ module _ {live live' : ℕ → Bool} {f g l l' : ℕ → ℕ} {n c d x y new : �
       | inr far ↦
           let r = old a t out in
           let q = old b s far in
-          let met : Met r.old q.old = onward r.was q.was (out_old a t out) (out_old b s far) (labels.same_face r.old q.old r.was q.was (sym r.label ∙ e ∙ q.label)) in
+          let met : Met r.old q.old =
+          onward r.was q.was (out_old a t out) (out_old b s far) (labels.same_face r.old q.old r.was q.was (sym r.label ∙ e ∙ q.label)) in
           join a r.old b r.in_face (join r.old q.old b met (turn_round b q.old (adds.below_after b s) q.in_face))
     ]
   ]
@@ -292,7 +306,8 @@ after_fixed f a (suc m) e = ap f (after_fixed f a m e) ∙ e
 alone_on : (f : ℕ → ℕ) (a b : ℕ) → f a ≡ a → SameCycle f a b → b ≡ a
 alone_on f a b e s = sym s.leads ∙ after_fixed f a s.steps e
 
-module _ {live live' : ℕ → Bool} {f g l l' : ℕ → ℕ} {n h y : ℕ} (takes : AddsBelow live' live n h) (k : IsAllowedUnchord f g n h) (labels : LabelsFaces live f l) (side : (y ≡ h) ⊎ (y ≡ twin h)) (part : AreJoinedLabels live' f l l' y) where
+module _ {live live' : ℕ → Bool} {f g l l' : ℕ → ℕ} {n h y : ℕ} (takes : AddsBelow live' live n h) (k : IsAllowedUnchord f g n h)
+    (labels : LabelsFaces live f l) (side : (y ≡ h) ⊎ (y ≡ twin h)) (part : AreJoinedLabels live' f l l' y) where
   abbrev Was : ℕ → ℕ → Type 0
   Was a b = SameCycle (face_next f) a b
 
@@ -365,7 +380,10 @@ module _ {live live' : ℕ → Bool} {f g l l' : ℕ → ℕ} {n h y : ℕ} (tak
         | inr ne ↦ elim (cases_eq (f u) (twin h)) [
           | inl e ↦
               let v_t : Was (twin h) v = was_back v (twin h) lv (record { steps = 1; leads = e }) in
-              inr (beside_a (inr v_t), lands u lu uh ut (inr (subst (λ (z : ℕ). Was (twin h) z) (sym (half_else u lu uh ne ∙ e)) (SameCycle-refl (face_next f) (twin h)))))
+              inr (
+                beside_a (inr v_t),
+                lands u lu uh ut (inr (subst (λ (z : ℕ). Was (twin h) z) (sym (half_else u lu uh ne ∙ e)) (SameCycle-refl (face_next f) (twin h)))),
+              )
           | inr nd ↦
               let to : face_next g v ≡ face_next f v = k.edit.second.elsewhere u lu ut (λ w. nd (sym (half_else u lu uh ne) ∙ w)) ∙ half_else u lu uh ne in
               subst (λ (z : ℕ). Near a z) (sym to) (stepped s)
@@ -382,7 +400,8 @@ module _ {live live' : ℕ → Bool} {f g l l' : ℕ → ℕ} {n h y : ℕ} (tak
       stepped (inr (b, inl w)) = inr (b, inl (SameCycle-step (face_next f) h v w))
       stepped (inr (b, inr w)) = inr (b, inr (SameCycle-step (face_next f) (twin h) v w))
 
-  near_walk : (a m : ℕ) → IsApart n a h → (after (face_next g) m a < n) × (after (face_next g) m a ≢ h) × (after (face_next g) m a ≢ twin h) × Near a (after (face_next g) m a)
+  near_walk : (a m : ℕ) → IsApart n a h → (after (face_next g) m a < n) × (after (face_next g) m a ≢ h) × (after (face_next g) m a ≢ twin h)
+      × Near a (after (face_next g) m a)
   near_walk a zero p = (p.within, p.not_self, p.not_twin, inl (SameCycle-refl (face_next f) a))
   near_walk a (suc m) p =
       let (lv, nh, nt, s) = near_walk a m p in
@@ -429,7 +448,11 @@ module _ {live live' : ℕ → Bool} {f g l l' : ℕ → ℕ} {n h y : ℕ} (tak
       SameCycle-trans (face_next g) a v b a_v (SameCycle-trans (face_next g) v (f h) b (record { steps = 1; leads = to }) w_b)
 
   y_live : live (twin y) ≡ true
-  y_live = elim side [ inl e ↦ ap (λ (v : ℕ). live (twin v)) e ∙ takes.adds.here_twin | inr e ↦ ap (λ (v : ℕ). live (twin v)) e ∙ ap live (twin-twin h) ∙ takes.adds.here ]
+  y_live = elim side [
+    | inl e ↦ ap (λ (v : ℕ). live (twin v)) e ∙ takes.adds.here_twin
+    | inr e ↦ ap (λ (v : ℕ). live (twin v)) e ∙ ap live (twin-twin h)
+        ∙ takes.adds.here
+  ]
 
   -- one on the side of y and one on the other
   across : (a b : ℕ) → live' a ≡ true → live' b ≡ true → Was a y → Was b (twin y) → Is a b
@@ -481,7 +504,8 @@ module _ {live live' : ℕ → Bool} {f g l l' : ℕ → ℕ} {n h y : ℕ} (tak
       | inr out ↦ across a b t s on (labels.same_face b (twin y) (was_live b s) y_live (sym (part.kept b s out) ∙ sym e ∙ part.anew a t on))
     ]
     | inr out ↦ elim (decide b s) [
-      | inl on ↦ SameCycle-sym (face_next g) n perm_g b a (other b s).within (across b a s t on (labels.same_face a (twin y) (was_live a t) y_live (sym (part.kept a t out) ∙ e ∙ part.anew b s on)))
+      | inl on ↦ SameCycle-sym (face_next g) n perm_g b a (other b s).within
+          (across b a s t on (labels.same_face a (twin y) (was_live a t) y_live (sym (part.kept a t out) ∙ e ∙ part.anew b s on)))
       | inr far ↦ kept_met a b (other a t) (other b s) (labels.same_face a b (was_live a t) (was_live b s) (sym (part.kept a t out) ∙ e ∙ part.kept b s far))
     ]
   ]

@@ -19,11 +19,15 @@ chord_is_possible f n c d x h even lx room k one =
     record { turn = g; edit = chord_allowed f g n c d x (chord_put f n c d x (record { permutation = h; even = even }) lx room k m) one }
 
 pub unchord_is_possible : UnchordIsPossible
-unchord_is_possible f n h hf even lh two not_alone = record { turn = without (without f h) (twin h); edit = unchord_allowed f n h (record { permutation = hf; even = even }) lh two not_alone }
+unchord_is_possible f n h hf even lh two not_alone =
+    record { turn = without (without f h) (twin h); edit = unchord_allowed f n h (record { permutation = hf; even = even }) lh two not_alone }
 
 pub split_is_possible : SplitIsPossible
 split_is_possible f n h x hf even lx room s =
-    record { turn = put (without (put f (twin x) (twin h)) (twin h)) x (twin h); edit = split_allowed f n h x (record { permutation = hf; even = even }) lx room s }
+    record {
+      turn = put (without (put f (twin x) (twin h)) (twin h)) x (twin h);
+      edit = split_allowed f n h x (record { permutation = hf; even = even }) lx room s;
+    }
 
 pub smooth_is_possible : SmoothIsPossible
 smooth_is_possible f n x hf even lx back na nl =

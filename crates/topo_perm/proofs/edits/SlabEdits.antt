@@ -4,12 +4,15 @@ use Rattle.std.proofs.lemmas.Bool.{cases_eq, both_ways}
 use Rattle.topo_core.specs.Rotations.{twin}
 use Rattle.topo_perm.specs.Joins.{AddsSegment}
 use Rattle.topo_perm.specs.Live.{IsSlab, live_segments}
-use Rattle.topo_perm.specs.LiveEdits.{GrowsSlab, ShrinksSlab, SegmentsGrow, FreeSegmentsFall, HangLivePoints, HangLiveFaces, ChordLivePoints, ChordLiveFaces, SplitLivePoints, SplitLiveFaces, UnchordLivePoints, UnchordLiveFaces, SmoothLivePoints, SmoothLiveFaces, HangKeepsSlab, ChordKeepsSlab, SplitKeepsSlab, UnchordKeepsSlab, SmoothKeepsSlab}
+use Rattle.topo_perm.specs.LiveEdits.{GrowsSlab, ShrinksSlab, SegmentsGrow, FreeSegmentsFall, HangLivePoints, HangLiveFaces, ChordLivePoints}
+use Rattle.topo_perm.specs.LiveEdits.{ChordLiveFaces, SplitLivePoints, SplitLiveFaces, UnchordLivePoints, UnchordLiveFaces, SmoothLivePoints}
+use Rattle.topo_perm.specs.LiveEdits.{SmoothLiveFaces, HangKeepsSlab, ChordKeepsSlab, SplitKeepsSlab, UnchordKeepsSlab, SmoothKeepsSlab}
 use Rattle.topo_perm.proofs.permutations.Classes.{count_below-more}
 use Rattle.topo_perm.proofs.permutations.Walks.{twin-within}
 use Rattle.topo_perm.proofs.edits.Bypassing.{halves}
 use Rattle.topo_perm.proofs.permutations.Faces.{Hung, Chord, Insertion, insertion, twin-twin, twin-apart}
-use Rattle.topo_perm.proofs.edits.EditCounts.{hung, chorded, Unchorded, unchorded, hang_points_law, hang_faces_law, chord_points_law, chord_faces_law, unchord_points_law, unchord_faces_law, split_points_law, split_faces_law, smooth_points_law, smooth_faces_law}
+use Rattle.topo_perm.proofs.edits.EditCounts.{hung, chorded, Unchorded, unchorded, hang_points_law, hang_faces_law, chord_points_law, chord_faces_law}
+use Rattle.topo_perm.proofs.edits.EditCounts.{unchord_points_law, unchord_faces_law, split_points_law, split_faces_law, smooth_points_law, smooth_faces_law}
 use Rattle.topo_perm.proofs.edits.Slabs.{live_points_law, live_faces_law, live_segments_law}
 
 -- ---- Segments
@@ -61,19 +64,43 @@ split_live_faces live live' f g n h x s k =
 
 pub unchord_live_points : UnchordLivePoints
 unchord_live_points live live' f g n h s k =
-    omega (arith, live_points_law live f n s.before, live_points_law live' g n s.after, free_segments_fall live' live g f n h (grown live live' f g n h s), unchord_points_law f g n h k)
+    omega (
+      arith,
+      live_points_law live f n s.before,
+      live_points_law live' g n s.after,
+      free_segments_fall live' live g f n h (grown live live' f g n h s),
+      unchord_points_law f g n h k,
+    )
 
 pub unchord_live_faces : UnchordLiveFaces
 unchord_live_faces live live' f g n h s k =
-    omega (arith, live_faces_law live f n s.before, live_faces_law live' g n s.after, free_segments_fall live' live g f n h (grown live live' f g n h s), unchord_faces_law f g n h k)
+    omega (
+      arith,
+      live_faces_law live f n s.before,
+      live_faces_law live' g n s.after,
+      free_segments_fall live' live g f n h (grown live live' f g n h s),
+      unchord_faces_law f g n h k,
+    )
 
 pub smooth_live_points : SmoothLivePoints
 smooth_live_points live live' f g n x s k =
-    omega (arith, live_points_law live f n s.before, live_points_law live' g n s.after, free_segments_fall live' live g f n x (grown live live' f g n x s), smooth_points_law f g n x k)
+    omega (
+      arith,
+      live_points_law live f n s.before,
+      live_points_law live' g n s.after,
+      free_segments_fall live' live g f n x (grown live live' f g n x s),
+      smooth_points_law f g n x k,
+    )
 
 pub smooth_live_faces : SmoothLiveFaces
 smooth_live_faces live live' f g n x s k =
-    omega (arith, live_faces_law live f n s.before, live_faces_law live' g n s.after, free_segments_fall live' live g f n x (grown live live' f g n x s), smooth_faces_law f g n x k)
+    omega (
+      arith,
+      live_faces_law live f n s.before,
+      live_faces_law live' g n s.after,
+      free_segments_fall live' live g f n x (grown live live' f g n x s),
+      smooth_faces_law f g n x k,
+    )
 
 -- ---- The slab stays one
 
@@ -81,7 +108,8 @@ smooth_live_faces live live' f g n x s k =
 others : (a x : ℕ) → a ≢ x → a ≢ twin x → (twin a ≢ x) × (twin a ≢ twin x)
 others a x nx nt = (λ e. nt (sym (twin-twin a) ∙ ap twin e), λ e. nx (twin-apart a x e))
 
-pub added_twins : (live live' : ℕ → Bool) (n x : ℕ) → n % 2 ≡ 0 → AddsSegment live live' n x → ((a : ℕ) → a < n → live (twin a) ≡ live a) → (a : ℕ) → a < n → live' (twin a) ≡ live' a
+pub added_twins : (live live' : ℕ → Bool) (n x : ℕ) → n % 2 ≡ 0 → AddsSegment live live' n x → ((a : ℕ) → a < n → live (twin a) ≡ live a) → (a : ℕ) → a < n
+    → live' (twin a) ≡ live' a
 added_twins live live' n x even s t a la =
     elim (cases_eq a x) [
       | inl e ↦ ap (λ z. live' (twin z)) e ∙ s.here_twin ∙ sym (ap live' e ∙ s.here)
@@ -92,7 +120,8 @@ added_twins live live' n x even s t a la =
       ]
     ]
 
-pub taken_twins : (live live' : ℕ → Bool) (n x : ℕ) → n % 2 ≡ 0 → AddsSegment live' live n x → ((a : ℕ) → a < n → live (twin a) ≡ live a) → (a : ℕ) → a < n → live' (twin a) ≡ live' a
+pub taken_twins : (live live' : ℕ → Bool) (n x : ℕ) → n % 2 ≡ 0 → AddsSegment live' live n x → ((a : ℕ) → a < n → live (twin a) ≡ live a) → (a : ℕ) → a < n
+    → live' (twin a) ≡ live' a
 taken_twins live live' n x even s t a la =
     elim (cases_eq a x) [
       | inl e ↦ ap (λ z. live' (twin z)) e ∙ s.new_twin ∙ sym (ap live' e ∙ s.new)
@@ -110,7 +139,8 @@ pub record Stayed (live live' : ℕ → Bool) (f : ℕ → ℕ) (n x a : ℕ) : 
   pub dead : live a ≡ false
   pub fixed : f a ≡ a
 
-pub stayed : (live live' : ℕ → Bool) (f : ℕ → ℕ) (n x a : ℕ) → IsSlab live f n → AddsSegment live live' n x → a < n → live' a ≡ false → Stayed live live' f n x a
+pub stayed : (live live' : ℕ → Bool) (f : ℕ → ℕ) (n x a : ℕ) → IsSlab live f n → AddsSegment live live' n x → a < n → live' a ≡ false
+    → Stayed live live' f n x a
 stayed live live' f n x a s t la e = grind (arith, both_ways)
 
 -- what is put before a live dart leaves a fixed dart that is not live as it is
@@ -139,7 +169,8 @@ chord_keeps_slab live live' f g n c d x s t alive_c alive_d k = record {
       let q : Chord f g n x c d = chorded f g n c d x k in
       let lx : x < n = k.turns.within in
       let lt : twin x < n = twin-within n x s.even lx in
-      let half : q.half a ≡ a = put_fixed live a (insertion f q.half n x c q.hung.permutation lx q.hung.not_self q.hung.before) alive_c la w.not_self w.dead w.fixed in
+      let half : q.half a ≡ a =
+      put_fixed live a (insertion f q.half n x c q.hung.permutation lx q.hung.not_self q.hung.before) alive_c la w.not_self w.dead w.fixed in
       put_fixed live a (insertion q.half g n (twin x) d q.permutation lt q.apart q.before) alive_d la w.not_twin w.dead half;
 }
 

@@ -20,13 +20,15 @@ parts live p (suc n) =
     let low = parts live p n in
     elim (cases_Bool (live n)) [ inl e ↦ rw e (omega (arith, low)) | inr e ↦ rw e (omega (arith, low)) ]
 
-pairs_one : (q w : ℕ → Bool) (k : ℕ) → ((i : ℕ) → i < k → cond (q (2 * i)) 1 0 + cond (q (suc (2 * i))) 1 0 ≡ cond (w i) 1 0) → count_below q (2 * k) ≡ count_below w k
+pairs_one : (q w : ℕ → Bool) (k : ℕ) → ((i : ℕ) → i < k → cond (q (2 * i)) 1 0 + cond (q (suc (2 * i))) 1 0 ≡ cond (w i) 1 0)
+    → count_below q (2 * k) ≡ count_below w k
 pairs_one q w zero h = refl
 pairs_one q w (suc k) h =
     let e : 2 * suc k ≡ suc (suc (2 * k)) = omega arith in
     rw e (omega (arith, pairs_one q w k (λ i l. h i (omega arith)), h k (omega arith)))
 
-pairs_two : (q w : ℕ → Bool) (k : ℕ) → ((i : ℕ) → i < k → cond (q (2 * i)) 1 0 + cond (q (suc (2 * i))) 1 0 ≡ 2 * cond (w i) 1 0) → count_below q (2 * k) ≡ 2 * count_below w k
+pairs_two : (q w : ℕ → Bool) (k : ℕ) → ((i : ℕ) → i < k → cond (q (2 * i)) 1 0 + cond (q (suc (2 * i))) 1 0 ≡ 2 * cond (w i) 1 0)
+    → count_below q (2 * k) ≡ 2 * count_below w k
 pairs_two q w zero h = refl
 pairs_two q w (suc k) h =
     let e : 2 * suc k ≡ suc (suc (2 * k)) = omega arith in
@@ -54,7 +56,9 @@ whole : (n : ℕ) → n % 2 ≡ 0 → 2 * (n / 2) ≡ n
 whole n even = omega arith
 
 -- the classes of the darts that are not live: at each free segment as many as the count of its two darts says
-free_classes_one : (live : ℕ → Bool) (f : ℕ → ℕ) (n : ℕ) (r : ℕ → ℕ → Bool) → IsSlab live f n → ((i : ℕ) → 2 * i < n → live (2 * i) ≡ false → (is_first r (2 * i) ≡ true) × (is_first r (suc (2 * i)) ≡ false)) → class_count r n ≡ live_class_count live r n + free_segments live n
+free_classes_one : (live : ℕ → Bool) (f : ℕ → ℕ) (n : ℕ) (r : ℕ → ℕ → Bool) → IsSlab live f n
+    → ((i : ℕ) → 2 * i < n → live (2 * i) ≡ false → (is_first r (2 * i) ≡ true) × (is_first r (suc (2 * i)) ≡ false))
+    → class_count r n ≡ live_class_count live r n + free_segments live n
 free_classes_one live f n r s each =
     let q : ℕ → Bool = λ a. not (live a) && is_first r a in
     let free : count_below q (2 * (n / 2)) ≡ free_segments live n =
@@ -64,7 +68,8 @@ free_classes_one live f n r s each =
     grind (arith, cases_Bool)) in
     omega (arith, parts live (is_first r) n, ap (count_below q) (sym (whole n s.even)), free)
 
-free_classes_two : (live : ℕ → Bool) (f : ℕ → ℕ) (n : ℕ) (r : ℕ → ℕ → Bool) → IsSlab live f n → ((a : ℕ) → a < n → live a ≡ false → is_first r a ≡ true) → class_count r n ≡ live_class_count live r n + 2 * free_segments live n
+free_classes_two : (live : ℕ → Bool) (f : ℕ → ℕ) (n : ℕ) (r : ℕ → ℕ → Bool) → IsSlab live f n → ((a : ℕ) → a < n → live a ≡ false → is_first r a ≡ true)
+    → class_count r n ≡ live_class_count live r n + 2 * free_segments live n
 free_classes_two live f n r s each =
     let q : ℕ → Bool = λ a. not (live a) && is_first r a in
     let free : count_below q (2 * (n / 2)) ≡ 2 * free_segments live n =
@@ -109,7 +114,8 @@ live_faces_law live f n s =
             let back : SameCycle g (2 * i) b = SameCycle-sym g n hg b (2 * i) (omega arith) (is_met-SameCycle g n b (2 * i) met) in
             let from_twin : SameCycle g (twin (2 * i)) b =
             SameCycle-trans g (twin (2 * i)) (2 * i) b (record { steps = 1; leads = ap f (twin-twin (2 * i)) ∙ at }) back in
-            absurd (elim (isolated_face f (2 * i) b (record { this = at; other = at_twin }) from_twin) [ inl w ↦ omega (arith, t, w, lb) | inr w ↦ omega (arith, w, lb) ])
+            absurd (elim (isolated_face f (2 * i) b (record { this = at; other = at_twin }) from_twin)
+            [ inl w ↦ omega (arith, t, w, lb) | inr w ↦ omega (arith, w, lb) ])
       ]),
       is_first-not (is_met g n) (suc (2 * i)) (2 * i) (omega arith)
           (SameCycle-is_met g n hg (2 * i) (suc (2 * i)) lo (record { steps = 1; leads = at_twin ∙ t })),
@@ -172,10 +178,12 @@ live_components_law live f n a s all la alive =
     let lt : suc (2 * i) < n = odd_within n i s.even lo in (
       is_first-from r (2 * i) (λ b lb. elim (cases_Bool (r b (2 * i))) [
         | inr none ↦ none
-        | inl met ↦ absurd (elim (free_joined live f n (2 * i) b s lo gone (Joined-back f n s.permutation s.even b (2 * i) (omega arith) (c.sound b (2 * i) (omega arith) lo met))) [
-          | inl w ↦ omega (arith, w, lb)
-          | inr w ↦ omega (arith, w, t, lb)
-        ])
+        | inl met ↦
+            absurd (elim (free_joined live f n (2 * i) b s lo gone
+            (Joined-back f n s.permutation s.even b (2 * i) (omega arith) (c.sound b (2 * i) (omega arith) lo met))) [
+              | inl w ↦ omega (arith, w, lb)
+              | inr w ↦ omega (arith, w, t, lb)
+            ])
       ]),
       is_first-not r (suc (2 * i)) (2 * i) (omega arith) (c.complete (2 * i) (suc (2 * i)) lo lt (Joined-cross f twin (2 * i) (suc (2 * i)) t)),
     )) in

@@ -7,5 +7,6 @@ abbrev pub invariant-loop-steps : goal.invariant-loop-steps
 invariant-loop-steps l = record {
   place : l.at ≡ after (map_of l.images) l._steps l.start;
   within : l.at < length l.images;
-  marked : (a : ℕ) → a < length l.images → slice_index_or l.seen a false ≡ (is_met (map_of l.images) l._steps l.start a || slice_index_or l.initial.seen a false);
+  marked : (a : ℕ) → a < length l.images
+      → slice_index_or l.seen a false ≡ (is_met (map_of l.images) l._steps l.start a || slice_index_or l.initial.seen a false);
 }

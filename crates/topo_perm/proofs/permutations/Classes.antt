@@ -7,7 +7,8 @@ pub use Rattle.topo_core.proofs.systems.Orbits.{count_below-same, some_below-sam
 use Rattle.topo_core.proofs.systems.Orbits.{search_below, some_below-true, some_below-false}
 
 -- two tests that differ at one number
-pub count_below-more : (p q : ℕ → Bool) (n m : ℕ) → m < n → p m ≡ true → q m ≡ false → ((a : ℕ) → a < n → a ≢ m → p a ≡ q a) → count_below p n ≡ count_below q n + 1
+pub count_below-more : (p q : ℕ → Bool) (n m : ℕ) → m < n → p m ≡ true → q m ≡ false → ((a : ℕ) → a < n → a ≢ m → p a ≡ q a)
+    → count_below p n ≡ count_below q n + 1
 count_below-more p q zero m l pm qm h = absurd (omega arith)
 count_below-more p q (suc n) m l pm qm h =
     elim (cases_eq m n) [
@@ -36,7 +37,8 @@ first-before r a b e l =
       | inr none ↦ none
     ]
 
-pub is_first-iff : (r s : ℕ → ℕ → Bool) (a : ℕ) → (is_first r a ≡ true → is_first s a ≡ true) → (is_first s a ≡ true → is_first r a ≡ true) → is_first r a ≡ is_first s a
+pub is_first-iff : (r s : ℕ → ℕ → Bool) (a : ℕ) → (is_first r a ≡ true → is_first s a ≡ true) → (is_first s a ≡ true → is_first r a ≡ true)
+    → is_first r a ≡ is_first s a
 is_first-iff r s a f g = grind (arith, cases_Bool, both_ways)
 
 -- a and b are related by r, or one to i and the other to j
@@ -77,7 +79,8 @@ first-least {r} {n} {i} {m} a h li la least rel first =
       ]
     ]
 
-joined_below : {r s : ℕ → ℕ → Bool} {n i j mi mj : ℕ} → IsEquivalence r n → IsJoin r s n i j → i < n → j < n → r i j ≡ false → IsLeast r i mi → IsLeast r j mj → mi < mj → class_count r n ≡ class_count s n + 1
+joined_below : {r s : ℕ → ℕ → Bool} {n i j mi mj : ℕ} → IsEquivalence r n → IsJoin r s n i j → i < n → j < n → r i j ≡ false → IsLeast r i mi → IsLeast r j mj
+    → mi < mj → class_count r n ≡ class_count s n + 1
 joined_below {r} {s} {n} {i} {j} {mi} {mj} h w li lj apart ti tj l =
     let lmi : mi < n = omega (arith, ti.low) in
     let lmj : mj < n = omega (arith, tj.low) in
@@ -104,7 +107,8 @@ joined_below {r} {s} {n} {i} {j} {mi} {mj} h w li lj apart ti tj l =
     ])) in
     count_below-more (is_first r) (is_first s) n mj lmj first_j not_first same
 
-pub class_count-join : (r s : ℕ → ℕ → Bool) (n i j : ℕ) → IsEquivalence r n → IsJoin r s n i j → i < n → j < n → r i j ≡ false → class_count r n ≡ class_count s n + 1
+pub class_count-join : (r s : ℕ → ℕ → Bool) (n i j : ℕ) → IsEquivalence r n → IsJoin r s n i j → i < n → j < n → r i j ≡ false
+    → class_count r n ≡ class_count s n + 1
 class_count-join r s n i j h w li lj apart =
     let (mi, ti) = least_of r n i h li in
     let (mj, tj) = least_of r n j h lj in

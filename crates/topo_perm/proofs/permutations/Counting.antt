@@ -1,5 +1,6 @@
 -- Components counted at their least darts.
-use Rattle.std.proofs.Common.{◌≡◌, ◌≢◌, ℕ, zero, suc, ◌+◌, ◌*◌, ◌/◌, ◌%◌, ◌<◌, ◌≤◌, Bool, true, false, cond, ◌↔◌, ◌⊎◌, eqb, List, inl, inr, refl, sym, ◌∙◌, arith}
+use Rattle.std.proofs.Common.{◌≡◌, ◌≢◌, ℕ, zero, suc, ◌+◌, ◌*◌, ◌/◌, ◌%◌, ◌<◌, ◌≤◌, Bool, true}
+use Rattle.std.proofs.Common.{false, cond, ◌↔◌, ◌⊎◌, eqb, List, inl, inr, refl, sym, ◌∙◌, arith}
 use Rattle.std.proofs.lemmas.Bool.{cases_Bool, cases_eq, eq-eqb, ne_eqb, cond-true, cond-false, both_ways, or_left, or_right, or_cases}
 use Rattle.topo_core.specs.Cycles.{IsPermutation, count_below, some_below, is_first, cycle_count}
 use Rattle.topo_core.specs.Rotations.{twin, face_next, Joined, IsClassCount}
@@ -47,7 +48,8 @@ counted_none f n seen h even none =
     zero_below zero = refl
     zero_below (suc k) = rw (none k) (omega (arith, zero_below k))
 
-pub counted_closed : (f : ℕ → ℕ) (n : ℕ) (seen : List Bool) (found count k : ℕ) → IsPermutation f n → n % 2 ≡ 0 → k ≤ n → Counted f n seen found count k → IsClosed f n seen
+pub counted_closed : (f : ℕ → ℕ) (n : ℕ) (seen : List Bool) (found count k : ℕ) → IsPermutation f n → n % 2 ≡ 0 → k ≤ n → Counted f n seen found count k
+    → IsClosed f n seen
 counted_closed f n seen found count k h even lk c = record {
   turned = λ a la e.
       let (b, lb, w) = from_some_below (λ b. c.test b a) k (sym (c.marked a la) ∙ e) in
@@ -63,10 +65,13 @@ counted_closed f n seen found count k h even lk c = record {
 }
 
 -- a dart that is not marked is the least of its component
-pub counted_new : {f : ℕ → ℕ} {n : ℕ} {seen : List Bool} (seen' : List Bool) {found : ℕ} (found' : ℕ) {count k : ℕ} → Counted f n seen found count k → k < n → mark seen k ≡ false → found' ≡ marked_count seen' n → ((a : ℕ) → a < n → (mark seen' a ≡ true) ↔ ((mark seen a ≡ true) ⊎ Joined f twin k a)) → Counted f n seen' found' (count + 1) (k + 1)
+pub counted_new : {f : ℕ → ℕ} {n : ℕ} {seen : List Bool} (seen' : List Bool) {found : ℕ} (found' : ℕ) {count k : ℕ} → Counted f n seen found count k → k < n
+    → mark seen k ≡ false → found' ≡ marked_count seen' n → ((a : ℕ) → a < n → (mark seen' a ≡ true) ↔ ((mark seen a ≡ true) ⊎ Joined f twin k a))
+    → Counted f n seen' found' (count + 1) (k + 1)
 counted_new seen' found' c lk fresh e reached = grind (arith, first_counted, cases_Bool, some_below_more, or_right, or_left, both_ways, or_cases)
 
-pub counted_old : {f : ℕ → ℕ} {n : ℕ} {seen : List Bool} {found count k : ℕ} → IsPermutation f n → n % 2 ≡ 0 → Counted f n seen found count k → k < n → mark seen k ≡ true → Counted f n seen found count (k + 1)
+pub counted_old : {f : ℕ → ℕ} {n : ℕ} {seen : List Bool} {found count k : ℕ} → IsPermutation f n → n % 2 ≡ 0 → Counted f n seen found count k → k < n
+    → mark seen k ≡ true → Counted f n seen found count (k + 1)
 counted_old {f} {n} {k} h even c lk old =
     let r : ℕ → ℕ → Bool = c.test in
     let met : some_below (λ b. r b k) k ≡ true = sym (c.marked k lk) ∙ old in
@@ -112,7 +117,13 @@ one_class {f} {n} h even k low a b la lb =
     let v : IsFirstOf r b (leader r b) = leader-first r n b e lb in
     k.sound a b la lb (elim (cases_eq (leader r a) (leader r b)) [
       | inl same ↦ leaders_same r n a b e la lb same
-      | inr ne ↦ absurd (omega (arith, low, k.count, two_below (is_first r) n (leader r a) (leader r b) (omega (arith, u.low)) (omega (arith, v.low)) ne u.first v.first))
+      | inr ne ↦
+          absurd (omega (
+            arith,
+            low,
+            k.count,
+            two_below (is_first r) n (leader r a) (leader r b) (omega (arith, u.low)) (omega (arith, v.low)) ne u.first v.first,
+          ))
     ])
 
 pub one_class_back : (f : ℕ → ℕ) (n c : ℕ) → IsClassCount (Joined f twin) n c → ((a b : ℕ) → a < n → b < n → Joined f twin a b) → c ≤ 1
@@ -120,7 +131,8 @@ one_class_back f n c k all =
     omega (arith, k.count, one_below (is_first k.test) n (λ a l la. is_first-not k.test a 0 l (k.complete 0 a (omega arith) la (all 0 a (omega arith) la))))
 
 -- points and faces are at most as many as segments and twice the components
-pub euler_bound_all : (f : ℕ → ℕ) (n c : ℕ) → IsPermutation f n → n % 2 ≡ 0 → IsClassCount (Joined f twin) n c → cycle_count f n + cycle_count (face_next f) n ≤ n / 2 + 2 * c
+pub euler_bound_all : (f : ℕ → ℕ) (n c : ℕ) → IsPermutation f n → n % 2 ≡ 0 → IsClassCount (Joined f twin) n c
+    → cycle_count f n + cycle_count (face_next f) n ≤ n / 2 + 2 * c
 euler_bound_all f n c h even k =
     let all : count_below (λ _. true) (n / 2) ≡ n / 2 = every (n / 2) in
     let bound : cycle_count f n + cycle_count (face_next f) n ≤ count_below (λ _. true) (n / 2) + 2 * c = euler_bound f n (λ _. true) c h even k in

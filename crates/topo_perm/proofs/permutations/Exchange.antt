@@ -2,7 +2,8 @@
 use Rattle.std.proofs.Common.{◌≡◌, ◌≢◌, ℕ, zero, suc, ◌+◌, ◌-◌, ◌<◌, ◌≤◌, ◌==◌, Bool, ◌||◌, ◌⊎◌, inl, inr, refl, sym, ◌∙◌, ap, subst, arith}
 use Rattle.std.proofs.lemmas.Bool.{cases_Bool, cases_eq, or_cases, or_parts, or_right, eqb-true, eqb-false, eq-eqb, both_ways}
 use Rattle.topo_core.specs.Cycles.{IsPermutation, after, SameCycle, is_met, cycle_count}
-use Rattle.topo_core.proofs.systems.Orbits.{search_below, IsPeriod, period, wraps, SameCycle-refl, SameCycle-sym, SameCycle-trans, SameCycle-step, is_met-SameCycle, SameCycle-is_met}
+use Rattle.topo_core.proofs.systems.Orbits.{search_below, IsPeriod, period, wraps, SameCycle-refl, SameCycle-sym}
+use Rattle.topo_core.proofs.systems.Orbits.{SameCycle-trans, SameCycle-step, is_met-SameCycle, SameCycle-is_met}
 use Rattle.topo_perm.proofs.permutations.Classes.{IsEquivalence, class_count-join}
 
 -- g is f with the images of i and j exchanged
@@ -34,7 +35,8 @@ pub IsExchange-permutation : (f g : ℕ → ℕ) (n i j : ℕ) → IsPermutation
 IsExchange-permutation f g n i j h li lj x = grind (arith, source_of)
 
 -- after an exchange the walk from i goes as the one from j went, until that met i or j
-follows : (f g : ℕ → ℕ) (i j m : ℕ) → IsExchange f g i j → ((l : ℕ) → l < m → (after f (suc l) j ≢ i) × (after f (suc l) j ≢ j)) → (l : ℕ) → l ≤ m → after g (suc l) i ≡ after f (suc l) j
+follows : (f g : ℕ → ℕ) (i j m : ℕ) → IsExchange f g i j → ((l : ℕ) → l < m → (after f (suc l) j ≢ i) × (after f (suc l) j ≢ j)) → (l : ℕ) → l ≤ m
+    → after g (suc l) i ≡ after f (suc l) j
 follows f g i j m x clear zero l = x.at_first
 follows f g i j m x clear (suc k) l =
     let before : after g (suc k) i ≡ after f (suc k) j = follows f g i j m x clear k (omega arith) in
@@ -185,7 +187,8 @@ joined_cycles f g n i j h li lj x s =
     (grind (arith, cases_Bool, is_met-SameCycle))
 
 -- an exchange in one cycle makes two of it
-pub exchange_splits : {f g : ℕ → ℕ} {n i j : ℕ} → IsPermutation f n → i < n → j < n → i ≢ j → IsExchange f g i j → SameCycle f i j → cycle_count g n ≡ cycle_count f n + 1
+pub exchange_splits : {f g : ℕ → ℕ} {n i j : ℕ} → IsPermutation f n → i < n → j < n → i ≢ j → IsExchange f g i j → SameCycle f i j
+    → cycle_count g n ≡ cycle_count f n + 1
 exchange_splits {f} {g} {n} {i} {j} h li lj ne x met =
     elim (exchange_parts f g n i j h li lj ne x) [
       | inl s ↦ joined_cycles g f n i j (IsExchange-permutation f g n i j h li lj x) li lj (IsExchange-back f g i j x) s
@@ -193,7 +196,8 @@ exchange_splits {f} {g} {n} {i} {j} h li lj ne x met =
     ]
 
 -- an exchange between two cycles makes one of them
-pub exchange_joins : {f g : ℕ → ℕ} {n i j : ℕ} → IsPermutation f n → i < n → j < n → i ≢ j → IsExchange f g i j → (SameCycle f i j → ⊥) → cycle_count f n ≡ cycle_count g n + 1
+pub exchange_joins : {f g : ℕ → ℕ} {n i j : ℕ} → IsPermutation f n → i < n → j < n → i ≢ j → IsExchange f g i j → (SameCycle f i j → ⊥)
+    → cycle_count f n ≡ cycle_count g n + 1
 exchange_joins {f} {g} {n} {i} {j} h li lj ne x apart =
     elim (exchange_parts f g n i j h li lj ne x) [
       | inl s ↦ absurd (apart s.before)

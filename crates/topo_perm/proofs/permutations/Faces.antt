@@ -3,7 +3,8 @@ use Rattle.std.proofs.Common.{◌≡◌, ◌≢◌, ℕ, ◌+◌, ◌%◌, ◌<�
 use Rattle.std.proofs.lemmas.Bool.{cases_eq}
 use Rattle.topo_core.specs.Cycles.{IsPermutation, SameCycle, cycle_count}
 use Rattle.topo_core.specs.Rotations.{twin, face_next}
-use Rattle.topo_perm.proofs.permutations.Points.{IsExchangeBelow, HasBefore, before_of, bypass_exchange, bypass_splits, exchanged_splits, exchanged_joins, exchanged_keeps, exchanged-permutation}
+use Rattle.topo_perm.proofs.permutations.Points.{IsExchangeBelow, HasBefore, before_of, bypass_exchange, bypass_splits}
+use Rattle.topo_perm.proofs.permutations.Points.{exchanged_splits, exchanged_joins, exchanged_keeps, exchanged-permutation}
 use Rattle.topo_perm.proofs.permutations.Walks.{twin-within, twin-cases, face_next-permutation}
 use Rattle.topo_core.proofs.systems.Orbits.{IsPeriod, wraps, SameCycle-trans, SameCycle-sym}
 use Rattle.topo_core.specs.Edits.{IsBefore, IsIsolated}
@@ -92,7 +93,8 @@ hang_keeps f g n x c h a b la s =
     exchanged_keeps hf lp lt ex together la s
 
 -- the other end put into a corner of the same face: one face becomes two
-pub close_faces : {f g : ℕ → ℕ} {n y d : ℕ} → IsPermutation g n → n % 2 ≡ 0 → y < n → d ≢ y → IsBefore f g n y d → SameCycle (face_next f) (twin y) d → cycle_count (face_next g) n ≡ cycle_count (face_next f) n + 1
+pub close_faces : {f g : ℕ → ℕ} {n y d : ℕ} → IsPermutation g n → n % 2 ≡ 0 → y < n → d ≢ y → IsBefore f g n y d → SameCycle (face_next f) (twin y) d
+    → cycle_count (face_next g) n ≡ cycle_count (face_next f) n + 1
 close_faces {f} {g} {n} {y} {d} hg even ly ne b s =
     let p : Insertion f g n y d = insertion f g n y d hg ly ne b in
     let lp : twin p.place < n = twin-within n p.place even p.within in
@@ -136,8 +138,10 @@ chord_faces f g n x c d k =
     let more = close_faces k.permutation k.hung.even lt k.apart k.before (subst (λ v. SameCycle (face_next k.half) v d) (sym (twin-twin x)) to_d) in
     omega (arith, less, more)
 
--- a segment with different faces on its two sides, taken out: as many faces, the segment's own counted afterwards. d may be x, as at a loop whose ends are neighbours
-pub unchord_faces : (f : ℕ → ℕ) {half g : ℕ → ℕ} {n x : ℕ} (c : ℕ) {d : ℕ} → Hung f half n x c → IsPermutation g n → d ≢ twin x → IsBefore half g n (twin x) d → (SameCycle (face_next g) x (twin x) → ⊥) → cycle_count (face_next f) n ≡ cycle_count (face_next g) n
+-- a segment with different faces on its two sides, taken out: as many faces, the segment's own counted afterwards. d may be x, as at a loop whose ends are
+-- neighbours
+pub unchord_faces : (f : ℕ → ℕ) {half g : ℕ → ℕ} {n x : ℕ} (c : ℕ) {d : ℕ} → Hung f half n x c → IsPermutation g n → d ≢ twin x → IsBefore half g n (twin x) d
+    → (SameCycle (face_next g) x (twin x) → ⊥) → cycle_count (face_next f) n ≡ cycle_count (face_next g) n
 unchord_faces f {half} {g} {n} {x} c {d} h hg nt b differ =
     let lx : x < n = h.within in
     let lt : twin x < n = twin-within n x h.even lx in
@@ -145,7 +149,8 @@ unchord_faces f {half} {g} {n} {x} c {d} h hg nt b differ =
     let lq : twin q.place < n = twin-within n q.place h.even q.within in
     let hgf : IsPermutation (face_next g) n = face_next-permutation g n hg h.even in
     let ey : IsExchangeBelow (face_next half) (face_next g) n (twin q.place) (twin (twin x)) = exchange_faces half g n q.place (twin x) h.even q.exchange in
-    let ez : IsExchangeBelow (face_next half) (face_next g) n (twin q.place) x = subst (λ v. IsExchangeBelow (face_next half) (face_next g) n (twin q.place) v) (twin-twin x) ey in
+    let ez : IsExchangeBelow (face_next half) (face_next g) n (twin q.place) x =
+    subst (λ v. IsExchangeBelow (face_next half) (face_next g) n (twin q.place) v) (twin-twin x) ey in
     let to_twin : SameCycle (face_next g) (twin q.place) (twin x) = record { steps = 1; leads = ap g (twin-twin q.place) ∙ q.leads } in
     let apart : SameCycle (face_next g) (twin q.place) x → ⊥ =
     λ s. differ (SameCycle-trans (face_next g) x (twin q.place) (twin x) (SameCycle-sym (face_next g) n hgf (twin q.place) x lq s) to_twin) in

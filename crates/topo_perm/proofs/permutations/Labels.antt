@@ -25,19 +25,22 @@ relabel-keeps a b h la lb e = grind (arith, relabel-at)
 pub relabel-meets : (l m : ℕ → ℕ) (n i j : ℕ) → IsRelabel l m n i j → i < n → j < n → m i ≡ m j
 relabel-meets l m n i j h li lj = grind (arith, relabel-at)
 
-pub relabel-from : {l m : ℕ → ℕ} {n i j : ℕ} (a b : ℕ) → IsRelabel l m n i j → a < n → b < n → m a ≡ m b → (l a ≡ l b) ⊎ (((l a ≡ l i) × (l j ≡ l b)) ⊎ ((l a ≡ l j) × (l i ≡ l b)))
+pub relabel-from : {l m : ℕ → ℕ} {n i j : ℕ} (a b : ℕ) → IsRelabel l m n i j → a < n → b < n → m a ≡ m b → (l a ≡ l b)
+    ⊎ (((l a ≡ l i) × (l j ≡ l b)) ⊎ ((l a ≡ l j) × (l i ≡ l b)))
 relabel-from a b h la lb e = grind (arith, relabel-at)
 
 pub relabel-join : (l m : ℕ → ℕ) (n i j : ℕ) → IsRelabel l m n i j → i < n → j < n → IsJoin (same_label l) (same_label m) n i j
 relabel-join l m n i j h li lj = grind (arith, eq-eqb, relabel-keeps, eqb-true, relabel-meets, relabel-from)
 
-pub relabel-apart : (l m : ℕ → ℕ) (n i j : ℕ) → IsRelabel l m n i j → i < n → j < n → l i ≢ l j → class_count (same_label l) n ≡ class_count (same_label m) n + 1
+pub relabel-apart : (l m : ℕ → ℕ) (n i j : ℕ) → IsRelabel l m n i j → i < n → j < n → l i ≢ l j
+    → class_count (same_label l) n ≡ class_count (same_label m) n + 1
 relabel-apart l m n i j h li lj ne =
     class_count-join (same_label l) (same_label m) n i j (same_label-equivalence l n) (relabel-join l m n i j h li lj) li lj (ne_eqb _ _ ne)
 
 pub relabel-same : (l m : ℕ → ℕ) (n i j : ℕ) → IsRelabel l m n i j → l i ≡ l j → class_count (same_label l) n ≡ class_count (same_label m) n
 relabel-same l m n i j h e =
-    class_count-same (same_label l) (same_label m) n (λ a b la lb. let x = kept a la in let y = kept b lb in ap (λ v. v == l b) (sym x) ∙ ap (λ v. m a == v) (sym y))
+    class_count-same (same_label l)
+    (same_label m) n (λ a b la lb. let x = kept a la in let y = kept b lb in ap (λ v. v == l b) (sym x) ∙ ap (λ v. m a == v) (sym y))
   where
     kept : (a : ℕ) → a < n → m a ≡ l a
     kept a la = elim (relabel-at l m n i j a h la) [ inl x ↦ x.1 ∙ e ∙ sym x.0 | inr x ↦ x.1 ]

@@ -1,9 +1,11 @@
 -- The laws of cycles for lists of images, and the steps of the walks.
-use Rattle.std.proofs.Common.{◌≡◌, ◌≢◌, ℕ, zero, suc, ◌+◌, ◌-◌, ◌<◌, ◌≤◌, ◌==◌, Bool, true, false, cond, ◌||◌, not, List, length, slice_index_or, slice_set, swap, inl, inr, refl, sym, ◌∙◌, ap, arith, add-one}
+use Rattle.std.proofs.Common.{◌≡◌, ◌≢◌, ℕ, zero, suc, ◌+◌, ◌-◌, ◌<◌, ◌≤◌, ◌==◌, Bool, true, false, cond, ◌||◌, not, List}
+use Rattle.std.proofs.Common.{length, slice_index_or, slice_set, swap, inl, inr, refl, sym, ◌∙◌, ap, arith, add-one}
 use Rattle.std.proofs.lemmas.Bool.{cases_Bool, cases_eq, or_left, eq-eqb, ne_eqb, both_ways}
 use Rattle.std.proofs.lemmas.List.{get_or-set_same, get_or-set_other}
 use Rattle.std.proofs.lemmas.List.Edits.{swapped_from_swap, Swapped}
-use Rattle.topo_core.specs.Cycles.{IsPermutation, IsPermutationList, after, map_of, SameCycle, is_met, cycle_count, cycles_of, some_below, count_below, is_first}
+use Rattle.topo_core.specs.Cycles.{IsPermutation, IsPermutationList, after, map_of, SameCycle}
+use Rattle.topo_core.specs.Cycles.{is_met, cycle_count, cycles_of, some_below, count_below, is_first}
 use Rattle.topo_core.proofs.systems.Orbits.{IsPeriod, period, wraps, some_below-true, from_some_below, SameCycle-is_met, is_met-SameCycle}
 use Rattle.topo_perm.proofs.permutations.Exchange.{IsExchange, exchange_splits, exchange_joins}
 use Rattle.topo_perm.proofs.permutations.Classes.{IsEquivalence}
@@ -13,11 +15,13 @@ exchange_from_swap xs ys i j li lj e =
     let s : Swapped (map_of xs) (map_of ys) i j = swapped_from_swap xs ys i j 0 li lj e in
     record { at_first = s.0; at_second = s.1; elsewhere = s.2 }
 
-pub cycles_of-swap_together : (xs ys : List ℕ) {i j : ℕ} → IsPermutationList xs → i < length xs → j < length xs → i ≢ j → ys ≡ swap xs i j → length ys ≡ length xs → SameCycle (map_of xs) i j → cycles_of ys ≡ cycles_of xs + 1
+pub cycles_of-swap_together : (xs ys : List ℕ) {i j : ℕ} → IsPermutationList xs → i < length xs → j < length xs → i ≢ j → ys ≡ swap xs i j
+    → length ys ≡ length xs → SameCycle (map_of xs) i j → cycles_of ys ≡ cycles_of xs + 1
 cycles_of-swap_together xs ys {i} {j} h li lj ne e same met =
     ap (λ n. cycle_count (map_of ys) n) same ∙ exchange_splits h li lj ne (exchange_from_swap xs ys i j li lj e) met
 
-pub cycles_of-swap_apart : (xs ys : List ℕ) (i j : ℕ) → IsPermutationList xs → i < length xs → j < length xs → i ≢ j → ys ≡ swap xs i j → length ys ≡ length xs → (SameCycle (map_of xs) i j → ⊥) → cycles_of ys + 1 ≡ cycles_of xs
+pub cycles_of-swap_apart : (xs ys : List ℕ) (i j : ℕ) → IsPermutationList xs → i < length xs → j < length xs → i ≢ j → ys ≡ swap xs i j → length ys ≡ length xs
+    → (SameCycle (map_of xs) i j → ⊥) → cycles_of ys + 1 ≡ cycles_of xs
 cycles_of-swap_apart xs ys i j h li lj ne e same apart =
     ap (λ n. cycle_count (map_of ys) n + 1) same ∙ sym (exchange_joins h li lj ne (exchange_from_swap xs ys i j li lj e) apart)
 
@@ -43,7 +47,8 @@ is_met-period f n a b d p l =
       ])
     ]
 
-pub mark_more : (f : ℕ → ℕ) (k start at a : ℕ) (seen : List Bool) (old : Bool) → at ≡ after f k start → at < length seen → slice_index_or seen a false ≡ (is_met f k start a || old) → slice_index_or (slice_set seen at true) a false ≡ (is_met f (k + 1) start a || old)
+pub mark_more : (f : ℕ → ℕ) (k start at a : ℕ) (seen : List Bool) (old : Bool) → at ≡ after f k start → at < length seen
+    → slice_index_or seen a false ≡ (is_met f k start a || old) → slice_index_or (slice_set seen at true) a false ≡ (is_met f (k + 1) start a || old)
 mark_more f k start at a seen old e l h = grind (arith, cases_eq, eq-eqb, get_or-set_same, or_left, is_met_more, ne_eqb, get_or-set_other)
 
 pub count_below-le : (p : ℕ → Bool) (n : ℕ) → count_below p n ≤ n
@@ -75,7 +80,8 @@ pub later_not_counted : (r : ℕ → ℕ → Bool) (k : ℕ) → some_below (λ 
 later_not_counted r k e = grind (arith, count_below_more)
 
 -- a number whose class was met adds none that are related
-pub marked_already : (r : ℕ → ℕ → Bool) (n k a : ℕ) → IsEquivalence r n → k < n → a < n → some_below (λ b. r b k) k ≡ true → some_below (λ b. r b a) (k + 1) ≡ some_below (λ b. r b a) k
+pub marked_already : (r : ℕ → ℕ → Bool) (n k a : ℕ) → IsEquivalence r n → k < n → a < n → some_below (λ b. r b k) k ≡ true
+    → some_below (λ b. r b a) (k + 1) ≡ some_below (λ b. r b a) k
 marked_already r n k a h lk la met =
     some_below_more (λ b. r b a) k ∙ elim (cases_Bool (r k a)) [
       | inr none ↦ ap (λ v. v || some_below (λ b. r b a) k) none

@@ -16,7 +16,8 @@ pub record CarriesLive (h : ℕ → ℕ) (r : ℕ → ℕ → Bool) (n : ℕ) (l
   pub meets : (y : ℕ) → y < m → live y ≡ true → s (h (from y)) y ≡ true
   pub apart : (y z : ℕ) → y < m → z < m → live z ≡ true → s y z ≡ true → live y ≡ true
 
-pub live_class_count-carries : (h : ℕ → ℕ) (r : ℕ → ℕ → Bool) (n : ℕ) (live : ℕ → Bool) (s : ℕ → ℕ → Bool) (m : ℕ) → IsEquivalence r n → IsEquivalence s m → CarriesLive h r n live s m → class_count r n ≡ live_class_count live s m
+pub live_class_count-carries : (h : ℕ → ℕ) (r : ℕ → ℕ → Bool) (n : ℕ) (live : ℕ → Bool) (s : ℕ → ℕ → Bool) (m : ℕ) → IsEquivalence r n → IsEquivalence s m
+    → CarriesLive h r n live s m → class_count r n ≡ live_class_count live s m
 live_class_count-carries h r n live s m e w c =
     let q : ℕ → Bool = λ y. live y && is_first s y in
     let top : (a : ℕ) → a < n → IsFirstOf s (h a) (leader s (h a)) = λ a la. leader-first s m (h a) w (c.within a la) in
@@ -25,7 +26,8 @@ live_class_count-carries h r n live s m e w c =
     (λ a la _. omega (arith, (top a la).low, c.within a la))
     (λ a la _.
     let lm : leader s (h a) < m = omega (arith, (top a la).low, c.within a la) in
-    and_from (live (leader s (h a))) (is_first s (leader s (h a))) (c.apart (leader s (h a)) (h a) lm (c.within a la) (c.alive a la) (top a la).related) (top a la).first)
+    and_from (live (leader s (h a))) (is_first s (leader s (h a))) (c.apart (leader s (h a)) (h a) lm (c.within a la) (c.alive a la) (top a la).related)
+    (top a la).first)
     (λ a b la lb fa fb met. firsts_same r n a b e la lb fa fb (sym (c.same a b la lb) ∙ leaders_same s m (h a) (h b) w (c.within a la) (c.within b lb) met)) in
     let both : (y : ℕ) → q y ≡ true → (live y ≡ true) × (is_first s y ≡ true) = λ y t. and_parts (live y) (is_first s y) t in
     let down : live_class_count live s m ≤ class_count r n =

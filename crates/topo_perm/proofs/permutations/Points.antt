@@ -1,6 +1,7 @@
 -- Changes of a permutation at a few points below n, and counts carried from one set of numbers to another.
 use Rattle.std.proofs.Common.{◌≡◌, ◌≢◌, ℕ, zero, suc, ◌+◌, ◌<◌, ◌≤◌, ◌==◌, Bool, true, false, cond, ◌&&◌, ◌⊎◌, not, inl, inr, refl, sym, ◌∙◌, ap, arith, ltb}
-use Rattle.std.proofs.lemmas.Bool.{cases_Bool, cases_eq, cases_lt, cond-true, cond-false, lt-ltb, le-ltb, both_ways, eq-eqb, ne_eqb, and_from, and_left, and_right, not_from_true, not_from_false}
+use Rattle.std.proofs.lemmas.Bool.{cases_Bool, cases_eq, cases_lt, cond-true, cond-false, lt-ltb, le-ltb, both_ways}
+use Rattle.std.proofs.lemmas.Bool.{eq-eqb, ne_eqb, and_from, and_left, and_right, not_from_true, not_from_false}
 use Rattle.topo_core.specs.Cycles.{IsPermutation, IsBypass, after, SameCycle, is_met, is_first, count_below, class_count, cycle_count}
 use Rattle.topo_core.proofs.systems.Orbits.{after-within, period, search_below, FirstAt}
 use Rattle.topo_perm.proofs.permutations.Classes.{some_below-same, class_count-same, count_below-more, IsEquivalence, first-before, is_first-from}
@@ -36,17 +37,21 @@ patched-exchange f g n i j li lj x = grind (arith, patched-below, cases_lt, cond
 
 pub exchanged-permutation : (f g : ℕ → ℕ) (n i j : ℕ) → IsPermutation f n → i < n → j < n → IsExchangeBelow f g n i j → IsPermutation g n
 exchanged-permutation f g n i j h li lj x =
-    IsPermutation-same (patched f g n) g n (IsExchange-permutation f (patched f g n) n i j h li lj (patched-exchange f g n i j li lj x)) (λ a la. patched-below f g n a la)
+    IsPermutation-same (patched f g n) g n (IsExchange-permutation f (patched f g n) n i j h li lj (patched-exchange f g n i j li lj x))
+    (λ a la. patched-below f g n a la)
 
 patched-count : (f g : ℕ → ℕ) (n i j : ℕ) → IsPermutation f n → i < n → j < n → IsExchangeBelow f g n i j → cycle_count (patched f g n) n ≡ cycle_count g n
 patched-count f g n i j h li lj x =
-    cycle_count-same (patched f g n) g n (IsExchange-permutation f (patched f g n) n i j h li lj (patched-exchange f g n i j li lj x)) (λ a la. patched-below f g n a la)
+    cycle_count-same (patched f g n) g n (IsExchange-permutation f (patched f g n) n i j h li lj (patched-exchange f g n i j li lj x))
+    (λ a la. patched-below f g n a la)
 
-pub exchanged_splits : {f g : ℕ → ℕ} {n i j : ℕ} → IsPermutation f n → i < n → j < n → i ≢ j → IsExchangeBelow f g n i j → SameCycle f i j → cycle_count g n ≡ cycle_count f n + 1
+pub exchanged_splits : {f g : ℕ → ℕ} {n i j : ℕ} → IsPermutation f n → i < n → j < n → i ≢ j → IsExchangeBelow f g n i j → SameCycle f i j
+    → cycle_count g n ≡ cycle_count f n + 1
 exchanged_splits {f} {g} {n} {i} {j} h li lj ne x s =
     sym (patched-count f g n i j h li lj x) ∙ exchange_splits h li lj ne (patched-exchange f g n i j li lj x) s
 
-pub exchanged_joins : {f g : ℕ → ℕ} {n i j : ℕ} → IsPermutation f n → i < n → j < n → i ≢ j → IsExchangeBelow f g n i j → (SameCycle f i j → ⊥) → cycle_count f n ≡ cycle_count g n + 1
+pub exchanged_joins : {f g : ℕ → ℕ} {n i j : ℕ} → IsPermutation f n → i < n → j < n → i ≢ j → IsExchangeBelow f g n i j → (SameCycle f i j → ⊥)
+    → cycle_count f n ≡ cycle_count g n + 1
 exchanged_joins {f} {g} {n} {i} {j} h li lj ne x s =
     exchange_joins h li lj ne (patched-exchange f g n i j li lj x) s ∙ ap (λ c. c + 1) (patched-count f g n i j h li lj x)
 
@@ -54,7 +59,8 @@ pub SameCycle-same : (f g : ℕ → ℕ) (n : ℕ) → IsPermutation f n → ((a
 SameCycle-same f g n h e a b la s = record { steps = s.steps; leads = sym (after-same f g n h e s.steps a la) ∙ s.leads }
 
 -- where an exchange brings i and j together, it parts no others
-pub exchanged_keeps : {f g : ℕ → ℕ} {n i j : ℕ} → IsPermutation f n → i < n → j < n → IsExchangeBelow f g n i j → SameCycle g i j → {a b : ℕ} → a < n → SameCycle f a b → SameCycle g a b
+pub exchanged_keeps : {f g : ℕ → ℕ} {n i j : ℕ} → IsPermutation f n → i < n → j < n → IsExchangeBelow f g n i j → SameCycle g i j → {a b : ℕ} → a < n
+    → SameCycle f a b → SameCycle g a b
 exchanged_keeps {f} {g} {n} {i} {j} h li lj x met {a} {b} la s =
     let hp : IsPermutation (patched f g n) n = IsExchange-permutation f (patched f g n) n i j h li lj (patched-exchange f g n i j li lj x) in
     let there : (a : ℕ) → a < n → patched f g n a ≡ g a = λ a la. patched-below f g n a la in
@@ -64,18 +70,21 @@ exchanged_keeps {f} {g} {n} {i} {j} h li lj x met {a} {b} la s =
     (kept hp li lj (patched-exchange f g n i j li lj x) (SameCycle-same g (patched f g n) n hg back i j li met) a b s)
 
 -- an exchange brings together only what lay with i and what lay with j
-pub exchanged_spread : {f g : ℕ → ℕ} {n i j : ℕ} → IsPermutation f n → i < n → j < n → IsExchangeBelow f g n i j → {a b : ℕ} → a < n → SameCycle g a b → Together f i j a b
+pub exchanged_spread : {f g : ℕ → ℕ} {n i j : ℕ} → IsPermutation f n → i < n → j < n → IsExchangeBelow f g n i j → {a b : ℕ} → a < n → SameCycle g a b
+    → Together f i j a b
 exchanged_spread {f} {g} {n} {i} {j} h li lj x {a} {b} la s =
     spread f (patched f g n) i j (patched-exchange f g n i j li lj x) a b
     (SameCycle-same g (patched f g n) n (exchanged-permutation f g n i j h li lj x) (λ a la. sym (patched-below f g n a la)) a b la s)
 
 -- of the two, one has i and j together
-pub exchanged_apart : {f g : ℕ → ℕ} {n i j : ℕ} → IsPermutation f n → i < n → j < n → i ≢ j → IsExchangeBelow f g n i j → (SameCycle f i j → ⊥) → SameCycle g i j
+pub exchanged_apart : {f g : ℕ → ℕ} {n i j : ℕ} → IsPermutation f n → i < n → j < n → i ≢ j → IsExchangeBelow f g n i j → (SameCycle f i j → ⊥)
+    → SameCycle g i j
 exchanged_apart {f} {g} {n} {i} {j} h li lj ne x apart =
     let ex : IsExchange f (patched f g n) i j = patched-exchange f g n i j li lj x in
     elim (exchange_parts f (patched f g n) n i j h li lj ne ex) [
       | inl s ↦ absurd (apart s.before)
-      | inr s ↦ SameCycle-same (patched f g n) g n (IsExchange-permutation f (patched f g n) n i j h li lj ex) (λ a la. patched-below f g n a la) i j li s.before
+      | inr s ↦ SameCycle-same (patched f g n) g n (IsExchange-permutation f (patched f g n) n i j h li lj ex)
+          (λ a la. patched-below f g n a la) i j li s.before
     ]
 
 -- each number has one that leads to it
@@ -90,7 +99,8 @@ before_of f n i h li =
     grind (arith, after-within)
 
 -- a bypass is an exchange with the number before
-pub bypass_exchange : (f g : ℕ → ℕ) (n i : ℕ) → IsPermutation f n → i < n → IsBypass f g n i → (b : HasBefore f n i) → b.place ≢ i → IsExchangeBelow f g n b.place i
+pub bypass_exchange : (f g : ℕ → ℕ) (n i : ℕ) → IsPermutation f n → i < n → IsBypass f g n i → (b : HasBefore f n i) → b.place ≢ i
+    → IsExchangeBelow f g n b.place i
 bypass_exchange f g n i h li x b ne = grind arith
 
 pub bypass_splits : (f g : ℕ → ℕ) (n i : ℕ) → IsPermutation f n → i < n → IsBypass f g n i → f i ≢ i → cycle_count g n ≡ cycle_count f n + 1
@@ -100,18 +110,21 @@ bypass_splits f g n i h li x moves =
     exchanged_splits h b.within li ne (bypass_exchange f g n i h li x b ne) (record { steps = 1; leads = b.leads })
 
 -- no more numbers pass p than pass q, where each that passes p has its own that passes q
-pub count_below-into : (p q : ℕ → Bool) (n m : ℕ) (h : ℕ → ℕ) → ((a : ℕ) → a < n → p a ≡ true → h a < m) → ((a : ℕ) → a < n → p a ≡ true → q (h a) ≡ true) → ((a b : ℕ) → a < n → b < n → p a ≡ true → p b ≡ true → h a ≡ h b → a ≡ b) → count_below p n ≤ count_below q m
+pub count_below-into : (p q : ℕ → Bool) (n m : ℕ) (h : ℕ → ℕ) → ((a : ℕ) → a < n → p a ≡ true → h a < m) → ((a : ℕ) → a < n → p a ≡ true → q (h a) ≡ true)
+    → ((a b : ℕ) → a < n → b < n → p a ≡ true → p b ≡ true → h a ≡ h b → a ≡ b) → count_below p n ≤ count_below q m
 count_below-into p q zero m h w t s = omega arith
 count_below-into p q (suc n) m h w t s =
     elim (cases_Bool (p n)) [
       | inr none ↦
-          let low : count_below p n ≤ count_below q m = count_below-into p q n m h (λ a la. w a (omega arith)) (λ a la. t a (omega arith)) (λ a b la lb. s a b (omega arith) (omega arith)) in
+          let low : count_below p n ≤ count_below q m =
+          count_below-into p q n m h (λ a la. w a (omega arith)) (λ a la. t a (omega arith)) (λ a b la lb. s a b (omega arith) (omega arith)) in
           rw none (omega (arith, low))
       | inl here ↦
           let r : ℕ → Bool = λ y. q y && not (y == h n) in
           let low : count_below p n ≤ count_below r m =
           count_below-into p r n m h (λ a la. w a (omega arith))
-          (λ a la e. and_from _ _ (t a (omega arith) e) (not_from_false _ (ne_eqb _ _ (λ (same : h a ≡ h n). absurd (omega (arith, s a n (omega arith) (omega arith) e here same))))))
+          (λ a la e. and_from _ _ (t a (omega arith) e)
+          (not_from_false _ (ne_eqb _ _ (λ (same : h a ≡ h n). absurd (omega (arith, s a n (omega arith) (omega arith) e here same))))))
           (λ a b la lb. s a b (omega arith) (omega arith)) in
           let one : count_below q m ≡ count_below r m + 1 =
           count_below-more q r m (h n) (w n (omega arith) here) (t n (omega arith) here)
@@ -173,13 +186,15 @@ leaders_same r n a b e la lb same =
     grind (arith, leader, leader-first)
 
 -- as many classes on either side
-pub class_count-carries : (h : ℕ → ℕ) (r s : ℕ → ℕ → Bool) (n m : ℕ) → IsEquivalence r n → IsEquivalence s m → Carries h r s n m → class_count r n ≡ class_count s m
+pub class_count-carries : (h : ℕ → ℕ) (r s : ℕ → ℕ → Bool) (n m : ℕ) → IsEquivalence r n → IsEquivalence s m → Carries h r s n m
+    → class_count r n ≡ class_count s m
 class_count-carries h r s n m e w c =
     let up : class_count r n ≤ class_count s m =
     count_below-into (is_first r) (is_first s) n m (λ a. leader s (h a))
     (λ a la _. omega (arith, (leader-first s m (h a) w (c.within a la)).low, c.within a la))
     (λ a la _. (leader-first s m (h a) w (c.within a la)).first)
-    (λ a b la lb fa fb same. firsts_same r n a b e la lb fa fb (sym (c.same a b la lb) ∙ leaders_same s m (h a) (h b) w (c.within a la) (c.within b lb) same)) in
+    (λ a b la lb fa fb same. firsts_same r n a b e la lb fa fb
+    (sym (c.same a b la lb) ∙ leaders_same s m (h a) (h b) w (c.within a la) (c.within b lb) same)) in
     let down : class_count s m ≤ class_count r n =
     count_below-into (is_first s) (is_first r) m n (λ y. leader r (c.from y))
     (λ y ly _. omega (arith, (leader-first r n (c.from y) e (c.from_within y ly)).low, c.from_within y ly))

@@ -1,5 +1,6 @@
 -- A search over a rotation system from a start dart, where some darts were marked before.
-use Rattle.std.proofs.Common.{◌≡◌, ◌≢◌, ℕ, ◌+◌, ◌%◌, ◌<◌, ◌≤◌, Bool, true, false, cond, ◌↔◌, ◌⊎◌, List, length, slice_index, eqb, inl, inr, refl, ◌∙◌, ap, subst, arith}
+use Rattle.std.proofs.Common.{◌≡◌, ◌≢◌, ℕ, ◌+◌, ◌%◌, ◌<◌, ◌≤◌, Bool, true, false, cond, ◌↔◌, ◌⊎◌}
+use Rattle.std.proofs.Common.{List, length, slice_index, eqb, inl, inr, refl, ◌∙◌, ap, subst, arith}
 use Rattle.std.proofs.lemmas.Bool.{cases_Bool, cases_eq, eq-eqb, ne_eqb, cond-true, cond-false, MatchBool-at_false}
 use Rattle.std.proofs.lemmas.List.{get_or-set_same, get_or-set_other, length-set}
 use Rattle.topo_core.specs.Cycles.{IsPermutation, count_below}
@@ -22,7 +23,8 @@ pub record Found (f : ℕ → ℕ) (n : ℕ) (old : List Bool) (start begin : �
   pub listed : (a : ℕ) → a < n → mark seen a ≡ true → (mark old a ≡ true) ⊎ ((j : ℕ) × (begin ≤ j) × (j < found) × (slice_index order j ≡ a))
 
 -- what a visit leaves
-pub record Visited (f : ℕ → ℕ) (n : ℕ) (old : List Bool) (start begin : ℕ) (seen seen' : List Bool) (order order' : List ℕ) (found found' dart : ℕ) : Type 0 where
+pub record Visited (f : ℕ → ℕ) (n : ℕ) (old : List Bool) (start begin : ℕ) (seen seen' : List Bool) (order order' : List ℕ)
+    (found found' dart : ℕ) : Type 0 where
   pub state : Found f n old start begin seen' order' found'
   pub here : mark seen' dart ≡ true
   pub kept : (a : ℕ) → a < n → mark seen a ≡ true → mark seen' a ≡ true
@@ -37,7 +39,9 @@ count_room n seen found dart e ld fresh =
     (λ a la ne. cond-false _ _ _ (ne_eqb a dart ne)) in
     omega (arith, e, one, count_below-le (λ a. cond (eqb a dart) true (mark seen a)) n)
 
-pub visited : {f : ℕ → ℕ} {n : ℕ} {old : List Bool} {start begin : ℕ} {seen : List Bool} (seen' : List Bool) {order : List ℕ} (order' : List ℕ) {found : ℕ} (found' : ℕ) {dart : ℕ} → Found f n old start begin seen order found → dart < n → Joined f twin start dart → IsVisit seen seen' order order' found found' dart → Visited f n old start begin seen seen' order order' found found' dart
+pub visited : {f : ℕ → ℕ} {n : ℕ} {old : List Bool} {start begin : ℕ} {seen : List Bool} (seen' : List Bool) {order : List ℕ} (order' : List ℕ) {found : ℕ}
+    (found' : ℕ) {dart : ℕ} → Found f n old start begin seen order found → dart < n → Joined f twin start dart
+    → IsVisit seen seen' order order' found found' dart → Visited f n old start begin seen seen' order order' found found' dart
 visited {n} {seen} seen' {order} order' {found} found' {dart} s ld j v =
     elim (cases_Bool (mark seen dart)) [
       | inl here ↦ grind arith
@@ -46,7 +50,8 @@ visited {n} {seen} seen' {order} order' {found} found' {dart} s ld j v =
           let room : found < n = count_room n seen found dart s.count ld fresh in
           let at_dart : mark seen' dart ≡ true = ap (λ z. mark z dart) t.marked ∙ get_or-set_same seen dart true false (omega (arith, s.seen_length)) in
           let at_other : (a : ℕ) → a ≢ dart → mark seen' a ≡ mark seen a = λ a ne. ap (λ z. mark z a) t.marked ∙ get_or-set_other seen dart a true false ne in
-          let last : slice_index order' found ≡ dart = ap (λ z. slice_index z found) t.put ∙ get_or-set_same order found dart 0 (omega (arith, s.order_length)) in
+          let last : slice_index order' found ≡ dart = ap (λ z. slice_index z found) t.put
+          ∙ get_or-set_same order found dart 0 (omega (arith, s.order_length)) in
           let before : (k : ℕ) → k < found → slice_index order' k ≡ slice_index order k =
           λ k lk. let ne : k ≢ found = omega arith in ap (λ z. slice_index z k) t.put ∙ get_or-set_other order found k dart 0 ne in
           let keeps : (a : ℕ) → a < n → mark seen a ≡ true → mark seen' a ≡ true = λ a la e.
@@ -78,21 +83,30 @@ pub record Searched (f : ℕ → ℕ) (n : ℕ) (old : List Bool) (start begin :
   pub each : (j : ℕ) → begin ≤ j → j < done → (mark seen (f (slice_index order j)) ≡ true) × (mark seen (twin (slice_index order j)) ≡ true)
 
 -- nothing is found yet
-found_none : (f : ℕ → ℕ) (n : ℕ) (old : List Bool) (start begin : ℕ) (order : List ℕ) → length old ≡ n → length order ≡ n → begin ≡ marked_count old n → Found f n old start begin old order begin
+found_none : (f : ℕ → ℕ) (n : ℕ) (old : List Bool) (start begin : ℕ) (order : List ℕ) → length old ≡ n → length order ≡ n → begin ≡ marked_count old n
+    → Found f n old start begin old order begin
 found_none f n old start begin order ls lo e = grind arith
 
-pub search_start : (f : ℕ → ℕ) (n : ℕ) {old s1 : List Bool} {start begin : ℕ} (order : List ℕ) {o1 : List ℕ} {f1 : ℕ} → start < n → length old ≡ n → length order ≡ n → begin ≡ marked_count old n → IsVisit old s1 order o1 begin f1 start → Searched f n old start begin s1 o1 f1 begin
+pub search_start : (f : ℕ → ℕ) (n : ℕ) {old s1 : List Bool} {start begin : ℕ} (order : List ℕ) {o1 : List ℕ} {f1 : ℕ} → start < n → length old ≡ n
+    → length order ≡ n → begin ≡ marked_count old n → IsVisit old s1 order o1 begin f1 start → Searched f n old start begin s1 o1 f1 begin
 search_start f n {old} {s1} {start} {begin} order {o1} {f1} l ls lo e v =
-    let a : Visited f n old start begin old s1 order o1 begin f1 start = visited s1 o1 f1 (found_none f n old start begin order ls lo e) l (Joined-refl f twin start) v in
+    let a : Visited f n old start begin old s1 order o1 begin f1 start =
+    visited s1 o1 f1 (found_none f n old start begin order ls lo e) l (Joined-refl f twin start) v in
     record { state = a.state; started = a.here; behind = a.more; each = λ j low lj. absurd (omega arith) }
 
-pub first_visit : {f : ℕ → ℕ} {n : ℕ} {old : List Bool} {start begin : ℕ} {seen : List Bool} (seen' : List Bool) {order : List ℕ} (order' : List ℕ) {found : ℕ} (found' : ℕ) {done : ℕ} → IsPermutation f n → Searched f n old start begin seen order found done → begin ≤ done → done < found → IsVisit seen seen' order order' found found' (f (slice_index order done)) → Visited f n old start begin seen seen' order order' found found' (f (slice_index order done))
+pub first_visit : {f : ℕ → ℕ} {n : ℕ} {old : List Bool} {start begin : ℕ} {seen : List Bool} (seen' : List Bool) {order : List ℕ} (order' : List ℕ) {found : ℕ}
+    (found' : ℕ) {done : ℕ} → IsPermutation f n → Searched f n old start begin seen order found done → begin ≤ done → done < found
+    → IsVisit seen seen' order order' found found' (f (slice_index order done))
+    → Visited f n old start begin seen seen' order order' found found' (f (slice_index order done))
 first_visit {f} {n} {old} {start} {begin} {seen} seen' {order} order' {found} found' {done} h s lo l v =
     let d : ℕ = slice_index order done in
     visited seen' order' found' s.state (h.within d (s.state.within done lo l))
     (Joined-turned f twin start d (s.state.reached done lo l)) v
 
-pub two_visits : {f : ℕ → ℕ} {n : ℕ} {old : List Bool} {start begin : ℕ} {seen : List Bool} (s1 : List Bool) {s2 : List Bool} {order : List ℕ} (o1 : List ℕ) {o2 : List ℕ} {found : ℕ} (f1 : ℕ) {f2 : ℕ} {done : ℕ} → IsPermutation f n → n % 2 ≡ 0 → start < n → Searched f n old start begin seen order found done → begin ≤ done → done < found → IsVisit seen s1 order o1 found f1 (f (slice_index order done)) → IsVisit s1 s2 o1 o2 f1 f2 (twin (slice_index order done)) → Searched f n old start begin s2 o2 f2 (done + 1)
+pub two_visits : {f : ℕ → ℕ} {n : ℕ} {old : List Bool} {start begin : ℕ} {seen : List Bool} (s1 : List Bool) {s2 : List Bool} {order : List ℕ} (o1 : List ℕ)
+    {o2 : List ℕ} {found : ℕ} (f1 : ℕ) {f2 : ℕ} {done : ℕ} → IsPermutation f n → n % 2 ≡ 0 → start < n → Searched f n old start begin seen order found done
+    → begin ≤ done → done < found → IsVisit seen s1 order o1 found f1 (f (slice_index order done)) → IsVisit s1 s2 o1 o2 f1 f2 (twin (slice_index order done))
+    → Searched f n old start begin s2 o2 f2 (done + 1)
 two_visits {f} {n} {old} {start} {begin} {seen} s1 {s2} {order} o1 {o2} {found} f1 {f2} {done} h even ls s lo l v w =
     let d : ℕ = slice_index order done in
     let ld : d < n = s.state.within done lo l in
@@ -116,7 +130,9 @@ two_visits {f} {n} {old} {start} {begin} {seen} s1 {s2} {order} o1 {o2} {found} 
     }
 
 -- where all of the order is done, what is marked is what was marked and what is joined to the start
-pub searched_all : {f : ℕ → ℕ} {n : ℕ} {old : List Bool} {start begin : ℕ} {seen : List Bool} {order : List ℕ} {found done : ℕ} → IsPermutation f n → n % 2 ≡ 0 → start < n → IsClosed f n old → Searched f n old start begin seen order found done → found ≤ done → (a : ℕ) → a < n → (mark seen a ≡ true) ↔ ((mark old a ≡ true) ⊎ Joined f twin start a)
+pub searched_all : {f : ℕ → ℕ} {n : ℕ} {old : List Bool} {start begin : ℕ} {seen : List Bool} {order : List ℕ} {found done : ℕ} → IsPermutation f n → n % 2 ≡ 0
+    → start < n → IsClosed f n old → Searched f n old start begin seen order found done → found ≤ done → (a : ℕ) → a < n → (mark seen a ≡ true)
+    ↔ ((mark old a ≡ true) ⊎ Joined f twin start a)
 searched_all {f} {n} {start} {seen} h even ls c s l a la = (
   λ e. elim (s.state.listed a la e) [
     | inl first ↦ inl first
@@ -146,5 +162,6 @@ searched_all {f} {n} {start} {seen} h even ls c s l a la = (
       ],
     )
 
-pub found_most : (f : ℕ → ℕ) (n : ℕ) (old : List Bool) (start begin : ℕ) (seen : List Bool) (order : List ℕ) (found : ℕ) → Found f n old start begin seen order found → found ≤ n
+pub found_most : (f : ℕ → ℕ) (n : ℕ) (old : List Bool) (start begin : ℕ) (seen : List Bool) (order : List ℕ) (found : ℕ)
+    → Found f n old start begin seen order found → found ≤ n
 found_most f n old start begin seen order found s = omega (arith, s.count, count_below-le (mark seen) n)

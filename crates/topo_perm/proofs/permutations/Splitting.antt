@@ -3,7 +3,8 @@ use Rattle.std.proofs.Common.{◌≡◌, ◌≢◌, ℕ, ◌+◌, ◌%◌, ◌<�
 use Rattle.std.proofs.lemmas.Bool.{cases_eq, cond-true, cond-false, eq-eqb, ne_eqb}
 use Rattle.topo_core.specs.Cycles.{IsPermutation, IsBypass, cycle_count}
 use Rattle.topo_core.specs.Rotations.{twin, face_next}
-use Rattle.topo_perm.proofs.permutations.Points.{IsExchangeBelow, before_of, bypass_exchange, bypass_splits, exchanged_splits, exchanged-permutation, cycle_count-same}
+use Rattle.topo_perm.proofs.permutations.Points.{IsExchangeBelow, before_of, bypass_exchange, bypass_splits}
+use Rattle.topo_perm.proofs.permutations.Points.{exchanged_splits, exchanged-permutation, cycle_count-same}
 use Rattle.topo_perm.proofs.permutations.Walks.{twin-within, face_next-permutation}
 use Rattle.topo_core.specs.Edits.{IsSplit}
 use Rattle.topo_perm.proofs.permutations.Faces.{twin-twin, twin-apart, twin-other}
@@ -66,7 +67,8 @@ split_faces f g n h x s =
       elsewhere = λ a la nx ny. at_old a nx ny;
     } in
     -- g's faces after x, by cases on the place that w1 reads
-    let on : w1 (twin x) ≡ twin h = without-elsewhere (face_next g) x (twin x) yx (λ e. tx (sym (ap g (twin-twin x) ∙ s.split.point_there) ∙ e)) ∙ ap g (twin-twin x) ∙ s.split.point_there in
+    let on : w1 (twin x) ≡ twin h = without-elsewhere (face_next g) x (twin x) yx (λ e. tx (sym (ap g (twin-twin x) ∙ s.split.point_there) ∙ e))
+    ∙ ap g (twin-twin x) ∙ s.split.point_there in
     let from_h : w1 h ≡ g (twin x) = without-onward (face_next g) x h s.h_old s.split.point_back in
     let from_old : (a : ℕ) → a < n → a ≢ x → a ≢ twin x → a ≢ h → ((f (twin a) ≡ twin h) × (w1 a ≡ twin x)) ⊎ ((f (twin a) ≢ twin h) × (w1 a ≡ f (twin a))) =
     λ a la nx ny nh.
@@ -164,7 +166,8 @@ split_points f g n h x s =
             | inl e ↦ ap (without v y) e ∙ without-elsewhere v y x (λ w. yx (sym w)) (λ w. yx (sym (sym v_x ∙ w))) ∙ v_x
                 ∙ sym (ap (without f t) e ∙ without-elsewhere f t x (λ w. tx (sym w)) (λ w. tx (sym w ∙ s.split.isolated.this)) ∙ s.split.isolated.this)
             | inr nx ↦ elim (cases_eq a y) [
-              | inl e ↦ without-self v y a e ∙ sym (ap (without f t) e ∙ without-elsewhere f t y (λ w. ty (sym w)) (λ w. ty (sym w ∙ s.split.isolated.other)) ∙ s.split.isolated.other)
+              | inl e ↦ without-self v y a e
+                  ∙ sym (ap (without f t) e ∙ without-elsewhere f t y (λ w. ty (sym w)) (λ w. ty (sym w ∙ s.split.isolated.other)) ∙ s.split.isolated.other)
               | inr ny ↦ elim (cases_eq a t) [
                 | inl e ↦ ap (without v y) e ∙ without-elsewhere v y t ty (λ w. ty (sym v_t ∙ w)) ∙ v_t ∙ sym (without-self f t a e)
                 | inr nt ↦ elim (cases_eq (f a) t) [

@@ -72,7 +72,8 @@ pub face_next-permutation : (f : ℕ → ℕ) (n : ℕ) → IsPermutation f n �
 face_next-permutation f n h even = grind (arith, twin-within, twin-cases)
 
 -- a list that has the turns of the faces has as many cycles as there are faces
-pub faces_of-list : (p q : List ℕ) → IsPermutationList p → length p % 2 ≡ 0 → length q ≡ length p → ((a : ℕ) → a < length p → slice_index q a ≡ face_next (map_of p) a) → cycles_of q ≡ faces_of p
+pub faces_of-list : (p q : List ℕ) → IsPermutationList p → length p % 2 ≡ 0 → length q ≡ length p
+    → ((a : ℕ) → a < length p → slice_index q a ≡ face_next (map_of p) a) → cycles_of q ≡ faces_of p
 faces_of-list p q h even same e = grind (arith, cycle_count-same, face_next-permutation)
 
 -- a relation has one number of classes

@@ -1,4 +1,5 @@
--- A deletion under other numbers: where the segments of an edge are taken out of a slab that renumbers the system, and the midpoints that are left are smoothed, the slab renumbers the system without the edge.
+-- A deletion under other numbers: where the segments of an edge are taken out of a slab that renumbers the system, and the midpoints that are left are
+-- smoothed, the slab renumbers the system without the edge.
 use Rattle.std.proofs.Common.{◌≡◌, ◌≢◌, ℕ, zero, suc, ◌%◌, ◌<◌, ◌≤◌, Bool, true, false, List, [], ◌∷◌, inl, inr, refl, sym, ◌∙◌, ap, subst, arith}
 use Rattle.std.specs.List.{AllByRecursion}
 use Rattle.topo_core.specs.Cycles.{IsPermutation}
@@ -14,7 +15,8 @@ use Rattle.topo_perm.proofs.renumbering.SplitNumbers.{smooth_numbers}
 use Rattle.topo_perm.proofs.renumbering.Composing.{composed_numbers, slab_of_turn, turn_of_slab}
 use Rattle.topo_perm.proofs.runs.DeletionSteps.{IsOpening, left_after, segment_left, step_adds}
 use Rattle.topo_perm.proofs.runs.InsertionPaths.{all_at}
-use Rattle.topo_perm.proofs.runs.Midpoints.{AreMidway, IsMidpoint, can_smooth, even_not_odd, left_other, no_loop, odd_twin, smoothed_midway, smoothed_name, smoothed_name-other, taken, without_segment}
+use Rattle.topo_perm.proofs.runs.Midpoints.{AreMidway, IsMidpoint, can_smooth, even_not_odd, left_other, no_loop, odd_twin}
+use Rattle.topo_perm.proofs.runs.Midpoints.{smoothed_midway, smoothed_name, smoothed_name-other, taken, without_segment}
 
 -- ---- The segments of the edge
 
@@ -23,9 +25,11 @@ abbrev pub unchords_of : (ℕ → ℕ) → ℕ → List Edit
 unchords_of h zero = []
 unchords_of h (suc i) = Unchord (h i) ∷ unchords_of h i
 
-pub opened_numbers : {t : ℕ → ℕ → ℕ} {n : ℕ} {h : ℕ → ℕ} {count : ℕ} → IsOpening t n h count → {nu back : ℕ → ℕ} {limit : ℕ} {u : Turning} (v : Turning) → RenumbersSlab nu back (left_after h 0) (t 0) n u.live u.turn limit
+pub opened_numbers : {t : ℕ → ℕ → ℕ} {n : ℕ} {h : ℕ → ℕ} {count : ℕ} → IsOpening t n h count → {nu back : ℕ → ℕ} {limit : ℕ} {u : Turning} (v : Turning)
+    → RenumbersSlab nu back (left_after h 0) (t 0) n u.live u.turn limit
     → (i : ℕ) → i ≤ count → IsRun limit u (unchords_of (λ j. nu (h j)) i) v → RenumbersSlab nu back (left_after h i) (t i) n v.live v.turn limit
-opened_numbers {t} {n} {h} o {nu} {back} {limit} v r zero li run = subst (λ (w : Turning). RenumbersSlab nu back (left_after h 0) (t 0) n w.live w.turn limit) run r
+opened_numbers {t} {n} {h} o {nu} {back} {limit} v r zero li run =
+    subst (λ (w : Turning). RenumbersSlab nu back (left_after h 0) (t 0) n w.live w.turn limit) run r
 opened_numbers {t} {n} {h} {count} o {nu} {back} {limit} {u} v r (suc i) li run =
     let lc : i < count = omega (arith, li) in
     unchord_numbers
@@ -45,7 +49,8 @@ AreMids middle live n [] = Unit {0}
 AreMids middle live n (x ∷ xs) = IsAlive live n x × middle x × AllByRecursion (λ y. x ≢ y) xs × AreMids middle live n xs
 
 -- some slab that the numbers carry to v, in which these midpoints are gone
-record IsSmoothedTo (middle : ℕ → Type 0) (rank : ℕ → ℕ) (live : ℕ → Bool) (n : ℕ) (f : ℕ → ℕ) (m : ℕ) (name onto nu back : ℕ → ℕ) (limit : ℕ) (xs : List ℕ) (v : Turning) : Type 0 where
+record IsSmoothedTo (middle : ℕ → Type 0) (rank : ℕ → ℕ) (live : ℕ → Bool) (n : ℕ) (f : ℕ → ℕ) (m : ℕ) (name onto nu back : ℕ → ℕ) (limit : ℕ) (xs : List ℕ)
+    (v : Turning) : Type 0 where
   left : ℕ → Bool
   turn : ℕ → ℕ
   names : ℕ → ℕ
@@ -70,20 +75,26 @@ pub record IsSmoothable (v : Turning) (limit x : ℕ) : Type 0 where
   pub not_alone : v.turn x ≢ x
   pub two_segments : v.turn x ≢ twin x
 
-module _ {middle : ℕ → Type 0} {rank : ℕ → ℕ} {live : ℕ → Bool} {t : ℕ → ℕ} {n : ℕ} {f : ℕ → ℕ} {m : ℕ} {name onto : ℕ → ℕ} (w : AreMidway middle rank live t n f m name onto) (p : IsPermutation f m) (even : m % 2 ≡ 0)
+module _ {middle : ℕ → Type 0} {rank : ℕ → ℕ} {live : ℕ → Bool} {t : ℕ → ℕ} {n : ℕ} {f : ℕ → ℕ} {m : ℕ} {name onto : ℕ → ℕ}
+    (w : AreMidway middle rank live t n f m name onto) (p : IsPermutation f m) (even : m % 2 ≡ 0)
     {nu back : ℕ → ℕ} {limit : ℕ} (u : Turning) (r : RenumbersSlab nu back live t n u.live u.turn limit) where
   away : (a : ℕ) → a % 2 ≡ 0 → (xs : List ℕ) → AreMids middle live n xs → AllByRecursion (λ y. a ≢ y) xs → AllByRecursion (λ x. (a ≢ x) × (a ≢ twin x)) xs
   away a e [] mids apart = tt
   away a e (x ∷ xs) mids apart = ((apart.0, even_not_odd a (twin x) e (odd_twin x (w.midpoints x mids.0 mids.1).even)), away a e xs mids.3 apart.1)
 
-  dead_still : (old new : ℕ → Bool) (xs : List ℕ) → ((a : ℕ) → IsAlive new n a → IsAlive old n a) → AreMids middle live n xs → AllByRecursion (λ x. old x ≡ false) xs → AllByRecursion (λ x. new x ≡ false) xs
+  dead_still : (old new : ℕ → Bool) (xs : List ℕ) → ((a : ℕ) → IsAlive new n a → IsAlive old n a) → AreMids middle live n xs
+      → AllByRecursion (λ x. old x ≡ false) xs → AllByRecursion (λ x. new x ≡ false) xs
   dead_still old new [] sub mids dead = tt
-  dead_still old new (x ∷ xs) sub mids dead = (not_live (new x) (λ e. dead_apart old x x dead.0 (sub x (record { within = mids.0.within; alive = e })).alive refl), dead_still old new xs sub mids.3 dead.1) where
+  dead_still old new (x ∷ xs) sub mids dead = (
+    not_live (new x) (λ e. dead_apart old x x dead.0 (sub x (record { within = mids.0.within; alive = e })).alive refl),
+    dead_still old new xs sub mids.3 dead.1,
+  ) where
     not_live : (b : Bool) → (b ≡ true → ⊥) → b ≡ false
     not_live true k = absurd (k refl)
     not_live false k = refl
 
-  smoothed : (xs : List ℕ) (v : Turning) → AreMids middle live n xs → IsRun limit u (smooths_of nu xs) v → IsSmoothedTo middle rank live n f m name onto nu back limit xs v
+  smoothed : (xs : List ℕ) (v : Turning) → AreMids middle live n xs → IsRun limit u (smooths_of nu xs) v
+      → IsSmoothedTo middle rank live n f m name onto nu back limit xs v
   smoothed [] v mids run = grind arith
   smoothed (x ∷ xs) v mids run =
       let before : IsSmoothedTo middle rank live n f m name onto nu back limit xs run.0 = smoothed xs run.0 mids.3 run.1 in
@@ -118,7 +129,8 @@ module _ {middle : ℕ → Type 0} {rank : ℕ → ℕ} {live : ℕ → Bool} {t
       let point : IsMidpoint s.turn m s.names onto rank x = s.midway.midpoints x xt mids.1 in
       let next : IsAlive s.left n (s.turn x) = alive_turn s.left s.turn n x s.midway.slab xt in
       let leads : v.turn (nu x) ≡ nu (s.turn x) = s.numbers.turns x xt in
-      let apart : (a : ℕ) → IsAlive s.left n a → s.turn x ≢ a → v.turn (nu x) ≢ nu a = λ a at ne e. ne (sym (s.numbers.into.returns (s.turn x) next) ∙ ap back (sym leads ∙ e) ∙ s.numbers.into.returns a at) in
+      let apart : (a : ℕ) → IsAlive s.left n a → s.turn x ≢ a → v.turn (nu x) ≢ nu a =
+      λ a at ne e. ne (sym (s.numbers.into.returns (s.turn x) next) ∙ ap back (sym leads ∙ e) ∙ s.numbers.into.returns a at) in
       record {
         there = s.numbers.into.there x xt;
         two = ap v.turn leads ∙ s.numbers.turns (s.turn x) next ∙ ap nu point.two;
@@ -126,7 +138,8 @@ module _ {middle : ℕ → Type 0} {rank : ℕ → ℕ} {live : ℕ → Bool} {t
         two_segments = λ e. apart (twin x) (alive_twin s.left s.turn n x s.midway.slab xt) (no_loop s.midway xt mids.1) (e ∙ sym (s.numbers.into.twins x xt));
       }
 
-  pub smoothed_numbers : (xs : List ℕ) (v : Turning) → AreMids middle live n xs → ((x : ℕ) → IsAlive live n x → middle x → IsIn x xs) → IsRun limit u (smooths_of nu xs) v → IsSmoothedUnder f m name nu v limit
+  pub smoothed_numbers : (xs : List ℕ) (v : Turning) → AreMids middle live n xs → ((x : ℕ) → IsAlive live n x → middle x → IsIn x xs)
+      → IsRun limit u (smooths_of nu xs) v → IsSmoothedUnder f m name nu v limit
   smoothed_numbers xs v mids all run =
       let s : IsSmoothedTo middle rank live n f m name onto nu back limit xs v = smoothed xs v mids run in
       let z : AreMidway middle rank s.left s.turn n f m s.names onto = s.midway in

@@ -23,12 +23,14 @@ alive_twin live f n a s at = record { within = twin-within n a s.even at.within;
 pub alive_turn : (live : ℕ → Bool) (f : ℕ → ℕ) (n a : ℕ) → IsSlab live f n → IsAlive live n a → IsAlive live n (f a)
 alive_turn live f n a s at = grind (arith, cases_Bool, dead_apart)
 
-pub into_apart : {h back : ℕ → ℕ} {live : ℕ → Bool} {n : ℕ} {live' : ℕ → Bool} {m : ℕ} → IsInto h back live n live' m → (a b : ℕ) → IsAlive live n a → IsAlive live n b → h a ≡ h b → a ≡ b
+pub into_apart : {h back : ℕ → ℕ} {live : ℕ → Bool} {n : ℕ} {live' : ℕ → Bool} {m : ℕ} → IsInto h back live n live' m → (a b : ℕ) → IsAlive live n a
+    → IsAlive live n b → h a ≡ h b → a ≡ b
 into_apart {back} i a b at bt e = sym (i.returns a at) ∙ ap back e ∙ i.returns b bt
 
 -- ---- A dart put in, and a dart taken out
 
-pub put_in_slab : {live : ℕ → Bool} {f f' : ℕ → ℕ} {n x c : ℕ} → IsSlab live f n → IsPermutation f' n → IsAlive live n x → IsAlive live n c → IsBefore f f' n x c → IsSlab live f' n
+pub put_in_slab : {live : ℕ → Bool} {f f' : ℕ → ℕ} {n x c : ℕ} → IsSlab live f n → IsPermutation f' n → IsAlive live n x → IsAlive live n c
+    → IsBefore f f' n x c → IsSlab live f' n
 put_in_slab s p xt ct b = grind (arith, dead_apart)
 
 pub taken_out_slab : (live : ℕ → Bool) (f f' : ℕ → ℕ) (n i : ℕ) → IsSlab live f n → IsAlive live n i → IsBypass f f' n i → IsSlab live f' n
@@ -38,7 +40,8 @@ module _ {h back : ℕ → ℕ} {live : ℕ → Bool} {f : ℕ → ℕ} {n : ℕ
   apart : (a b : ℕ) → IsAlive live n a → IsAlive live n b → h a ≡ h b → a ≡ b
   apart = into_apart r.into
 
-  pub put_in_numbers : {f' g' : ℕ → ℕ} {x c : ℕ} → IsPermutation f' n → IsPermutation g' m → IsAlive live n x → IsAlive live n c → IsBefore f f' n x c → IsBefore g g' m (h x) (h c)
+  pub put_in_numbers : {f' g' : ℕ → ℕ} {x c : ℕ} → IsPermutation f' n → IsPermutation g' m → IsAlive live n x → IsAlive live n c → IsBefore f f' n x c
+      → IsBefore g g' m (h x) (h c)
       → RenumbersSlab h back live f' n live' g' m
   put_in_numbers {f'} {g'} {x} {c} p q xt ct b d = record {
     before = put_in_slab r.before p xt ct b;
@@ -55,7 +58,8 @@ module _ {h back : ℕ → ℕ} {live : ℕ → Bool} {f : ℕ → ℕ} {n : ℕ
                 let was : g (h a) ≡ h c = r.turns a at ∙ ap h (b.without.onward a at.within ne to ∙ b.turns) in
                 elim (cases_eq (g' (h a)) (h x)) [
                   | inl w ↦ w ∙ ap h (sym to)
-                  | inr nw ↦ absurd (other (q.apart (h a) (h x) ha.within (r.into.there x xt).within (sym (d.without.elsewhere (h a) ha.within other nw) ∙ was ∙ sym d.turns)))
+                  | inr nw ↦ absurd (other
+                      (q.apart (h a) (h x) ha.within (r.into.there x xt).within (sym (d.without.elsewhere (h a) ha.within other nw) ∙ was ∙ sym d.turns)))
                 ]
             | inr off ↦
                 let same : f a ≡ f' a = b.without.elsewhere a at.within ne off in
@@ -131,7 +135,8 @@ added_slab live new f n x s t = record {
   free = λ a la e. (stayed live new f n x a s t la e).fixed;
 }
 
-added_into : {h back : ℕ → ℕ} {live new : ℕ → Bool} {n x : ℕ} {live' new' : ℕ → Bool} {m y : ℕ} → m % 2 ≡ 0 → x < n → y < m → AddsSegment live new n x → AddsSegment live' new' m y
+added_into : {h back : ℕ → ℕ} {live new : ℕ → Bool} {n x : ℕ} {live' new' : ℕ → Bool} {m y : ℕ} → m % 2 ≡ 0 → x < n → y < m → AddsSegment live new n x
+    → AddsSegment live' new' m y
     → ((a : ℕ) → IsAlive live n a → IsAlive live n (twin a)) → IsInto h back live n live' m → IsInto (extended h x y) (extended back y x) new n new' m
 added_into {h} {back} {live} {new} {n} {x} {live'} {new'} {m} {y} even lx ly s t twinned i = record {
   there = λ a at. elim (new_or_old live new n x a s at) [
@@ -142,16 +147,19 @@ added_into {h} {back} {live} {new} {n} {x} {live'} {new'} {m} {y} even lx ly s t
   returns = λ a at. elim (new_or_old live new n x a s at) [
     | inl e ↦ ap (extended back y x) (extended-self h x y a e) ∙ extended-here back y x ∙ sym e
     | inr (inl e) ↦ ap (extended back y x) (extended-twin h x y a e) ∙ extended-there back y x ∙ sym e
-    | inr (inr was) ↦ ap (extended back y x) (extended-old h live new n x y a s was.alive) ∙ extended-old back live' new' m y x (h a) t (i.there a was).alive ∙ i.returns a was
+    | inr (inr was) ↦ ap (extended back y x) (extended-old h live new n x y a s was.alive) ∙ extended-old back live' new' m y x (h a) t (i.there a was).alive
+        ∙ i.returns a was
   ];
   twins = λ a at. elim (new_or_old live new n x a s at) [
     | inl e ↦ extended-twin h x y (twin a) (ap twin e) ∙ ap twin (sym (extended-self h x y a e))
     | inr (inl e) ↦ extended-self h x y (twin a) (ap twin e ∙ twin-twin x) ∙ sym (ap twin (extended-twin h x y a e) ∙ twin-twin y)
-    | inr (inr was) ↦ extended-old h live new n x y (twin a) s (twinned a was).alive ∙ i.twins a was ∙ ap twin (sym (extended-old h live new n x y a s was.alive))
+    | inr (inr was) ↦ extended-old h live new n x y (twin a) s (twinned a was).alive ∙ i.twins a was
+        ∙ ap twin (sym (extended-old h live new n x y a s was.alive))
   ];
 }
 
-pub added_numbers : {h back : ℕ → ℕ} {live new : ℕ → Bool} {f : ℕ → ℕ} {n x : ℕ} {live' new' : ℕ → Bool} {g : ℕ → ℕ} {m y : ℕ} → RenumbersSlab h back live f n live' g m → AddsBoth live new n x live' new' m y
+pub added_numbers : {h back : ℕ → ℕ} {live new : ℕ → Bool} {f : ℕ → ℕ} {n x : ℕ} {live' new' : ℕ → Bool} {g : ℕ → ℕ} {m y : ℕ}
+    → RenumbersSlab h back live f n live' g m → AddsBoth live new n x live' new' m y
     → IsIsolated f x → IsIsolated g y → RenumbersSlab (extended h x y) (extended back y x) new f n new' g m
 added_numbers {h} {back} {live} {new} {f} {n} {x} {live'} {new'} {g} {m} {y} r s alone alone' = record {
   before = added_slab live new f n x r.before s.adds;
@@ -161,7 +169,8 @@ added_numbers {h} {back} {live} {new} {f} {n} {x} {live'} {new'} {g} {m} {y} r s
   turns = λ a at. elim (new_or_old live new n x a s.adds at) [
     | inl e ↦ ap g (extended-self h x y a e) ∙ alone'.this ∙ sym (extended-self h x y (f a) (ap f e ∙ alone.this))
     | inr (inl e) ↦ ap g (extended-twin h x y a e) ∙ alone'.other ∙ sym (extended-twin h x y (f a) (ap f e ∙ alone.other))
-    | inr (inr was) ↦ ap g (extended-old h live new n x y a s.adds was.alive) ∙ r.turns a was ∙ sym (extended-old h live new n x y (f a) s.adds (alive_turn live f n a r.before was).alive)
+    | inr (inr was) ↦ ap g (extended-old h live new n x y a s.adds was.alive) ∙ r.turns a was
+        ∙ sym (extended-old h live new n x y (f a) s.adds (alive_turn live f n a r.before was).alive)
   ];
 }
 
@@ -170,7 +179,8 @@ added_numbers {h} {back} {live} {new} {f} {n} {x} {live'} {new'} {g} {m} {y} r s
 removed_slab : (live old : ℕ → Bool) (f : ℕ → ℕ) (n x : ℕ) → IsSlab old f n → AddsSegment live old n x → IsIsolated f x → IsSlab live f n
 removed_slab live old f n x s t alone = grind (arith, taken_twins, cases_eq)
 
-removed_into : {h back : ℕ → ℕ} {live old : ℕ → Bool} {n x : ℕ} {live' old' : ℕ → Bool} {m : ℕ} → IsAlive old n x → IsAlive old n (twin x) → AddsSegment live old n x → AddsSegment live' old' m (h x) → IsInto h back old n old' m → IsInto h back live n live' m
+removed_into : {h back : ℕ → ℕ} {live old : ℕ → Bool} {n x : ℕ} {live' old' : ℕ → Bool} {m : ℕ} → IsAlive old n x → IsAlive old n (twin x)
+    → AddsSegment live old n x → AddsSegment live' old' m (h x) → IsInto h back old n old' m → IsInto h back live n live' m
 removed_into {h} {back} {live} {old} {n} {x} {old'} {m} xt tt' s t i = record {
   there = λ a at.
       let was : IsAlive old n a = still_alive live old n x a s at in
@@ -183,7 +193,8 @@ removed_into {h} {back} {live} {old} {n} {x} {old'} {m} xt tt' s t i = record {
 }
 
 -- the isolated segment of x goes, and that of its number
-pub removed_numbers : {h back : ℕ → ℕ} {live old : ℕ → Bool} {f : ℕ → ℕ} {n x : ℕ} {live' old' : ℕ → Bool} {g : ℕ → ℕ} {m : ℕ} → RenumbersSlab h back old f n old' g m → IsAlive old n x
+pub removed_numbers : {h back : ℕ → ℕ} {live old : ℕ → Bool} {f : ℕ → ℕ} {n x : ℕ} {live' old' : ℕ → Bool} {g : ℕ → ℕ} {m : ℕ}
+    → RenumbersSlab h back old f n old' g m → IsAlive old n x
     → AddsSegment live old n x → AddsSegment live' old' m (h x) → IsIsolated f x → RenumbersSlab h back live f n live' g m
 removed_numbers {h} {back} {live} {old} {f} {n} {x} {live'} {old'} {g} {m} r xt s t alone =
     let tx : IsAlive old n (twin x) = alive_twin old f n x r.before xt in
@@ -203,15 +214,20 @@ removed_numbers {h} {back} {live} {old} {f} {n} {x} {live'} {old'} {g} {m} r xt 
 
 -- ---- A segment hung, drawn as a chord, and taken out
 
-pub hang_numbers : {h back : ℕ → ℕ} {live new : ℕ → Bool} {f f' : ℕ → ℕ} {n c x : ℕ} {live' new' : ℕ → Bool} {g g' : ℕ → ℕ} {m y : ℕ} → RenumbersSlab h back live f n live' g m → AddsBoth live new n x live' new' m y
-    → IsAlive live n c → IsPermutation f' n → IsPermutation g' m → IsHang f f' n c x → IsHang g g' m (h c) y → RenumbersSlab (extended h x y) (extended back y x) new f' n new' g' m
+pub hang_numbers : {h back : ℕ → ℕ} {live new : ℕ → Bool} {f f' : ℕ → ℕ} {n c x : ℕ} {live' new' : ℕ → Bool} {g g' : ℕ → ℕ} {m y : ℕ}
+    → RenumbersSlab h back live f n live' g m → AddsBoth live new n x live' new' m y
+    → IsAlive live n c → IsPermutation f' n → IsPermutation g' m → IsHang f f' n c x → IsHang g g' m (h c) y
+    → RenumbersSlab (extended h x y) (extended back y x) new f' n new' g' m
 hang_numbers {h} {back} {live} {new} {f} {f'} {n} {c} {x} {live'} {new'} {g} {g'} {m} {y} r s ct p q b d =
     let added : RenumbersSlab (extended h x y) (extended back y x) new f n new' g m = added_numbers r s b.room d.room in
     put_in_numbers added p q (record { within = s.within; alive = s.adds.here }) (still_alive live new n x c s.adds ct) b.start
-    (subst (λ z. IsBefore g g' m z (extended h x y c)) (sym (extended-here h x y)) (subst (IsBefore g g' m y) (sym (extended-old h live new n x y c s.adds ct.alive)) d.start))
+    (subst (λ z. IsBefore g g' m z (extended h x y c)) (sym (extended-here h x y))
+    (subst (IsBefore g g' m y) (sym (extended-old h live new n x y c s.adds ct.alive)) d.start))
 
-pub chord_numbers : {h back : ℕ → ℕ} {live new : ℕ → Bool} {f f' : ℕ → ℕ} {n c e x : ℕ} {live' new' : ℕ → Bool} {g g' : ℕ → ℕ} {m y : ℕ} → RenumbersSlab h back live f n live' g m → AddsBoth live new n x live' new' m y
-    → IsAlive live n c → IsAlive live n e → IsPermutation f' n → IsPermutation g' m → IsChord f f' n c e x → IsChord g g' m (h c) (h e) y → RenumbersSlab (extended h x y) (extended back y x) new f' n new' g' m
+pub chord_numbers : {h back : ℕ → ℕ} {live new : ℕ → Bool} {f f' : ℕ → ℕ} {n c e x : ℕ} {live' new' : ℕ → Bool} {g g' : ℕ → ℕ} {m y : ℕ}
+    → RenumbersSlab h back live f n live' g m → AddsBoth live new n x live' new' m y
+    → IsAlive live n c → IsAlive live n e → IsPermutation f' n → IsPermutation g' m → IsChord f f' n c e x → IsChord g g' m (h c) (h e) y
+    → RenumbersSlab (extended h x y) (extended back y x) new f' n new' g' m
 chord_numbers {h} {back} {live} {new} {f} {f'} {n} {c} {e} {x} {live'} {new'} {g} {g'} {m} {y} r s ct et p q b d =
     let lx : twin x < n = twin-within n x r.before.even s.within in
     let ly : twin y < m = twin-within m y r.after.even s.within_other in
@@ -220,9 +236,11 @@ chord_numbers {h} {back} {live} {new} {f} {f'} {n} {c} {e} {x} {live'} {new'} {g
     let first : RenumbersSlab (extended h x y) (extended back y x) new b.half n new' d.half m =
     hang_numbers r s ct ph qh (record { room = b.room; start = b.start }) (record { room = d.room; start = d.start }) in
     put_in_numbers first p q (record { within = lx; alive = s.adds.here_twin }) (still_alive live new n x e s.adds et) b.end
-    (subst (λ z. IsBefore d.half g' m z (extended h x y e)) (sym (extended-there h x y)) (subst (IsBefore d.half g' m (twin y)) (sym (extended-old h live new n x y e s.adds et.alive)) d.end))
+    (subst (λ z. IsBefore d.half g' m z (extended h x y e)) (sym (extended-there h x y))
+    (subst (IsBefore d.half g' m (twin y)) (sym (extended-old h live new n x y e s.adds et.alive)) d.end))
 
-pub unchord_numbers : {h back : ℕ → ℕ} {live old : ℕ → Bool} {f f' : ℕ → ℕ} {n i : ℕ} {live' old' : ℕ → Bool} {g g' : ℕ → ℕ} {m : ℕ} → RenumbersSlab h back old f n old' g m → IsAlive old n i
+pub unchord_numbers : {h back : ℕ → ℕ} {live old : ℕ → Bool} {f f' : ℕ → ℕ} {n i : ℕ} {live' old' : ℕ → Bool} {g g' : ℕ → ℕ} {m : ℕ}
+    → RenumbersSlab h back old f n old' g m → IsAlive old n i
     → AddsSegment live old n i → AddsSegment live' old' m (h i) → IsUnchord f f' n i → IsUnchord g g' m (h i) → RenumbersSlab h back live f' n live' g' m
 unchord_numbers {h} {back} {live} {old} {f} {f'} {n} {i} {live'} {old'} {g} {g'} {m} r it s t b d =
     let tt' : IsAlive old n (twin i) = alive_twin old f n i r.before it in

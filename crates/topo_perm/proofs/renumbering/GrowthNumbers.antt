@@ -77,7 +77,8 @@ module _ {f g : ℕ → ℕ} {m c : ℕ} (o : IsGrowth f g m c) where
   grows : AddsSegment (below m) (λ a. true) n m
   grows = grind (arith, not_below, below, twin_new, parts, lt-ltb)
 
-  module _ {nu back : ℕ → ℕ} {limit : ℕ} {u v : Turning} (y : ℕ) (r : RenumbersTurn nu back f u.turn m u.live limit) (slab : IsSlab u.live u.turn limit) (step : IsStep limit u (Hang (nu c) y) v) where
+  module _ {nu back : ℕ → ℕ} {limit : ℕ} {u v : Turning} (y : ℕ) (r : RenumbersTurn nu back f u.turn m u.live limit) (slab : IsSlab u.live u.turn limit)
+      (step : IsStep limit u (Hang (nu c) y) v) where
     whole : RenumbersSlab nu back (λ _. true) f m u.live u.turn limit
     whole = slab_of_turn nu back f u.turn m u.live limit r slab
 
@@ -91,8 +92,16 @@ module _ {f g : ℕ → ℕ} {m c : ℕ} (o : IsGrowth f g m c) where
     with_place = record {
       before = room_slab;
       after = slab;
-      into = record { there = λ a at. whole.into.there a (inside a at); returns = λ a at. whole.into.returns a (inside a at); twins = λ a at. whole.into.twins a (inside a at) };
-      from = record { there = λ z zt. outside (back z) (whole.from.there z zt); returns = λ z zt. whole.from.returns z zt; twins = λ z zt. whole.from.twins z zt };
+      into = record {
+        there = λ a at. whole.into.there a (inside a at);
+        returns = λ a at. whole.into.returns a (inside a at);
+        twins = λ a at. whole.into.twins a (inside a at);
+      };
+      from = record {
+        there = λ z zt. outside (back z) (whole.from.there z zt);
+        returns = λ z zt. whole.from.returns z zt;
+        twins = λ z zt. whole.from.twins z zt;
+      };
       turns = λ a at. whole.turns a (inside a at) ∙ ap nu (sym (room_old f m a (inside a at).within));
     }
 

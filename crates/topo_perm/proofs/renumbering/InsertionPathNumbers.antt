@@ -1,4 +1,5 @@
--- An insertion path under other numbers: where its subdivision vertices and chords are made in a slab that renumbers the system below, that slab renumbers the system with the new edge.
+-- An insertion path under other numbers: where its subdivision vertices and chords are made in a slab that renumbers the system below, that slab renumbers the
+-- system with the new edge.
 use Rattle.std.proofs.Common.{arith, ◌≡◌, ◌≢◌, ℕ, ◌%◌, ◌<◌, ◌==◌, Bool, true, cond, List, [], ◌∷◌, inl, inr, refl, sym, ◌∙◌, ap, subst}
 use Rattle.std.specs.List.{AllByRecursion}
 use Rattle.std.proofs.lemmas.Bool.{cases_eq, cond-true, cond-false, eq-eqb, ne_eqb}
@@ -36,7 +37,8 @@ abbrev pub AreSubdivisionsAt : (ℕ → ℕ) → List Subdivision → List Subdi
 AreSubdivisionsAt h [] [] = Unit {0}
 AreSubdivisionsAt h [] (j ∷ js) = ⊥
 AreSubdivisionsAt h (k ∷ ks) [] = ⊥
-AreSubdivisionsAt h (k ∷ ks) (j ∷ js) = (h k.beyond ≡ j.beyond) × (h (twin k.beyond) ≡ twin j.beyond) × (h (twin k.near) ≡ twin j.near) × AreSubdivisionsAt h ks js
+AreSubdivisionsAt h (k ∷ ks) (j ∷ js) = (h k.beyond ≡ j.beyond) × (h (twin k.beyond) ≡ twin j.beyond) × (h (twin k.near) ≡ twin j.near)
+    × AreSubdivisionsAt h ks js
 
 -- ---- Subdivision vertices and chords as edits
 
@@ -55,7 +57,8 @@ OnOldDarts h live n [] (j ∷ js) = ⊥
 OnOldDarts h live n (k ∷ ks) [] = ⊥
 OnOldDarts h live n (k ∷ ks) (j ∷ js) = IsAlive live n k.near × (j.near ≡ h k.near) × OnOldDarts h live n ks js
 
-splits_alike : (h : ℕ → ℕ) (n : ℕ) (s t : Turning) (ks js : List Subdivision) → IsRun n s (splits_of ks) t → OnOldDarts h s.live n ks js → AreAlike h (splits_of ks) (splits_of js)
+splits_alike : (h : ℕ → ℕ) (n : ℕ) (s t : Turning) (ks js : List Subdivision) → IsRun n s (splits_of ks) t → OnOldDarts h s.live n ks js
+    → AreAlike h (splits_of ks) (splits_of js)
 splits_alike h n s t [] [] r o = tt
 splits_alike h n s t [] (j ∷ js) r o = absurd o
 splits_alike h n s t (k ∷ ks) [] r o = absurd o
@@ -69,16 +72,19 @@ abbrev AreCornersUnder : (ℕ → ℕ) → (ℕ → Bool) → ℕ → List NewCh
 AreCornersUnder h live n [] [] = Unit {0}
 AreCornersUnder h live n [] (i ∷ is) = ⊥
 AreCornersUnder h live n (l ∷ ls) [] = ⊥
-AreCornersUnder h live n (l ∷ ls) (i ∷ is) = (IsAlive live n l.from × IsAlive live n l.to) × ((i.from ≡ h l.from) × (i.to ≡ h l.to)) × AreCornersUnder h live n ls is
+AreCornersUnder h live n (l ∷ ls) (i ∷ is) = (IsAlive live n l.from × IsAlive live n l.to) × ((i.from ≡ h l.from) × (i.to ≡ h l.to))
+    × AreCornersUnder h live n ls is
 
-chords_alike : (h : ℕ → ℕ) (n : ℕ) (s t : Turning) (ls is : List NewChord) → IsRun n s (chords_of ls) t → AreCornersUnder h s.live n ls is → AreAlike h (chords_of ls) (chords_of is)
+chords_alike : (h : ℕ → ℕ) (n : ℕ) (s t : Turning) (ls is : List NewChord) → IsRun n s (chords_of ls) t → AreCornersUnder h s.live n ls is
+    → AreAlike h (chords_of ls) (chords_of is)
 chords_alike h n s t [] [] r o = tt
 chords_alike h n s t [] (i ∷ is) r o = absurd o
 chords_alike h n s t (l ∷ ls) [] r o = absurd o
 chords_alike h n s t (l ∷ ls) (i ∷ is) r o = (
   chords_alike h n s r.0 ls is r.1 o.2,
   ap (λ (z : ℕ). Chord z i.to i.half) (o.1.0 ∙ sym (kept_number h n s r.0 (chords_of ls) (chords_of is) l.from (chords_add ls) r.1 o.0.0))
-      ∙ ap (λ (z : ℕ). Chord (numbers_after h (chords_of ls) (chords_of is) l.from) z i.half) (o.1.1 ∙ sym (kept_number h n s r.0 (chords_of ls) (chords_of is) l.to (chords_add ls) r.1 o.0.1)),
+      ∙ ap (λ (z : ℕ). Chord (numbers_after h (chords_of ls) (chords_of is) l.from) z i.half) (o.1.1
+      ∙ sym (kept_number h n s r.0 (chords_of ls) (chords_of is) l.to (chords_add ls) r.1 o.0.1)),
 )
 
 -- ---- Where the chords lead
@@ -112,19 +118,22 @@ module _ (h name name' : ℕ → ℕ) {live : ℕ → Bool} {n : ℕ} (e : ℕ) 
 abbrev HasOld : (ℕ → ℕ) → (ℕ → ℕ) → (ℕ → ℕ) → List Subdivision → ℕ → Type 0
 HasOld number name h ks d = AllByRecursion (λ k. d ≢ twin k.dart) ks → number (name d) ≡ h d
 
-subdivided_numbers : (number name h : ℕ → ℕ) (ks js : List Subdivision) (d : ℕ) → AreSubdivisionsUnder h ks js → AreSubdivisionsAt number ks js → AllByRecursion (λ k. name (twin k.dart) ≡ twin k.beyond) ks → HasOld number name h ks d → number (name d) ≡ subdivided_number h js d
+subdivided_numbers : (number name h : ℕ → ℕ) (ks js : List Subdivision) (d : ℕ) → AreSubdivisionsUnder h ks js → AreSubdivisionsAt number ks js
+    → AllByRecursion (λ k. name (twin k.dart) ≡ twin k.beyond) ks → HasOld number name h ks d → number (name d) ≡ subdivided_number h js d
 subdivided_numbers number name h [] [] d u at ends old = old tt
 subdivided_numbers number name h [] (j ∷ js) d u at ends old = absurd u
 subdivided_numbers number name h (k ∷ ks) [] d u at ends old = absurd u
 subdivided_numbers number name h (k ∷ ks) (j ∷ js) d u at ends old = elim (cases_eq d (twin j.dart)) [
   | inl e ↦ ap number (ap name (e ∙ ap twin u.0) ∙ ends.0) ∙ at.1 ∙ sym (cond-true _ _ _ (eq-eqb d (twin j.dart) e))
-  | inr ne ↦ subdivided_numbers number name h ks js d u.2 at.3 ends.1 (λ w. old (λ e. ne (e ∙ ap twin (sym u.0)), w)) ∙ sym (cond-false _ _ _ (ne_eqb d (twin j.dart) ne))
+  | inr ne ↦ subdivided_numbers number name h ks js d u.2 at.3 ends.1 (λ w. old (λ e. ne (e ∙ ap twin (sym u.0)), w))
+      ∙ sym (cond-false _ _ _ (ne_eqb d (twin j.dart) ne))
 ]
 
 -- ---- The insertion path
 
 -- the slab t renumbers the system with the new edge: each dart of the system below has the half of its first part
-pub record IsInsertionPathUnder (g : ℕ → ℕ) (n m : ℕ) (name : ℕ → ℕ) (ks : List Subdivision) (ls : List NewChord) (h : ℕ → ℕ) (js : List Subdivision) (is : List NewChord) (t : Turning) (limit : ℕ) : Type 0 where
+pub record IsInsertionPathUnder (g : ℕ → ℕ) (n m : ℕ) (name : ℕ → ℕ) (ks : List Subdivision) (ls : List NewChord) (h : ℕ → ℕ) (js : List Subdivision)
+    (is : List NewChord) (t : Turning) (limit : ℕ) : Type 0 where
   pub number : ℕ → ℕ
   pub back : ℕ → ℕ
   pub renumbers : RenumbersTurn number back g t.turn n t.live limit
@@ -132,21 +141,29 @@ pub record IsInsertionPathUnder (g : ℕ → ℕ) (n m : ℕ) (name : ℕ → �
   pub subdivisions : AreSubdivisionsAt number ks js
   pub new_chords : AreNumbered number (chords_of ls) (chords_of is)
 
-at_subdivisions : (number k : ℕ → ℕ) (live : ℕ → Bool) (n : ℕ) (ks js : List Subdivision) → ((a : ℕ) → IsAlive live n a → k a ≡ number a) → AllByRecursion (λ j. IsAlive live n j.beyond × IsAlive live n (twin j.beyond) × IsAlive live n (twin j.near)) ks → AreSubdivisionsAt number ks js → AreSubdivisionsAt k ks js
+at_subdivisions : (number k : ℕ → ℕ) (live : ℕ → Bool) (n : ℕ) (ks js : List Subdivision) → ((a : ℕ) → IsAlive live n a → k a ≡ number a) → AllByRecursion
+    (λ j. IsAlive live n j.beyond × IsAlive live n (twin j.beyond) × IsAlive live n (twin j.near)) ks → AreSubdivisionsAt number ks js
+    → AreSubdivisionsAt k ks js
 at_subdivisions number k live n [] [] same alive at = tt
 at_subdivisions number k live n [] (j ∷ js) same alive at = absurd at
 at_subdivisions number k live n (b ∷ ks) [] same alive at = absurd at
-at_subdivisions number k live n (b ∷ ks) (j ∷ js) same alive at =
-    (same b.beyond alive.0.0 ∙ at.0, same (twin b.beyond) alive.0.1 ∙ at.1, same (twin b.near) alive.0.2 ∙ at.2, at_subdivisions number k live n ks js same alive.1 at.3)
+at_subdivisions number k live n (b ∷ ks) (j ∷ js) same alive at = (
+  same b.beyond alive.0.0 ∙ at.0,
+  same (twin b.beyond) alive.0.1 ∙ at.1,
+  same (twin b.near) alive.0.2 ∙ at.2,
+  at_subdivisions number k live n ks js same alive.1 at.3,
+)
 
 -- the halves of the subdivision vertices, of their new segments and of the near ones
-made_subdivisions : (number h : ℕ → ℕ) (ks js : List Subdivision) → AreNumbered number (splits_of ks) (splits_of js) → AreSubdivisionsUnder h ks js → AllByRecursion (λ k. number (twin k.near) ≡ twin (h k.dart)) ks → AreSubdivisionsAt number ks js
+made_subdivisions : (number h : ℕ → ℕ) (ks js : List Subdivision) → AreNumbered number (splits_of ks) (splits_of js) → AreSubdivisionsUnder h ks js
+    → AllByRecursion (λ k. number (twin k.near) ≡ twin (h k.dart)) ks → AreSubdivisionsAt number ks js
 made_subdivisions number h [] [] made u near = tt
 made_subdivisions number h [] (j ∷ js) made u near = absurd u
 made_subdivisions number h (k ∷ ks) [] made u near = absurd u
 made_subdivisions number h (k ∷ ks) (j ∷ js) made u near = (made.0, made.1, near.0 ∙ ap twin (sym u.1), made_subdivisions number h ks js made.2 u.2 near.1)
 
-on_old : (h nu : ℕ → ℕ) (live : ℕ → Bool) (n : ℕ) (ks js : List Subdivision) → AreSubdivisionsUnder nu ks js → AllByRecursion (λ k. IsAlive live n k.near × (h k.near ≡ nu k.dart)) ks → OnOldDarts h live n ks js
+on_old : (h nu : ℕ → ℕ) (live : ℕ → Bool) (n : ℕ) (ks js : List Subdivision) → AreSubdivisionsUnder nu ks js
+    → AllByRecursion (λ k. IsAlive live n k.near × (h k.near ≡ nu k.dart)) ks → OnOldDarts h live n ks js
 on_old h nu live n [] [] u at = tt
 on_old h nu live n [] (j ∷ js) u at = absurd u
 on_old h nu live n (k ∷ ks) [] u at = absurd u
@@ -156,9 +173,11 @@ every : {X : Type 0} (P : X → Type 0) (xs : List X) → ((x : X) → IsIn x xs
 every P [] f = tt
 every P (x ∷ xs) f = (f x (inl refl), every P xs (λ y i. f y (inr i)))
 
-module _ {g : ℕ → ℕ} {n : ℕ} {f : ℕ → ℕ} {m : ℕ} {name : ℕ → ℕ} {c : ℕ} {ks : List Subdivision} {e : ℕ} {ls : List NewChord} (p : IsInsertionPath g n f m name c ks e ls)
+module _ {g : ℕ → ℕ} {n : ℕ} {f : ℕ → ℕ} {m : ℕ} {name : ℕ → ℕ} {c : ℕ} {ks : List Subdivision} {e : ℕ} {ls : List NewChord}
+    (p : IsInsertionPath g n f m name c ks e ls)
     {nu nu_back : ℕ → ℕ} {limit : ℕ} {t : Turning} (u t' : Turning) (r : RenumbersTurn nu nu_back f t.turn m t.live limit) (slab : IsSlab t.live t.turn limit)
-    (js : List Subdivision) (is : List NewChord) (on : AreSubdivisionsUnder nu ks js) (along : AreAlong (subdivided_number nu js) (subdivided_number nu js c) js e is)
+    (js : List Subdivision) (is : List NewChord) (on : AreSubdivisionsUnder nu ks js)
+    (along : AreAlong (subdivided_number nu js) (subdivided_number nu js c) js e is)
     (splits : IsRun limit t (splits_of js) u) (chords : IsRun limit u (chords_of is) t') where
   abbrev b : ℕ → ℕ
   b = without_chords g ls
@@ -218,7 +237,8 @@ module _ {g : ℕ → ℕ} {n : ℕ} {f : ℕ → ℕ} {m : ℕ} {name : ℕ →
   near_alive k h = grind (arith, s, all_at, i, alive_name, first_name)
 
   splits_are_alike : AreAlike first (splits_of ks) (splits_of js)
-  splits_are_alike = splits_alike first n bottom middle ks js subdivisions_run (on_old first nu below n ks js on (every (λ k. IsAlive below n k.near × (first k.near ≡ nu k.dart)) ks near_alive))
+  splits_are_alike = splits_alike first n bottom middle ks js subdivisions_run
+      (on_old first nu below n ks js on (every (λ k. IsAlive below n k.near × (first k.near ≡ nu k.dart)) ks near_alive))
 
   abbrev second : ℕ → ℕ
   second = numbers_after first (splits_of ks) (splits_of js)
@@ -230,13 +250,15 @@ module _ {g : ℕ → ℕ} {n : ℕ} {f : ℕ → ℕ} {m : ℕ} {name : ℕ →
   with_all_subdivisions = run_numbers first first_back middle (splits_of ks) (splits_of js) start subdivisions_run splits splits_are_alike
 
   second_name : (d : ℕ) → d < m → second (s.names d) ≡ nu d
-  second_name d ld = kept_number first n bottom middle (splits_of ks) (splits_of js) (s.names d) (splits_add ks) subdivisions_run (alive_name d ld) ∙ first_name d ld
+  second_name d ld = kept_number first n bottom middle (splits_of ks) (splits_of js) (s.names d) (splits_add ks) subdivisions_run (alive_name d ld)
+      ∙ first_name d ld
 
   back_there : (k : Subdivision) → IsIn k ks → twin k.dart < m
   back_there k h = twin-within m k.dart s.named.turn_even (all_at (IsSubdivision b n m name) k ks i h).there
 
   far_back : (k : Subdivision) → IsIn k ks → second (twin k.near) ≡ twin (nu k.dart)
-  far_back k h = ap second (sym (back_named b n f m name ks i s k h)) ∙ second_name (twin k.dart) (back_there k h) ∙ sym (r.twins.each k.dart (all_at (IsSubdivision b n m name) k ks i h).there)
+  far_back k h = ap second (sym (back_named b n f m name ks i s k h)) ∙ second_name (twin k.dart) (back_there k h)
+      ∙ sym (r.twins.each k.dart (all_at (IsSubdivision b n m name) k ks i h).there)
 
   second_subdivisions : AreSubdivisionsAt second ks js
   second_subdivisions = made_subdivisions second nu ks js
@@ -272,8 +294,10 @@ module _ {g : ℕ → ℕ} {n : ℕ} {f : ℕ → ℕ} {m : ℕ} {name : ℕ →
 
   chords_are_alike : AreAlike second (chords_of ls) (chords_of is)
   chords_are_alike = chords_alike second n middle top ls is chords_are
-      (corners_under second name (subdivided_number nu js) e (second_names e p.to_there) (alive_here e p.to_there) (name c) (subdivided_number nu js c) ks js ls is
-      p.along along (second_names c p.from_there) (alive_here c p.from_there) second_subdivisions (every (λ k. IsAlive subdivided n k.beyond × IsAlive subdivided n (twin k.near)) ks (λ k h. ((alive_beyond k h).0, alive_back k h))))
+      (corners_under second name (subdivided_number nu js) e (second_names e p.to_there) (alive_here e p.to_there) (name c)
+      (subdivided_number nu js c) ks js ls is
+      p.along along (second_names c p.from_there) (alive_here c p.from_there) second_subdivisions
+      (every (λ k. IsAlive subdivided n k.beyond × IsAlive subdivided n (twin k.near)) ks (λ k h. ((alive_beyond k h).0, alive_back k h))))
 
   abbrev third : ℕ → ℕ
   third = numbers_after second (chords_of ls) (chords_of is)
@@ -294,6 +318,7 @@ module _ {g : ℕ → ℕ} {n : ℕ} {f : ℕ → ℕ} {m : ℕ} {name : ℕ →
     renumbers = turn_of_slab third third_back g t'.turn n (with_chords subdivided ls) t'.live limit (all_live p i s) with_all_chords;
     names = λ d ld. third_same (name d) (alive_here d ld) ∙ second_names d ld;
     subdivisions = at_subdivisions second third subdivided n ks js third_same
-        (every (λ k. IsAlive subdivided n k.beyond × IsAlive subdivided n (twin k.beyond) × IsAlive subdivided n (twin k.near)) ks (λ k h. ((alive_beyond k h).0, (alive_beyond k h).1, alive_back k h))) second_subdivisions;
+        (every (λ k. IsAlive subdivided n k.beyond × IsAlive subdivided n (twin k.beyond) × IsAlive subdivided n (twin k.near)) ks
+        (λ k h. ((alive_beyond k h).0, (alive_beyond k h).1, alive_back k h))) second_subdivisions;
     new_chords = new_numbers second third middle top (chords_of ls) (chords_of is) even (chords_add ls) chords_are chords_are_alike (λ a at. refl);
   }

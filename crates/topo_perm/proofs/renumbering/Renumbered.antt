@@ -4,7 +4,8 @@ use Rattle.std.proofs.lemmas.Bool.{cases_Bool, both_ways}
 use Rattle.topo_core.specs.Cycles.{IsPermutation, SameCycle, after, is_met}
 use Rattle.topo_core.specs.Rotations.{twin, Joined, Move, along}
 use Rattle.topo_core.specs.Rotations.Move.{Turn, Cross}
-use Rattle.topo_perm.specs.Renumbering.{IsRenumbering, IsCarried, RenumberedClasses, RenumberedSameCycle, RenumberedCycles, RenumberedWhole, RenumberedFaces, RenumberedJoined, RenumberedConnected}
+use Rattle.topo_perm.specs.Renumbering.{IsRenumbering, IsCarried, RenumberedClasses, RenumberedSameCycle, RenumberedCycles}
+use Rattle.topo_perm.specs.Renumbering.{RenumberedWhole, RenumberedFaces, RenumberedJoined, RenumberedConnected}
 use Rattle.topo_perm.proofs.permutations.Live.{live_class_count-carries}
 use Rattle.topo_core.proofs.systems.Orbits.{after-within, SameCycle-sym, SameCycle-is_met, is_met-SameCycle}
 use Rattle.topo_perm.proofs.permutations.Exchange.{is_met-equivalence}
@@ -16,23 +17,27 @@ pub record Carries {X : Type 0} {Y : Type 0} (h : X → Y) (f : X → X) (g : Y 
   pub stays : (a : X) → I a → I (f a)
   pub each : (a : X) → I a → g (h a) ≡ h (f a)
 
-pub along-stays : {X : Type 0} (f o : X → X) (I : X → Type 0) → ((a : X) → I a → I (f a)) → ((a : X) → I a → I (o a)) → (ms : List Move) (a : X) → I a → I (along f o ms a)
+pub along-stays : {X : Type 0} (f o : X → X) (I : X → Type 0) → ((a : X) → I a → I (f a)) → ((a : X) → I a → I (o a)) → (ms : List Move) (a : X) → I a
+    → I (along f o ms a)
 along-stays f o I t c [] a i = i
 along-stays f o I t c (Turn ∷ ms) a i = t _ (along-stays f o I t c ms a i)
 along-stays f o I t c (Cross ∷ ms) a i = c _ (along-stays f o I t c ms a i)
 
-pub along-carried : {X : Type 0} {Y : Type 0} {h : X → Y} {f o : X → X} {g p : Y → Y} {I : X → Type 0} → Carries h f g I → Carries h o p I → (ms : List Move) (a : X) → I a → along g p ms (h a) ≡ h (along f o ms a)
+pub along-carried : {X : Type 0} {Y : Type 0} {h : X → Y} {f o : X → X} {g p : Y → Y} {I : X → Type 0} → Carries h f g I → Carries h o p I
+    → (ms : List Move) (a : X) → I a → along g p ms (h a) ≡ h (along f o ms a)
 along-carried t c [] a i = refl
 along-carried {h} {f} {o} {g} {p} {I} t c (Turn ∷ ms) a i =
     ap g (along-carried t c ms a i) ∙ t.each _ (along-stays f o I t.stays c.stays ms a i)
 along-carried {h} {f} {o} {g} {p} {I} t c (Cross ∷ ms) a i =
     ap p (along-carried t c ms a i) ∙ c.each _ (along-stays f o I t.stays c.stays ms a i)
 
-pub Joined-carried : {X : Type 0} {Y : Type 0} {h : X → Y} {f o : X → X} {g p : Y → Y} {I : X → Type 0} → Carries h f g I → Carries h o p I → {a b : X} → I a → Joined f o a b → Joined g p (h a) (h b)
+pub Joined-carried : {X : Type 0} {Y : Type 0} {h : X → Y} {f o : X → X} {g p : Y → Y} {I : X → Type 0} → Carries h f g I → Carries h o p I → {a b : X} → I a
+    → Joined f o a b → Joined g p (h a) (h b)
 Joined-carried {h} {f} {o} {g} {p} {I} t c {a} i j = record { moves = j.moves; leads = along-carried t c j.moves a i ∙ ap h j.leads }
 
 -- where h sends no two darts to one
-pub Joined-uncarried : {X : Type 0} {Y : Type 0} {h : X → Y} {f o : X → X} {g p : Y → Y} {I : X → Type 0} → Carries h f g I → Carries h o p I → ((a b : X) → I a → I b → h a ≡ h b → a ≡ b) → (a b : X) → I a → I b → Joined g p (h a) (h b) → Joined f o a b
+pub Joined-uncarried : {X : Type 0} {Y : Type 0} {h : X → Y} {f o : X → X} {g p : Y → Y} {I : X → Type 0} → Carries h f g I → Carries h o p I
+    → ((a b : X) → I a → I b → h a ≡ h b → a ≡ b) → (a b : X) → I a → I b → Joined g p (h a) (h b) → Joined f o a b
 Joined-uncarried {h} {f} {o} {g} {p} {I} t c apart a b i k j = record {
   moves = j.moves;
   leads = apart _ b (along-stays f o I t.stays c.stays j.moves a i) k (sym (along-carried t c j.moves a i) ∙ j.leads);

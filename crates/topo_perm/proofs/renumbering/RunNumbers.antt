@@ -14,10 +14,12 @@ use Rattle.topo_perm.proofs.permutations.Walks.{twin-within}
 abbrev pub SlabsAlike : (ℕ → ℕ) → (ℕ → ℕ) → ℕ → Turning → ℕ → Turning → Type 0
 SlabsAlike h back n s m t = RenumbersSlab h back s.live s.turn n t.live t.turn m
 
-both_come : (n : ℕ) (s : Turning) (x : ℕ) (s' : Turning) (m : ℕ) (t : Turning) (y : ℕ) (t' : Turning) → Comes n s x s' → Comes m t y t' → AddsBoth s.live s'.live n x t.live t'.live m y
+both_come : (n : ℕ) (s : Turning) (x : ℕ) (s' : Turning) (m : ℕ) (t : Turning) (y : ℕ) (t' : Turning) → Comes n s x s' → Comes m t y t'
+    → AddsBoth s.live s'.live n x t.live t'.live m y
 both_come n s x s' m t y t' a b = record { within = a.within; within_other = b.within; adds = a.adds; adds_other = b.adds }
 
-pub step_numbers : (h back : ℕ → ℕ) {n : ℕ} {s s' : Turning} {m : ℕ} {t t' : Turning} (e : Edit) (y : ℕ) → SlabsAlike h back n s m t → IsStep n s e s' → IsStep m t (under h e y) t' → SlabsAlike (stepped h e y) (stepped_back back e y) n s' m t'
+pub step_numbers : (h back : ℕ → ℕ) {n : ℕ} {s s' : Turning} {m : ℕ} {t t' : Turning} (e : Edit) (y : ℕ) → SlabsAlike h back n s m t → IsStep n s e s'
+    → IsStep m t (under h e y) t' → SlabsAlike (stepped h e y) (stepped_back back e y) n s' m t'
 step_numbers h back {n} {s} {s'} {m} {t} {t'} (Hang c x) y r a b =
     hang_numbers r (both_come n s x s' m t y t' a.0 b.0) a.1 a.0.permutation b.0.permutation a.2 b.2
 step_numbers h back {n} {s} {s'} {m} {t} {t'} (Chord c d x) y r a b =
@@ -31,7 +33,8 @@ step_numbers h back {n} {s} {s'} {m} {t} {t'} (Smooth x) y r a b =
 
 -- ---- A run of edits
 
-pub run_numbers : (h back : ℕ → ℕ) {n : ℕ} {s : Turning} (s' : Turning) {m : ℕ} {t t' : Turning} (es ds : List Edit) → SlabsAlike h back n s m t → IsRun n s es s' → IsRun m t ds t' → AreAlike h es ds → SlabsAlike (numbers_after h es ds) (backs_after back es ds) n s' m t'
+pub run_numbers : (h back : ℕ → ℕ) {n : ℕ} {s : Turning} (s' : Turning) {m : ℕ} {t t' : Turning} (es ds : List Edit) → SlabsAlike h back n s m t
+    → IsRun n s es s' → IsRun m t ds t' → AreAlike h es ds → SlabsAlike (numbers_after h es ds) (backs_after back es ds) n s' m t'
 run_numbers h back {n} {s} s' {m} {t'} [] [] r a b like = subst (λ u. SlabsAlike h back n u m t') a (subst (λ u. SlabsAlike h back n s m u) b r)
 run_numbers h back s' [] (d ∷ ds) r a b like = absurd like
 run_numbers h back s' (e ∷ es) [] r a b like = absurd like
@@ -67,12 +70,14 @@ pub kept_alive : (n : ℕ) (s t : Turning) (es : List Edit) (a : ℕ) → AllByR
 kept_alive n s t [] a i r at = subst (λ (u : Turning). IsAlive u.live n a) r at
 kept_alive n s t (e ∷ es) a i r at = still_alive r.0.live t.live n (segment_of e) a (added_by n r.0 t e i.0 r.2).adds (kept_alive n s r.0 es a i.1 r.1 at)
 
-pub kept_number : (h : ℕ → ℕ) (n : ℕ) (s t : Turning) (es ds : List Edit) (a : ℕ) → AllByRecursion IsAdding es → IsRun n s es t → IsAlive s.live n a → numbers_after h es ds a ≡ h a
+pub kept_number : (h : ℕ → ℕ) (n : ℕ) (s t : Turning) (es ds : List Edit) (a : ℕ) → AllByRecursion IsAdding es → IsRun n s es t → IsAlive s.live n a
+    → numbers_after h es ds a ≡ h a
 kept_number h n s t [] ds a i r at = refl
 kept_number h n s t (e ∷ es) [] a i r at = refl
 kept_number h n s t (e ∷ es) (d ∷ ds) a i r at =
     stepped_by (numbers_after h es ds) e (segment_of d) a i.0
-    ∙ extended-old (numbers_after h es ds) r.0.live t.live n (segment_of e) (segment_of d) a (added_by n r.0 t e i.0 r.2).adds (kept_alive n s r.0 es a i.1 r.1 at).alive
+    ∙ extended-old (numbers_after h es ds) r.0.live t.live n (segment_of e)
+    (segment_of d) a (added_by n r.0 t e i.0 r.2).adds (kept_alive n s r.0 es a i.1 r.1 at).alive
     ∙ kept_number h n s r.0 es ds a i.1 r.1 at
 
 -- the new segments have the numbers of those of the other run
@@ -82,7 +87,8 @@ AreNumbered h (e ∷ es) [] = ⊥
 AreNumbered h (e ∷ es) (d ∷ ds) = (h (segment_of e) ≡ segment_of d) × (h (twin (segment_of e)) ≡ twin (segment_of d)) × AreNumbered h es ds
 
 -- also under any numbers k that are the same on what is live
-pub new_numbers : (h k : ℕ → ℕ) {n : ℕ} (s t : Turning) (es ds : List Edit) → n % 2 ≡ 0 → AllByRecursion IsAdding es → IsRun n s es t → AreAlike h es ds → ((a : ℕ) → IsAlive t.live n a → k a ≡ numbers_after h es ds a) → AreNumbered k es ds
+pub new_numbers : (h k : ℕ → ℕ) {n : ℕ} (s t : Turning) (es ds : List Edit) → n % 2 ≡ 0 → AllByRecursion IsAdding es → IsRun n s es t → AreAlike h es ds
+    → ((a : ℕ) → IsAlive t.live n a → k a ≡ numbers_after h es ds a) → AreNumbered k es ds
 new_numbers h k s t [] ds even i r like same = tt
 new_numbers h k s t (e ∷ es) [] even i r like same = absurd like
 new_numbers h k {n} s t (e ∷ es) (d ∷ ds) even i r like same =
@@ -91,7 +97,9 @@ new_numbers h k {n} s t (e ∷ es) (d ∷ ds) even i r like same =
     let before : ℕ → ℕ = numbers_after h es ds in
     let come : Comes n r.0 x t = added_by n r.0 t e i.0 r.2 in (
       same x (record { within = come.within; alive = come.adds.here }) ∙ stepped_by before e y x i.0 ∙ extended-here before x y,
-      same (twin x) (record { within = twin-within n x even come.within; alive = come.adds.here_twin }) ∙ stepped_by before e y (twin x) i.0 ∙ extended-there before x y,
+      same (twin x) (record { within = twin-within n x even come.within; alive = come.adds.here_twin }) ∙ stepped_by before e y (twin x) i.0
+          ∙ extended-there before x y,
       new_numbers h k s r.0 es ds even i.1 r.1 like.0 (λ a at.
-          same a (still_alive r.0.live t.live n x a come.adds at) ∙ stepped_by before e y a i.0 ∙ extended-old before r.0.live t.live n x y a come.adds at.alive),
+          same a (still_alive r.0.live t.live n x a come.adds at) ∙ stepped_by before e y a i.0
+          ∙ extended-old before r.0.live t.live n x y a come.adds at.alive),
     )

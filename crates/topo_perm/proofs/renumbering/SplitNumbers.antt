@@ -8,12 +8,15 @@ use Rattle.topo_perm.specs.Joins.{AddsSegment}
 use Rattle.topo_perm.specs.Live.{IsSlab}
 use Rattle.topo_perm.specs.RenumberedEdits.{IsAlive, RenumbersSlab, extended, AddsBoth}
 use Rattle.topo_perm.proofs.permutations.Faces.{twin-twin, twin-apart}
-use Rattle.topo_perm.proofs.renumbering.EditNumbers.{added_numbers, alive_turn, alive_twin, dead_apart, extended-here, extended-old, into_apart, removed_numbers, still_alive}
+use Rattle.topo_perm.proofs.renumbering.EditNumbers.{added_numbers, alive_turn, alive_twin, dead_apart, extended-here}
+use Rattle.topo_perm.proofs.renumbering.EditNumbers.{extended-old, into_apart, removed_numbers, still_alive}
 
-split_slab : {live : ℕ → Bool} {f f' : ℕ → ℕ} {n c x : ℕ} → IsSlab live f n → IsPermutation f' n → IsAlive live n c → IsAlive live n x → IsSplit f f' n c x → IsSlab live f' n
+split_slab : {live : ℕ → Bool} {f f' : ℕ → ℕ} {n c x : ℕ} → IsSlab live f n → IsPermutation f' n → IsAlive live n c → IsAlive live n x → IsSplit f f' n c x
+    → IsSlab live f' n
 split_slab s p ct xt b = grind (arith, dead_apart, alive_twin)
 
-unsplit_slab : {live : ℕ → Bool} {f f' : ℕ → ℕ} {n c x : ℕ} → IsSlab live f n → IsPermutation f' n → IsAlive live n c → IsAlive live n x → IsSplit f' f n c x → IsSlab live f' n
+unsplit_slab : {live : ℕ → Bool} {f f' : ℕ → ℕ} {n c x : ℕ} → IsSlab live f n → IsPermutation f' n → IsAlive live n c → IsAlive live n x → IsSplit f' f n c x
+    → IsSlab live f' n
 unsplit_slab s p ct xt b = grind (arith, dead_apart, alive_twin)
 
 module _ {h back : ℕ → ℕ} {live : ℕ → Bool} {f : ℕ → ℕ} {n : ℕ} {live' : ℕ → Bool} {g : ℕ → ℕ} {m : ℕ} (r : RenumbersSlab h back live f n live' g m)
@@ -96,7 +99,9 @@ module _ {h back : ℕ → ℕ} {live : ℕ → Bool} {f : ℕ → ℕ} {n : ℕ
                     let was : g (h a) ≡ twin (h x) = r.turns a at ∙ ap h (b.led_to a at.within nc to) ∙ at_x in
                     elim (cases_eq (g' (h a)) (twin (h c))) [
                       | inl w ↦ w ∙ sym at_c ∙ ap h (sym to)
-                      | inr nw ↦ absurd (off_t (q.apart (h a) (twin (h x)) ha.within there_x.within (sym (d.elsewhere (h a) ha.within off_x off_t off nw) ∙ was ∙ sym d.isolated.other)))
+                      | inr nw ↦ absurd (off_t
+                          (q.apart (h a) (twin (h x)) ha.within there_x.within
+                          (sym (d.elsewhere (h a) ha.within off_x off_t off nw) ∙ was ∙ sym d.isolated.other)))
                     ]
                 | inr ne ↦
                     let same : f a ≡ f' a = b.elsewhere a at.within nx nt nc ne in
@@ -130,7 +135,8 @@ module _ {h back : ℕ → ℕ} {live : ℕ → Bool} {f : ℕ → ℕ} {n : ℕ
       ]
       | inr ne ↦ elim (cases_eq (g' (twin (h c))) (twin (h c))) [
         | inl w ↦
-            let still : f (twin x) ≡ twin x = apart (f (twin x)) (twin x) (alive_turn live f n (twin x) r.before tx) tx (sym led ∙ d.leads_itself w ∙ sym at_x) in
+            let still : f (twin x) ≡ twin x =
+            apart (f (twin x)) (twin x) (alive_turn live f n (twin x) r.before tx) tx (sym led ∙ d.leads_itself w ∙ sym at_x) in
             absurd (other (twin-apart c x (p.apart (twin c) (twin x) tc.within tx.within (sym (b.leads_on ne) ∙ still ∙ sym b.isolated.other))))
         | inr nw ↦ sym (d.leads_on nw) ∙ led ∙ ap h (b.leads_on ne)
       ]
@@ -138,15 +144,20 @@ module _ {h back : ℕ → ℕ} {live : ℕ → Bool} {f : ℕ → ℕ} {n : ℕ
 
 -- ---- With the segment that comes or goes
 
-pub split_numbers : {h back : ℕ → ℕ} {live new : ℕ → Bool} {f f' : ℕ → ℕ} {n c x : ℕ} {live' new' : ℕ → Bool} {g g' : ℕ → ℕ} {m y : ℕ} → RenumbersSlab h back live f n live' g m → AddsBoth live new n x live' new' m y
-    → IsAlive live n c → IsPermutation f' n → IsPermutation g' m → IsSplit f f' n c x → IsSplit g g' m (h c) y → RenumbersSlab (extended h x y) (extended back y x) new f' n new' g' m
+pub split_numbers : {h back : ℕ → ℕ} {live new : ℕ → Bool} {f f' : ℕ → ℕ} {n c x : ℕ} {live' new' : ℕ → Bool} {g g' : ℕ → ℕ} {m y : ℕ}
+    → RenumbersSlab h back live f n live' g m → AddsBoth live new n x live' new' m y
+    → IsAlive live n c → IsPermutation f' n → IsPermutation g' m → IsSplit f f' n c x → IsSplit g g' m (h c) y
+    → RenumbersSlab (extended h x y) (extended back y x) new f' n new' g' m
 split_numbers {h} {back} {live} {new} {f} {f'} {n} {c} {x} {live'} {new'} {g} {g'} {m} {y} r s ct p q b d =
     let added : RenumbersSlab (extended h x y) (extended back y x) new f n new' g m = added_numbers r s b.isolated d.isolated in
     same_split added p q (still_alive live new n x c s.adds ct) (record { within = s.within; alive = s.adds.here }) b
-    (subst (λ z. IsSplit g g' m z (extended h x y x)) (sym (extended-old h live new n x y c s.adds ct.alive)) (subst (IsSplit g g' m (h c)) (sym (extended-here h x y)) d))
+    (subst (λ z. IsSplit g g' m z (extended h x y x)) (sym (extended-old h live new n x y c s.adds ct.alive))
+    (subst (IsSplit g g' m (h c)) (sym (extended-here h x y)) d))
 
-pub smooth_numbers : {h back : ℕ → ℕ} {live old : ℕ → Bool} {f f' : ℕ → ℕ} {n x : ℕ} {live' old' : ℕ → Bool} {g g' : ℕ → ℕ} {m : ℕ} → RenumbersSlab h back old f n old' g m → IsAlive old n x → f x ≢ twin x
-    → AddsSegment live old n x → AddsSegment live' old' m (h x) → IsPermutation f' n → IsPermutation g' m → IsSmooth f f' n x → IsSmooth g g' m (h x) → RenumbersSlab h back live f' n live' g' m
+pub smooth_numbers : {h back : ℕ → ℕ} {live old : ℕ → Bool} {f f' : ℕ → ℕ} {n x : ℕ} {live' old' : ℕ → Bool} {g g' : ℕ → ℕ} {m : ℕ}
+    → RenumbersSlab h back old f n old' g m → IsAlive old n x → f x ≢ twin x
+    → AddsSegment live old n x → AddsSegment live' old' m (h x) → IsPermutation f' n → IsPermutation g' m → IsSmooth f f' n x → IsSmooth g g' m (h x)
+    → RenumbersSlab h back live f' n live' g' m
 smooth_numbers {h} {back} {live} {old} {f} {f'} {n} {x} {live'} {old'} {g} {g'} {m} r xt no_loop s t p q b d =
     let fx : IsAlive old n (f x) = alive_turn old f n x r.before xt in
     let c : ℕ = twin (f x) in

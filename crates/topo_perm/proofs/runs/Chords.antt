@@ -117,7 +117,8 @@ chord_stays g n k l even u i = record {
   arrives = without_chord-other g n k (twin l.half) l.to (apart_twin n l.half k.half even u.half) u.to_back i.arrives;
 }
 
-pub chords_stay : (g : ℕ → ℕ) (n : ℕ) (k : NewChord) (ks : List NewChord) → n % 2 ≡ 0 → AllByRecursion (AreApartChords n k) ks → AreNewChords g n ks → AreNewChords (without_chord g k) n ks
+pub chords_stay : (g : ℕ → ℕ) (n : ℕ) (k : NewChord) (ks : List NewChord) → n % 2 ≡ 0 → AllByRecursion (AreApartChords n k) ks → AreNewChords g n ks
+    → AreNewChords (without_chord g k) n ks
 chords_stay g n k [] even u h = h
 chords_stay g n k (l ∷ ls) even u h = (chord_stays g n k l even u.0 h.0, h.1, chords_stay g n k ls even u.1 h.2)
 
@@ -137,27 +138,38 @@ new_chord_drawn g n k i =
     let at_twin : half (twin y) ≡ twin y = without-self g (twin y) (twin y) refl in
     let at : half y ≡ k.from = without-elsewhere g (twin y) y (λ e. twin-other y (sym e)) (λ w. i.from_apart.not_twin (sym i.leaves ∙ w)) ∙ i.leaves in
     record {
-      room = record { this = without-self half y y refl; other = without-elsewhere half y (twin y) (twin-other y) (λ w. twin-other y (sym at_twin ∙ w)) ∙ at_twin };
+      room = record {
+        this = without-self half y y refl;
+        other = without-elsewhere half y (twin y) (twin-other y) (λ w. twin-other y (sym at_twin ∙ w)) ∙ at_twin;
+      };
       half = half;
       start = record { turns = at; without = without-bypass half n y };
       end = record { turns = i.arrives; without = without-bypass g n (twin y) };
     }
 
-allowed_new_chord : (g : ℕ → ℕ) (n : ℕ) (k : NewChord) → IsPermutation g n → n % 2 ≡ 0 → IsNewChord g n k → SameCycle (face_next (without_chord g k)) k.from k.to → IsAllowedChord (without_chord g k) g n k.from k.to k.half
+allowed_new_chord : (g : ℕ → ℕ) (n : ℕ) (k : NewChord) → IsPermutation g n → n % 2 ≡ 0 → IsNewChord g n k
+    → SameCycle (face_next (without_chord g k)) k.from k.to → IsAllowedChord (without_chord g k) g n k.from k.to k.half
 allowed_new_chord g n k p even i one = grind (arith, chord_permutation, new_chord_drawn)
 
 -- and the chord may be taken out again
-allowed_unchord_of : (g : ℕ → ℕ) (n : ℕ) (k : NewChord) → IsPermutation g n → n % 2 ≡ 0 → IsNewChord g n k → SameCycle (face_next (without_chord g k)) k.from k.to → IsAllowedUnchord g (without_chord g k) n (twin k.half)
+allowed_unchord_of : (g : ℕ → ℕ) (n : ℕ) (k : NewChord) → IsPermutation g n → n % 2 ≡ 0 → IsNewChord g n k
+    → SameCycle (face_next (without_chord g k)) k.from k.to → IsAllowedUnchord g (without_chord g k) n (twin k.half)
 allowed_unchord_of g n k p even i one =
     let y : ℕ = k.half in
     let lt : twin y < n = twin-within n y even i.there in
     let half : ℕ → ℕ = without g (twin y) in
-    let sides : SameCycle (face_next g) y (twin y) → ⊥ = (chord_sides (without_chord g k) g n k.from k.to y (allowed_new_chord g n k p even i one) i.ends_apart).2 in
+    let sides : SameCycle (face_next g) y (twin y) → ⊥ =
+    (chord_sides (without_chord g k) g n k.from k.to y (allowed_new_chord g n k p even i one) i.ends_apart).2 in
     record {
       turns = record { before = p; after = chord_permutation g n k p even i.there; even = even; within = lt };
-      two_faces = λ s. sides (SameCycle-sym (face_next g) n (face_next-permutation g n p even) (twin y) y lt (subst (λ (z : ℕ). SameCycle (face_next g) (twin y) z) (twin-twin y) s));
+      two_faces = λ s. sides (SameCycle-sym (face_next g) n (face_next-permutation g n p even)
+          (twin y) y lt (subst (λ (z : ℕ). SameCycle (face_next g) (twin y) z) (twin-twin y) s));
       not_alone = λ e w. i.to_apart.not_self (sym i.arrives ∙ e ∙ twin-twin y);
-      edit = record { half = half; first = without-bypass g n (twin y); second = subst (λ (z : ℕ). IsBypass half (without_chord g k) n z) (sym (twin-twin y)) (without-bypass half n y) };
+      edit = record {
+        half = half;
+        first = without-bypass g n (twin y);
+        second = subst (λ (z : ℕ). IsBypass half (without_chord g k) n z) (sym (twin-twin y)) (without-bypass half n y);
+      };
     }
 
 -- ---- All of them
@@ -167,7 +179,8 @@ pub record AreDrawnChords (live : ℕ → Bool) (b g : ℕ → ℕ) (n : ℕ) (k
   pub slab : IsSlab (with_chords live ks) g n
   pub faces : live_cycle_count (with_chords live ks) (face_next g) n ≡ live_cycle_count live (face_next b) n + length ks
   pub connected : IsConnectedAmong live b n → IsConnectedAmong (with_chords live ks) g n
-  pub kept : (a c : ℕ) → a < n → IsOffChords n ks a → AllByRecursion (λ k. SameCycle (face_next b) a k.from → ⊥) ks → SameCycle (face_next b) a c → SameCycle (face_next g) a c
+  pub kept : (a c : ℕ) → a < n → IsOffChords n ks a → AllByRecursion (λ k. SameCycle (face_next b) a k.from → ⊥) ks → SameCycle (face_next b) a c
+      → SameCycle (face_next g) a c
   pub back : (a c : ℕ) → IsOffChords n ks a → IsOffChords n ks c → SameCycle (face_next g) a c → SameCycle (face_next b) a c
 
 pub all_map : {X : Type 0} (P Q : X → Type 0) → ((x : X) → P x → Q x) → (xs : List X) → AllByRecursion P xs → AllByRecursion Q xs
@@ -191,17 +204,20 @@ half_off_chords n k ks lh u = all_map (AreApartChords n k) (λ l. IsApart n k.ha
 pub twin_off_chords : (n : ℕ) (ks : List NewChord) (a : ℕ) → n % 2 ≡ 0 → IsOffChords n ks a → IsOffChords n ks (twin a)
 twin_off_chords n ks a even u = all_map (λ k. IsApart n a k.half) (λ k. IsApart n (twin a) k.half) (λ k w. apart_twin n a k.half even w) ks u
 
-chord_adds : (live : ℕ → Bool) (g : ℕ → ℕ) (n : ℕ) (k : NewChord) (ks : List NewChord) → n % 2 ≡ 0 → AreNewChords g n (k ∷ ks) → AreReady live (k ∷ ks) → AddsSegment (with_chords live ks) (with_chords live (k ∷ ks)) n k.half
+chord_adds : (live : ℕ → Bool) (g : ℕ → ℕ) (n : ℕ) (k : NewChord) (ks : List NewChord) → n % 2 ≡ 0 → AreNewChords g n (k ∷ ks) → AreReady live (k ∷ ks)
+    → AddsSegment (with_chords live ks) (with_chords live (k ∷ ks)) n k.half
 chord_adds live g n k ks even h ready =
     let hu : IsOffChords n ks k.half = half_off_chords n k ks h.0.there h.1 in
-    adds_segment (with_chords live ks) n k.half (dead_chords live n ks k.half ready.0.0 hu) (dead_chords live n ks (twin k.half) ready.0.1 (twin_off_chords n ks k.half even hu))
+    adds_segment (with_chords live ks) n k.half (dead_chords live n ks k.half ready.0.0 hu)
+    (dead_chords live n ks (twin k.half) ready.0.1 (twin_off_chords n ks k.half even hu))
 
 -- the chords are a run of edits
 abbrev pub chords_of : List NewChord → List Edit
 chords_of [] = []
 chords_of (k ∷ ks) = Chord k.from k.to k.half ∷ chords_of ks
 
-pub chords_run : (live : ℕ → Bool) (g : ℕ → ℕ) (n : ℕ) (ks : List NewChord) → IsPermutation g n → n % 2 ≡ 0 → AreNewChords g n ks → AreReady live ks → IsRun n (record { live = live; turn = without_chords g ks }) (chords_of ks) (record { live = with_chords live ks; turn = g })
+pub chords_run : (live : ℕ → Bool) (g : ℕ → ℕ) (n : ℕ) (ks : List NewChord) → IsPermutation g n → n % 2 ≡ 0 → AreNewChords g n ks → AreReady live ks
+    → IsRun n (record { live = live; turn = without_chords g ks }) (chords_of ks) (record { live = with_chords live ks; turn = g })
 chords_run live g n [] p even h ready = refl
 chords_run live g n (k ∷ ks) p even h ready = (
   record { live = with_chords live ks; turn = without_chord g k },
@@ -213,13 +229,15 @@ chords_run live g n (k ∷ ks) p even h ready = (
   ),
 )
 
-pub chord_all : (live : ℕ → Bool) (g : ℕ → ℕ) (n : ℕ) (ks : List NewChord) → IsPermutation g n → n % 2 ≡ 0 → AreNewChords g n ks → AreReady live ks → AreInFaces (without_chords g ks) ks → IsSlab live (without_chords g ks) n → AreDrawnChords live (without_chords g ks) g n ks
+pub chord_all : (live : ℕ → Bool) (g : ℕ → ℕ) (n : ℕ) (ks : List NewChord) → IsPermutation g n → n % 2 ≡ 0 → AreNewChords g n ks → AreReady live ks
+    → AreInFaces (without_chords g ks) ks → IsSlab live (without_chords g ks) n → AreDrawnChords live (without_chords g ks) g n ks
 chord_all live g n [] p even h ready faces slab = grind arith
 chord_all live g n (k ∷ ks) p even h ready faces slab =
     let f : ℕ → ℕ = without_chord g k in
     let b : ℕ → ℕ = without_chords f ks in
     let i : IsNewChord g n k = h.0 in
-    let below : AreDrawnChords live b f n ks = chord_all live f n ks (chord_permutation g n k p even i.there) even (chords_stay g n k ks even h.1 h.2) ready.1 faces.2 slab in
+    let below : AreDrawnChords live b f n ks =
+    chord_all live f n ks (chord_permutation g n k p even i.there) even (chords_stay g n k ks even h.1 h.2) ready.1 faces.2 slab in
     let from_off_chords : IsOffChords n ks k.from = all_map (AreApartChords n k) (λ l. IsApart n k.from l.half) (λ l w. w.from) ks h.1 in
     let one : SameCycle (face_next f) k.from k.to = below.kept k.from k.to i.from_apart.within from_off_chords faces.1 faces.0 in
     let allowed : IsAllowedChord f g n k.from k.to k.half = allowed_new_chord g n k p even i one in
@@ -233,6 +251,8 @@ chord_all live g n (k ∷ ks) p even h ready faces slab =
       slab = after;
       faces = omega (arith, chord_live_faces old new f g n k.from k.to k.half grows allowed, below.faces);
       connected = λ c. chord_connects f g old new n k.from k.to k.half allowed adds alive (below.connected c);
-      kept = λ a c la u out s. chord_keeps_faces f g n k.from k.to k.half a c allowed u.0 (λ w. out.0 (below.back a k.from u.1 from_off_chords w)) (below.kept a c la u.1 out.1 s);
-      back = λ a c u w s. below.back a c u.1 w.1 (unchord_keeps_faces g f n (twin k.half) a c (allowed_unchord_of g n k p even i one) (apart_of_twin n a k.half u.0) (apart_of_twin n c k.half w.0) s);
+      kept = λ a c la u out s. chord_keeps_faces f g n k.from k.to k.half a c allowed u.0 (λ w. out.0 (below.back a k.from u.1 from_off_chords w))
+          (below.kept a c la u.1 out.1 s);
+      back = λ a c u w s. below.back a c u.1 w.1 (unchord_keeps_faces g f n (twin k.half) a c (allowed_unchord_of g n k p even i one)
+          (apart_of_twin n a k.half u.0) (apart_of_twin n c k.half w.0) s);
     }

@@ -1,5 +1,6 @@
 -- Segments taken out one after another, as long as each has two faces.
-use Rattle.std.proofs.Common.{◌≡◌, ◌≢◌, ℕ, zero, suc, ◌+◌, ◌/◌, ◌%◌, ◌<◌, ◌≤◌, ◌==◌, Bool, true, false, ◌&&◌, ◌||◌, not, ◌⊎◌, inl, inr, refl, sym, ◌∙◌, ap, subst, arith}
+use Rattle.std.proofs.Common.{◌≡◌, ◌≢◌, ℕ, zero, suc, ◌+◌, ◌/◌, ◌%◌, ◌<◌, ◌≤◌, ◌==◌, Bool, true}
+use Rattle.std.proofs.Common.{false, ◌&&◌, ◌||◌, not, ◌⊎◌, inl, inr, refl, sym, ◌∙◌, ap, subst, arith}
 use Rattle.std.proofs.lemmas.Bool.{cases_eq, eq-eqb, ne_eqb, false≢true}
 use Rattle.topo_core.specs.Cycles.{IsPermutation, SameCycle, count_below, cycle_count}
 use Rattle.topo_core.specs.Rotations.{Joined, face_next, partly, twin}
@@ -48,7 +49,8 @@ count_none zero = refl
 count_none (suc n) = omega (arith, count_none n)
 
 all_segments : (n : ℕ) → live_segments (λ a. true) n ≡ n / 2
-all_segments n = (let w : n / 2 ≡ live_segments (λ a. true) n + free_segments (λ a. true) n = live_segments_law (λ a. true) n in let z : free_segments (λ a. true) n ≡ 0 = count_none (n / 2) in omega arith)
+all_segments n = (let w : n / 2 ≡ live_segments (λ a. true) n + free_segments (λ a. true) n = live_segments_law (λ a. true) n in
+    let z : free_segments (λ a. true) n ≡ 0 = count_none (n / 2) in omega arith)
 
 -- which darts are left
 left_out : (h : ℕ → ℕ) (i a : ℕ) → (a ≡ h i) ⊎ (a ≡ twin (h i)) → left_after h (suc i) a ≡ false
@@ -56,19 +58,25 @@ left_out h i a (inl e) = ap (λ (b : Bool). not (b || a == twin (h i)) && left_a
 left_out h i a (inr e) = grind (arith, cases_eq, ne_eqb)
 
 pub left_stays : (h : ℕ → ℕ) (i a : ℕ) → a ≢ h i → a ≢ twin (h i) → left_after h (suc i) a ≡ left_after h i a
-left_stays h i a nh nt = ap (λ (b : Bool). not (b || a == twin (h i)) && left_after h i a) (ne_eqb a (h i) nh) ∙ ap (λ (b : Bool). not b && left_after h i a) (ne_eqb a (twin (h i)) nt)
+left_stays h i a nh nt = ap (λ (b : Bool). not (b || a == twin (h i)) && left_after h i a) (ne_eqb a (h i) nh)
+    ∙ ap (λ (b : Bool). not b && left_after h i a) (ne_eqb a (twin (h i)) nt)
 
 pub left_of : (h : ℕ → ℕ) (i a : ℕ) → ((j : ℕ) → j < i → (a ≢ h j) × (a ≢ twin (h j))) → left_after h i a ≡ true
 left_of h zero a u = refl
 left_of h (suc i) a u = left_stays h i a (u i (omega arith)).0 (u i (omega arith)).1 ∙ left_of h i a (λ j lj. u j (omega (arith, lj)))
 
-pub segment_left : (t : ℕ → ℕ → ℕ) (n : ℕ) (h : ℕ → ℕ) (count : ℕ) → IsOpening t n h count → (i : ℕ) → i < count → (left_after h i (h i) ≡ true) × (left_after h i (twin (h i)) ≡ true)
+pub segment_left : (t : ℕ → ℕ → ℕ) (n : ℕ) (h : ℕ → ℕ) (count : ℕ) → IsOpening t n h count → (i : ℕ) → i < count → (left_after h i (h i) ≡ true)
+    × (left_after h i (twin (h i)) ≡ true)
 segment_left t n h count o i li = (
   left_of h i (h i) (λ j lj. ((o.apart j i lj li).not_self, (o.apart j i lj li).not_twin)),
-  left_of h i (twin (h i)) (λ j lj. (λ e. (o.apart j i lj li).not_twin (sym (twin-twin (h i)) ∙ ap twin e), λ e. (o.apart j i lj li).not_self (sym (twin-twin (h i)) ∙ ap twin e ∙ twin-twin (h j)))),
+  left_of h i (twin (h i)) (λ j lj. (
+    λ e. (o.apart j i lj li).not_twin (sym (twin-twin (h i)) ∙ ap twin e),
+    λ e. (o.apart j i lj li).not_self (sym (twin-twin (h i)) ∙ ap twin e ∙ twin-twin (h j)),
+  )),
 )
 
-pub step_adds : (t : ℕ → ℕ → ℕ) (n : ℕ) (h : ℕ → ℕ) (count : ℕ) → IsOpening t n h count → (i : ℕ) → i < count → AddsSegment (left_after h (suc i)) (left_after h i) n (h i)
+pub step_adds : (t : ℕ → ℕ → ℕ) (n : ℕ) (h : ℕ → ℕ) (count : ℕ) → IsOpening t n h count → (i : ℕ) → i < count
+    → AddsSegment (left_after h (suc i)) (left_after h i) n (h i)
 step_adds t n h count o i li = record {
   new = left_out h i (h i) (inl refl);
   new_twin = left_out h i (twin (h i)) (inr refl);
@@ -80,7 +88,8 @@ step_adds t n h count o i li = record {
 pub deletion_step : (t : ℕ → ℕ → ℕ) (n : ℕ) (h : ℕ → ℕ) (count : ℕ) → IsOpening t n h count → (i : ℕ) → i ≤ count → HaveTwoFaces t h i → DeletionStep t n h i
 deletion_step t n h count o zero li two =
     let points : cycle_count (t 0) n ≡ live_cycle_count (λ a. true) (t 0) n = whole_count (t 0) n (λ a. true) (o.permutation 0) (λ a la. refl) in
-    let faces : cycle_count (face_next (t 0)) n ≡ live_cycle_count (λ a. true) (face_next (t 0)) n = whole_count (face_next (t 0)) n (λ a. true) (face_next-permutation (t 0) n (o.permutation 0) o.even) (λ a la. refl) in
+    let faces : cycle_count (face_next (t 0)) n ≡ live_cycle_count (λ a. true) (face_next (t 0)) n =
+    whole_count (face_next (t 0)) n (λ a. true) (face_next-permutation (t 0) n (o.permutation 0) o.even) (λ a la. refl) in
     record {
       slab = record { permutation = o.permutation 0; even = o.even; twins = λ a la. refl; free = λ a la w. absurd (false≢true (sym w)) };
       connected = λ a b la lb wa wb. o.connected a b la lb;
@@ -110,7 +119,8 @@ deletion_step t n h count o (suc i) li two =
 -- ---- A segment with one face
 
 -- with one face on both sides, the darts at its one end are parted from those at its other
-pub parted : {t : ℕ → ℕ → ℕ} {n : ℕ} {h : ℕ → ℕ} {count : ℕ} → IsOpening t n h count → {i : ℕ} → i < count → DeletionStep t n h i → SameCycle (face_next (t i)) (h i) (twin (h i))
+pub parted : {t : ℕ → ℕ → ℕ} {n : ℕ} {h : ℕ → ℕ} {count : ℕ} → IsOpening t n h count → {i : ℕ} → i < count → DeletionStep t n h i
+    → SameCycle (face_next (t i)) (h i) (twin (h i))
     → {a b : ℕ} → IsElsewhere n (h i) a → IsElsewhere n (h i) b → SameCycle (t i) (h i) a → SameCycle (t i) (twin (h i)) b → Joined (t (suc i)) twin a b → ⊥
 parted {t} {n} {h} {count} o {i} li s one {a} {b} ea eb at_a at_b =
     taken_out_parts (t i) (t (suc i)) n (h i) a b (record { permutation = o.permutation i; even = o.even; within = o.there i li }) (o.unchord i li)
@@ -130,9 +140,12 @@ crossed_more f h a b j = kept_joined f (partly (all_but h)) (λ v. Joined f twin
     ]) a b j (Joined-refl f twin a)
 
 -- what is joined without the segment is joined with it
-pub put_back : {t : ℕ → ℕ → ℕ} {n : ℕ} {h : ℕ → ℕ} {count : ℕ} → IsOpening t n h count → (i : ℕ) → i < count → {a b : ℕ} → IsElsewhere n (h i) a → IsElsewhere n (h i) b → Joined (t (suc i)) twin a b → Joined (t i) twin a b
+pub put_back : {t : ℕ → ℕ → ℕ} {n : ℕ} {h : ℕ → ℕ} {count : ℕ} → IsOpening t n h count → (i : ℕ) → i < count → {a b : ℕ} → IsElsewhere n (h i) a
+    → IsElsewhere n (h i) b → Joined (t (suc i)) twin a b → Joined (t i) twin a b
 put_back {t} {n} {h} o i li {a} {b} ea eb j =
-    crossed_more (t i) (h i) a b ((taken_out_joined (t i) (t (suc i)) n (h i) a b (record { permutation = o.permutation i; even = o.even; within = o.there i li }) (o.unchord i li) ea eb).1 j)
+    crossed_more (t i) (h i) a b
+    ((taken_out_joined (t i) (t (suc i)) n (h i) a b (record { permutation = o.permutation i; even = o.even; within = o.there i li })
+    (o.unchord i li) ea eb).1 j)
 
 -- ---- Which darts are out
 
@@ -156,6 +169,7 @@ left_twin h (suc i) a = elim (cases_eq a (h i)) [
   | inl e ↦ left_out h i (twin a) (inr (ap twin e)) ∙ sym (left_out h i a (inl e))
   | inr nh ↦ elim (cases_eq a (twin (h i))) [
     | inl e ↦ left_out h i (twin a) (inl (ap twin e ∙ twin-twin (h i))) ∙ sym (left_out h i a (inr e))
-    | inr nt ↦ left_stays h i (twin a) (λ e. nt (sym (twin-twin a) ∙ ap twin e)) (λ e. nh (sym (twin-twin a) ∙ ap twin e ∙ twin-twin (h i))) ∙ left_twin h i a ∙ sym (left_stays h i a nh nt)
+    | inr nt ↦ left_stays h i (twin a) (λ e. nt (sym (twin-twin a) ∙ ap twin e)) (λ e. nh (sym (twin-twin a) ∙ ap twin e ∙ twin-twin (h i))) ∙ left_twin h i a
+        ∙ sym (left_stays h i a nh nt)
   ]
 ]

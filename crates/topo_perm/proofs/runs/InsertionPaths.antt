@@ -9,7 +9,8 @@ use Rattle.topo_core.proofs.systems.Orbits.{some_below-true}
 use Rattle.topo_perm.specs.Edits.{IsApart}
 use Rattle.topo_perm.proofs.permutations.Faces.{twin-other}
 use Rattle.topo_perm.proofs.permutations.Splitting.{without, without-self, without-onward, without-elsewhere}
-use Rattle.topo_perm.proofs.runs.Chords.{NewChord, AreNewChords, AreApartChords, IsOffChords, half_off_chords, twin_off_chords, chords_stay, without_chord, without_chord-other, chord_permutation, apart_twin, without_chords, all_map}
+use Rattle.topo_perm.proofs.runs.Chords.{NewChord, AreNewChords, AreApartChords, IsOffChords, half_off_chords, twin_off_chords, chords_stay}
+use Rattle.topo_perm.proofs.runs.Chords.{without_chord, without_chord-other, chord_permutation, apart_twin, without_chords, all_map}
 use Rattle.topo_perm.proofs.runs.Subdivisions.{Subdivision, AreSubdivisions, IsNamed, IsStraight, IsUndivided}
 
 -- ---- Numbers that are names
@@ -35,7 +36,8 @@ abbrev pub is_named : (ℕ → ℕ) → ℕ → ℕ → Bool
 is_named name m a = some_below (λ d. name d == a) m
 
 pub named_by : (name : ℕ → ℕ) (m a : ℕ) → is_named name m a ≡ true → (d : ℕ) × (d < m) × (name d ≡ a)
-named_by name m a h = let (less, passes) = found_below (λ d. name d == a) m h in (find_below (λ d. name d == a) m, less, eqb-true (name (find_below (λ d. name d == a) m)) a passes)
+named_by name m a h = let (less, passes) = found_below (λ d. name d == a) m h in
+    (find_below (λ d. name d == a) m, less, eqb-true (name (find_below (λ d. name d == a) m)) a passes)
 
 pub is_named-of : (name : ℕ → ℕ) (m d : ℕ) → d < m → is_named name m (name d) ≡ true
 is_named-of name m d ld = some_below-true (λ e. name e == name d) m d ld (eq-eqb (name d) (name d) refl)
@@ -119,7 +121,8 @@ fixed_stays g n (k ∷ ks) a e u =
     let half : without g (twin k.half) a ≡ a = without-elsewhere g (twin k.half) a u.0.not_twin (λ w. u.0.not_twin (sym e ∙ w)) ∙ e in
     fixed_stays (without_chord g k) n ks a (without-elsewhere (without g (twin k.half)) k.half a u.0.not_self (λ w. u.0.not_self (sym half ∙ w)) ∙ half) u.1
 
-pub chords_alone : (g : ℕ → ℕ) (n : ℕ) (ks : List NewChord) (l : NewChord) → n % 2 ≡ 0 → AreNewChords g n ks → IsIn l ks → (without_chords g ks l.half ≡ l.half) × (without_chords g ks (twin l.half) ≡ twin l.half)
+pub chords_alone : (g : ℕ → ℕ) (n : ℕ) (ks : List NewChord) (l : NewChord) → n % 2 ≡ 0 → AreNewChords g n ks → IsIn l ks → (without_chords g ks l.half ≡ l.half)
+    × (without_chords g ks (twin l.half) ≡ twin l.half)
 chords_alone g n [] l even h i = elim i [ ]
 chords_alone g n (k ∷ ks) l even h i = elim i [
   | inl e ↦
@@ -128,7 +131,8 @@ chords_alone g n (k ∷ ks) l even h i = elim i [
       let at_twin : half (twin k.half) ≡ twin k.half = without-self g (twin k.half) (twin k.half) refl in
       subst (λ (v : NewChord). (without_chords g (k ∷ ks) v.half ≡ v.half) × (without_chords g (k ∷ ks) (twin v.half) ≡ twin v.half)) (sym e) (
         fixed_stays (without_chord g k) n ks k.half (without-self half k.half k.half refl) u,
-        fixed_stays (without_chord g k) n ks (twin k.half) (without-elsewhere half k.half (twin k.half) (twin-other k.half) (λ w. twin-other k.half (sym at_twin ∙ w)) ∙ at_twin) (twin_off_chords n ks k.half even u),
+        fixed_stays (without_chord g k) n ks (twin k.half) (without-elsewhere half k.half (twin k.half) (twin-other k.half)
+            (λ w. twin-other k.half (sym at_twin ∙ w)) ∙ at_twin) (twin_off_chords n ks k.half even u),
       )
   | inr j ↦ chords_alone (without_chord g k) n ks l even (chords_stay g n k ks even h.1 h.2) j
 ]
@@ -137,7 +141,8 @@ chords_alone g n (k ∷ ks) l even h i = elim i [
 
 pub chords_permutation : (g : ℕ → ℕ) (n : ℕ) (ks : List NewChord) → IsPermutation g n → n % 2 ≡ 0 → AreNewChords g n ks → IsPermutation (without_chords g ks) n
 chords_permutation g n [] p even h = p
-chords_permutation g n (k ∷ ks) p even h = chords_permutation (without_chord g k) n ks (chord_permutation g n k p even h.0.there) even (chords_stay g n k ks even h.1 h.2)
+chords_permutation g n (k ∷ ks) p even h =
+    chords_permutation (without_chord g k) n ks (chord_permutation g n k p even h.0.there) even (chords_stay g n k ks even h.1 h.2)
 
 -- what leads past no chord leads on as before
 pub past_chords : (g : ℕ → ℕ) (n : ℕ) (ks : List NewChord) (a c : ℕ) → IsOffChords n ks a → IsOffChords n ks c → g a ≡ c → without_chords g ks a ≡ c
@@ -145,7 +150,8 @@ past_chords g n [] a c u w e = e
 past_chords g n (k ∷ ks) a c u w e = past_chords (without_chord g k) n ks a c u.1 w.1 (without_chord-other g n k a c u.0 w.0 e)
 
 -- what led to a chord leads on to its corner
-pub over_chord : (g : ℕ → ℕ) (n : ℕ) (ks : List NewChord) (l : NewChord) (a : ℕ) → n % 2 ≡ 0 → AreNewChords g n ks → IsIn l ks → IsOffChords n ks a → g a ≡ l.half → without_chords g ks a ≡ l.from
+pub over_chord : (g : ℕ → ℕ) (n : ℕ) (ks : List NewChord) (l : NewChord) (a : ℕ) → n % 2 ≡ 0 → AreNewChords g n ks → IsIn l ks → IsOffChords n ks a
+    → g a ≡ l.half → without_chords g ks a ≡ l.from
 over_chord g n [] l a even h i u e = elim i [ ]
 over_chord g n (k ∷ ks) l a even h i u e = elim i [
   | inl s ↦ grind (arith, without, without-elsewhere, twin-other, past_chords, without_chord, all_map, without-onward)
@@ -153,7 +159,8 @@ over_chord g n (k ∷ ks) l a even h i u e = elim i [
       (without_chord-other g n k a l.half u.0 (all_at (AreApartChords n k) l ks h.1 j).half e)
 ]
 
-pub over_chord_back : (g : ℕ → ℕ) (n : ℕ) (ks : List NewChord) (l : NewChord) (a : ℕ) → n % 2 ≡ 0 → AreNewChords g n ks → IsIn l ks → IsOffChords n ks a → g a ≡ twin l.half → without_chords g ks a ≡ l.to
+pub over_chord_back : (g : ℕ → ℕ) (n : ℕ) (ks : List NewChord) (l : NewChord) (a : ℕ) → n % 2 ≡ 0 → AreNewChords g n ks → IsIn l ks → IsOffChords n ks a
+    → g a ≡ twin l.half → without_chords g ks a ≡ l.to
 over_chord_back g n [] l a even h i u e = elim i [ ]
 over_chord_back g n (k ∷ ks) l a even h i u e = elim i [
   | inl s ↦

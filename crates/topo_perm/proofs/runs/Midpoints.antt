@@ -16,12 +16,14 @@ use Rattle.topo_perm.proofs.edits.SlabEdits.{smooth_keeps_slab}
 
 -- ---- The images after a smoothing
 
-smoothing_of : {f g : ℕ → ℕ} {n : ℕ} (x : ℕ) → IsPermutation f n → IsPermutation g n → n % 2 ≡ 0 → x < n → f (f x) ≡ x → f x ≢ twin x → IsSmooth f g n x → IsSmoothing f g n x
+smoothing_of : {f g : ℕ → ℕ} {n : ℕ} (x : ℕ) → IsPermutation f n → IsPermutation g n → n % 2 ≡ 0 → x < n → f (f x) ≡ x → f x ≢ twin x → IsSmooth f g n x
+    → IsSmoothing f g n x
 smoothing_of x p q even lx two no_loop b = grind (arith, twin-twin, twin-within, cases_eq, twin-other)
 
 -- ---- Midpoints
 
--- x, with the dart that it turns to, is a point of degree two in the middle of a segment of another system: x leads on along it, and the way back from the point is to what ranks lower
+-- x, with the dart that it turns to, is a point of degree two in the middle of a segment of another system: x leads on along it, and the way back from the
+-- point is to what ranks lower
 pub record IsMidpoint (t : ℕ → ℕ) (m : ℕ) (name onto rank : ℕ → ℕ) (x : ℕ) : Type 0 where
   pub two : t (t x) ≡ x
   pub even : x % 2 ≡ 0
@@ -49,7 +51,8 @@ left_self : (live : ℕ → Bool) (x a : ℕ) → a ≡ x → without_segment li
 left_self live x a e = ap (λ (b : Bool). not (b || a == twin x) && live a) (eq-eqb a x e)
 
 left_twin : (live : ℕ → Bool) (x a : ℕ) → a ≡ twin x → without_segment live x a ≡ false
-left_twin live x a e = ap (λ (b : Bool). not (b || a == twin x) && live a) (ne_eqb a x (λ w. twin-other x (sym e ∙ w))) ∙ ap (λ (b : Bool). not b && live a) (eq-eqb a (twin x) e)
+left_twin live x a e = ap (λ (b : Bool). not (b || a == twin x) && live a) (ne_eqb a x (λ w. twin-other x (sym e ∙ w)))
+    ∙ ap (λ (b : Bool). not b && live a) (eq-eqb a (twin x) e)
 
 pub left_other : (live : ℕ → Bool) (x a : ℕ) → a ≢ x → a ≢ twin x → without_segment live x a ≡ live a
 left_other live x a nx nt = ap (λ (b : Bool). not (b || a == twin x) && live a) (ne_eqb a x nx) ∙ ap (λ (b : Bool). not b && live a) (ne_eqb a (twin x) nt)
@@ -70,7 +73,8 @@ odd_twin x e = omega (arith, twin-cases x)
 pub even_not_odd : (a b : ℕ) → a % 2 ≡ 0 → b % 2 ≡ 1 → a ≢ b
 even_not_odd a b ea ob e = (let w : b % 2 ≡ 0 = subst (λ (v : ℕ). v % 2 ≡ 0) e ea in absurd (omega arith))
 
-module _ {middle : ℕ → Type 0} {rank : ℕ → ℕ} {live : ℕ → Bool} {t : ℕ → ℕ} {n : ℕ} {f : ℕ → ℕ} {m : ℕ} {name onto : ℕ → ℕ} (w : AreMidway middle rank live t n f m name onto) {x : ℕ} (xt : IsAlive live n x) (is : middle x) where
+module _ {middle : ℕ → Type 0} {rank : ℕ → ℕ} {live : ℕ → Bool} {t : ℕ → ℕ} {n : ℕ} {f : ℕ → ℕ} {m : ℕ} {name onto : ℕ → ℕ}
+    (w : AreMidway middle rank live t n f m name onto) {x : ℕ} (xt : IsAlive live n x) (is : middle x) where
   abbrev left : ℕ → Bool
   left = without_segment live x
 

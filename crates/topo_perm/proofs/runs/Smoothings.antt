@@ -14,7 +14,8 @@ use Rattle.topo_perm.proofs.permutations.Faces.{twin-twin}
 use Rattle.topo_perm.proofs.permutations.Walks.{Joined-crossed, Joined-refl, Joined-trans, Joined-turned, face_next-permutation, twin-within}
 use Rattle.topo_perm.proofs.permutations.Exchange.{is_met-equivalence}
 
--- the live darts of t are those of f under their names, and darts at points of degree two on the segments of f. `onto` gives each the dart of f that it is part of
+-- the live darts of t are those of f under their names, and darts at points of degree two on the segments of f. `onto` gives each the dart of f that it is part
+-- of
 pub record SmoothsTo (t : ℕ → ℕ) (n : ℕ) (live : ℕ → Bool) (f : ℕ → ℕ) (m : ℕ) (name onto : ℕ → ℕ) : Type 0 where
   pub slab : IsSlab live t n
   pub turn : IsPermutation f m
@@ -84,8 +85,11 @@ module _ {t : ℕ → ℕ} {n : ℕ} {live : ℕ → Bool} {f : ℕ → ℕ} {m 
   up_steps : (k a : ℕ) → a < m → SameCycle (face_next t) (name a) (name (after (face_next f) k a)) × (after (face_next f) k a < m)
   up_steps zero a la = (SameCycle-refl (face_next t) (name a), la)
   up_steps (suc k) a la =
-      let (s, l) = up_steps k a la in
-      (SameCycle-trans (face_next t) (name a) (name (after (face_next f) k a)) (name (face_next f (after (face_next f) k a))) s (c.forth (after (face_next f) k a) l), faces_f.within (after (face_next f) k a) l)
+      let (s, l) = up_steps k a la in (
+        SameCycle-trans (face_next t) (name a) (name (after (face_next f) k a))
+            (name (face_next f (after (face_next f) k a))) s (c.forth (after (face_next f) k a) l),
+        faces_f.within (after (face_next f) k a) l,
+      )
 
   up : (a b : ℕ) → a < m → SameCycle (face_next f) a b → SameCycle (face_next t) (name a) (name b)
   up a b la s = subst (λ (w : ℕ). SameCycle (face_next t) (name a) (name w)) s.leads (up_steps s.steps a la).0
@@ -101,18 +105,20 @@ module _ {t : ℕ → ℕ} {n : ℕ} {live : ℕ → Bool} {f : ℕ → ℕ} {m 
       (ap live (c.slab.free (twin z) lt dt) ∙ dt, faces_t.within z l)
 
   pub smoothed_faces : cycle_count (face_next f) m ≡ live_cycle_count live (face_next t) n
-  smoothed_faces = live_class_count-carries name (is_met (face_next f) m) m live (is_met (face_next t) n) n (is_met-equivalence (face_next f) m faces_f) (is_met-equivalence (face_next t) n faces_t) (record {
-    within = c.within;
-    alive = c.alive;
-    same = λ a b la lb. same_tests (is_met (face_next t) n (name a) (name b)) (is_met (face_next f) m a b)
-        (λ w. SameCycle-is_met (face_next f) m faces_f a b la (subst (λ (v : ℕ). SameCycle (face_next f) v b) (c.returns a la) (subst (λ (v : ℕ). SameCycle (face_next f) (onto (name a)) v) (c.returns b lb)
-        (down (name a) (name b) (c.within a la) (c.alive a la) (is_met-SameCycle (face_next t) n (name a) (name b) w)))))
-        (λ w. SameCycle-is_met (face_next t) n faces_t (name a) (name b) (c.within a la) (up a b la (is_met-SameCycle (face_next f) m a b w)));
-    from = onto;
-    from_within = c.onto_within;
-    meets = λ y ly h. SameCycle-is_met (face_next t) n faces_t (name (onto y)) y (c.within (onto y) (c.onto_within y ly h)) (c.parts y ly h);
-    apart = λ y z ly lz h w. grind (arith, cases_Bool, is_met-SameCycle, false≢true, dead_steps);
-  })
+  smoothed_faces = live_class_count-carries name (is_met (face_next f) m) m live (is_met (face_next t) n) n (is_met-equivalence (face_next f) m faces_f)
+      (is_met-equivalence (face_next t) n faces_t) (record {
+        within = c.within;
+        alive = c.alive;
+        same = λ a b la lb. same_tests (is_met (face_next t) n (name a) (name b)) (is_met (face_next f) m a b)
+            (λ w. SameCycle-is_met (face_next f) m faces_f a b la
+            (subst (λ (v : ℕ). SameCycle (face_next f) v b) (c.returns a la) (subst (λ (v : ℕ). SameCycle (face_next f) (onto (name a)) v) (c.returns b lb)
+            (down (name a) (name b) (c.within a la) (c.alive a la) (is_met-SameCycle (face_next t) n (name a) (name b) w)))))
+            (λ w. SameCycle-is_met (face_next t) n faces_t (name a) (name b) (c.within a la) (up a b la (is_met-SameCycle (face_next f) m a b w)));
+        from = onto;
+        from_within = c.onto_within;
+        meets = λ y ly h. SameCycle-is_met (face_next t) n faces_t (name (onto y)) y (c.within (onto y) (c.onto_within y ly h)) (c.parts y ly h);
+        apart = λ y z ly lz h w. grind (arith, cases_Bool, is_met-SameCycle, false≢true, dead_steps);
+      })
 
   -- ---- Connections
 
@@ -147,7 +153,8 @@ module _ {t : ℕ → ℕ} {n : ℕ} {live : ℕ → Bool} {f : ℕ → ℕ} {m 
   pub smoothed_connected : IsConnectedAmong live t n → (a b : ℕ) → a < m → b < m → Joined f twin a b
   smoothed_connected h a b la lb =
       let j : Joined t twin (name a) (name b) = h (name a) (name b) (c.within a la) (c.within b lb) (c.alive a la) (c.alive b lb) in
-      let r : IsJoinedTo a (along t twin j.moves (name a)) = joined_along a j.moves (name a) (record { inside = c.within a la; alive = c.alive a la; joined = subst (λ (w : ℕ). Joined f twin a w) (sym (c.returns a la)) (Joined-refl f twin a) }) in
+      let r : IsJoinedTo a (along t twin j.moves (name a)) = joined_along a j.moves (name a)
+      (record { inside = c.within a la; alive = c.alive a la; joined = subst (λ (w : ℕ). Joined f twin a w) (sym (c.returns a la)) (Joined-refl f twin a) }) in
       subst (λ (w : ℕ). Joined f twin a w) (ap onto j.leads ∙ c.returns b lb) r.joined
 
   -- ---- And back
@@ -157,8 +164,10 @@ module _ {t : ℕ → ℕ} {n : ℕ} {live : ℕ → Bool} {f : ℕ → ℕ} {m 
   twin_above d ld =
       let lt : twin d < m = twin-within m d c.even ld in
       let on : Joined t twin (name d) (name (face_next f d)) = Joined-SameCycle-faces (name d) (name (face_next f d)) (c.forth d ld) in
-      let back : Joined t twin (name (twin d)) (name (face_next f d)) = subst (λ (w : ℕ). Joined t twin (name (twin d)) w) (c.named_turns (twin d) lt) (Joined-turned t twin (name (twin d)) (name (twin d)) (Joined-refl t twin (name (twin d)))) in
-      Joined-trans t twin (name d) (name (face_next f d)) (name (twin d)) on (Joined-back t n c.slab.permutation c.slab.even (name (twin d)) (name (face_next f d)) (c.within (twin d) lt) back) where
+      let back : Joined t twin (name (twin d)) (name (face_next f d)) = subst (λ (w : ℕ). Joined t twin (name (twin d)) w) (c.named_turns (twin d) lt)
+      (Joined-turned t twin (name (twin d)) (name (twin d)) (Joined-refl t twin (name (twin d)))) in
+      Joined-trans t twin (name d) (name (face_next f d))
+      (name (twin d)) on (Joined-back t n c.slab.permutation c.slab.even (name (twin d)) (name (face_next f d)) (c.within (twin d) lt) back) where
         steps_joined : (k a : ℕ) → Joined t twin a (after (face_next t) k a)
         steps_joined zero a = Joined-refl t twin a
         steps_joined (suc k) a = Joined-turned t twin a (twin (after (face_next t) k a)) (Joined-crossed t twin a (after (face_next t) k a) (steps_joined k a))
@@ -187,8 +196,11 @@ module _ {t : ℕ → ℕ} {n : ℕ} {live : ℕ → Bool} {f : ℕ → ℕ} {m 
       let ay : onto y < m = c.onto_within y ly wy in
       let az : onto z < m = c.onto_within z lz wz in
       let j : Joined f twin (onto y) (onto z) = h (onto y) (onto z) ay az in
-      let middle : Joined t twin (name (onto y)) (name (onto z)) = subst (λ (w : ℕ). Joined t twin (name (onto y)) (name w)) j.leads (named_along j.moves (onto y) ay).0 in
-      let to_y : Joined t twin (name (onto y)) y = subst (λ (w : ℕ). Joined t twin (name (onto y)) w) (c.parts y ly wy).leads (face_joined (c.parts y ly wy).steps (name (onto y))) in
-      let to_z : Joined t twin (name (onto z)) z = subst (λ (w : ℕ). Joined t twin (name (onto z)) w) (c.parts z lz wz).leads (face_joined (c.parts z lz wz).steps (name (onto z))) in
+      let middle : Joined t twin (name (onto y)) (name (onto z)) =
+      subst (λ (w : ℕ). Joined t twin (name (onto y)) (name w)) j.leads (named_along j.moves (onto y) ay).0 in
+      let to_y : Joined t twin (name (onto y)) y =
+      subst (λ (w : ℕ). Joined t twin (name (onto y)) w) (c.parts y ly wy).leads (face_joined (c.parts y ly wy).steps (name (onto y))) in
+      let to_z : Joined t twin (name (onto z)) z =
+      subst (λ (w : ℕ). Joined t twin (name (onto z)) w) (c.parts z lz wz).leads (face_joined (c.parts z lz wz).steps (name (onto z))) in
       Joined-trans t twin y (name (onto y)) z (Joined-back t n c.slab.permutation c.slab.even (name (onto y)) y (c.within (onto y) ay) to_y)
       (Joined-trans t twin (name (onto y)) (name (onto z)) z middle to_z)

@@ -89,16 +89,19 @@ pub record IsStep (b c : ℕ → ℕ) (n : ℕ) (f : ℕ → ℕ) (m : ℕ) (nam
   pub split : IsAllowedSplit c b n k.near k.beyond
 
 -- a dart that is no end of the subdivision vertex's own turns on as before
-step_elsewhere : {b c : ℕ → ℕ} {n : ℕ} {f : ℕ → ℕ} {m : ℕ} {name : ℕ → ℕ} {k : Subdivision} → IsStep b c n f m name k → (a : ℕ) → a < n → a ≢ k.beyond → a ≢ twin k.beyond → a ≢ twin k.near → b a ≢ twin k.beyond → c a ≡ b a
+step_elsewhere : {b c : ℕ → ℕ} {n : ℕ} {f : ℕ → ℕ} {m : ℕ} {name : ℕ → ℕ} {k : Subdivision} → IsStep b c n f m name k → (a : ℕ) → a < n → a ≢ k.beyond
+    → a ≢ twin k.beyond → a ≢ twin k.near → b a ≢ twin k.beyond → c a ≡ b a
 step_elsewhere s a la nx ny nt ne =
     sym (s.split.edit.elsewhere a la nx ny nt (λ w. ne (s.split.edit.led_to a la nt w)))
 
-not_twin_beyond : {b c : ℕ → ℕ} {n : ℕ} {f : ℕ → ℕ} {m : ℕ} {name : ℕ → ℕ} {k : Subdivision} → IsStep b c n f m name k → (d : ℕ) → d < m → d ≢ twin k.dart → name d ≢ twin k.beyond
+not_twin_beyond : {b c : ℕ → ℕ} {n : ℕ} {f : ℕ → ℕ} {m : ℕ} {name : ℕ → ℕ} {k : Subdivision} → IsStep b c n f m name k → (d : ℕ) → d < m → d ≢ twin k.dart
+    → name d ≢ twin k.beyond
 not_twin_beyond {m} {k} s d ld ne w =
     ne (s.named.apart d (twin k.dart) ld (twin-within m k.dart s.named.turn_even s.subdivision.there) (w ∙ sym s.subdivision.other_end))
 
 -- what is led to the twin of `beyond` is that twin itself
-led_beyond : {b c : ℕ → ℕ} {n : ℕ} {f : ℕ → ℕ} {m : ℕ} {name : ℕ → ℕ} {k : Subdivision} → IsStep b c n f m name k → (a : ℕ) → a < n → c a ≡ twin k.beyond → a ≡ twin k.beyond
+led_beyond : {b c : ℕ → ℕ} {n : ℕ} {f : ℕ → ℕ} {m : ℕ} {name : ℕ → ℕ} {k : Subdivision} → IsStep b c n f m name k → (a : ℕ) → a < n → c a ≡ twin k.beyond
+    → a ≡ twin k.beyond
 led_beyond {n} {k} s a la w =
     s.split.turns.before.apart a (twin k.beyond) la (twin-within n k.beyond s.named.even s.subdivision.beyond_there) (w ∙ sym s.split.edit.isolated.other)
 
@@ -106,7 +109,8 @@ led_beyond {n} {k} s a la w =
 apart_twins : (b c : ℕ → ℕ) (n : ℕ) (f : ℕ → ℕ) (m : ℕ) (name : ℕ → ℕ) (k : Subdivision) → IsStep b c n f m name k → twin k.near ≢ twin k.beyond
 apart_twins b c n f m name k s w = s.subdivision.near_apart (twin-apart k.near k.beyond w)
 
-turn_far : (b c : ℕ → ℕ) (n : ℕ) (f : ℕ → ℕ) (m : ℕ) (name : ℕ → ℕ) (k : Subdivision) → IsStep b c n f m name k → c (twin k.near) ≡ renamed name k (f (twin k.dart))
+turn_far : (b c : ℕ → ℕ) (n : ℕ) (f : ℕ → ℕ) (m : ℕ) (name : ℕ → ℕ) (k : Subdivision) → IsStep b c n f m name k
+    → c (twin k.near) ≡ renamed name k (f (twin k.dart))
 turn_far b c n f m name k s =
     let a : ℕ = k.dart in
     let t : ℕ = twin k.near in
@@ -121,7 +125,8 @@ turn_far b c n f m name k s =
           sym (renamed-other name k (f (twin a)) other ∙ on)
     ]
 
-turn_near : {b c : ℕ → ℕ} {n : ℕ} {f : ℕ → ℕ} {m : ℕ} {name : ℕ → ℕ} {k : Subdivision} → IsStep b c n f m name k → (d : ℕ) → d < m → d ≢ twin k.dart → c (name d) ≡ renamed name k (f d)
+turn_near : {b c : ℕ → ℕ} {n : ℕ} {f : ℕ → ℕ} {m : ℕ} {name : ℕ → ℕ} {k : Subdivision} → IsStep b c n f m name k → (d : ℕ) → d < m → d ≢ twin k.dart
+    → c (name d) ≡ renamed name k (f d)
 turn_near {b} {c} {n} {f} {m} {name} {k} s d ld nd =
     let a : ℕ = k.dart in
     let z : ℕ = name d in
@@ -132,7 +137,8 @@ turn_near {b} {c} {n} {f} {m} {name} {k} s d ld nd =
     let ny : z ≢ twin k.beyond = not_twin_beyond s d ld nd in
     elim (cases_eq (c z) (twin k.near)) [
       | inl e ↦
-          let same : f d ≡ twin a = s.named.apart (f d) (twin a) (s.named.turn.within d ld) lta (sym (s.named.turns d ld) ∙ s.split.edit.led_to z lz nt e ∙ sym s.subdivision.other_end) in
+          let same : f d ≡ twin a = s.named.apart (f d) (twin a) (s.named.turn.within d ld) lta (sym (s.named.turns d ld) ∙ s.split.edit.led_to z lz nt e
+          ∙ sym s.subdivision.other_end) in
           e ∙ sym (renamed-twin name k (f d) same)
       | inr ne ↦
           let on : c z ≡ name (f d) = sym (s.split.edit.elsewhere z lz nx ny nt ne) ∙ s.named.turns d ld in
@@ -171,10 +177,12 @@ renamed_dart : (m : ℕ) (name : ℕ → ℕ) (k l : Subdivision) → AreOnOther
 renamed_dart m name k l o = renamed-other name k l.dart o.dart.not_twin
 
 -- a point that has nothing to do with the subdivision vertex stays as it is
-pub step_point : {b c : ℕ → ℕ} {n : ℕ} {f : ℕ → ℕ} {m : ℕ} {name : ℕ → ℕ} {k : Subdivision} → IsStep b c n f m name k → (x y : ℕ) → x < n → x ≢ k.beyond → x ≢ twin k.beyond → x ≢ twin k.near → y ≢ twin k.beyond → b x ≡ y → c x ≡ y
+pub step_point : {b c : ℕ → ℕ} {n : ℕ} {f : ℕ → ℕ} {m : ℕ} {name : ℕ → ℕ} {k : Subdivision} → IsStep b c n f m name k → (x y : ℕ) → x < n → x ≢ k.beyond
+    → x ≢ twin k.beyond → x ≢ twin k.near → y ≢ twin k.beyond → b x ≡ y → c x ≡ y
 step_point {b} {c} {n} {f} {m} {name} {k} s x y lx nx nt nn ny e = step_elsewhere s x lx nx nt nn (λ w. ny (sym e ∙ w)) ∙ e
 
-step_subdivision : {b c : ℕ → ℕ} {n : ℕ} {f : ℕ → ℕ} {m : ℕ} {name : ℕ → ℕ} {k l : Subdivision} → IsStep b c n f m name k → AreOnOthers m k l → IsSubdivision b n m name l → IsSubdivision c n m (renamed name k) l
+step_subdivision : {b c : ℕ → ℕ} {n : ℕ} {f : ℕ → ℕ} {m : ℕ} {name : ℕ → ℕ} {k l : Subdivision} → IsStep b c n f m name k → AreOnOthers m k l
+    → IsSubdivision b n m name l → IsSubdivision c n m (renamed name k) l
 step_subdivision {b} {c} {n} {f} {m} {name} {k} {l} s o i =
     let a : ℕ = k.dart in
     let back : ℕ = twin l.near in
@@ -202,11 +210,14 @@ step_subdivision {b} {c} {n} {f} {m} {name} {k} {l} s o i =
       ];
     }
 
-step_subdivisions : {b c : ℕ → ℕ} {n : ℕ} {f : ℕ → ℕ} {m : ℕ} {name : ℕ → ℕ} {k : Subdivision} (ls : List Subdivision) → IsStep b c n f m name k → AllByRecursion (AreOnOthers m k) ls → AreSubdivisions b n m name ls → AreSubdivisions c n m (renamed name k) ls
+step_subdivisions : {b c : ℕ → ℕ} {n : ℕ} {f : ℕ → ℕ} {m : ℕ} {name : ℕ → ℕ} {k : Subdivision} (ls : List Subdivision) → IsStep b c n f m name k
+    → AllByRecursion (AreOnOthers m k) ls → AreSubdivisions b n m name ls → AreSubdivisions c n m (renamed name k) ls
 step_subdivisions [] s o h = h
-step_subdivisions {b} {c} {n} {f} {m} {name} {k} (l ∷ ls) s o h = (step_subdivision s o.0 h.0, h.1, step_subdivisions ls s o.1 h.2, h.3 ∙ sym (renamed_dart m name k l o.0))
+step_subdivisions {b} {c} {n} {f} {m} {name} {k} (l ∷ ls) s o h =
+    (step_subdivision s o.0 h.0, h.1, step_subdivisions ls s o.1 h.2, h.3 ∙ sym (renamed_dart m name k l o.0))
 
-step_straight : {b c : ℕ → ℕ} {n : ℕ} {f : ℕ → ℕ} {m : ℕ} {name : ℕ → ℕ} {k : Subdivision} (ls : List Subdivision) → IsStep b c n f m name k → k.near ≡ name k.dart → IsStraight m name (k ∷ ls) → IsStraight m (renamed name k) ls
+step_straight : {b c : ℕ → ℕ} {n : ℕ} {f : ℕ → ℕ} {m : ℕ} {name : ℕ → ℕ} {k : Subdivision} (ls : List Subdivision) → IsStep b c n f m name k
+    → k.near ≡ name k.dart → IsStraight m name (k ∷ ls) → IsStraight m (renamed name k) ls
 step_straight {name} {k} ls s at h d ld u =
     let a : ℕ = k.dart in
     elim (cases_eq d (twin a)) [
@@ -265,7 +276,8 @@ pub record Straightened (b : ℕ → ℕ) (n : ℕ) (f : ℕ → ℕ) (m : ℕ) 
   pub beyond_alone : AllByRecursion (λ k. (bottom k.beyond ≡ k.beyond) × (bottom (twin k.beyond) ≡ twin k.beyond)) ks
   -- what is counted and joined, and the faces
   pub subdivided : (live : ℕ → Bool) → IsSlab live bottom n → AreSubdividable live ks → Subdivided live bottom b n ks
-  pub run : (live : ℕ → Bool) → AreSubdividable live ks → IsRun n (record { live = live; turn = bottom }) (splits_of ks) (record { live = with_subdivisions live ks; turn = b })
+  pub run : (live : ℕ → Bool) → AreSubdividable live ks
+      → IsRun n (record { live = live; turn = bottom }) (splits_of ks) (record { live = with_subdivisions live ks; turn = b })
   pub kept : (a c : ℕ) → IsWithin n ks a → SameCycle (face_next bottom) a c → SameCycle (face_next b) a c
   pub back : (a c : ℕ) → IsWithin n ks a → IsWithin n ks c → SameCycle (face_next b) a c → SameCycle (face_next bottom) a c
   pub sides : AllByRecursion (λ k. SameCycle (face_next b) k.near k.beyond × SameCycle (face_next b) (twin k.beyond) (twin k.near)) ks
@@ -274,7 +286,8 @@ pub all_both : {X : Type 0} (P Q R : X → Type 0) → ((x : X) → P x → Q x 
 all_both P Q R f [] h g = h
 all_both P Q R f (x ∷ xs) h g = (f x h.0 g.0, all_both P Q R f xs h.1 g.1)
 
-pub all_subdivisions : (b : ℕ → ℕ) (n m : ℕ) (name : ℕ → ℕ) (ks : List Subdivision) → AreSubdivisions b n m name ks → AllByRecursion (IsSubdivision b n m name) ks
+pub all_subdivisions : (b : ℕ → ℕ) (n m : ℕ) (name : ℕ → ℕ) (ks : List Subdivision) → AreSubdivisions b n m name ks
+    → AllByRecursion (IsSubdivision b n m name) ks
 all_subdivisions b n m name [] h = h
 all_subdivisions b n m name (k ∷ ks) h = (h.0, all_subdivisions b n m name ks h.2)
 
@@ -284,20 +297,24 @@ all_nears b n m name (k ∷ ks) h = (h.3, all_nears b n m name ks h.2)
 
 pub dead_subdivisions : (live : ℕ → Bool) (n : ℕ) (ks : List Subdivision) (a : ℕ) → live a ≡ false → IsWithin n ks a → with_subdivisions live ks a ≡ false
 dead_subdivisions live n [] a dead u = dead
-dead_subdivisions live n (k ∷ ks) a dead u = with_other (with_subdivisions live ks) k.beyond a u.0.not_self u.0.not_twin ∙ dead_subdivisions live n ks a dead u.1
+dead_subdivisions live n (k ∷ ks) a dead u = with_other (with_subdivisions live ks) k.beyond a u.0.not_self u.0.not_twin
+    ∙ dead_subdivisions live n ks a dead u.1
 
 pub live_subdivisions : (live : ℕ → Bool) (ks : List Subdivision) (a : ℕ) → live a ≡ true → with_subdivisions live ks a ≡ true
 live_subdivisions live [] a l = l
 live_subdivisions live (k ∷ ks) a l = with_old (with_subdivisions live ks) k.beyond a (live_subdivisions live ks a l)
 
-beyond_apart : (b : ℕ → ℕ) (n m : ℕ) (name : ℕ → ℕ) (k l : Subdivision) → m % 2 ≡ 0 → IsSubdivision b n m name k → AreOnOthers m k l → IsSubdivision b n m name l → IsApart n k.beyond l.beyond
+beyond_apart : (b : ℕ → ℕ) (n m : ℕ) (name : ℕ → ℕ) (k l : Subdivision) → m % 2 ≡ 0 → IsSubdivision b n m name k → AreOnOthers m k l
+    → IsSubdivision b n m name l → IsApart n k.beyond l.beyond
 beyond_apart b n m name k l even i o j = grind (arith, twin-within)
 
 -- what the first step leaves as it was
-step_alone : {b c : ℕ → ℕ} {n : ℕ} {f : ℕ → ℕ} {m : ℕ} {name : ℕ → ℕ} {k : Subdivision} → IsStep b c n f m name k → (y : ℕ) → y < n → b y ≡ y → ((d : ℕ) → d < m → name d ≢ y) → c y ≡ y
+step_alone : {b c : ℕ → ℕ} {n : ℕ} {f : ℕ → ℕ} {m : ℕ} {name : ℕ → ℕ} {k : Subdivision} → IsStep b c n f m name k → (y : ℕ) → y < n → b y ≡ y
+    → ((d : ℕ) → d < m → name d ≢ y) → c y ≡ y
 step_alone s y ly e u = grind (arith, twin-within, step_elsewhere)
 
-fresh_after : {b c : ℕ → ℕ} {n : ℕ} {f : ℕ → ℕ} {m : ℕ} {name : ℕ → ℕ} {k : Subdivision} → IsStep b c n f m name k → (y : ℕ) → y ≢ twin k.near → ((d : ℕ) → d < m → d ≢ twin k.dart → name d ≢ y) → (d : ℕ) → d < m → renamed name k d ≢ y
+fresh_after : {b c : ℕ → ℕ} {n : ℕ} {f : ℕ → ℕ} {m : ℕ} {name : ℕ → ℕ} {k : Subdivision} → IsStep b c n f m name k → (y : ℕ) → y ≢ twin k.near
+    → ((d : ℕ) → d < m → d ≢ twin k.dart → name d ≢ y) → (d : ℕ) → d < m → renamed name k d ≢ y
 fresh_after s y nt u d ld w = grind (arith, cases_eq, renamed-twin, renamed-other)
 
 -- b, c without the subdivision vertex, and that the subdivision vertex can go
@@ -306,7 +323,8 @@ record IsFirstStep (b : ℕ → ℕ) (n : ℕ) (f : ℕ → ℕ) (m : ℕ) (name
   smooth : IsAllowedSmooth b c n k.beyond
   step : IsStep b c n f m name k
 
-first_step : (b : ℕ → ℕ) (n : ℕ) (f : ℕ → ℕ) (m : ℕ) (name : ℕ → ℕ) (k : Subdivision) → IsNamed b n f m name → IsSubdivision b n m name k → IsFirstStep b n f m name k
+first_step : (b : ℕ → ℕ) (n : ℕ) (f : ℕ → ℕ) (m : ℕ) (name : ℕ → ℕ) (k : Subdivision) → IsNamed b n f m name → IsSubdivision b n m name k
+    → IsFirstStep b n f m name k
 first_step b n f m name k named i =
     let led : Leads (λ g. IsAllowedSmooth b g n k.beyond) = smooth_is_possible b n k.beyond named.permutation named.even i.beyond_there
     (ap b i.onto ∙ i.round) (λ w. i.two (sym w ∙ i.onto)) (λ w. i.near_apart (twin-apart k.near k.beyond (sym i.onto ∙ w))) in
@@ -316,16 +334,21 @@ first_step b n f m name k named i =
       step = grind (arith, twin-twin, smoothed);
     }
 
-subdivision_adds : (live : ℕ → Bool) {b c : ℕ → ℕ} {n : ℕ} {f : ℕ → ℕ} {m : ℕ} {name : ℕ → ℕ} {k : Subdivision} (ks : List Subdivision) → IsStep b c n f m name k → AllByRecursion (AreOnOthers m k) ks → AreSubdivisions b n m name ks → AreSubdividable live (k ∷ ks)
+subdivision_adds : (live : ℕ → Bool) {b c : ℕ → ℕ} {n : ℕ} {f : ℕ → ℕ} {m : ℕ} {name : ℕ → ℕ} {k : Subdivision} (ks : List Subdivision)
+    → IsStep b c n f m name k → AllByRecursion (AreOnOthers m k) ks → AreSubdivisions b n m name ks → AreSubdividable live (k ∷ ks)
     → AddsSegment (with_subdivisions live ks) (with_subdivisions live (k ∷ ks)) n k.beyond
 subdivision_adds live {b} {n} {m} {name} {k} ks s o h r =
     let here : IsWithin n ks k.beyond = all_both (AreOnOthers m k) (IsSubdivision b n m name) (λ l. IsApart n k.beyond l.beyond)
     (λ l u v. beyond_apart b n m name k l s.named.turn_even s.subdivision u v) ks o (all_subdivisions b n m name ks h) in
-    let here_twin : IsWithin n ks (twin k.beyond) = all_map (λ l. IsApart n k.beyond l.beyond) (λ l. IsApart n (twin k.beyond) l.beyond) (λ l u. apart_twin n k.beyond l.beyond s.named.even u) ks here in
-    adds_segment (with_subdivisions live ks) n k.beyond (dead_subdivisions live n ks k.beyond r.0.0 here) (dead_subdivisions live n ks (twin k.beyond) r.0.1 here_twin)
+    let here_twin : IsWithin n ks (twin k.beyond) =
+    all_map (λ l. IsApart n k.beyond l.beyond) (λ l. IsApart n (twin k.beyond) l.beyond) (λ l u. apart_twin n k.beyond l.beyond s.named.even u) ks here in
+    adds_segment (with_subdivisions live ks) n k.beyond (dead_subdivisions live n ks k.beyond r.0.0 here)
+    (dead_subdivisions live n ks (twin k.beyond) r.0.1 here_twin)
 
 -- the subdivided slab with one subdivision vertex more
-one_subdivision_more : {live : ℕ → Bool} {b c e : ℕ → ℕ} {n : ℕ} {f : ℕ → ℕ} {m : ℕ} {name : ℕ → ℕ} {k : Subdivision} {ks : List Subdivision} → IsStep b c n f m name k → AllByRecursion (AreOnOthers m k) ks → AreSubdivisions b n m name ks → AreSubdividable live (k ∷ ks) → Subdivided live e c n ks → Subdivided live e b n (k ∷ ks)
+one_subdivision_more : {live : ℕ → Bool} {b c e : ℕ → ℕ} {n : ℕ} {f : ℕ → ℕ} {m : ℕ} {name : ℕ → ℕ} {k : Subdivision} {ks : List Subdivision}
+    → IsStep b c n f m name k → AllByRecursion (AreOnOthers m k) ks → AreSubdivisions b n m name ks → AreSubdividable live (k ∷ ks) → Subdivided live e c n ks
+    → Subdivided live e b n (k ∷ ks)
 one_subdivision_more {live} {b} {c} {n} {f} {m} {name} {k} {ks} s o h r w =
     let old : ℕ → Bool = with_subdivisions live ks in
     let new : ℕ → Bool = with_segment old k.beyond in
@@ -339,7 +362,8 @@ one_subdivision_more {live} {b} {c} {n} {f} {m} {name} {k} {ks} s o h r w =
       connected = λ hang. split_connects c b old new n k.near k.beyond s.split adds alive (w.connected hang);
     }
 
-pub straighten : (b : ℕ → ℕ) (n : ℕ) (f : ℕ → ℕ) (m : ℕ) (name : ℕ → ℕ) (ks : List Subdivision) → IsNamed b n f m name → AreSubdivisions b n m name ks → IsStraight m name ks → Straightened b n f m name ks
+pub straighten : (b : ℕ → ℕ) (n : ℕ) (f : ℕ → ℕ) (m : ℕ) (name : ℕ → ℕ) (ks : List Subdivision) → IsNamed b n f m name → AreSubdivisions b n m name ks
+    → IsStraight m name ks → Straightened b n f m name ks
 straighten b n f m name [] named h straight = record {
   bottom = b;
   names = name;
@@ -364,7 +388,8 @@ straighten b n f m name (k ∷ ks) named h straight =
     let c : ℕ → ℕ = first.c in
     let s : IsStep b c n f m name k = first.step in
     let name' : ℕ → ℕ = renamed name k in
-    let rest : Straightened c n f m name' ks = straighten c n f m name' ks (step_named b c n f m name k s) (step_subdivisions ks s h.1 h.2) (step_straight ks s h.3 straight) in
+    let rest : Straightened c n f m name' ks =
+    straighten c n f m name' ks (step_named b c n f m name k s) (step_subdivisions ks s h.1 h.2) (step_straight ks s h.3 straight) in
     let others : AllByRecursion (IsSubdivision b n m name) ks = all_subdivisions b n m name ks h.2 in
     let k_undivided : IsUndivided m ks k.dart = all_map (AreOnOthers m k) (λ l. IsApart m k.dart l.dart) (λ l o. record {
       within = i.there;
@@ -387,8 +412,10 @@ straighten b n f m name (k ∷ ks) named h straight =
           within = rest.named.within d ld;
           not_self = rest.fresh k.beyond (fresh_after s k.beyond i.two (λ e le ne. i.new e le))
               (all_map (AreOnOthers m k) (λ l. twin l.near ≢ k.beyond) (λ l o e. o.back_beyond (sym e)) ks h.1) d ld;
-          not_twin = rest.fresh (twin k.beyond) (fresh_after s (twin k.beyond) (λ w. apart_twins b c n f m name k s (sym w)) (λ e le ne. not_twin_beyond s e le ne))
-              (all_map (IsSubdivision b n m name) (λ l. twin l.near ≢ twin k.beyond) (λ l j e. j.new_back (twin k.dart) (twin-within m k.dart named.turn_even i.there) (i.other_end ∙ sym e)) ks others) d ld;
+          not_twin = rest.fresh (twin k.beyond)
+              (fresh_after s (twin k.beyond) (λ w. apart_twins b c n f m name k s (sym w)) (λ e le ne. not_twin_beyond s e le ne))
+              (all_map (IsSubdivision b n m name) (λ l. twin l.near ≢ twin k.beyond)
+              (λ l j e. j.new_back (twin k.dart) (twin-within m k.dart named.turn_even i.there) (i.other_end ∙ sym e)) ks others) d ld;
         },
         rest.within d ld,
       );
@@ -420,7 +447,8 @@ straighten b n f m name (k ∷ ks) named h straight =
         all_sides ks s h.1 others (all_nears b n m name ks h.2) rest.sides,
       );
     } where
-      all_sides : {b c : ℕ → ℕ} {n : ℕ} {f : ℕ → ℕ} {m : ℕ} {name : ℕ → ℕ} {k : Subdivision} (ls : List Subdivision) → IsStep b c n f m name k → AllByRecursion (AreOnOthers m k) ls → AllByRecursion (IsSubdivision b n m name) ls → AllByRecursion (λ l. l.near ≡ name l.dart) ls
+      all_sides : {b c : ℕ → ℕ} {n : ℕ} {f : ℕ → ℕ} {m : ℕ} {name : ℕ → ℕ} {k : Subdivision} (ls : List Subdivision) → IsStep b c n f m name k
+          → AllByRecursion (AreOnOthers m k) ls → AllByRecursion (IsSubdivision b n m name) ls → AllByRecursion (λ l. l.near ≡ name l.dart) ls
           → AllByRecursion (λ l. SameCycle (face_next c) l.near l.beyond × SameCycle (face_next c) (twin l.beyond) (twin l.near)) ls
           → AllByRecursion (λ l. SameCycle (face_next b) l.near l.beyond × SameCycle (face_next b) (twin l.beyond) (twin l.near)) ls
       all_sides [] s o i e h = h
@@ -435,6 +463,9 @@ straighten b n f m name (k ∷ ks) named h straight =
             not_self = λ w. s.subdivision.new (twin l.dart) (twin-within m l.dart s.named.turn_even i.0.there) (i.0.other_end ∙ w);
             not_twin = λ w. o.0.beyond (twin-apart l.beyond k.beyond w);
           } in (
-            (split_keeps_faces c b n k.near k.beyond l.near l.beyond s.split near h.0.0, split_keeps_faces c b n k.near k.beyond (twin l.beyond) (twin l.near) s.split far h.0.1),
+            (
+              split_keeps_faces c b n k.near k.beyond l.near l.beyond s.split near h.0.0,
+              split_keeps_faces c b n k.near k.beyond (twin l.beyond) (twin l.near) s.split far h.0.1,
+            ),
             all_sides ls s o.1 i.1 e.1 h.1,
           )

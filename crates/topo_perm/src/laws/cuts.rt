@@ -3,7 +3,8 @@
 //! A segment is left out in two ways: walks do not cross it, or its two darts are taken out of the
 //! turn. For the darts of all other segments that is the same.
 
-ghost use Rattle.topo_perm.specs.Cuts.{OneFaceParts, TakenOutJoined, TakenOutKeeps, TakenOutParts, TwoFacesJoined, TwoFacesKeep};
+ghost use Rattle.topo_perm.specs.Cuts.{OneFaceParts, TakenOutJoined, TakenOutKeeps};
+ghost use Rattle.topo_perm.specs.Cuts.{TakenOutParts, TwoFacesJoined, TwoFacesKeep};
 
 /// Different faces on the two sides: without the segment its ends are still joined.
 pub fn two_faces()

@@ -4,8 +4,15 @@
 //! isolated: two points of its own, and one face. With live segments alone counted, a hang and a
 //! split make one point more, a chord one face more, and an unchord and a smooth take them away.
 
-ghost use Rattle.topo_perm.specs.Edits.{BypassIsPermutation, BypassSplits, BypassStays, ChordFaces, ChordIsPossible, ChordPoints, HangFaces, HangIsPossible, HangPoints, PutBeforeIsBefore, PutBeforeIsPermutation, SmoothFaces, SmoothIsPossible, SmoothPoints, SmoothingIsPermutation, SmoothingIsSmooth, SplitFaces, SplitIsPermutation, SplitIsPossible, SplitPoints, UnchordFaces, UnchordIsPossible, UnchordPoints};
-ghost use Rattle.topo_perm.specs.Joins.{ChordConnects, HangConnects, SmoothConnects, SplitConnects, UnchordConnects};
+ghost use Rattle.topo_perm.specs.Edits.{BypassIsPermutation, BypassSplits, BypassStays, ChordFaces};
+ghost use Rattle.topo_perm.specs.Edits.{ChordIsPossible, ChordPoints, HangFaces, HangIsPossible};
+ghost use Rattle.topo_perm.specs.Edits.{HangPoints, PutBeforeIsBefore, PutBeforeIsPermutation};
+ghost use Rattle.topo_perm.specs.Edits.{SmoothFaces, SmoothIsPossible, SmoothPoints};
+ghost use Rattle.topo_perm.specs.Edits.{SmoothingIsPermutation, SmoothingIsSmooth, SplitFaces};
+ghost use Rattle.topo_perm.specs.Edits.{SplitIsPermutation, SplitIsPossible, SplitPoints};
+ghost use Rattle.topo_perm.specs.Edits.{UnchordFaces, UnchordIsPossible, UnchordPoints};
+ghost use Rattle.topo_perm.specs.Joins.{ChordConnects, HangConnects, SmoothConnects};
+ghost use Rattle.topo_perm.specs.Joins.{SplitConnects, UnchordConnects};
 
 /// A dart by itself is put before another: its two images are written, and all is a turn again.
 pub fn put_before()

@@ -1,8 +1,11 @@
 //! Which darts lie in one face after an edit.
 
-ghost use Rattle.topo_perm.specs.Faces.{ChordKeepsFaces, ChordSides, HangKeepsFaces, HangSides, SmoothKeepsFaces, SplitKeepsFaces, SplitSides, UnchordKeepsFaces};
+ghost use Rattle.topo_perm.specs.Faces.{ChordKeepsFaces, ChordSides, HangKeepsFaces};
+ghost use Rattle.topo_perm.specs.Faces.{HangSides, SmoothKeepsFaces, SplitKeepsFaces};
+ghost use Rattle.topo_perm.specs.Faces.{SplitSides, UnchordKeepsFaces};
 
-/// Darts in one face stay together, and both sides of the new segment lie in the face of the corner.
+/// Darts in one face stay together, and both sides of the new segment lie in the face of the
+/// corner.
 pub fn hang()
     ensures kept { HangKeepsFaces }
     ensures sides { HangSides }

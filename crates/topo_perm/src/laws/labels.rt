@@ -1,6 +1,7 @@
 //! Labels of faces: two live darts have one label exactly where they lie in one face.
 
-ghost use Rattle.topo_perm.specs.FaceLabels.{ChordLabels, HangLabels, SmoothLabels, SplitLabels, UnchordLabels};
+ghost use Rattle.topo_perm.specs.FaceLabels.{ChordLabels, HangLabels, SmoothLabels};
+ghost use Rattle.topo_perm.specs.FaceLabels.{SplitLabels, UnchordLabels};
 
 /// Both sides of the new segment have the label of the corner.
 pub fn hang()

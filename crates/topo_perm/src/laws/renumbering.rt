@@ -1,6 +1,8 @@
 //! Darts under new numbers, as in a slab: what is counted and what is joined stays.
 
-ghost use Rattle.topo_perm.specs.Renumbering.{RenumberedClasses, RenumberedConnected, RenumberedCycles, RenumberedFaces, RenumberedJoined, RenumberedSameCycle, RenumberedWhole};
+ghost use Rattle.topo_perm.specs.Renumbering.{RenumberedClasses, RenumberedConnected};
+ghost use Rattle.topo_perm.specs.Renumbering.{RenumberedCycles, RenumberedFaces, RenumberedJoined};
+ghost use Rattle.topo_perm.specs.Renumbering.{RenumberedSameCycle, RenumberedWhole};
 
 /// As many classes and as many cycles.
 pub fn counts()

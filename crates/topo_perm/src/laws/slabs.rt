@@ -1,17 +1,25 @@
 //! What the live darts of a slab count, where the others are of isolated segments, and what the
 //! five edits do to these counts.
 
-ghost use Rattle.topo_perm.specs.Live.{LiveBound, LiveComponents, LiveFaces, LiveGenusZero, LivePoints, LiveSegments};
-ghost use Rattle.topo_perm.specs.LiveEdits.{ChordKeepsSlab, ChordLiveFaces, ChordLivePoints, FreeSegmentsFall, HangKeepsSlab, HangLiveFaces, HangLivePoints, SegmentsGrow, SmoothKeepsSlab, SmoothLiveFaces, SmoothLivePoints, SplitKeepsSlab, SplitLiveFaces, SplitLivePoints, UnchordKeepsSlab, UnchordLiveFaces, UnchordLivePoints};
+ghost use Rattle.topo_perm.specs.Live.{LiveBound, LiveComponents, LiveFaces};
+ghost use Rattle.topo_perm.specs.Live.{LiveGenusZero, LivePoints, LiveSegments};
+ghost use Rattle.topo_perm.specs.LiveEdits.{ChordKeepsSlab, ChordLiveFaces, ChordLivePoints};
+ghost use Rattle.topo_perm.specs.LiveEdits.{FreeSegmentsFall, HangKeepsSlab, HangLiveFaces};
+ghost use Rattle.topo_perm.specs.LiveEdits.{HangLivePoints, SegmentsGrow, SmoothKeepsSlab};
+ghost use Rattle.topo_perm.specs.LiveEdits.{SmoothLiveFaces, SmoothLivePoints, SplitKeepsSlab};
+ghost use Rattle.topo_perm.specs.LiveEdits.{SplitLiveFaces, SplitLivePoints, UnchordKeepsSlab};
+ghost use Rattle.topo_perm.specs.LiveEdits.{UnchordLiveFaces, UnchordLivePoints};
 
-/// All points, segments and faces are the live ones and those of the free segments: two points and one face each.
+/// All points, segments and faces are the live ones and those of the free segments: two points and
+/// one face each.
 pub fn live_counts()
     ensures points { LivePoints }
     ensures segments { LiveSegments }
     ensures faces { LiveFaces }
 {}
 
-/// Live darts that hang together are one component, and Euler's formula for them is that of the whole slab.
+/// Live darts that hang together are one component, and Euler's formula for them is that of the
+/// whole slab.
 pub fn live_genus()
     ensures components { LiveComponents }
     ensures bound { LiveBound }

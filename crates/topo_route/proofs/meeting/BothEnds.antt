@@ -36,7 +36,8 @@ under_level level least height distance n is low = grind arith
 at_start_below : (level least distance : ℕ) → distance ≡ 0 → least < top_at level least distance
 at_start_below level least distance is = grind arith
 
-module _ (price : Pricing) (g : Named) (lawful : Lawful g.rows) (has : IsNamed g) (u v : ℕ) (heights distances : List ℕ) (level least : ℕ) (met : Meets price g u v heights distances level least) where
+module _ (price : Pricing) (g : Named) (lawful : Lawful g.rows) (has : IsNamed g) (u v : ℕ) (heights distances : List ℕ) (level least : ℕ)
+    (met : Meets price g u v heights distances level least) where
   abbrev height : Dart → ℕ
   height = height_of g heights
 
@@ -76,7 +77,8 @@ module _ (price : Pricing) (g : Named) (lawful : Lawful g.rows) (has : IsNamed g
       subst (λ j. slice_index distances j ≤ distance c) along.leads (near_after along.steps (g.name c) (name_is g has c h) near)
 
   -- and the twin by no more than the price
-  near_twin : (x : Dart) (cost : ℕ) → has_dart (darts g.rows) x ≡ true → distance x + level ≤ least → Price price g.rows x cost → min (distance (dart_twin x)) (least + 1) ≤ cost + distance x
+  near_twin : (x : Dart) (cost : ℕ) → has_dart (darts g.rows) x ≡ true → distance x + level ≤ least → Price price g.rows x cost
+      → min (distance (dart_twin x)) (least + 1) ≤ cost + distance x
   near_twin x cost h near asked =
       let is = dart_of_name g has x h in
       let other : twin_name g (g.name x) ≡ g.name (dart_twin x) = ap (λ d. g.name (dart_twin d)) is in
@@ -87,7 +89,8 @@ module _ (price : Pricing) (g : Named) (lawful : Lawful g.rows) (has : IsNamed g
 
   module _ (new : Rows) (m : Renaming) (r : Route) (covers : CoversMeeting price g new m u v heights distances level least r) where
     -- a walk that costs the height of its face stays inside
-    crosses_inside : (xs : List Dart) (c to : Dart) (n : ℕ) → has_dart (darts g.rows) c ≡ true → Crosses (system g.rows) c xs to → Costs price g.rows xs n → lid to ≡ 0 → lid c ≡ n
+    crosses_inside : (xs : List Dart) (c to : Dart) (n : ℕ) → has_dart (darts g.rows) c ≡ true → Crosses (system g.rows) c xs to → Costs price g.rows xs n
+        → lid to ≡ 0 → lid c ≡ n
         → (n < level) ⊎ (distance c + n ≤ least) → AllByRecursion (λ x. m.inside (dart_twin x) ≡ true) xs
     crosses_inside [] c to n h walk cost down same place = tt
     crosses_inside (x ∷ xs) c to n h walk cost down same place =
@@ -144,7 +147,8 @@ module _ (price : Pricing) (g : Named) (lawful : Lawful g.rows) (has : IsNamed g
           certificate = known_met.certificate;
           first = by_lid;
           level = outside_level;
-          crossed = crosses_inside r.crossed from to least (corner_below g.rows lawful u r.start from starts) covers.first.priced.route.walk covers.first.priced.cost down from_lid (inr (omega arith));
+          crossed = crosses_inside r.crossed from to least (corner_below g.rows lawful u r.start from starts)
+              covers.first.priced.route.walk covers.first.priced.cost down from_lid (inr (omega arith));
           target = λ q c at.
               let low = met.at_target q c at in
               let some = met.positive in
@@ -154,8 +158,10 @@ module _ (price : Pricing) (g : Named) (lawful : Lawful g.rows) (has : IsNamed g
         }
 
 -- the first route survives where all that a search from both ends has settled is still there
-pub met_survives : (price : Pricing) (g : Named) (new : Rows) (m : Renaming) (u v : ℕ) (heights distances : List ℕ) (level least : ℕ) (r : Route) → KeepsPromise price → Lawful g.rows → IsNamed g → Lawful new
-    → KeepsFaces g.rows new m → KeepsEnds g.rows new m u v r.start → CoversMeeting price g new m u v heights distances level least r → IsFirst price new u v (moved m r) least
+pub met_survives : (price : Pricing) (g : Named) (new : Rows) (m : Renaming) (u v : ℕ) (heights distances : List ℕ) (level least : ℕ) (r : Route)
+    → KeepsPromise price → Lawful g.rows → IsNamed g → Lawful new
+    → KeepsFaces g.rows new m → KeepsEnds g.rows new m u v r.start → CoversMeeting price g new m u v heights distances level least r
+    → IsFirst price new u v (moved m r) least
 met_survives price g new m u v heights distances level least r promise lawful has lawful_new keeps ends covers =
     covered_survives price g.rows new m u v (lid price g lawful has u v heights distances level least covers.met) level r least keeps ends
     (covers_met price g lawful has u v heights distances level least covers.met new m r covers keeps) promise lawful_new

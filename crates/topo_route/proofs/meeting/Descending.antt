@@ -1,5 +1,6 @@
 -- Down the heights across the first tight darts.
-use Rattle.std.proofs.Common.{◌≡◌, ◌≢◌, ℕ, zero, suc, ◌+◌, ◌<◌, ◌≤◌, ◌==◌, Bool, true, false, List, [], ◌∷◌, ◌++◌, length, Some, inl, inr, refl, sym, ap, subst, ◌∙◌, arith, append_assoc}
+use Rattle.std.proofs.Common.{◌≡◌, ◌≢◌, ℕ, zero, suc, ◌+◌, ◌<◌, ◌≤◌, ◌==◌, Bool, true, false, List, [], ◌∷◌}
+use Rattle.std.proofs.Common.{◌++◌, length, Some, inl, inr, refl, sym, ap, subst, ◌∙◌, arith, append_assoc}
 use Rattle.std.specs.Prelude.{IfSome, IsSomeAnd, None, Option, map, min, slice_get, slice_index}
 use Rattle.std.specs.List.{list_any, range_with_len}
 use Rattle.std.proofs.lemmas.List.Folds.{list_any-append}
@@ -42,7 +43,8 @@ module _ (price : Pricing) (g : Named) (heights : List ℕ) where
   pub at_start : (from : ℕ) → IsName g from → Descends price g heights from [] from
   at_start from l = record { name = l; walk = λ rest to walk. walk; cost = λ rest cost. cost; first_darts = λ rest takes. takes; arrives = λ rest. refl }
 
-  pub at_target : (from at : ℕ) (crossed : List Dart) → Descends price g heights from crossed at → height_of g heights (dart_named g at) ≡ 0 → IsDescent price g heights from crossed at
+  pub at_target : (from at : ℕ) (crossed : List Dart) → Descends price g heights from crossed at → height_of g heights (dart_named g at) ≡ 0
+      → IsDescent price g heights from crossed at
   at_target from at crossed far down = record {
     name = far.name;
     zero_there = down;
@@ -54,7 +56,8 @@ module _ (price : Pricing) (g : Named) (heights : List ℕ) where
 
 -- ---- Heights that are known below the tops
 
-module _ (price : Pricing) (g : Named) (lawful : Lawful g.rows) (has : IsNamed g) (v : ℕ) (top : ℕ → ℕ) (heights : List ℕ) (known : AreHeightsBelow price g v top heights) where
+module _ (price : Pricing) (g : Named) (lawful : Lawful g.rows) (has : IsNamed g) (v : ℕ) (top : ℕ → ℕ) (heights : List ℕ)
+    (known : AreHeightsBelow price g v top heights) where
   abbrev height : Dart → ℕ
   height = height_of g heights
 
@@ -67,13 +70,17 @@ module _ (price : Pricing) (g : Named) (lawful : Lawful g.rows) (has : IsNamed g
   IsBelow d = height d < top (g.name d)
 
   one_level : (c d : Dart) → has_dart (darts g.rows) c ≡ true → SameFace (system g.rows) c d → level d ≡ level c
-  one_level = face_height price g.rows (system g.rows) (darts g.rows) level (face_stays g.rows lawful) (twin_in g.rows) known.certificate.even known.certificate.gentle
+  one_level = face_height price g.rows (system g.rows) (darts g.rows) level (face_stays g.rows lawful)
+      (twin_in g.rows) known.certificate.even known.certificate.gentle
 
-  level_bounds : (xs : List Dart) (c to : Dart) (n : ℕ) → has_dart (darts g.rows) c ≡ true → Crosses (system g.rows) c xs to → Costs price g.rows xs n → level to ≡ 0 → level c ≤ n
-  level_bounds = height_bounds price g.rows (system g.rows) (darts g.rows) level (face_stays g.rows lawful) (twin_in g.rows) known.certificate.even known.certificate.gentle
+  level_bounds : (xs : List Dart) (c to : Dart) (n : ℕ) → has_dart (darts g.rows) c ≡ true → Crosses (system g.rows) c xs to → Costs price g.rows xs n
+      → level to ≡ 0 → level c ≤ n
+  level_bounds = height_bounds price g.rows (system g.rows) (darts g.rows) level (face_stays g.rows lawful)
+      (twin_in g.rows) known.certificate.even known.certificate.gentle
 
   in_face : (c d : Dart) → has_dart (darts g.rows) c ≡ true → SameFace (system g.rows) c d → has_dart (darts g.rows) d ≡ true
-  in_face = face_in price g.rows (system g.rows) (darts g.rows) level (face_stays g.rows lawful) (twin_in g.rows) known.certificate.even known.certificate.gentle
+  in_face = face_in price g.rows (system g.rows) (darts g.rows) level (face_stays g.rows lawful)
+      (twin_in g.rows) known.certificate.even known.certificate.gentle
 
   -- ---- Below the top
 
@@ -91,20 +98,23 @@ module _ (price : Pricing) (g : Named) (lawful : Lawful g.rows) (has : IsNamed g
       subst (λ j. slice_index heights j < top j) along.leads (below_after along.steps (g.name c) (name_is g has c h) below)
 
   -- and its twin, where crossing costs no more than the fall
-  below_twin : (x : Dart) (cost : ℕ) → has_dart (darts g.rows) x ≡ true → IsBelow x → Price price g.rows x cost → cost + level (dart_twin x) ≤ height x → IsBelow (dart_twin x)
+  below_twin : (x : Dart) (cost : ℕ) → has_dart (darts g.rows) x ≡ true → IsBelow x → Price price g.rows x cost → cost + level (dart_twin x) ≤ height x
+      → IsBelow (dart_twin x)
   below_twin x cost h below asked low =
       let is = dart_of_name g has x h in
       let other : twin_name g (g.name x) ≡ g.name (dart_twin x) = ap (λ d. g.name (dart_twin d)) is in
       let fall : cost + min (slice_index heights (twin_name g (g.name x))) (top (twin_name g (g.name x))) ≤ slice_index heights (g.name x) =
       subst (λ j. cost + min (slice_index heights j) (top j) ≤ slice_index heights (g.name x)) (sym other) low in
-      subst (λ j. slice_index heights j < top j) other (known.down (g.name x) cost (name_is g has x h) below (subst (λ d. Price price g.rows d cost) (sym is) asked) fall)
+      subst (λ j. slice_index heights j < top j) other
+      (known.down (g.name x) cost (name_is g has x h) below (subst (λ d. Price price g.rows d cost) (sym is) asked) fall)
 
   -- a face below the top has one height
   one_height : (c d : Dart) → has_dart (darts g.rows) c ≡ true → IsBelow c → SameFace (system g.rows) c d → height d ≡ height c
   one_height c d h below same = omega (arith, one_level c d h same, below_face c d h below same)
 
   -- a walk at the cost of its face goes down by just the prices
-  goes_down : (x : Dart) (xs : List Dart) (c to : Dart) (n : ℕ) → has_dart (darts g.rows) c ≡ true → Crosses (system g.rows) c (x ∷ xs) to → (cost : Costs price g.rows (x ∷ xs) n) → level to ≡ 0 → level c ≡ n
+  goes_down : (x : Dart) (xs : List Dart) (c to : Dart) (n : ℕ) → has_dart (darts g.rows) c ≡ true → Crosses (system g.rows) c (x ∷ xs) to
+      → (cost : Costs price g.rows (x ∷ xs) n) → level to ≡ 0 → level c ≡ n
       → (level x ≡ n) × (level (dart_twin x) ≡ cost.1)
   goes_down x xs c to n h walk cost down same =
       let there = in_face c x h walk.0 in
@@ -114,7 +124,8 @@ module _ (price : Pricing) (g : Named) (lawful : Lawful g.rows) (has : IsNamed g
       let total = cost.4 in (omega arith, omega arith)
 
   -- and stays below the top
-  goes_below : (x : Dart) (xs : List Dart) (c to : Dart) (n : ℕ) → has_dart (darts g.rows) c ≡ true → IsBelow c → Crosses (system g.rows) c (x ∷ xs) to → Costs price g.rows (x ∷ xs) n → level to ≡ 0 → level c ≡ n
+  goes_below : (x : Dart) (xs : List Dart) (c to : Dart) (n : ℕ) → has_dart (darts g.rows) c ≡ true → IsBelow c → Crosses (system g.rows) c (x ∷ xs) to
+      → Costs price g.rows (x ∷ xs) n → level to ≡ 0 → level c ≡ n
       → IsBelow x × IsBelow (dart_twin x)
   goes_below x xs c to n h below walk cost down same =
       let (from, next) = goes_down x xs c to n h walk cost down same in
@@ -123,7 +134,8 @@ module _ (price : Pricing) (g : Named) (lawful : Lawful g.rows) (has : IsNamed g
       (here, below_twin x cost.0 (in_face c x h walk.0) here cost.2 (omega arith))
 
   -- so where it leads
-  ends_below : (xs : List Dart) (c to : Dart) (n : ℕ) → has_dart (darts g.rows) c ≡ true → IsBelow c → Crosses (system g.rows) c xs to → Costs price g.rows xs n → level to ≡ 0 → level c ≡ n → IsBelow to
+  ends_below : (xs : List Dart) (c to : Dart) (n : ℕ) → has_dart (darts g.rows) c ≡ true → IsBelow c → Crosses (system g.rows) c xs to → Costs price g.rows xs n
+      → level to ≡ 0 → level c ≡ n → IsBelow to
   ends_below [] c to n h below walk cost down same = below_face c to h below walk
   ends_below (x ∷ xs) c to n h below walk cost down same =
       let (from, next) = goes_down x xs c to n h walk cost down same in
@@ -131,7 +143,8 @@ module _ (price : Pricing) (g : Named) (lawful : Lawful g.rows) (has : IsNamed g
       ends_below xs (dart_twin x) to cost.1 (twin_in g.rows x (in_face c x h walk.0)) other walk.1 cost.3 down next
 
   -- above the target the face of a dart below the top has a tight one
-  tight_there : (at : ℕ) (xs : List Dart) (to : Dart) (n : ℕ) → IsName g at → Crosses (system g.rows) (dart_named g at) xs to → Costs price g.rows xs n → level to ≡ 0
+  tight_there : (at : ℕ) (xs : List Dart) (to : Dart) (n : ℕ) → IsName g at → Crosses (system g.rows) (dart_named g at) xs to
+      → Costs price g.rows xs n → level to ≡ 0
       → height (dart_named g at) ≡ n → IsBelow (dart_named g at) → 0 < n → HasTight price g heights at
   tight_there at [] to n l walk cost down same below above = let zero_cost : n ≡ 0 = cost in absurd (omega arith)
   tight_there at (x ∷ xs) to n l walk cost down same below above =
@@ -139,16 +152,23 @@ module _ (price : Pricing) (g : Named) (lawful : Lawful g.rows) (has : IsNamed g
       let (from, next) = goes_down x xs (dart_named g at) to n l.there walk cost down start in
       let (here, other) = goes_below x xs (dart_named g at) to n l.there below walk cost down start in
       let total = cost.4 in
-      record { dart = x; there = in_face (dart_named g at) x l.there walk.0; face = walk.0; tight = record { cost = cost.0; asked = cost.2; drop = omega arith } }
+      record {
+        dart = x;
+        there = in_face (dart_named g at) x l.there walk.0;
+        face = walk.0;
+        tight = record { cost = cost.0; asked = cost.2; drop = omega arith };
+      }
 
   pub has_tight : (at : ℕ) → IsName g at → slice_index heights at < top at → 0 < height (dart_named g at) → HasTight price g heights at
   has_tight at l below above =
       let here = below_named at l below in
       let walk = known.reaches (dart_named g at) l.there here in
-      tight_there at walk.crossed walk.to (height (dart_named g at)) l walk.walk walk.cost (omega (arith, known.certificate.target walk.position walk.to walk.ends)) refl here above
+      tight_there at walk.crossed walk.to (height (dart_named g at)) l walk.walk walk.cost
+      (omega (arith, known.certificate.target walk.position walk.to walk.ends)) refl here above
 
   -- the first tight darts are those by the levels too
-  first_levels : (c : Dart) (xs : List Dart) (to : Dart) (n : ℕ) → has_dart (darts g.rows) c ≡ true → Crosses (system g.rows) c xs to → Costs price g.rows xs n → level to ≡ 0 → level c ≡ n → IsBelow c
+  first_levels : (c : Dart) (xs : List Dart) (to : Dart) (n : ℕ) → has_dart (darts g.rows) c ≡ true → Crosses (system g.rows) c xs to → Costs price g.rows xs n
+      → level to ≡ 0 → level c ≡ n → IsBelow c
       → TakesFirstDarts price g.rows height c xs → TakesFirstDarts price g.rows level c xs
   first_levels c [] to n h walk cost down same below takes = tt
   first_levels c (x ∷ xs) to n h walk cost down same below takes =
@@ -164,7 +184,8 @@ module _ (price : Pricing) (g : Named) (lawful : Lawful g.rows) (has : IsNamed g
 
   -- ---- One step down
 
-  module _ (promise : KeepsPromise price) (from at dart next : ℕ) (crossed : List Dart) (x : Dart) (far : Descends price g heights from crossed at) (first : IsFirstTight price g heights at dart)
+  module _ (promise : KeepsPromise price) (from at dart next : ℕ) (crossed : List Dart) (x : Dart) (far : Descends price g heights from crossed at)
+      (first : IsFirstTight price g heights at dart)
       (is : dart_named g dart ≡ x) (lands : next ≡ twin_name g dart) (below : slice_index heights at < top at) where
     face : SameFace (system g.rows) (dart_named g at) x
     face = subst (SameFace (system g.rows) (dart_named g at)) is first.face
@@ -209,38 +230,45 @@ module _ (price : Pricing) (g : Named) (lawful : Lawful g.rows) (has : IsNamed g
           subst (λ xs. Costs price g.rows xs (height (dart_named g from))) (sym (append_assoc crossed (x ∷ []) rest)) (far.cost (x ∷ rest) onward);
       first_darts = λ rest takes.
           let onward : TakesFirstDarts price g.rows height (dart_named g at) (x ∷ rest) = (
-            subst (λ d. (y : Dart) → has_dart (darts g.rows) y ≡ true → SameFace (system g.rows) (dart_named g at) y → IsTight price g.rows height y → dart_cmp d y ≢ Greater) is first.first,
+            subst (λ d. (y : Dart) → has_dart (darts g.rows) y ≡ true → SameFace (system g.rows) (dart_named g at) y → IsTight price g.rows height y
+                → dart_cmp d y ≢ Greater) is first.first,
             subst (λ c. TakesFirstDarts price g.rows height c rest) lands_on takes,
           ) in
           subst (TakesFirstDarts price g.rows height (dart_named g from)) (sym (append_assoc crossed (x ∷ []) rest)) (far.first_darts (x ∷ rest) onward);
-      arrives = λ rest. ap (arrival (dart_named g from)) (append_assoc crossed (x ∷ []) rest) ∙ far.arrives (x ∷ rest) ∙ ap (λ c. arrival c rest) (sym lands_on);
+      arrives = λ rest. ap (arrival (dart_named g from)) (append_assoc crossed (x ∷ []) rest) ∙ far.arrives (x ∷ rest)
+          ∙ ap (λ c. arrival c rest) (sym lands_on);
     }
 
   -- ---- At the target
 
   -- a walk that costs nothing crosses nothing
-  no_end : KeepsPromise price → (c : Dart) (xs : List Dart) (to : Dart) (n p : ℕ) → Crosses (system g.rows) c xs to → Costs price g.rows xs n → n ≡ 0 → corner g.rows v p ≡ Some to
+  no_end : KeepsPromise price → (c : Dart) (xs : List Dart) (to : Dart) (n p : ℕ) → Crosses (system g.rows) c xs to → Costs price g.rows xs n → n ≡ 0
+      → corner g.rows v p ≡ Some to
       → ((p : ℕ) (d : Dart) → corner g.rows v p ≡ Some d → SameFace (system g.rows) c d → ⊥) → ⊥
   no_end promise c [] to n p walk cost nothing at none = none p to at walk
   no_end promise c (x ∷ xs) to n p walk cost nothing at none = let one = promise.positive cost.2.facts cost.0 cost.2.asked in let total = cost.4 in omega arith
 
   -- the face of height 0 where a descent ends has a corner of the target
-  pub has_end : (promise : KeepsPromise price) (from last : ℕ) (crossed : List Dart) → IsName g from → slice_index heights from < top from → IsDescent price g heights from crossed last
+  pub has_end : (promise : KeepsPromise price) (from last : ℕ) (crossed : List Dart) → IsName g from → slice_index heights from < top from
+      → IsDescent price g heights from crossed last
       → ((p : ℕ) (c : Dart) → corner g.rows v p ≡ Some c → SameFace (system g.rows) (dart_named g last) c → ⊥) → ⊥
   has_end promise from last crossed l below descent none =
       let here = below_named from l below in
       let to = dart_named g last in
       let zero_there = descent.zero_there in
-      let low = ends_below crossed (dart_named g from) to (height (dart_named g from)) l.there here (descent.walk to (record { steps = 0; leads = refl })) descent.cost (omega arith) (omega arith) in
+      let low = ends_below crossed (dart_named g from) to (height (dart_named g from)) l.there here (descent.walk to (record { steps = 0; leads = refl }))
+      descent.cost (omega arith) (omega arith) in
       let walk = known.reaches to descent.name.there low in
       no_end promise to walk.crossed walk.to (height to) walk.position walk.walk walk.cost zero_there walk.ends none
 
   -- the first lowest corner is below the top
-  pub start_below : (u position from : ℕ) → IsStart g u heights position from → ((p : ℕ) (c : Dart) → corner g.rows u p ≡ Some c → slice_index heights from < top (g.name c)) → slice_index heights from < top from
+  pub start_below : (u position from : ℕ) → IsStart g u heights position from
+      → ((p : ℕ) (c : Dart) → corner g.rows u p ≡ Some c → slice_index heights from < top (g.name c)) → slice_index heights from < top from
   start_below u position from start below = subst (λ j. slice_index heights from < top j) start.name.is (below position (dart_named g from) start.there)
 
   -- a route from the first lowest corner down to its end is the first
-  pub is_first : (promise : KeepsPromise price) (u : ℕ) (found : PricedRoute) (from last : ℕ) → IsStart g u heights found.route.start from → found.price ≡ height (dart_named g from)
+  pub is_first : (promise : KeepsPromise price) (u : ℕ) (found : PricedRoute) (from last : ℕ) → IsStart g u heights found.route.start from
+      → found.price ≡ height (dart_named g from)
       → ((p : ℕ) (c : Dart) → corner g.rows u p ≡ Some c → slice_index heights from < top (g.name c))
       → IsDescent price g heights from found.route.crossed last → IsEnd g.rows v (dart_named g last) found.route.end → IsFirstRoute price g u v heights found
   is_first promise u found from last start cost low descent end =
@@ -250,7 +278,8 @@ module _ (price : Pricing) (g : Named) (lawful : Lawful g.rows) (has : IsNamed g
       let below = below_named from start.name (start_below u found.route.start from start low) in
       let walk = descent.walk end.to end.face in
       let priced : IsPricedRoute price g.rows u v found.route n = grind arith in
-      let first_end = subst (λ c. (p : ℕ) (d : Dart) → p < found.route.end → corner g.rows v p ≡ Some d → SameFace (system g.rows) c d → ⊥) (sym descent.arrives) end.first in
+      let first_end = subst (λ c. (p : ℕ) (d : Dart) → p < found.route.end → corner g.rows v p ≡ Some d → SameFace (system g.rows) c d → ⊥)
+      (sym descent.arrives) end.first in
       let by_heights : IsFirstByHeights price g.rows u v height found.route n = record {
         priced = priced;
         least_height = start.least;
@@ -263,7 +292,8 @@ module _ (price : Pricing) (g : Named) (lawful : Lawful g.rows) (has : IsNamed g
         priced = priced;
         least_height = λ p d at. omega (arith, start.least p d at, low p d at);
         first_start = λ p d less at same. start.first p d less at (omega (arith, low p d at));
-        first_darts = first_levels c found.route.crossed end.to n start.name.there walk descent.cost (known.certificate.target found.route.end end.to end.there) at_level below descent.first_darts;
+        first_darts = first_levels c found.route.crossed end.to n start.name.there walk descent.cost (known.certificate.target found.route.end end.to end.there)
+            at_level below descent.first_darts;
         first_end = first_end;
       } in
       let first = first_by_heights price g.rows u v level (certified price g.rows u v level lawful.embedding.well_formed known.certificate)
@@ -271,29 +301,34 @@ module _ (price : Pricing) (g : Named) (lawful : Lawful g.rows) (has : IsNamed g
       grind arith
 
 -- no corner of u is reached, so there is no route
-pub no_route : (price : Pricing) (g : Named) → Lawful g.rows → (v : ℕ) (heights : List ℕ) → AreHeights price g v heights → (u : ℕ) → HasNoStart g u heights → HasNoRoute price g.rows u v
+pub no_route : (price : Pricing) (g : Named) → Lawful g.rows → (v : ℕ) (heights : List ℕ) → AreHeights price g v heights → (u : ℕ) → HasNoStart g u heights
+    → HasNoRoute price g.rows u v
 no_route price g lawful v heights are u none r n priced =
     let from = priced.route.from in
     are.unreached_none from (corner_below g.rows lawful u r.start from priced.route.starts) (none r.start from priced.route.starts) n
     (record { crossed = r.crossed; position = r.end; to = priced.route.to; ends = priced.route.ends; walk = priced.route.walk; cost = priced.cost })
 
 -- the first route by the heights of a search is its plan
-pub is_plan : (price : Pricing) (rows : Rows) (u v : ℕ) (heights : List ℕ) (found : PricedRoute) (plan : Plan) → AreHeights price (canonical rows) v heights → IsFirstRoute price (canonical rows) u v heights found
+pub is_plan : (price : Pricing) (rows : Rows) (u v : ℕ) (heights : List ℕ) (found : PricedRoute) (plan : Plan) → AreHeights price (canonical rows) v heights
+    → IsFirstRoute price (canonical rows) u v heights found
     → plan.route ≡ found.route → plan.price ≡ found.price → plan.heights ≡ heights → IsPlan price rows u v plan
 is_plan price rows u v heights found plan are is route cost same = record {
   heights = subst (AreHeights price (canonical rows) v) (sym same) are;
   first = subst (λ r. IsFirst price rows u v r plan.price) (sym route) (subst (IsFirst price rows u v found.route) (sym cost) is.first);
   by_heights = subst (λ hs. IsFirstByHeights price rows u v (height_in rows hs) plan.route plan.price) (sym same)
-      (subst (λ r. IsFirstByHeights price rows u v (height_in rows heights) r plan.price) (sym route) (subst (IsFirstByHeights price rows u v (height_in rows heights) found.route) (sym cost) is.by_heights));
+      (subst (λ r. IsFirstByHeights price rows u v (height_in rows heights) r plan.price) (sym route)
+      (subst (IsFirstByHeights price rows u v (height_in rows heights) found.route) (sym cost) is.by_heights));
 }
 
 -- ---- Tight darts by their names
 
 module _ (price : Pricing) (g : Named) (has : IsNamed g) (heights : List ℕ) (k p : ℕ) (name : IsName g k) where
-  pub tight_is : Price price g.rows (dart_named g k) p → slice_index heights k ≡ p + slice_index heights (twin_name g k) → IsTight price g.rows (height_of g heights) (dart_named g k)
+  pub tight_is : Price price g.rows (dart_named g k) p → slice_index heights k ≡ p + slice_index heights (twin_name g k)
+      → IsTight price g.rows (height_of g heights) (dart_named g k)
   tight_is asked drop = record { cost = p; asked = asked; drop = omega (arith, height_named g has heights k name) }
 
-  pub tight_drop : ((q : ℕ) → Price price g.rows (dart_named g k) q → q ≡ p) → IsTight price g.rows (height_of g heights) (dart_named g k) → slice_index heights k ≡ p + slice_index heights (twin_name g k)
+  pub tight_drop : ((q : ℕ) → Price price g.rows (dart_named g k) q → q ≡ p) → IsTight price g.rows (height_of g heights) (dart_named g k)
+      → slice_index heights k ≡ p + slice_index heights (twin_name g k)
   tight_drop single tight = omega (arith, single tight.cost tight.asked, tight.drop, height_named g has heights k name)
 
 -- ---- The first tight dart of a face
@@ -323,16 +358,19 @@ module _ (price : Pricing) (g : Named) (heights : List ℕ) (at : ℕ) where
   known_so_far i None so_far = tt
 
   module _ (lawful : Lawful g.rows) (has : IsNamed g) (name : IsName g at) where
-    less_later : (first : Option ℕ) (dart k : ℕ) → IsName g dart → IfSome first (IsName g) → IfSome first (λ b. dart_cmp (dart_named g dart) (dart_named g b) ≡ Less) → NoLater first k → number dart ≤ number k
+    less_later : (first : Option ℕ) (dart k : ℕ) → IsName g dart → IfSome first (IsName g)
+        → IfSome first (λ b. dart_cmp (dart_named g dart) (dart_named g b) ≡ Less) → NoLater first k → number dart ≤ number k
     less_later (Some b) dart k name_d names less later =
         let order = order_number g.rows lawful.embedding.well_formed.paths (dart_named g dart) (dart_named g b) name_d.there names.there less in omega arith
     less_later None dart k name_d names less later = elim later [ ]
 
-    none_less : (first : Option ℕ) (dart : ℕ) → IsName g dart → IfSome first (IsName g) → IsSomeAnd first (λ b. dart_cmp (dart_named g dart) (dart_named g b) ≢ Less) → NoLater first dart
+    none_less : (first : Option ℕ) (dart : ℕ) → IsName g dart → IfSome first (IsName g)
+        → IsSomeAnd first (λ b. dart_cmp (dart_named g dart) (dart_named g b) ≢ Less) → NoLater first dart
     none_less (Some b) dart name_d names kept = grind (arith, cases_lt, number_order)
     none_less None dart name_d names kept = elim kept [ ]
 
-    pub first_step : (i dart : ℕ) (first result : Option ℕ) → dart ≡ after (next_name g) i at → IsName g dart → FirstSoFar i first → IsFirstOf price g heights first dart result → FirstSoFar (i + 1) result
+    pub first_step : (i dart : ℕ) (first result : Option ℕ) → dart ≡ after (next_name g) i at → IsName g dart → FirstSoFar i first
+        → IsFirstOf price g heights first dart result → FirstSoFar (i + 1) result
     first_step i dart first result place name_d so_far (inl (is, tight, less)) =
         let face = face_of_names g lawful has at dart name (record { steps = i; leads = sym place }) in
         subst (FirstSoFar (i + 1)) (sym is) (record {
@@ -354,7 +392,8 @@ module _ (price : Pricing) (g : Named) (heights : List ℕ) (at : ℕ) where
         })
 
     -- all tight darts of the face are known
-    first_known : (i : ℕ) (first : Option ℕ) → FirstSoFar i first → ((x : ℕ) → SameCycle (next_name g) at x → Tight x → NoLater first x) → HasTight price g heights at → IsSomeAnd first (IsFirstTight price g heights at)
+    first_known : (i : ℕ) (first : Option ℕ) → FirstSoFar i first → ((x : ℕ) → SameCycle (next_name g) at x → Tight x → NoLater first x)
+        → HasTight price g heights at → IsSomeAnd first (IsFirstTight price g heights at)
     first_known i (Some f) so_far all some = record {
       name = so_far.there.0;
       face = so_far.there.1;
@@ -366,20 +405,25 @@ module _ (price : Pricing) (g : Named) (heights : List ℕ) (at : ℕ) where
           not_later g.rows lawful.embedding.well_formed.paths (dart_named g f) y so_far.there.0.there y_in low;
     }
     first_known i None so_far all some =
-        all (g.name some.dart) (names_of_face g lawful has at some.dart name some.face) (subst (IsTight price g.rows (height_of g heights)) (sym (dart_of_name g has some.dart some.there)) some.tight)
+        all (g.name some.dart) (names_of_face g lawful has at some.dart name some.face)
+        (subst (IsTight price g.rows (height_of g heights)) (sym (dart_of_name g has some.dart some.there)) some.tight)
 
     -- the walk is home, or has met all
-    pub first_home : (i : ℕ) (first : Option ℕ) → FirstSoFar (i + 1) first → next_name g (after (next_name g) i at) ≡ at → HasTight price g heights at → IsSomeAnd first (IsFirstTight price g heights at)
+    pub first_home : (i : ℕ) (first : Option ℕ) → FirstSoFar (i + 1) first → next_name g (after (next_name g) i at) ≡ at → HasTight price g heights at
+        → IsSomeAnd first (IsFirstTight price g heights at)
     first_home i first so_far home some =
-        first_known (i + 1) first so_far (round_home (next_name g) (λ x. Tight x → NoLater first x) at (suc i) (omega arith) home (λ j l. so_far.none j (omega arith))) some
+        first_known (i + 1) first so_far
+        (round_home (next_name g) (λ x. Tight x → NoLater first x) at (suc i) (omega arith) home (λ j l. so_far.none j (omega arith))) some
 
-    pub first_all : (i : ℕ) (first : Option ℕ) → g.size ≤ i → FirstSoFar i first → HasTight price g heights at → IsSomeAnd first (IsFirstTight price g heights at)
+    pub first_all : (i : ℕ) (first : Option ℕ) → g.size ≤ i → FirstSoFar i first → HasTight price g heights at
+        → IsSomeAnd first (IsFirstTight price g heights at)
     first_all i first enough so_far some =
         first_known i first so_far (round_names g lawful has (λ x. Tight x → NoLater first x) at name (λ j l. so_far.none j (omega arith))) some
 
 -- ---- A lawful picture with a vertex has darts
 
-none_bare : (f : ℕ → List Dart) (a m k : ℕ) → a ≤ k → k < a + m → list_any (λ around. length around == 0) (map f (range_with_len a m)) ≡ false → (length (f k) == 0) ≡ false
+none_bare : (f : ℕ → List Dart) (a m k : ℕ) → a ≤ k → k < a + m → list_any (λ around. length around == 0) (map f (range_with_len a m)) ≡ false
+    → (length (f k) == 0) ≡ false
 none_bare f a zero k low high none = absurd (omega arith)
 none_bare f a (suc m) k low high none =
     let both = either_false (length (f a) == 0) (list_any (λ around. length around == 0) (map f (range_with_len (a + 1) m))) none in
@@ -397,7 +441,8 @@ has_darts rows lawful u there =
     let points = map (around_vertex rows) (vertices rows) in
     let crossings = map (around_crossing rows) rows.crossings in
     let bare : List Dart → Bool = λ around. length around == 0 in
-    let both = either_false (list_any bare points) (list_any bare crossings) (sym (list_any-append bare points crossings) ∙ lawful.embedding.connected.no_bare_point) in
+    let both = either_false (list_any bare points) (list_any bare crossings)
+    (sym (list_any-append bare points crossings) ∙ lawful.embedding.connected.no_bare_point) in
     let some = none_bare (around_vertex rows) 0 (length rows.rotations) u (omega arith) (omega arith) both.0 in
     let (c, at) = first_item (around_vertex rows u) some in
     let below = number_below rows lawful c (corner_below rows lawful u 0 c at) in omega arith

@@ -10,7 +10,8 @@ use Rattle.topo_route.specs.Meeting.{HasMet, Meets, SpreadsBoth}
 use Rattle.topo_route.specs.FaceHeights.{AreLabelled, dart_heights}
 use Rattle.topo_route.specs.Names.{HasFaces, IsName, IsNamed, Named, dart_named, height_of}
 use Rattle.topo_route.specs.Plans.{IsZeroAt}
-use Rattle.topo_route.specs.Settling.{AreCosts, AreFaceCosts, AreLowered, AreSums, IsSettled, Relaxes, Spreads, SpreadsTo, is_waiting, number_at, reach_of, top_of}
+use Rattle.topo_route.specs.Settling.{AreCosts, AreFaceCosts, AreLowered, AreSums, IsSettled, Relaxes}
+use Rattle.topo_route.specs.Settling.{Spreads, SpreadsTo, is_waiting, number_at, reach_of, top_of}
 use Rattle.topo_route.proofs.spreading.FaceHeights.{dart_capped, height_by_face, one_for_each, reached_named}
 use Rattle.topo_route.proofs.meeting.Meeting.{for_met, for_none}
 use Rattle.topo_route.proofs.names.Names.{name_below, name_is}
@@ -21,8 +22,10 @@ use Rattle.topo_route.proofs.meeting.Turned.{joined}
 use Rattle.topo_route.proofs.spreading.Unreached.{none_from_u, none_from_v}
 
 module _ (price : Pricing) (g : Named) (lawful : Lawful g.rows) (has : IsNamed g) (face : ℕ → ℕ) (faces : ℕ) (has_faces : HasFaces g face faces) (u v : ℕ) where
-  nearer : (w l l' : ℕ) (heights names waiting : List ℕ) → l' ≤ l → SpreadsTo price g face faces w (reach_of l) heights names waiting → SpreadsTo price g face faces w (reach_of l') heights names waiting
-  nearer w l l' heights names waiting less spreads = narrowed price g face faces w heights names waiting (λ k. reach_of l) (λ k. reach_of l') (reach_of l) (reach_of l') g.size spreads (λ k. omega arith) (omega arith)
+  nearer : (w l l' : ℕ) (heights names waiting : List ℕ) → l' ≤ l → SpreadsTo price g face faces w (reach_of l) heights names waiting
+      → SpreadsTo price g face faces w (reach_of l') heights names waiting
+  nearer w l l' heights names waiting less spreads = narrowed price g face faces w heights names waiting (λ k. reach_of l) (λ k. reach_of l') (reach_of l)
+      (reach_of l') g.size spreads (λ k. omega arith) (omega arith)
 
   -- ---- The start
 
@@ -76,24 +79,33 @@ module _ (price : Pricing) (g : Named) (lawful : Lawful g.rows) (has : IsNamed g
   -- the corners of v are reached, and then those of u
   pub started_both : {blank names none others names' coming heights on_names waiting distances back_names coming' : List ℕ} {l l' l'' : ℕ} → faces < 2 ^ 32
       → blank ≡ replicate faces unreached → faces ≤ length names → none ≡ [] → others ≡ replicate faces unreached → faces ≤ length names' → coming ≡ []
-      → Relaxes price g face faces v others blank names none l g.size heights on_names waiting l' g.size → IsZeroAt g.rows v (height_of g (dart_heights g face heights))
-      → Relaxes price g face faces u heights others names' coming l' g.size distances back_names coming' l'' g.size → IsZeroAt g.rows u (height_of g (dart_heights g face distances))
+      → Relaxes price g face faces v others blank names none l g.size heights on_names waiting l' g.size
+      → IsZeroAt g.rows v (height_of g (dart_heights g face heights))
+      → Relaxes price g face faces u heights others names' coming l' g.size distances back_names coming' l'' g.size
+      → IsZeroAt g.rows u (height_of g (dart_heights g face distances))
       → SpreadsBoth price g face faces u v heights on_names waiting distances back_names coming' l''
-  started_both {blank} {names} {none} {others} {names'} {coming} {heights} {on_names} {waiting} {distances} {back_names} {coming'} {l} {l'} {l''} few is_blank as_many is_none are_blank as_many' are_none on at_target back at_start = record {
-    on = narrowed price g face faces v heights on_names waiting (λ k. unreached) (λ k. reach_of l'') (reach_of l') (reach_of l'') g.size
-        (on.spreads (λ k. unreached) (blank_spreads blank names few is_blank as_many v (reach_of l) none is_none)) (λ k. omega arith) (omega (arith, back.less));
-    back = narrowed price g face faces u distances back_names coming' (λ k. unreached) (λ k. reach_of l'') (reach_of l'') (reach_of l'') g.size
-        (back.spreads (λ k. unreached) (blank_spreads others names' few are_blank as_many' u (reach_of l') coming are_none)) (λ k. omega arith) (omega arith);
-    sums = sums_swapped g has (dart_heights g face distances) (dart_heights g face heights) l'' (one_for_each g face distances) (one_for_each g face heights) back.sums;
-    at_target = at_target;
-    at_start = at_start;
-  }
+  started_both {blank} {names} {none} {others} {names'} {coming} {heights} {on_names} {waiting} {distances} {back_names} {coming'} {l} {l'} {l''} few is_blank
+      as_many is_none are_blank as_many' are_none on at_target back at_start = record {
+        on = narrowed price g face faces v heights on_names waiting (λ k. unreached) (λ k. reach_of l'') (reach_of l') (reach_of l'') g.size
+            (on.spreads (λ k. unreached) (blank_spreads blank names few is_blank as_many v (reach_of l) none is_none)) (λ k. omega arith)
+            (omega (arith, back.less));
+        back = narrowed price g face faces u distances back_names coming' (λ k. unreached) (λ k. reach_of l'') (reach_of l'') (reach_of l'') g.size
+            (back.spreads (λ k. unreached) (blank_spreads others names' few are_blank as_many' u (reach_of l') coming are_none))
+            (λ k. omega arith) (omega arith);
+        sums = sums_swapped g has (dart_heights g face distances) (dart_heights g face heights) l'' (one_for_each g face distances)
+            (one_for_each g face heights) back.sums;
+        at_target = at_target;
+        at_start = at_start;
+      }
 
   -- ---- A step of either end
 
-  module _ {heights names waiting distances names' coming : List ℕ} {least : ℕ} (both : SpreadsBoth price g face faces u v heights names waiting distances names' coming least) where
-    pub stepped_on : (heights' names'' waiting' : List ℕ) (least' : ℕ) → SpreadsTo price g face faces v (reach_of least') heights' names'' waiting' → AreSums g (dart_heights g face heights') (dart_heights g face distances) least' → least' ≤ least
-        → AreLowered (dart_heights g face heights) (dart_heights g face heights') → SpreadsBoth price g face faces u v heights' names'' waiting' distances names' coming least'
+  module _ {heights names waiting distances names' coming : List ℕ} {least : ℕ}
+      (both : SpreadsBoth price g face faces u v heights names waiting distances names' coming least) where
+    pub stepped_on : (heights' names'' waiting' : List ℕ) (least' : ℕ) → SpreadsTo price g face faces v (reach_of least') heights' names'' waiting'
+        → AreSums g (dart_heights g face heights') (dart_heights g face distances) least' → least' ≤ least
+        → AreLowered (dart_heights g face heights) (dart_heights g face heights')
+        → SpreadsBoth price g face faces u v heights' names'' waiting' distances names' coming least'
     stepped_on heights' names'' waiting' least' on sums less lower = record {
       on = on;
       back = nearer u least least' distances names' coming less both.back;
@@ -102,27 +114,34 @@ module _ (price : Pricing) (g : Named) (lawful : Lawful g.rows) (has : IsNamed g
       at_start = both.at_start;
     }
 
-    pub stepped_back : (distances' names'' coming' : List ℕ) (least' : ℕ) → SpreadsTo price g face faces u (reach_of least') distances' names'' coming' → AreSums g (dart_heights g face distances') (dart_heights g face heights) least' → least' ≤ least
-        → AreLowered (dart_heights g face distances) (dart_heights g face distances') → SpreadsBoth price g face faces u v heights names waiting distances' names'' coming' least'
+    pub stepped_back : (distances' names'' coming' : List ℕ) (least' : ℕ) → SpreadsTo price g face faces u (reach_of least') distances' names'' coming'
+        → AreSums g (dart_heights g face distances') (dart_heights g face heights) least' → least' ≤ least
+        → AreLowered (dart_heights g face distances) (dart_heights g face distances')
+        → SpreadsBoth price g face faces u v heights names waiting distances' names'' coming' least'
     stepped_back distances' names'' coming' least' back sums less lower = record {
       on = nearer v least least' heights names waiting less both.on;
       back = back;
-      sums = sums_swapped g has (dart_heights g face distances') (dart_heights g face heights) least' (one_for_each g face distances') (one_for_each g face heights) sums;
+      sums = sums_swapped g has (dart_heights g face distances') (dart_heights g face heights) least' (one_for_each g face distances')
+          (one_for_each g face heights) sums;
       at_target = both.at_target;
       at_start = meets_lower g u (dart_heights g face distances) (dart_heights g face distances') lower both.at_start;
     }
 
     pub back_sums : AreSums g (dart_heights g face distances) (dart_heights g face heights) least
-    back_sums = sums_swapped g has (dart_heights g face heights) (dart_heights g face distances) least (one_for_each g face heights) (one_for_each g face distances) both.sums
+    back_sums = sums_swapped g has (dart_heights g face heights) (dart_heights g face distances) least (one_for_each g face heights)
+        (one_for_each g face distances) both.sums
 
 module _ (price : Pricing) (g : Named) (lawful : Lawful g.rows) (has : IsNamed g) (u v : ℕ) where
   -- ---- The end
 
-  module _ (promise : KeepsPromise price) (heights distances : List ℕ) (first level second above least : ℕ) (on : AreCosts price g v heights) (back : AreCosts price g u distances)
+  module _ (promise : KeepsPromise price) (heights distances : List ℕ) (first level second above least : ℕ) (on : AreCosts price g v heights)
+      (back : AreCosts price g u distances)
       (at_target : IsZeroAt g.rows v (height_of g heights)) (at_start : IsZeroAt g.rows u (height_of g distances)) (sums : AreSums g heights distances least)
-      (positive : 0 < level) (within : level ≤ max 1 (min first 18446744073709551614)) (less : second ≤ first) (lesser : least ≤ second) (in_range : first ≤ unreached) (is : above ≡ min level (max second 1))
+      (positive : 0 < level) (within : level ≤ max 1 (min first 18446744073709551614)) (less : second ≤ first) (lesser : least ≤ second)
+      (in_range : first ≤ unreached) (is : above ≡ min level (max second 1))
       (near : (k : ℕ) → IsName g k → slice_index distances k < reach_of first - level → IsSettled price g (reach_of second) distances k)
-      (known : (k : ℕ) → IsName g k → slice_index heights k < top_of above (min 18446744073709551614 least) distances k → IsSettled price g (reach_of least) heights k) where
+      (known : (k : ℕ) → IsName g k → slice_index heights k < top_of above (min 18446744073709551614 least) distances k
+      → IsSettled price g (reach_of least) heights k) where
     in_list : (k : ℕ) → IsName g k → number_at distances k ≡ slice_index distances k
     in_list k l = number_within distances k (omega (arith, name_below g has k l, back.one_each))
 
@@ -168,9 +187,11 @@ module _ (price : Pricing) (g : Named) (lawful : Lawful g.rows) (has : IsNamed g
     none : least ≡ unreached → HasNoRoute price g.rows u v
     none e = elim (cases_lt level 4294967296001) [
       | inl low ↦ none_from_u price g lawful has promise u v distances back at_start
-          (λ k l some. settled_nearer price g (reach_of second) unreached distances k (omega arith) (near k l (omega (arith, bounded u distances back k l some)))) (no_target e)
+          (λ k l some. settled_nearer price g (reach_of second) unreached distances k (omega arith)
+          (near k l (omega (arith, bounded u distances back k l some)))) (no_target e)
       | inr high ↦ none_from_v price g lawful has promise u v heights on at_target
-          (λ k l some. settled_nearer price g (reach_of least) unreached heights k (omega arith) (known k l (omega (arith, bounded v heights on k l some)))) (no_start e)
+          (λ k l some. settled_nearer price g (reach_of least) unreached heights k (omega arith) (known k l (omega (arith, bounded v heights on k l some))))
+          (no_start e)
     ]
 
     pub for_both : AreHeightsFor price g u v heights

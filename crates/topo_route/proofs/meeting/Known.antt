@@ -26,7 +26,8 @@ module _ (price : Pricing) (g : Named) (lawful : Lawful g.rows) (has : IsNamed g
     round = λ k l less. let step = are.certificate.even (dart_named g k) l.there in omega (arith, height_named g has heights k l);
     down = λ k c l less asked low. omega arith;
   } where
-    by_height : (d : Dart) → height_of g heights d < bound → IsHeight price g.rows v d (height_of g heights d) → Reaches price g.rows v d (height_of g heights d)
+    by_height : (d : Dart) → height_of g heights d < bound → IsHeight price g.rows v d (height_of g heights d)
+        → Reaches price g.rows v d (height_of g heights d)
     by_height d less (inl found) = found.0
     by_height d less (inr none) = let e = none.0 in absurd (omega arith)
 

@@ -24,7 +24,8 @@ module _ (price : Pricing) (rows : Rows) (lawful : Lawful rows) (v : ℕ) (level
   pub one_level : (c d : Dart) → has_dart (darts rows) c ≡ true → SameFace (system rows) c d → level d ≡ level c
   one_level = face_height price rows (system rows) (darts rows) level (face_stays rows lawful) (twin_in rows) certificate.even certificate.gentle
 
-  pub bounds : (xs : List Dart) (c to : Dart) (n : ℕ) → has_dart (darts rows) c ≡ true → Crosses (system rows) c xs to → Costs price rows xs n → level to ≡ 0 → level c ≤ n
+  pub bounds : (xs : List Dart) (c to : Dart) (n : ℕ) → has_dart (darts rows) c ≡ true → Crosses (system rows) c xs to → Costs price rows xs n
+      → level to ≡ 0 → level c ≤ n
   bounds = height_bounds price rows (system rows) (darts rows) level (face_stays rows lawful) (twin_in rows) certificate.even certificate.gentle
 
   pub in_face : (c d : Dart) → has_dart (darts rows) c ≡ true → SameFace (system rows) c d → has_dart (darts rows) d ≡ true
@@ -37,7 +38,8 @@ module _ (price : Pricing) (rows : Rows) (lawful : Lawful rows) (v : ℕ) (level
     pub from : level x ≡ n
     pub to : level (dart_twin x) ≡ rest
 
-  pub falls_on : (x : Dart) (xs : List Dart) (c to : Dart) (n : ℕ) → has_dart (darts rows) c ≡ true → Crosses (system rows) c (x ∷ xs) to → (cost : Costs price rows (x ∷ xs) n)
+  pub falls_on : (x : Dart) (xs : List Dart) (c to : Dart) (n : ℕ) → has_dart (darts rows) c ≡ true → Crosses (system rows) c (x ∷ xs) to
+      → (cost : Costs price rows (x ∷ xs) n)
       → level to ≡ 0 → level c ≡ n → Falls x n cost.1
   falls_on x xs c to n h walk cost down same =
       let here = in_face c x h walk.0 in
@@ -52,14 +54,16 @@ module _ (price : Pricing) (rows : Rows) (lawful : Lawful rows) (v : ℕ) (level
   pub start_level : (u : ℕ) (r : Route) (p : ℕ) (c : Dart) → IsFirstByHeights price rows u v level r p → corner rows u r.start ≡ Some c → level c ≡ p
   start_level u r p c first at =
       let route = first.priced.route in
-      let low = bounds r.crossed route.from route.to p (corner_below rows lawful u r.start route.from route.starts) route.walk first.priced.cost (certificate.target r.end route.to route.ends) in
+      let low = bounds r.crossed route.from route.to p (corner_below rows lawful u r.start route.from route.starts) route.walk first.priced.cost
+      (certificate.target r.end route.to route.ends) in
       let high = first.least_height r.start route.from route.starts in
       let one : level c ≡ level route.from = ap level (same_some (corner rows u r.start) c route.from at route.starts) in
       omega arith
 
 -- ---- Heights that are known below their tops
 
-module _ (price : Pricing) (g : Named) (lawful : Lawful g.rows) (has : IsNamed g) (u v : ℕ) (top : ℕ → ℕ) (heights : List ℕ) (known : AreHeightsBelow price g v top heights) where
+module _ (price : Pricing) (g : Named) (lawful : Lawful g.rows) (has : IsNamed g) (u v : ℕ) (top : ℕ → ℕ) (heights : List ℕ)
+    (known : AreHeightsBelow price g v top heights) where
   abbrev height : Dart → ℕ
   height = height_of g heights
 
@@ -81,13 +85,15 @@ module _ (price : Pricing) (g : Named) (lawful : Lawful g.rows) (has : IsNamed g
       subst (λ j. slice_index heights j < top j) along.leads (below_after along.steps (g.name c) (name_is g has c h) below)
 
   -- and the twin of a tight dart
-  below_twin : (x : Dart) (cost : ℕ) → has_dart (darts g.rows) x ≡ true → IsBelow x → Price price g.rows x cost → cost + capped (dart_twin x) ≤ height x → IsBelow (dart_twin x)
+  below_twin : (x : Dart) (cost : ℕ) → has_dart (darts g.rows) x ≡ true → IsBelow x → Price price g.rows x cost → cost + capped (dart_twin x) ≤ height x
+      → IsBelow (dart_twin x)
   below_twin x cost h below asked low =
       let is = dart_of_name g has x h in
       let other : twin_name g (g.name x) ≡ g.name (dart_twin x) = ap (λ d. g.name (dart_twin d)) is in
       let fall : cost + min (slice_index heights (twin_name g (g.name x))) (top (twin_name g (g.name x))) ≤ slice_index heights (g.name x) =
       subst (λ j. cost + min (slice_index heights j) (top j) ≤ slice_index heights (g.name x)) (sym other) low in
-      subst (λ j. slice_index heights j < top j) other (known.down (g.name x) cost (name_is g has x h) below (subst (λ d. Price price g.rows d cost) (sym is) asked) fall)
+      subst (λ j. slice_index heights j < top j) other
+      (known.down (g.name x) cost (name_is g has x h) below (subst (λ d. Price price g.rows d cost) (sym is) asked) fall)
 
   -- a dart below its top that is tight by the heights cut off is tight
   tight_known : (y : Dart) → has_dart (darts g.rows) y ≡ true → IsBelow y → IsTight price g.rows capped y → IsTight price g.rows height y
@@ -96,7 +102,8 @@ module _ (price : Pricing) (g : Named) (lawful : Lawful g.rows) (has : IsNamed g
       let low = below_twin y tight.cost h below tight.asked (omega arith) in
       record { cost = tight.cost; asked = tight.asked; drop = omega arith }
 
-  first_capped : (xs : List Dart) (c to : Dart) (n : ℕ) → has_dart (darts g.rows) c ≡ true → IsBelow c → Crosses (system g.rows) c xs to → Costs price g.rows xs n → capped to ≡ 0 → capped c ≡ n
+  first_capped : (xs : List Dart) (c to : Dart) (n : ℕ) → has_dart (darts g.rows) c ≡ true → IsBelow c → Crosses (system g.rows) c xs to
+      → Costs price g.rows xs n → capped to ≡ 0 → capped c ≡ n
       → TakesFirstDarts price g.rows height c xs → TakesFirstDarts price g.rows capped c xs
   first_capped [] c to n h below walk cost down same takes = tt
   first_capped (x ∷ xs) c to n h below walk cost down same takes =
@@ -111,7 +118,8 @@ module _ (price : Pricing) (g : Named) (lawful : Lawful g.rows) (has : IsNamed g
       )
 
   -- the first route by the heights is first by the heights cut off
-  pub first_by_capped : (r : Route) (p : ℕ) → IsFirstByHeights price g.rows u v height r p → ((q : ℕ) (c : Dart) → corner g.rows u q ≡ Some c → p < top (g.name c))
+  pub first_by_capped : (r : Route) (p : ℕ) → IsFirstByHeights price g.rows u v height r p
+      → ((q : ℕ) (c : Dart) → corner g.rows u q ≡ Some c → p < top (g.name c))
       → IsFirstByHeights price g.rows u v capped r p
   first_by_capped r p first below =
       let from = first.priced.route.from in

@@ -36,8 +36,10 @@ module _ (level least : ℕ) (within : level ≤ least + 1) where
   lid_round height distance height' distance' below along near known = grind arith
 
   -- it falls to the twin by no more than the price
-  lid_gentle : (cost height distance height' distance' : ℕ) → (height' < level → min height (least + 1) ≤ cost + height') → (height' + distance' ≤ least → min height (least + 1) ≤ cost + height')
-      → (distance + level ≤ least → min distance' (least + 1) ≤ cost + distance) → lid_at level least height distance ≤ cost + lid_at level least height' distance'
+  lid_gentle : (cost height distance height' distance' : ℕ) → (height' < level → min height (least + 1) ≤ cost + height')
+      → (height' + distance' ≤ least → min height (least + 1) ≤ cost + height')
+      → (distance + level ≤ least → min distance' (least + 1) ≤ cost + distance)
+      → lid_at level least height distance ≤ cost + lid_at level least height' distance'
   lid_gentle cost height distance height' distance' below along near = grind arith
 
   -- where it falls from a known height by the price or more, the twin's height is known
@@ -47,7 +49,8 @@ module _ (level least : ℕ) (within : level ≤ least + 1) where
 
 -- ---- All darts
 
-module _ (price : Pricing) (g : Named) (lawful : Lawful g.rows) (has : IsNamed g) (u v : ℕ) (heights distances : List ℕ) (level least : ℕ) (met : Meets price g u v heights distances level least) where
+module _ (price : Pricing) (g : Named) (lawful : Lawful g.rows) (has : IsNamed g) (u v : ℕ) (heights distances : List ℕ) (level least : ℕ)
+    (met : Meets price g u v heights distances level least) where
   -- how high a dart may be
   abbrev pub top : ℕ → ℕ
   top k = top_at level least (slice_index distances k)
@@ -65,11 +68,13 @@ module _ (price : Pricing) (g : Named) (lawful : Lawful g.rows) (has : IsNamed g
     falls k l = let step = settled k l in grind arith
 
   even : (k : ℕ) → IsName g k → lid (next_name g k) ≡ lid k
-  even = even_round g lawful has lid (λ k l. lid_falls level least met.within (slice_index heights k) (slice_index distances k) (slice_index heights (next_name g k)) (slice_index distances (next_name g k))
+  even = even_round g lawful has lid (λ k l. lid_falls level least met.within (slice_index heights k) (slice_index distances k)
+      (slice_index heights (next_name g k)) (slice_index distances (next_name g k))
       (λ low. (met.below k l low).0) (λ low. (met.along k l low).0) (near_even k l))
 
   pub known_round : (k : ℕ) → IsName g k → slice_index heights k < top k → slice_index heights (next_name g k) < top (next_name g k)
-  known_round k l = lid_round level least met.within (slice_index heights k) (slice_index distances k) (slice_index heights (next_name g k)) (slice_index distances (next_name g k))
+  known_round k l = lid_round level least met.within (slice_index heights k) (slice_index distances k) (slice_index heights (next_name g k))
+      (slice_index distances (next_name g k))
       (λ low. (met.below k l low).0) (λ low. (met.along k l low).0) (λ near. (met.near k l near).0)
 
   gentle : (k c : ℕ) → IsName g k → Price price g.rows (dart_named g k) c → lid k ≤ c + lid (twin_name g k)
@@ -86,7 +91,8 @@ module _ (price : Pricing) (g : Named) (lawful : Lawful g.rows) (has : IsNamed g
   pub known_down : (k c : ℕ) → IsName g k → slice_index heights k < top k → Price price g.rows (dart_named g k) c
       → c + min (slice_index heights (twin_name g k)) (top (twin_name g k)) ≤ slice_index heights k → slice_index heights (twin_name g k) < top (twin_name g k)
   known_down k c l known asked = let t = twin_name g k in
-      lid_down level least met.within c (slice_index heights k) (slice_index distances k) (slice_index heights t) (slice_index distances t) (λ near. (met.near k l near).1 c asked) known
+      lid_down level least met.within c (slice_index heights k) (slice_index distances k) (slice_index heights t) (slice_index distances t)
+      (λ near. (met.near k l near).1 c asked) known
 
   -- the heights as far as they are known, and else as high as a dart may be: a certificate
   pub met_certificate : IsCertificate price g.rows v (λ d. min (height_of g heights d) (top (g.name d)))
@@ -101,7 +107,8 @@ module _ (price : Pricing) (g : Named) (lawful : Lawful g.rows) (has : IsNamed g
   low_corner r priced =
       let from = priced.route.from in
       let bound = route_bound price g.rows u v (λ d. min (height_of g heights d) (top (g.name d)))
-      (certified price g.rows u v (λ d. min (height_of g heights d) (top (g.name d))) lawful.embedding.well_formed met_certificate) r least from priced priced.route.starts in
+      (certified price g.rows u v (λ d. min (height_of g heights d) (top (g.name d))) lawful.embedding.well_formed met_certificate)
+      r least from priced priced.route.starts in
       omega (arith, met.at_start r.start from priced.route.starts)
 
   -- so what is first by the heights costs just that
@@ -113,7 +120,8 @@ module _ (price : Pricing) (g : Named) (lawful : Lawful g.rows) (has : IsNamed g
       let route = first.priced.route in
       let from = route.from in
       let bound = route_bound price g.rows u v (λ d. min (height_of g heights d) (top (g.name d)))
-      (certified price g.rows u v (λ d. min (height_of g heights d) (top (g.name d))) lawful.embedding.well_formed met_certificate) r p from first.priced route.starts in
+      (certified price g.rows u v (λ d. min (height_of g heights d) (top (g.name d))) lawful.embedding.well_formed met_certificate)
+      r p from first.priced route.starts in
       let named = name_is g has from (corner_below g.rows lawful u r.start from route.starts) in
       omega (arith, met.at_start r.start from route.starts, met.sums (g.name from) named)
 
@@ -137,12 +145,18 @@ module _ (price : Pricing) (g : Named) (lawful : Lawful g.rows) (has : IsNamed g
       record {
         top = top;
         known = known_met;
-        start = λ position from start p d at. omega (arith, start.least r.start c priced.route.starts, height_named g has heights from start.name, met.at_start p d at);
+        start = λ position from start p d at. omega (
+          arith,
+          start.least r.start c priced.route.starts,
+          height_named g has heights from start.name,
+          met.at_start p d at,
+        );
         none = λ none. let e = none r.start c priced.route.starts in let some = met.some in absurd (omega arith);
       }
 
 -- there is no route, and no corner of u is reached
-pub for_none : (price : Pricing) (g : Named) (u v : ℕ) (heights : List ℕ) → length heights ≡ g.size → HasNoRoute price g.rows u v → HasNoStart g u heights → AreHeightsFor price g u v heights
+pub for_none : (price : Pricing) (g : Named) (u v : ℕ) (heights : List ℕ) → length heights ≡ g.size → HasNoRoute price g.rows u v → HasNoStart g u heights
+    → AreHeightsFor price g u v heights
 for_none price g u v heights one_each no_route none = record {
   top = λ k. 0;
   known = record {

@@ -28,11 +28,13 @@ module _ (price : Pricing) (g : Named) (lawful : Lawful g.rows) (has : IsNamed g
       let start : dart_named g (g.name c) ≡ c = dart_of_name g has c h in
       let end : dart_named g (g.name d) ≡ d = dart_of_name g has d there in
       let along = names_of_face g lawful has (g.name c) d (name_is g has c h) (subst (λ x. SameFace (system g.rows) x d) (sym start) same) in
-      let back = face_of_names g lawful has (g.name d) (g.name c) (name_is g has d there) (back_round g lawful has (g.name c) (g.name d) (name_is g has c h) along) in
+      let back = face_of_names g lawful has (g.name d) (g.name c) (name_is g has d there)
+      (back_round g lawful has (g.name c) (g.name d) (name_is g has c h) along) in
       subst (λ x. SameFace (system g.rows) x c) end (subst (SameFace (system g.rows) (dart_named g (g.name d))) start back)
 
   -- a walk from c to d, back again, and on from c
-  crosses_back : (xs : List Dart) (c d e : Dart) (behind : List Dart) → has_dart (darts g.rows) c ≡ true → Crosses (system g.rows) c xs d → Crosses (system g.rows) c behind e
+  crosses_back : (xs : List Dart) (c d e : Dart) (behind : List Dart) → has_dart (darts g.rows) c ≡ true → Crosses (system g.rows) c xs d
+      → Crosses (system g.rows) c behind e
       → Crosses (system g.rows) d (way_back xs behind) e
   crosses_back [] c d e behind h walk on = crosses_from g.rows d c behind e (face_back c d h walk) on
   crosses_back (x ∷ xs) c d e behind h walk on =

@@ -1,5 +1,6 @@
 -- Darts and their names: what holds of the darts of lawful rows, said of names.
-use Rattle.std.proofs.Common.{◌≡◌, ◌≢◌, ℕ, zero, suc, ◌<◌, ◌≤◌, ◌+◌, ◌-◌, ◌==◌, ◌||◌, Bool, true, false, cond, List, [], ◌∷◌, length, Some, None, inl, inr, ◌⊎◌, refl, sym, ap, subst, ◌∙◌, arith}
+use Rattle.std.proofs.Common.{◌≡◌, ◌≢◌, ℕ, zero, suc, ◌<◌, ◌≤◌, ◌+◌, ◌-◌, ◌==◌, ◌||◌, Bool, true, false, cond}
+use Rattle.std.proofs.Common.{List, [], ◌∷◌, length, Some, None, inl, inr, ◌⊎◌, refl, sym, ap, subst, ◌∙◌, arith}
 use Rattle.std.specs.Prelude.{Option, MatchOption, option_map, slice_index}
 use Rattle.std.specs.List.{find}
 use Rattle.std.specs.Option.{unwrap_or}
@@ -38,7 +39,8 @@ first_named name k (c ∷ ds) d h is = by_test (cases_Bool (name c == k)) (λ th
       → Found (c ∷ ds) (unwrap_or (find (λ c. name c == k) (c ∷ ds)) no_dart)
   by_test (inl e) onward = grind (arith, eqb-true)
   by_test (inr e) onward =
-      let here : unwrap_or (find (λ c. name c == k) (c ∷ ds)) no_dart ≡ unwrap_or (find (λ c. name c == k) ds) no_dart = ap (λ (b : Bool). unwrap_or (cond b (Some c) (find (λ c. name c == k) ds)) no_dart) e in
+      let here : unwrap_or (find (λ c. name c == k) (c ∷ ds)) no_dart ≡ unwrap_or (find (λ c. name c == k) ds) no_dart =
+      ap (λ (b : Bool). unwrap_or (cond b (Some c) (find (λ c. name c == k) ds)) no_dart) e in
       let rest = onward (by_place (cases_Bool (same_dart d c))) in
       subst (Found (c ∷ ds)) (sym here) (later (unwrap_or (find (λ c. name c == k) ds) no_dart) rest.0, rest.1) where
         by_place : (same_dart d c ≡ true) ⊎ (same_dart d c ≡ false) → has_dart ds d ≡ true
@@ -121,10 +123,12 @@ module _ (g : Named) (lawful : Lawful g.rows) (has : IsNamed g) where
   next_one i j ni nj e =
       let c = dart_named g i in
       let d = dart_named g j in
-      let led : face_step (system g.rows) c ≡ face_step (system g.rows) d = has.apart (face_step (system g.rows) c) (face_step (system g.rows) d) (next_there i ni) (next_there j nj) e in
+      let led : face_step (system g.rows) c ≡ face_step (system g.rows) d =
+      has.apart (face_step (system g.rows) c) (face_step (system g.rows) d) (next_there i ni) (next_there j nj) e in
       let numbers : next_of g.rows (index_of g.rows c) ≡ next_of g.rows (index_of g.rows d) =
       next_number g.rows lawful c ni.there ∙ ap (index_of g.rows) led ∙ sym (next_number g.rows lawful d nj.there) in
-      let one = next_apart g.rows lawful (index_of g.rows c) (index_of g.rows d) (number_below g.rows lawful c ni.there) (number_below g.rows lawful d nj.there) numbers in
+      let one = next_apart g.rows lawful (index_of g.rows c) (index_of g.rows d) (number_below g.rows lawful c ni.there)
+      (number_below g.rows lawful d nj.there) numbers in
       sym ni.is ∙ ap g.name (sym (dart_of_number g.rows lawful c ni.there) ∙ ap (λ n. dart_of g.rows n) one ∙ dart_of_number g.rows lawful d nj.there) ∙ nj.is
 
   pub after_is : (j k : ℕ) → IsName g k → IsName g (after (next_name g) j k)

@@ -10,7 +10,8 @@ use Rattle.topo_core.specs.Rotations.{twin}
 use Rattle.topo_core.specs.Systems.{SameFace, face_step, has_dart}
 use Rattle.topo_core.specs.Picture.{corner, darts, index_of, system}
 use Rattle.topo_core.specs.Lawful.{IsWellFormed, Lawful}
-use Rattle.topo_core.proofs.numbering.Numbering.{index_of_get, get_index, has_at, twin_in, index_twin, images_length, turn_permutes, index_less, turn_stays, dart_at}
+use Rattle.topo_core.proofs.numbering.Numbering.{index_of_get, get_index, has_at, twin_in, index_twin}
+use Rattle.topo_core.proofs.numbering.Numbering.{images_length, turn_permutes, index_less, turn_stays, dart_at}
 use Rattle.topo_core.proofs.numbering.Renumbering.{face_carried, face_numbers, face_darts}
 use Rattle.topo_core.proofs.routing.RouteDarts.{corner_in}
 use Rattle.topo_route.specs.Names.{no_dart}
@@ -87,12 +88,14 @@ module _ (rows : Rows) (lawful : Lawful rows) where
   next_permutes = record { within = next_below; apart = next_apart }
 
   -- one face on darts and on numbers
-  pub face_of_numbers : (i j : ℕ) → i < length (darts rows) → j < length (darts rows) → SameCycle (next_of rows) i j → SameFace (system rows) (dart_of rows i) (dart_of rows j)
+  pub face_of_numbers : (i j : ℕ) → i < length (darts rows) → j < length (darts rows) → SameCycle (next_of rows) i j
+      → SameFace (system rows) (dart_of rows i) (dart_of rows j)
   face_of_numbers i j li lj same = grind (arith, face_darts, dart_in, number_of)
 
   pub numbers_of_face : (i : ℕ) (d : Dart) → i < length (darts rows) → SameFace (system rows) (dart_of rows i) d → SameCycle (next_of rows) i (index_of rows d)
   numbers_of_face i d li same =
-      subst (λ x. SameCycle (next_of rows) x (index_of rows d)) (number_of i li) (face_numbers rows good.paths good.crossings good.rotations (dart_of rows i) d (dart_in i li) same)
+      subst (λ x. SameCycle (next_of rows) x (index_of rows d)) (number_of i li)
+      (face_numbers rows good.paths good.crossings good.rotations (dart_of rows i) d (dart_in i li) same)
 
   pub corner_below : (v p : ℕ) (c : Dart) → corner rows v p ≡ Some c → has_dart (darts rows) c ≡ true
   corner_below v p c at = corner_in rows good v p c at

@@ -13,4 +13,5 @@ use Rattle.topo_route.specs.Numbers.{IsPriceFor}
 pub by_answer : (price : Pricing) (rows : Rows) (d : Dart) (facts : Facts) (answer : Option ℕ) → AreFactsOf (edge_at rows d.edge) facts
     → IsPriceOf price facts answer → IsPriceFor price rows d answer
 by_answer price rows d facts (Some p) known asked = record { facts = facts; known = known; asked = asked }
-by_answer price rows d facts None known none = λ p priced. none p (subst (λ f. price f p) (one_facts (edge_at rows d.edge) priced.facts facts priced.known known) priced.asked)
+by_answer price rows d facts None known none =
+    λ p priced. none p (subst (λ f. price f p) (one_facts (edge_at rows d.edge) priced.facts facts priced.known known) priced.asked)

@@ -1,6 +1,7 @@
 -- Steps of a walk through the faces, and first tight darts.
 use Rattle.std.proofs.Math.Seq.{drop-cons}
-use Rattle.std.proofs.Common.{add-one, drop, get_or, ◌≡◌, ◌≢◌, ℕ, zero, suc, ◌+◌, ◌<◌, Bool, true, false, List, [], ◌∷◌, length, Some, None, inl, inr, refl, sym, ap, subst, ◌∙◌, arith}
+use Rattle.std.proofs.Common.{add-one, drop, get_or, ◌≡◌, ◌≢◌, ℕ, zero, suc, ◌+◌, ◌<◌, Bool, true, false}
+use Rattle.std.proofs.Common.{List, [], ◌∷◌, length, Some, None, inl, inr, refl, sym, ap, subst, ◌∙◌, arith}
 use Rattle.std.specs.Prelude.{IsTrue, if◌then◌else◌, MatchOption, Option, slice_index}
 use Rattle.std.proofs.lemmas.Bool.{cases_lt, false≢true}
 use Rattle.topo_core.specs.declared.darts.Dart.{Dart}
@@ -39,7 +40,8 @@ module _ (rows : Rows) (lawful : Lawful rows) where
     Found : Option ℕ → Type 0
     Found o = MatchOption o (has_dart (darts rows) d ≡ false) (λ k. (k < length (darts rows)) × (dart_of rows k ≡ d) × (index_of rows d ≡ k))
 
-    by_test : (b : Bool) → has_dart (darts rows) d ≡ b → MatchOption result (has_dart (darts rows) d ≡ false) (λ k. (k < length (darts rows)) × (dart_of rows k ≡ d) × (index_of rows d ≡ k))
+    by_test : (b : Bool) → has_dart (darts rows) d ≡ b
+        → MatchOption result (has_dart (darts rows) d ≡ false) (λ k. (k < length (darts rows)) × (dart_of rows k ≡ d) × (index_of rows d ≡ k))
     by_test true h = grind (arith, number_below, dart_of_number)
     by_test false h = grind arith
 
@@ -57,19 +59,23 @@ module _ (price : Pricing) (rows : Rows) (lawful : Lawful rows) where
       → Walks price rows (dart_of rows next) xs to rest → Walks price rows (dart_of rows at) (x ∷ xs) to left
   step_back at x xs to left next rest crossing (walk, cost) = grind arith
 
-  pub no_step : (at : ℕ) (x : Dart) (xs : List Dart) (to : Dart) (left : ℕ) → CannotCross price rows at x left → Walks price rows (dart_of rows at) (x ∷ xs) to left → ⊥
+  pub no_step : (at : ℕ) (x : Dart) (xs : List Dart) (to : Dart) (left : ℕ) → CannotCross price rows at x left
+      → Walks price rows (dart_of rows at) (x ∷ xs) to left → ⊥
   no_step at x xs to left cannot (walk, cost) = let total = cost.4 in cannot walk.0 cost.0 cost.2 (omega arith)
 
   -- a dart of another face
-  pub other_face : (at k left : ℕ) (d : Dart) → at < length (darts rows) → index_of rows d ≡ k → (SameCycle (next_of rows) at k → ⊥) → CannotCross price rows at d left
+  pub other_face : (at k left : ℕ) (d : Dart) → at < length (darts rows) → index_of rows d ≡ k → (SameCycle (next_of rows) at k → ⊥)
+      → CannotCross price rows at d left
   other_face at k left d l is apart same = absurd (apart (subst (SameCycle (next_of rows) at) is (numbers_of_face rows lawful at d l same)))
 
   -- no dart of the picture
   pub no_dart_there : (at left : ℕ) (d : Dart) → at < length (darts rows) → has_dart (darts rows) d ≡ false → CannotCross price rows at d left
   no_dart_there at left d l none same = absurd (false≢true (sym none ∙ face_has rows lawful (dart_of rows at) d (dart_in rows lawful at l) same))
 
-  pub crossed_to : (at k left next rest : ℕ) (d : Dart) → at < length (darts rows) → k < length (darts rows) → dart_of rows k ≡ d → next ≡ twin k → next < length (darts rows)
-      → SameCycle (next_of rows) at k → Payment price rows (dart_of rows k) left rest → dart_of rows (twin k) ≡ dart_twin (dart_of rows k) → Crossing price rows at d left next rest
+  pub crossed_to : (at k left next rest : ℕ) (d : Dart) → at < length (darts rows) → k < length (darts rows) → dart_of rows k ≡ d → next ≡ twin k
+      → next < length (darts rows)
+      → SameCycle (next_of rows) at k → Payment price rows (dart_of rows k) left rest → dart_of rows (twin k) ≡ dart_twin (dart_of rows k)
+      → Crossing price rows at d left next rest
   crossed_to at k left next rest d l lk is there next_in same payment lands = grind (arith, face_of_numbers)
 
   -- ---- First tight darts
@@ -78,7 +84,8 @@ module _ (price : Pricing) (rows : Rows) (lawful : Lawful rows) where
     abbrev height : Dart → ℕ
     height = height_in rows heights
 
-    pub first_holds : (at : ℕ) (x : Dart) → at < length (darts rows) → has_dart (darts rows) x ≡ true → (HasTightBefore price rows heights at (index_of rows x) → ⊥)
+    pub first_holds : (at : ℕ) (x : Dart) → at < length (darts rows) → has_dart (darts rows) x ≡ true
+        → (HasTightBefore price rows heights at (index_of rows x) → ⊥)
         → (y : Dart) → has_dart (darts rows) y ≡ true → SameFace (system rows) (dart_of rows at) y → IsTight price rows height y → dart_cmp x y ≢ Greater
     first_holds at x l x_in none y y_in same tight greater = elim (cases_lt (index_of rows y) (index_of rows x)) [
       | inl less ↦ none (record {
@@ -90,7 +97,8 @@ module _ (price : Pricing) (rows : Rows) (lawful : Lawful rows) where
       | inr low ↦ not_later rows lawful.embedding.well_formed.paths x y x_in y_in (omega arith) greater
     ]
 
-    pub first_fails : (at : ℕ) (x : Dart) (xs : List Dart) → at < length (darts rows) → has_dart (darts rows) x ≡ true → HasTightBefore price rows heights at (index_of rows x)
+    pub first_fails : (at : ℕ) (x : Dart) (xs : List Dart) → at < length (darts rows) → has_dart (darts rows) x ≡ true
+        → HasTightBefore price rows heights at (index_of rows x)
         → TakesFirstDarts price rows height (dart_of rows at) (x ∷ xs) → ⊥
     first_fails at x xs l x_in before takes =
         let below = number_below rows lawful x x_in in
@@ -102,12 +110,14 @@ module _ (price : Pricing) (rows : Rows) (lawful : Lawful rows) where
         (number_order rows lawful.embedding.well_formed.paths (dart_of rows before.dart) x y_in x_in less).1
 
     -- tight on numbers
-    pub tight_is : (k p : ℕ) → k < length (darts rows) → Price price rows (dart_of rows k) p → slice_index heights k ≡ p + slice_index heights (twin k) → IsTight price rows height (dart_of rows k)
+    pub tight_is : (k p : ℕ) → k < length (darts rows) → Price price rows (dart_of rows k) p → slice_index heights k ≡ p + slice_index heights (twin k)
+        → IsTight price rows height (dart_of rows k)
     tight_is k p l asked drop = record { cost = p; asked = asked; drop = omega (arith, height_at rows lawful heights k l, height_twin rows lawful heights k l) }
 
     pub tight_drop : (k p : ℕ) → k < length (darts rows) → ((q : ℕ) → Price price rows (dart_of rows k) q → q ≡ p) → IsTight price rows height (dart_of rows k)
         → slice_index heights k ≡ p + slice_index heights (twin k)
-    tight_drop k p l single tight = omega (arith, single tight.cost tight.asked, tight.drop, height_at rows lawful heights k l, height_twin rows lawful heights k l)
+    tight_drop k p l single tight =
+        omega (arith, single tight.cost tight.asked, tight.drop, height_at rows lawful heights k l, height_twin rows lawful heights k l)
 
 -- ---- Routes with a price
 
@@ -126,7 +136,8 @@ pub from_item : {X : Type 0} (xs : List X) (i : ℕ) (x : X) → i < length xs �
 from_item xs i x l is = rw add-one (drop-cons xs i x l ∙ ap (λ y. y ∷ drop (suc i) xs) (sym is))
 
 -- nothing is left to cross
-pub walks_home : (price : Pricing) (rows : Rows) → Lawful rows → (at to left : ℕ) (xs : List Dart) (Whole : Type 0) (same : Bool) → at < length (darts rows) → to < length (darts rows) → xs ≡ [] → left ≡ 0
+pub walks_home : (price : Pricing) (rows : Rows) → Lawful rows → (at to left : ℕ) (xs : List Dart) (Whole : Type 0) (same : Bool) → at < length (darts rows)
+    → to < length (darts rows) → xs ≡ [] → left ≡ 0
     → (Whole → Walks price rows (dart_of rows at) xs (dart_of rows to) left) → (Walks price rows (dart_of rows at) xs (dart_of rows to) left → Whole)
     → (IsTrue same → SameCycle (next_of rows) at to) × (SameCycle (next_of rows) at to → IsTrue same) → (IsTrue same → Whole) × (Whole → IsTrue same)
 walks_home price rows lawful at to left xs Whole same at_in to_in none nothing forth back test =
@@ -160,7 +171,8 @@ module _ (price : Pricing) (rows : Rows) (lawful : Lawful rows) (heights : List 
   pub arrives_on : arrival (dart_of rows next) xs ≡ arrival (dart_of rows at) (x ∷ xs)
   arrives_on = ap (λ c. arrival c xs) lands_on
 
-  pub takes_on : TakesFirstDarts price rows (height_in rows heights) (dart_of rows at) (x ∷ xs) → TakesFirstDarts price rows (height_in rows heights) (dart_of rows next) xs
+  pub takes_on : TakesFirstDarts price rows (height_in rows heights) (dart_of rows at) (x ∷ xs)
+      → TakesFirstDarts price rows (height_in rows heights) (dart_of rows next) xs
   takes_on takes = subst (λ c. TakesFirstDarts price rows (height_in rows heights) c xs) (sym lands_on) takes.1
 
   pub takes_back : (HasTightBefore price rows heights at number → ⊥) → TakesFirstDarts price rows (height_in rows heights) (dart_of rows next) xs

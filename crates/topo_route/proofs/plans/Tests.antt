@@ -1,5 +1,6 @@
 -- The tests of heights, on numbers and on darts.
-use Rattle.std.proofs.Common.{◌≡◌, ◌≢◌, ℕ, zero, suc, ◌+◌, ◌<◌, ◌≤◌, Bool, true, false, List, [], ◌∷◌, length, Some, None, inl, inr, refl, sym, ap, subst, ◌∙◌, arith}
+use Rattle.std.proofs.Common.{◌≡◌, ◌≢◌, ℕ, zero, suc, ◌+◌, ◌<◌, ◌≤◌, Bool, true, false, List, []}
+use Rattle.std.proofs.Common.{◌∷◌, length, Some, None, inl, inr, refl, sym, ap, subst, ◌∙◌, arith}
 use Rattle.std.specs.Prelude.{IsTrue, slice_get, slice_index}
 use Rattle.std.proofs.lemmas.Bool.{cases_eq, cases_lt, false≢true}
 use Rattle.std.proofs.lemmas.List.{length-map}
@@ -48,7 +49,8 @@ module _ (rows : Rows) (lawful : Lawful rows) (heights : List ℕ) where
   height_at k l = ap (slice_index heights) (number_of rows lawful k l)
 
   pub height_next : (k : ℕ) → k < length (darts rows) → height_in rows heights (face_step (system rows) (dart_of rows k)) ≡ slice_index heights (next_of rows k)
-  height_next k l = ap (slice_index heights) (sym (next_number rows lawful (dart_of rows k) (dart_in rows lawful k l)) ∙ ap (next_of rows) (number_of rows lawful k l))
+  height_next k l = ap (slice_index heights)
+      (sym (next_number rows lawful (dart_of rows k) (dart_in rows lawful k l)) ∙ ap (next_of rows) (number_of rows lawful k l))
 
   pub height_twin : (k : ℕ) → k < length (darts rows) → height_in rows heights (dart_twin (dart_of rows k)) ≡ slice_index heights (twin k)
   height_twin k l = ap (slice_index heights) (index_twin rows (dart_of rows k) (dart_in rows lawful k l) ∙ ap twin (number_of rows lawful k l))
@@ -63,12 +65,14 @@ module _ (rows : Rows) (lawful : Lawful rows) (heights : List ℕ) where
       → slice_index heights k ≤ p + slice_index heights (twin k)
   gentle_numbers price gentle k p l asked = omega (arith, gentle (dart_of rows k) p (dart_in rows lawful k l) asked, height_at k l, height_twin k l)
 
-  pub gentle_darts : (price : Pricing) → ((k p : ℕ) → k < length (darts rows) → Price price rows (dart_of rows k) p → slice_index heights k ≤ p + slice_index heights (twin k))
+  pub gentle_darts : (price : Pricing)
+      → ((k p : ℕ) → k < length (darts rows) → Price price rows (dart_of rows k) p → slice_index heights k ≤ p + slice_index heights (twin k))
       → IsGentle price rows heights
   gentle_darts price gentle d p h asked =
       let l = number_below rows lawful d h in
       let climb = gentle (index_of rows d) p l (subst (λ x. Price price rows x p) (sym (dart_of_number rows lawful d h)) asked) in
-      let other : slice_index heights (index_of rows (dart_twin d)) ≡ slice_index heights (twin (index_of rows d)) = ap (slice_index heights) (index_twin rows d h) in
+      let other : slice_index heights (index_of rows (dart_twin d)) ≡ slice_index heights (twin (index_of rows d)) =
+      ap (slice_index heights) (index_twin rows d h) in
       omega arith
 
 -- ---- Gentle as far as a number
@@ -77,12 +81,14 @@ module _ (rows : Rows) (heights : List ℕ) (price : Pricing) where
   abbrev GentleBelow : ℕ → Type 0
   GentleBelow i = (k p : ℕ) → k < i → Price price rows (dart_of rows k) p → slice_index heights k ≤ p + slice_index heights (twin k)
 
-  pub gentle_some : (i q : ℕ) → ((m n : ℕ) → Price price rows (dart_of rows i) m → Price price rows (dart_of rows i) n → m ≡ n) → Price price rows (dart_of rows i) q
+  pub gentle_some : (i q : ℕ) → ((m n : ℕ) → Price price rows (dart_of rows i) m → Price price rows (dart_of rows i) n → m ≡ n)
+      → Price price rows (dart_of rows i) q
       → slice_index heights i ≤ q + slice_index heights (twin i) → GentleBelow i → GentleBelow (i + 1)
   gentle_some i q single asked climb below k p l priced = elim (cases_eq k i) [
     | inl e ↦
         let same : p ≡ q = single p q (subst (λ j. Price price rows (dart_of rows j) p) e priced) asked in
-        subst (λ j. slice_index heights j ≤ p + slice_index heights (twin j)) (sym e) (subst (λ n. slice_index heights i ≤ n + slice_index heights (twin i)) (sym same) climb)
+        subst (λ j. slice_index heights j ≤ p + slice_index heights (twin j)) (sym e)
+        (subst (λ n. slice_index heights i ≤ n + slice_index heights (twin i)) (sym same) climb)
     | inr ne ↦ below k p (omega arith) priced
   ]
 
@@ -107,10 +113,12 @@ module _ (rows : Rows) (u : ℕ) (heights : List ℕ) (cost : ℕ) where
   abbrev Differs : ℕ → Dart → Type 0
   Differs p c = height_in rows heights c ≢ cost
 
-  pub least_found : (found : Bool) (i : ℕ) (d : Dart) → corner rows u i ≡ Some d → height_in rows heights d ≡ cost → LeastBefore rows u heights cost found i → LeastBefore rows u heights cost true (i + 1)
+  pub least_found : (found : Bool) (i : ℕ) (d : Dart) → corner rows u i ≡ Some d → height_in rows heights d ≡ cost → LeastBefore rows u heights cost found i
+      → LeastBefore rows u heights cost true (i + 1)
   least_found found i d here same before = grind (arith, before_some, false≢true)
 
-  pub least_kept : (found : Bool) (i : ℕ) (d : Dart) → corner rows u i ≡ Some d → cost ≤ height_in rows heights d → height_in rows heights d ≢ cost → LeastBefore rows u heights cost found i
+  pub least_kept : (found : Bool) (i : ℕ) (d : Dart) → corner rows u i ≡ Some d → cost ≤ height_in rows heights d → height_in rows heights d ≢ cost
+      → LeastBefore rows u heights cost found i
       → LeastBefore rows u heights cost found (i + 1)
   least_kept found i d here low differs before = grind (arith, before_some)
 
@@ -140,16 +148,19 @@ module _ (rows : Rows) (u : ℕ) (height : Dart → ℕ) where
   pub lowest_none : LowestBefore rows u height unreached 0
   lowest_none = record { capped = omega arith; low = before_none rows u (λ p c. unreached ≤ height c); attained = λ ne. absurd (ne refl) }
 
-  pub lowest_lower : (least i x : ℕ) (d : Dart) → corner rows u i ≡ Some d → height d ≡ x → x < least → LowestBefore rows u height least i → LowestBefore rows u height x (i + 1)
+  pub lowest_lower : (least i x : ℕ) (d : Dart) → corner rows u i ≡ Some d → height d ≡ x → x < least → LowestBefore rows u height least i
+      → LowestBefore rows u height x (i + 1)
   lowest_lower least i x d at is less lowest = grind (arith, before_some)
 
-  pub lowest_kept : (least i : ℕ) (d : Dart) → corner rows u i ≡ Some d → least ≤ height d → LowestBefore rows u height least i → LowestBefore rows u height least (i + 1)
+  pub lowest_kept : (least i : ℕ) (d : Dart) → corner rows u i ≡ Some d → least ≤ height d → LowestBefore rows u height least i
+      → LowestBefore rows u height least (i + 1)
   lowest_kept least i d at more lowest = grind (arith, before_some)
 
   pub lowest_past : (least i : ℕ) → corner rows u i ≡ None → LowestBefore rows u height least i → LowestBefore rows u height least (i + 1)
   lowest_past least i none lowest = grind (arith, before_past)
 
-  pub lowest_all : (least i : ℕ) → i ≡ length (rotation rows u) → LowestBefore rows u height least i → (p : ℕ) (c : Dart) → corner rows u p ≡ Some c → least ≤ height c
+  pub lowest_all : (least i : ℕ) → i ≡ length (rotation rows u) → LowestBefore rows u height least i → (p : ℕ) (c : Dart) → corner rows u p ≡ Some c
+      → least ≤ height c
   lowest_all least i whole lowest = before_all rows u (λ p c. least ≤ height c) i whole lowest.low
 
   pub lowest_found : (least i : ℕ) → i ≡ length (rotation rows u) → LowestBefore rows u height least i → least ≢ unreached → IsLeastAt rows u height least

@@ -14,7 +14,8 @@ use Rattle.topo_route.specs.declared.plan.PlanFault.TheVariants.{WrongLength, Un
 use Rattle.topo_route.specs.Plans.{ComesFirst, FailsFirst, HasFirstEnd, HasFirstStart, IsPlan, PassesAll, height_in}
 
 module _ (price : Pricing) (rows : Rows) (u v : ℕ) (plan : Plan) where
-  pub comes_first_by : (from last : Dart) (heights : List ℕ) (crossed : List Dart) (ends : Bool) → heights ≡ plan.heights → crossed ≡ plan.route.crossed → last ≡ arrival from crossed
+  pub comes_first_by : (from last : Dart) (heights : List ℕ) (crossed : List Dart) (ends : Bool) → heights ≡ plan.heights → crossed ≡ plan.route.crossed
+      → last ≡ arrival from crossed
       → HasFirstStart rows u heights plan.route.start plan.price → TakesFirstDarts price rows (height_in rows heights) from crossed
       → (IsTrue ends → HasFirstEnd rows v plan.route.end last) × (HasFirstEnd rows v plan.route.end last → IsTrue ends)
       → (IsTrue ends → ComesFirst price rows u v plan from) × (ComesFirst price rows u v plan from → IsTrue ends)
@@ -40,7 +41,8 @@ module _ (price : Pricing) (rows : Rows) (u v : ℕ) (plan : Plan) where
       there = is.by_heights.priced.route.starts;
       is_height =
           let low = is.by_heights.least_height plan.route.start is.by_heights.priced.route.from is.by_heights.priced.route.starts in
-          let high = route_bound price rows u v (height_in rows plan.heights) (certified price rows u v (height_in rows plan.heights) lawful.embedding.well_formed is.heights.certificate)
+          let high = route_bound price rows u v (height_in rows plan.heights)
+          (certified price rows u v (height_in rows plan.heights) lawful.embedding.well_formed is.heights.certificate)
           plan.route plan.price is.by_heights.priced.route.from is.by_heights.priced is.by_heights.priced.route.starts in
           omega arith;
       least = is.by_heights.least_height;
@@ -77,11 +79,13 @@ module _ (price : Pricing) (rows : Rows) (u v : ℕ) (plan : Plan) where
   no_fault passes NotLeast fails = fails.3 passes.least
   no_fault passes NotFirst fails = fails.4 (subst (ComesFirst price rows u v plan) (one_start passes.priced fails.3) passes.comes_first)
 
-  pub first_verdict : Lawful rows → (result : Result Unit PlanFault) → OnOk result (KeepsPromise price) → MatchResult result (λ _. PassesAll price rows u v plan) (FailsFirst price rows u v plan)
+  pub first_verdict : Lawful rows → (result : Result Unit PlanFault) → OnOk result (KeepsPromise price)
+      → MatchResult result (λ _. PassesAll price rows u v plan) (FailsFirst price rows u v plan)
       → OnOk result (IsFirst price rows u v plan.route plan.price)
   first_verdict lawful (Ok x) promise passes = passes_first lawful promise passes
   first_verdict lawful (Err e) promise fails = tt
 
-  pub own_verdict : Lawful rows → (result : Result Unit PlanFault) → MatchResult result (λ _. PassesAll price rows u v plan) (FailsFirst price rows u v plan) → IsPlan price rows u v plan → result ≡ Ok tt
+  pub own_verdict : Lawful rows → (result : Result Unit PlanFault) → MatchResult result (λ _. PassesAll price rows u v plan) (FailsFirst price rows u v plan)
+      → IsPlan price rows u v plan → result ≡ Ok tt
   own_verdict lawful (Ok x) passes is = refl
   own_verdict lawful (Err e) fails is = absurd (no_fault (plan_passes lawful is) e fails)

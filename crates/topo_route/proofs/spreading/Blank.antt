@@ -1,5 +1,6 @@
 -- Arrays that are blank, and numbers written in them.
-use Rattle.std.proofs.Common.{◌≡◌, ◌≢◌, ◌∙◌, ◌<◌, ◌≤◌, ◌+◌, ◌-◌, ◌∷◌, ◌++◌, ◌||◌, ◌==◌, ◌⊎◌, [], ℕ, suc, zero, Bool, false, true, List, ap, arith, eq-eqb, get_or-set_other, get_or-set_same, inl, inr, length, refl, replicate, sym, take}
+use Rattle.std.proofs.Common.{◌≡◌, ◌≢◌, ◌∙◌, ◌<◌, ◌≤◌, ◌+◌, ◌-◌, ◌∷◌, ◌++◌, ◌||◌, ◌==◌, ◌⊎◌, [], ℕ, suc, zero, Bool, false, true, List}
+use Rattle.std.proofs.Common.{ap, arith, eq-eqb, get_or-set_other, get_or-set_same, inl, inr, length, refl, replicate, sym, take}
 use Rattle.std.proofs.Math.Bool.{or-false}
 use Rattle.std.proofs.Math.Dec.{ltb}
 use Rattle.std.proofs.Math.ListN.{set}
@@ -25,7 +26,8 @@ all_long base zero words many = refl
 all_long base (suc len) [] many = absurd (omega arith)
 all_long base (suc len) (word ∷ words) many = ap suc (all_long base len words (omega arith))
 
-pub read_at : (base len : ℕ) (words : List ℕ) (k : ℕ) → k < len → len ≤ length words → slice_index (read_all base len words) k ≡ read_from base (slice_index words k)
+pub read_at : (base len : ℕ) (words : List ℕ) (k : ℕ) → k < len → len ≤ length words
+    → slice_index (read_all base len words) k ≡ read_from base (slice_index words k)
 read_at base zero words k h many = absurd (omega arith)
 read_at base (suc len) [] k h many = absurd (omega arith)
 read_at base (suc len) (word ∷ words) zero h many = refl
@@ -35,7 +37,8 @@ read_at base (suc len) (word ∷ words) (suc k) h many = read_at base len words 
 written_reads : (base number : ℕ) → number < span → read_from base (base + number) ≡ number
 written_reads base number h = let back : base + number - base ≡ number = omega arith in reads_number base (base + number) (omega arith) ∙ back
 
-pub written_number : (base len : ℕ) (words : List ℕ) (k number : ℕ) → number < span → read_all base len (set words k (base + number)) ≡ set (read_all base len words) k number
+pub written_number : (base len : ℕ) (words : List ℕ) (k number : ℕ) → number < span
+    → read_all base len (set words k (base + number)) ≡ set (read_all base len words) k number
 written_number base zero words k number h = refl
 written_number base (suc len) [] k number h = refl
 written_number base (suc len) (word ∷ words) zero number h = ap (λ x. x ∷ read_all base len words) (written_reads base number h)
@@ -47,7 +50,8 @@ all_blank base zero words many early = refl
 all_blank base (suc len) [] many early = absurd (omega arith)
 all_blank base (suc len) (word ∷ words) many early =
     let high : base + span ≤ word = early 0 (omega arith) in
-    ap (λ x. x ∷ read_all base len words) (reads_blank base word (omega arith)) ∙ ap (λ xs. unreached ∷ xs) (all_blank base len words (omega arith) (λ k h. early (suc k) (omega arith)))
+    ap (λ x. x ∷ read_all base len words) (reads_blank base word (omega arith))
+    ∙ ap (λ xs. unreached ∷ xs) (all_blank base len words (omega arith) (λ k h. early (suc k) (omega arith)))
 
 -- a list that is filled, or filled up, with the greatest word keeps its bound
 pub filled : (least m : ℕ) → least ≤ unreached → AreAtLeast least (replicate m unreached)
@@ -104,14 +108,16 @@ pub lists_already : (xs : List ℕ) (k : ℕ) → has_id xs k ≡ true → Lists
 lists_already xs k h = record { itself = h; stays = λ j l. l; came = λ j l. inr l }
 
 -- a number is written at a place that is listed
-pub number_written : (base len : ℕ) (words before after : List ℕ) (k number : ℕ) → AreWritten base len words before → Lists before after k → k < len → AreWritten base len (set words k (base + number)) after
+pub number_written : (base len : ℕ) (words before after : List ℕ) (k number : ℕ) → AreWritten base len words before → Lists before after k → k < len
+    → AreWritten base len (set words k (base + number)) after
 number_written base len words before after k number written lists inside =
     let same = length-set words k (base + number) in
     let as_many = written.as_many in
     record {
       as_many = omega arith;
       above = λ j within. elim (cases_eq j k) [
-        | inl e ↦ let here = get_or-set_same words k (base + number) 0 (omega arith) in let at : slice_index (set words k (base + number)) j ≡ base + number = ap (slice_index (set words k (base + number))) e ∙ here in omega arith
+        | inl e ↦ let here = get_or-set_same words k (base + number) 0 (omega arith) in let at : slice_index (set words k (base + number)) j ≡ base + number =
+            ap (slice_index (set words k (base + number))) e ∙ here in omega arith
         | inr ne ↦ let there = get_or-set_other words k j (base + number) 0 ne in let was = written.above j (omega arith) in omega arith
       ];
       room = written.room;
@@ -126,7 +132,8 @@ number_written base len words before after k number written lists inside =
     }
 
 -- what is read as a number is written
-pub read_written : (base len : ℕ) (words written : List ℕ) → AreWritten base len words written → (k : ℕ) → k < length (read_all base len words) → slice_index (read_all base len words) k ≢ unreached → has_id written k ≡ true
+pub read_written : (base len : ℕ) (words written : List ℕ) → AreWritten base len words written → (k : ℕ) → k < length (read_all base len words)
+    → slice_index (read_all base len words) k ≢ unreached → has_id written k ≡ true
 read_written base len words written are k within some =
     let long = all_long base len words are.as_many in
     let inside : k < len = omega arith in
@@ -135,5 +142,6 @@ read_written base len words written are k within some =
       | inr more ↦ absurd (some (read_at base len words k inside are.as_many ∙ reads_blank base (slice_index words k) more))
     ]
 
-pub written_within : (base len : ℕ) (words written : List ℕ) → AreWritten base len words written → (k : ℕ) → has_id written k ≡ true → k < length (read_all base len words)
+pub written_within : (base len : ℕ) (words written : List ℕ) → AreWritten base len words written → (k : ℕ) → has_id written k ≡ true
+    → k < length (read_all base len words)
 written_within base len words written are k h = let long = all_long base len words are.as_many in let less = are.there k h in omega arith

@@ -1,5 +1,6 @@
 -- Chains of entries: one entry more, and one less.
-use Rattle.std.proofs.Common.{◌≡◌, ℕ, zero, suc, ◌+◌, ◌-◌, ◌<◌, ◌≤◌, ◌||◌, ◌==◌, Bool, true, false, List, [], ◌∷◌, ◌++◌, length, refl, sym, ap, ◌∙◌, arith, get_or, length-append, inl, inr}
+use Rattle.std.proofs.Common.{◌≡◌, ℕ, zero, suc, ◌+◌, ◌-◌, ◌<◌, ◌≤◌, ◌||◌, ◌==◌, Bool, true, false, List, []}
+use Rattle.std.proofs.Common.{◌∷◌, ◌++◌, length, refl, sym, ap, ◌∙◌, arith, get_or, length-append, inl, inr}
 use Rattle.std.specs.Prelude.{flat_map, slice_index, slice_index_or}
 use Rattle.std.proofs.Math.ListN.{replicate, set, get_or-append}
 use Rattle.std.proofs.Math.Seq.{get_or-append_seam}
@@ -19,7 +20,8 @@ or_last false b c = refl
 
 module _ {X : Type 0} (f : X → List ℕ) where
   -- one item more at the front of a list
-  pub waiting_more : (xs : List X) (i t k : ℕ) (y d : X) → i < length xs → f y ≡ t ∷ f (get_or xs i d) → is_waiting (flat_map f (set xs i y)) k ≡ (t == k || is_waiting (flat_map f xs) k)
+  pub waiting_more : (xs : List X) (i t k : ℕ) (y d : X) → i < length xs → f y ≡ t ∷ f (get_or xs i d)
+      → is_waiting (flat_map f (set xs i y)) k ≡ (t == k || is_waiting (flat_map f xs) k)
   waiting_more [] i t k y d l e = absurd (omega arith)
   waiting_more (x ∷ xs) zero t k y d l e = cc
   waiting_more (x ∷ xs) (suc i) t k y d l e =
@@ -28,16 +30,20 @@ module _ {X : Type 0} (f : X → List ℕ) where
       ∙ or_last (is_waiting (f x) k) (t == k) (is_waiting (flat_map f xs) k)
       ∙ ap (λ (b : Bool). t == k || b) (sym (list_any-append (λ z. z == k) (f x) (flat_map f xs)))
 
-  length_set : (xs : List X) (i : ℕ) (y d : X) → i < length xs → length (flat_map f (set xs i y)) + length (f (get_or xs i d)) ≡ length (flat_map f xs) + length (f y)
+  length_set : (xs : List X) (i : ℕ) (y d : X) → i < length xs
+      → length (flat_map f (set xs i y)) + length (f (get_or xs i d)) ≡ length (flat_map f xs) + length (f y)
   length_set [] i y d l = absurd (omega arith)
   length_set (x ∷ xs) zero y d l = omega (arith, length-append (f y) (flat_map f xs), length-append (f x) (flat_map f xs))
-  length_set (x ∷ xs) (suc i) y d l = omega (arith, length_set xs i y d (omega arith), length-append (f x) (flat_map f (set xs i y)), length-append (f x) (flat_map f xs))
+  length_set (x ∷ xs) (suc i) y d l =
+      omega (arith, length_set xs i y d (omega arith), length-append (f x) (flat_map f (set xs i y)), length-append (f x) (flat_map f xs))
 
-  pub more_length : (xs : List X) (i t : ℕ) (y d : X) → i < length xs → f y ≡ t ∷ f (get_or xs i d) → length (flat_map f (set xs i y)) ≡ length (flat_map f xs) + 1
+  pub more_length : (xs : List X) (i t : ℕ) (y d : X) → i < length xs → f y ≡ t ∷ f (get_or xs i d)
+      → length (flat_map f (set xs i y)) ≡ length (flat_map f xs) + 1
   more_length xs i t y d l e = omega (arith, length_set xs i y d l, ap length e)
 
   -- one item less at the front of a list
-  pub waiting_less : (xs : List X) (i t k : ℕ) (y d : X) → i < length xs → f (get_or xs i d) ≡ t ∷ f y → is_waiting (flat_map f xs) k ≡ (t == k || is_waiting (flat_map f (set xs i y)) k)
+  pub waiting_less : (xs : List X) (i t k : ℕ) (y d : X) → i < length xs → f (get_or xs i d) ≡ t ∷ f y
+      → is_waiting (flat_map f xs) k ≡ (t == k || is_waiting (flat_map f (set xs i y)) k)
   waiting_less [] i t k y d l e = absurd (omega arith)
   waiting_less (x ∷ xs) zero t k y d l e = cc
   waiting_less (x ∷ xs) (suc i) t k y d l e =
@@ -46,10 +52,12 @@ module _ {X : Type 0} (f : X → List ℕ) where
       ∙ or_last (is_waiting (f x) k) (t == k) (is_waiting (flat_map f (set xs i y)) k)
       ∙ ap (λ (b : Bool). t == k || b) (sym (list_any-append (λ z. z == k) (f x) (flat_map f (set xs i y))))
 
-  pub less_length : (xs : List X) (i t : ℕ) (y d : X) → i < length xs → f (get_or xs i d) ≡ t ∷ f y → length (flat_map f (set xs i y)) + 1 ≡ length (flat_map f xs)
+  pub less_length : (xs : List X) (i t : ℕ) (y d : X) → i < length xs → f (get_or xs i d) ≡ t ∷ f y
+      → length (flat_map f (set xs i y)) + 1 ≡ length (flat_map f xs)
   less_length xs i t y d l e = omega (arith, length_set xs i y d l, ap length e)
 
-same_lists : {X : Type 0} (f g : X → List ℕ) (xs : List X) → ((i : ℕ) (d : X) → i < length xs → f (get_or xs i d) ≡ g (get_or xs i d)) → flat_map f xs ≡ flat_map g xs
+same_lists : {X : Type 0} (f g : X → List ℕ) (xs : List X) → ((i : ℕ) (d : X) → i < length xs → f (get_or xs i d) ≡ g (get_or xs i d))
+    → flat_map f xs ≡ flat_map g xs
 same_lists f g [] h = refl
 same_lists f g (x ∷ xs) h = ap (λ ys. ys ++ flat_map f xs) (h 0 x (omega arith)) ∙ ap (λ ys. g x ++ ys) (same_lists f g xs (λ i d l. h (suc i) d (omega arith)))
 
@@ -79,10 +87,12 @@ appended entries e down (suc m) (suc i) l =
     ∙ ap (λ ds. (slice_index_or entries i no_entry).item ∷ ds) (appended entries e down m (slice_index_or entries i no_entry).below (omega arith))
 
 -- the chain of a head
-pub unchained : (entries : List Entry) → GoesDown entries → (i : ℕ) → chained entries (suc i) ≡ (slice_index_or entries i no_entry).item ∷ chained entries (slice_index_or entries i no_entry).below
+pub unchained : (entries : List Entry) → GoesDown entries → (i : ℕ)
+    → chained entries (suc i) ≡ (slice_index_or entries i no_entry).item ∷ chained entries (slice_index_or entries i no_entry).below
 unchained entries down i = grind (arith, bounded)
 
-module _ (entries : List Entry) (heads : List ℕ) (down : GoesDown entries) (stay : StaysBelow entries heads) (b item below : ℕ) (is_below : below ≡ slice_index heads b) (within : b < length heads) where
+module _ (entries : List Entry) (heads : List ℕ) (down : GoesDown entries) (stay : StaysBelow entries heads) (b item below : ℕ)
+    (is_below : below ≡ slice_index heads b) (within : b < length heads) where
   abbrev e : Entry
   e = record { item = item; below = below }
 
@@ -91,7 +101,8 @@ module _ (entries : List Entry) (heads : List ℕ) (down : GoesDown entries) (st
 
   pub down_longer : GoesDown longer
   down_longer i = elim (cases_lt i (length entries)) [
-    | inl less ↦ let same : (slice_index_or longer i no_entry).below ≡ (slice_index_or entries i no_entry).below = ap (λ x. x.below) (get_or-append entries (e ∷ []) no_entry i less) in let low = down i in omega arith
+    | inl less ↦ let same : (slice_index_or longer i no_entry).below ≡ (slice_index_or entries i no_entry).below =
+        ap (λ x. x.below) (get_or-append entries (e ∷ []) no_entry i less) in let low = down i in omega arith
     | inr more ↦ elim (cases_eq i (length entries)) [
       | inl here ↦ grind (arith, get_or-append_seam)
       | inr past ↦ grind (arith, length-append, get_or_past)
@@ -109,7 +120,8 @@ module _ (entries : List Entry) (heads : List ℕ) (down : GoesDown entries) (st
   on_top =
       let long : length longer ≡ suc (length entries) = omega (arith, length-append entries (e ∷ [])) in
       let at = get_or-append_seam entries e [] no_entry in
-      ap (chained longer) long ∙ unchained longer down_longer (length entries) ∙ ap (λ x. x.item ∷ chained longer x.below) at ∙ ap (λ k. item ∷ chained longer k) is_below
+      ap (chained longer) long ∙ unchained longer down_longer (length entries) ∙ ap (λ x. x.item ∷ chained longer x.below) at
+      ∙ ap (λ k. item ∷ chained longer k) is_below
 
   pub pushed_waits : (k : ℕ) → is_waiting (all_chained longer (set heads b (length longer))) k ≡ (item == k || is_waiting (all_chained entries heads) k)
   pushed_waits k = waiting_more (chained longer) heads b item k (length longer) 0 within on_top ∙ ap (λ ws. item == k || is_waiting ws k) same_others
@@ -120,14 +132,16 @@ module _ (entries : List Entry) (heads : List ℕ) (down : GoesDown entries) (st
 -- nothing in any chain
 pub all_empty : (entries : List Entry) (heads : List ℕ) → ((i : ℕ) → i < length heads → slice_index heads i ≡ 0) → all_chained entries heads ≡ []
 all_empty entries [] h = refl
-all_empty entries (x ∷ heads) h = ap (λ y. chained entries y ++ all_chained entries heads) (h 0 (omega arith)) ∙ all_empty entries heads (λ i l. h (suc i) (omega arith))
+all_empty entries (x ∷ heads) h = ap (λ y. chained entries y ++ all_chained entries heads) (h 0 (omega arith))
+    ∙ all_empty entries heads (λ i l. h (suc i) (omega arith))
 
 pub all_zero : (n b : ℕ) → slice_index (replicate n 0) b ≡ 0
 all_zero n b = grind (arith, cases_lt, get_or-replicate, get_or_past, replicate, length-replicate)
 
 -- an entry is taken from the top of a chain
 module _ (entries : List Entry) (heads whole : List ℕ) (down : GoesDown entries) (b item below : ℕ) (within : b < length heads) (some : 0 < slice_index heads b)
-    (is : item ≡ (slice_index_or entries (slice_index heads b - 1) no_entry).item) (is_below : below ≡ (slice_index_or entries (slice_index heads b - 1) no_entry).below) (same : all_chained entries heads ≡ whole) where
+    (is : item ≡ (slice_index_or entries (slice_index heads b - 1) no_entry).item)
+    (is_below : below ≡ (slice_index_or entries (slice_index heads b - 1) no_entry).below) (same : all_chained entries heads ≡ whole) where
   top : chained entries (slice_index heads b) ≡ item ∷ chained entries below
   top = grind (arith, unchained)
 

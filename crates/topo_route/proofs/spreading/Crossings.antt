@@ -12,8 +12,10 @@ use Rattle.topo_route.proofs.spreading.FaceHeights.{face_lowered, face_other, on
 use Rattle.topo_route.proofs.spreading.Reaching.{reaches_twin}
 use Rattle.topo_route.proofs.spreading.Settled.{has_face, lowered_costs, lowered_waits, near_dart}
 
-module _ (price : Pricing) (g : Named) (lawful : Lawful g.rows) (has : IsNamed g) (face : ℕ → ℕ) (faces : ℕ) (has_faces : HasFaces g face faces) (v reach : ℕ) (heights names waiting : List ℕ) (d other p : ℕ)
-    (costs : AreFaceCosts price g face faces v heights names) (in_hand : IsReached g (dart_heights g face heights) d) (promise : KeepsPromise price) (asked : Price price g.rows (dart_named g d) p) (is : other ≡ twin_name g d)
+module _ (price : Pricing) (g : Named) (lawful : Lawful g.rows) (has : IsNamed g) (face : ℕ → ℕ) (faces : ℕ) (has_faces : HasFaces g face faces) (v reach : ℕ)
+    (heights names waiting : List ℕ) (d other p : ℕ)
+    (costs : AreFaceCosts price g face faces v heights names) (in_hand : IsReached g (dart_heights g face heights) d) (promise : KeepsPromise price)
+    (asked : Price price g.rows (dart_named g d) p) (is : other ≡ twin_name g d)
     (there : IsName g other) (low : slice_index (dart_heights g face heights) d + p < min (slice_index (dart_heights g face heights) other) reach) where
   abbrev x : ℕ
   x = slice_index (dart_heights g face heights) d + p
@@ -39,8 +41,11 @@ module _ (price : Pricing) (g : Named) (lawful : Lawful g.rows) (has : IsNamed g
 
   -- the twin waits
   pub twin_waits : (top : ℕ → ℕ) (waiting' : List ℕ) → other < 2 ^ 32 → ((i : ℕ) → is_waiting waiting' i ≡ (item_of other x == i || is_waiting waiting i))
-      → Spreads price g face faces v top reach heights names waiting d → Spreads price g face faces v top reach (set heights (face other) x) (set names (face other) other) waiting' d
-  twin_waits top waiting' short added spreads = lowered_waits price g has face faces has_faces v heights names costs other x there (omega arith) walk near top reach waiting waiting' d short spreads added
+      → Spreads price g face faces v top reach heights names waiting d
+      → Spreads price g face faces v top reach (set heights (face other) x) (set names (face other) other) waiting' d
+  twin_waits top waiting' short added spreads =
+      lowered_waits price g has face faces has_faces v heights names costs other x there (omega arith)
+      walk near top reach waiting waiting' d short spreads added
 
   -- it is of another face
   pub twin_same : slice_index after d ≡ slice_index (dart_heights g face heights) d
@@ -54,12 +59,14 @@ module _ (price : Pricing) (g : Named) (lawful : Lawful g.rows) (has : IsNamed g
       omega arith
 
 -- the twin is so low that no price lowers it as far as the bound
-pub crossed_already : (price : Pricing) (g : Named) (bound : ℕ) (heights : List ℕ) (d other : ℕ) → KeepsPromise price → other ≡ twin_name g d → min (slice_index heights other) bound ≤ slice_index heights d + 1
+pub crossed_already : (price : Pricing) (g : Named) (bound : ℕ) (heights : List ℕ) (d other : ℕ) → KeepsPromise price → other ≡ twin_name g d
+    → min (slice_index heights other) bound ≤ slice_index heights d + 1
     → IsCrossed price g bound heights d
 crossed_already price g bound heights d other promise is low p asked = grind arith
 
 -- and nor does its own price
-pub crossed_low : (price : Pricing) (g : Named) (bound : ℕ) (heights : List ℕ) (d other q : ℕ) → KeepsPromise price → Price price g.rows (dart_named g d) q → other ≡ twin_name g d
+pub crossed_low : (price : Pricing) (g : Named) (bound : ℕ) (heights : List ℕ) (d other q : ℕ) → KeepsPromise price → Price price g.rows (dart_named g d) q
+    → other ≡ twin_name g d
     → min (slice_index heights other) bound ≤ slice_index heights d + q → IsCrossed price g bound heights d
 crossed_low price g bound heights d other q promise priced is low p asked =
     let same = single_price price g.rows promise (dart_named g d) p q asked priced in

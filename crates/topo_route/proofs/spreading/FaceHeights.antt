@@ -1,5 +1,6 @@
 -- Heights of faces and of darts: what a list by labels says of the darts by their names, and how that changes where a face is lowered.
-use Rattle.std.proofs.Common.{◌≡◌, ◌≢◌, ℕ, ◌+◌, ◌-◌, ◌<◌, ◌≤◌, ◌==◌, ◌&&◌, Bool, true, false, cond, List, [], length, inl, inr, ◌⊎◌, refl, sym, ap, subst, ◌∙◌, arith, get_or-set_same, get_or-set_other}
+use Rattle.std.proofs.Common.{◌≡◌, ◌≢◌, ℕ, ◌+◌, ◌-◌, ◌<◌, ◌≤◌, ◌==◌, ◌&&◌, Bool, true, false, cond, List, [], length}
+use Rattle.std.proofs.Common.{inl, inr, ◌⊎◌, refl, sym, ap, subst, ◌∙◌, arith, get_or-set_same, get_or-set_other}
 use Rattle.std.specs.Prelude.{max, map, slice_index, slice_index_or}
 use Rattle.std.specs.List.{range_with_len}
 use Rattle.std.proofs.Math.ListN.{set}
@@ -64,10 +65,12 @@ module _ (g : Named) (face : ℕ → ℕ) (heights : List ℕ) where
     number_by_name k l = get_or_default_zero (dart_heights g face heights) k unreached (omega (arith, one_for_each, name_below g has k l)) ∙ height_by_name k l
 
     -- darts of one face have one height
-    pub one_height : (j k : ℕ) → IsName g j → IsName g k → face j ≡ face k → slice_index (dart_heights g face heights) j ≡ slice_index (dart_heights g face heights) k
+    pub one_height : (j k : ℕ) → IsName g j → IsName g k → face j ≡ face k
+        → slice_index (dart_heights g face heights) j ≡ slice_index (dart_heights g face heights) k
     one_height j k lj lk e = height_by_name j lj ∙ ap (number_at heights) e ∙ sym (height_by_name k lk)
 
-    pub one_number : (j k : ℕ) → IsName g j → IsName g k → face j ≡ face k → number_at (dart_heights g face heights) j ≡ number_at (dart_heights g face heights) k
+    pub one_number : (j k : ℕ) → IsName g j → IsName g k → face j ≡ face k
+        → number_at (dart_heights g face heights) j ≡ number_at (dart_heights g face heights) k
     one_number j k lj lk e = number_by_name j lj ∙ ap (number_at heights) e ∙ sym (number_by_name k lk)
 
   -- no height of a dart is above the greatest number
@@ -77,7 +80,8 @@ module _ (g : Named) (face : ℕ → ℕ) (heights : List ℕ) where
     | inl within ↦ elim (cases_Bool (is_name g k)) [
       | inr none ↦ omega (arith, not_named k within none)
       | inl h ↦
-          let here : slice_index (dart_heights g face heights) k ≡ number_at heights (face k) = dart_height k within ∙ ap (λ (b : Bool). cond {A = ℕ} b (number_at heights (face k)) unreached) h in
+          let here : slice_index (dart_heights g face heights) k ≡ number_at heights (face k) = dart_height k within
+          ∙ ap (λ (b : Bool). cond {A = ℕ} b (number_at heights (face k)) unreached) h in
           elim (cases_lt (face k) (length heights)) [
             | inl inside ↦ omega (arith, here, get_or_default_zero heights (face k) unreached inside, capped (face k))
             | inr out ↦ omega (arith, here, get_or_past heights (face k) unreached out)
@@ -108,7 +112,8 @@ module _ (g : Named) (has : IsNamed g) (face : ℕ → ℕ) (heights : List ℕ)
       | inr none ↦ not_named g face (set heights (face t) x) k low none ∙ sym (not_named g face heights k low none)
       | inl h ↦
           let l = name_of_test g k h in
-          height_by_name g face (set heights (face t) x) has k l ∙ get_or-set_other heights (face t) (face k) x unreached (ne l) ∙ sym (height_by_name g face heights has k l)
+          height_by_name g face (set heights (face t) x) has k l ∙ get_or-set_other heights (face t) (face k) x unreached (ne l)
+          ∙ sym (height_by_name g face heights has k l)
     ]
   ]
 

@@ -22,7 +22,8 @@ same_through f a b c g h = record {
 }
 
 -- a walk may start anywhere in its first face
-pub crosses_from : (rows : Rows) (c d : Dart) (xs : List Dart) (to : Dart) → SameFace (system rows) c d → Crosses (system rows) d xs to → Crosses (system rows) c xs to
+pub crosses_from : (rows : Rows) (c d : Dart) (xs : List Dart) (to : Dart) → SameFace (system rows) c d → Crosses (system rows) d xs to
+    → Crosses (system rows) c xs to
 crosses_from rows c d [] to same walk = same_through (face_step (system rows)) c d to same walk
 crosses_from rows c d (x ∷ xs) to same walk = (same_through (face_step (system rows)) c d x same walk.0, walk.1)
 

@@ -1,5 +1,6 @@
 -- Walks to the target, step by step, and what heights are once nothing waits.
-use Rattle.std.proofs.Common.{◌≡◌, ◌≢◌, ℕ, zero, suc, ◌+◌, ◌*◌, ◌^◌, ◌<◌, ◌≤◌, ◌==◌, Bool, true, cond, List, [], ◌∷◌, length, inl, inr, refl, sym, ap, subst, ◌∙◌, arith}
+use Rattle.std.proofs.Common.{◌≡◌, ◌≢◌, ℕ, zero, suc, ◌+◌, ◌*◌, ◌^◌, ◌<◌, ◌≤◌, ◌==◌, Bool, true, cond}
+use Rattle.std.proofs.Common.{List, [], ◌∷◌, length, inl, inr, refl, sym, ap, subst, ◌∙◌, arith}
 use Rattle.std.specs.Prelude.{slice_index}
 use Rattle.std.proofs.lemmas.Bool.{cases_Bool, cases_eq}
 use Rattle.std.proofs.lemmas.List.Sums.{sum_by-cons}
@@ -18,7 +19,8 @@ use Rattle.topo_route.specs.Names.{IsName, IsNamed, Named, dart_named, height_of
 use Rattle.topo_route.specs.Plans.{AreHeights, IsZeroAt}
 use Rattle.topo_route.specs.Settling.{AreCosts, IsSettled}
 use Rattle.topo_route.proofs.spreading.FaceWalks.{crosses_from}
-use Rattle.topo_route.proofs.names.Names.{back_round, dart_of_name, dart_of_twin, even_names, even_round, face_of_names, gentle_names, name_is, next_is, twin_back, twin_is, twin_price}
+use Rattle.topo_route.proofs.names.Names.{back_round, dart_of_name, dart_of_twin, even_names, even_round, face_of_names}
+use Rattle.topo_route.proofs.names.Names.{gentle_names, name_is, next_is, twin_back, twin_is, twin_price}
 use Rattle.topo_route.proofs.names.Numbers.{face_stays}
 
 module _ (price : Pricing) (g : Named) (lawful : Lawful g.rows) (has : IsNamed g) (v : ℕ) where
@@ -38,7 +40,8 @@ module _ (price : Pricing) (g : Named) (lawful : Lawful g.rows) (has : IsNamed g
       }
 
   -- the twin reaches it across the segment, at its price more
-  pub reaches_twin : (k h p : ℕ) → IsName g k → Price price g.rows (dart_named g k) p → Reaches price g.rows v (dart_named g k) h → Reaches price g.rows v (dart_named g (twin_name g k)) (p + h)
+  pub reaches_twin : (k h p : ℕ) → IsName g k → Price price g.rows (dart_named g k) p → Reaches price g.rows v (dart_named g k) h
+      → Reaches price g.rows v (dart_named g (twin_name g k)) (p + h)
   reaches_twin k h p l asked walk =
       let d = dart_named g k in
       let other : Price price g.rows (dart_twin d) p = record { facts = asked.facts; known = asked.known; asked = asked.asked } in
@@ -55,7 +58,8 @@ module _ (price : Pricing) (g : Named) (lawful : Lawful g.rows) (has : IsNamed g
 
 -- ---- When all are settled
 
-module _ (price : Pricing) (g : Named) (lawful : Lawful g.rows) (has : IsNamed g) (v : ℕ) (bound : ℕ) (heights : List ℕ) (top : (k : ℕ) → slice_index heights k ≤ bound) (meets : IsZeroAt g.rows v (height_of g heights))
+module _ (price : Pricing) (g : Named) (lawful : Lawful g.rows) (has : IsNamed g) (v : ℕ) (bound : ℕ) (heights : List ℕ)
+    (top : (k : ℕ) → slice_index heights k ≤ bound) (meets : IsZeroAt g.rows v (height_of g heights))
     (settled : (k : ℕ) → IsName g k → IsSettled price g bound heights k) where
   abbrev height : Dart → ℕ
   height = height_of g heights
@@ -71,19 +75,27 @@ module _ (price : Pricing) (g : Named) (lawful : Lawful g.rows) (has : IsNamed g
       let low = top (twin_name g (twin_name g k)) in omega arith
 
   pub certificate : IsCertificate price g.rows v height
-  certificate = record { even = even_names g lawful has (slice_index heights) even; gentle = gentle_names g lawful has (slice_index heights) price gentle; target = meets }
+  certificate = record {
+    even = even_names g lawful has (slice_index heights) even;
+    gentle = gentle_names g lawful has (slice_index heights) price gentle;
+    target = meets;
+  }
 
   module _ (promise : KeepsPromise price) (costs : AreCosts price g v heights) where
     cap : (d : Dart) → has_dart (darts g.rows) d ≡ true → height d ≢ unreached → height d ≤ 4294967296000
     cap d h ne = costs.bounded (g.name d) (name_is g has d h) ne
 
     -- a face from which a walk leads to the target is reached
-    is_reached : (xs : List Dart) (c to : Dart) (m : ℕ) → has_dart (darts g.rows) c ≡ true → Crosses (system g.rows) c xs to → Costs price g.rows xs m → height to ≡ 0 → height c ≢ unreached
+    is_reached : (xs : List Dart) (c to : Dart) (m : ℕ) → has_dart (darts g.rows) c ≡ true → Crosses (system g.rows) c xs to → Costs price g.rows xs m
+        → height to ≡ 0 → height c ≢ unreached
     is_reached [] c to m h walk cost zero_there e =
-        let one = face_height price g.rows (system g.rows) (darts g.rows) height (face_stays g.rows lawful) (twin_in g.rows) certificate.even certificate.gentle c to h walk in omega arith
+        let one = face_height price g.rows (system g.rows) (darts g.rows) height (face_stays g.rows lawful)
+        (twin_in g.rows) certificate.even certificate.gentle c to h walk in omega arith
     is_reached (x ∷ xs) c to m h walk cost zero_there e =
-        let one = face_height price g.rows (system g.rows) (darts g.rows) height (face_stays g.rows lawful) (twin_in g.rows) certificate.even certificate.gentle c x h walk.0 in
-        let there = face_in price g.rows (system g.rows) (darts g.rows) height (face_stays g.rows lawful) (twin_in g.rows) certificate.even certificate.gentle c x h walk.0 in
+        let one = face_height price g.rows (system g.rows) (darts g.rows) height (face_stays g.rows lawful)
+        (twin_in g.rows) certificate.even certificate.gentle c x h walk.0 in
+        let there = face_in price g.rows (system g.rows) (darts g.rows) height (face_stays g.rows lawful)
+        (twin_in g.rows) certificate.even certificate.gentle c x h walk.0 in
         let other = is_reached xs (dart_twin x) to cost.1 (twin_in g.rows x there) walk.1 cost.3 zero_there in
         let low = cap (dart_twin x) (twin_in g.rows x there) other in
         let climb = certificate.gentle x cost.0 there cost.2 in
@@ -94,7 +106,8 @@ module _ (price : Pricing) (g : Named) (lawful : Lawful g.rows) (has : IsNamed g
       | inl e ↦ inr (e, λ m walk. is_reached walk.crossed d walk.to m h walk.walk walk.cost (meets walk.position walk.to walk.ends) e)
       | inr ne ↦ inl (
         subst (λ c. Reaches price g.rows v c (height d)) (dart_of_name g has d h) (costs.costs (g.name d) (name_is g has d h) ne),
-        λ m walk. height_bounds price g.rows (system g.rows) (darts g.rows) height (face_stays g.rows lawful) (twin_in g.rows) certificate.even certificate.gentle
+        λ m walk. height_bounds price g.rows (system g.rows) (darts g.rows) height (face_stays g.rows lawful)
+            (twin_in g.rows) certificate.even certificate.gentle
             walk.crossed d walk.to m h walk.walk walk.cost (meets walk.position walk.to walk.ends),
       )
     ]

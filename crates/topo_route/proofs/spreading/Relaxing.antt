@@ -10,7 +10,8 @@ use Rattle.topo_core.specs.Picture.{corner}
 use Rattle.topo_core.specs.Routes.{KeepsPromise, Price, Pricing, Reaches}
 use Rattle.topo_route.specs.FaceHeights.{dart_heights}
 use Rattle.topo_route.specs.Names.{HasFaces, IsName, IsNamed, Named, dart_named, height_of, next_name, twin_name}
-use Rattle.topo_route.specs.Settling.{AreFaceCosts, AreLowered, AreSums, IsCrossed, IsReached, IsSettled, Relaxes, Spreads, is_pending, is_waiting, item_of, number_at, reach_of}
+use Rattle.topo_route.specs.Settling.{AreFaceCosts, AreLowered, AreSums, IsCrossed, IsReached, IsSettled}
+use Rattle.topo_route.specs.Settling.{Relaxes, Spreads, is_pending, is_waiting, item_of, number_at, reach_of}
 use Rattle.topo_route.proofs.spreading.Crossings.{twin_costs, twin_waits}
 use Rattle.topo_route.proofs.spreading.FaceHeights.{face_less, face_lowered, one_height}
 use Rattle.topo_route.proofs.spreading.FaceWalks.{face_after, next_face}
@@ -19,9 +20,11 @@ use Rattle.topo_route.proofs.spreading.Settled.{has_face, lowered_costs, lowered
 use Rattle.topo_route.proofs.spreading.Sums.{sums_lowered}
 use Rattle.topo_route.proofs.plans.Tests.{before_some}
 
-module _ (price : Pricing) (g : Named) (lawful : Lawful g.rows) (has : IsNamed g) (face : ℕ → ℕ) (faces : ℕ) (has_faces : HasFaces g face faces) (v : ℕ) (others : List ℕ) where
+module _ (price : Pricing) (g : Named) (lawful : Lawful g.rows) (has : IsNamed g) (face : ℕ → ℕ) (faces : ℕ) (has_faces : HasFaces g face faces) (v : ℕ)
+    (others : List ℕ) where
   -- one step after another
-  pub both_steps : {hs ns ws : List ℕ} {l d : ℕ} {hs' ns' ws' : List ℕ} {l' d' : ℕ} {hs'' ns'' ws'' : List ℕ} {l'' d'' : ℕ} → Relaxes price g face faces v others hs ns ws l d hs' ns' ws' l' d'
+  pub both_steps : {hs ns ws : List ℕ} {l d : ℕ} {hs' ns' ws' : List ℕ} {l' d' : ℕ} {hs'' ns'' ws'' : List ℕ} {l'' d'' : ℕ}
+      → Relaxes price g face faces v others hs ns ws l d hs' ns' ws' l' d'
       → Relaxes price g face faces v others hs' ns' ws' l' d' hs'' ns'' ws'' l'' d'' → Relaxes price g face faces v others hs ns ws l d hs'' ns'' ws'' l'' d''
   both_steps one two = record {
     spreads = λ top s. two.spreads top (one.spreads top s);
@@ -33,7 +36,8 @@ module _ (price : Pricing) (g : Named) (lawful : Lawful g.rows) (has : IsNamed g
   }
 
   -- none at all
-  pub no_step : (heights names waiting : List ℕ) (least d : ℕ) → AreFaceCosts price g face faces v heights names → AreSums g (dart_heights g face heights) (dart_heights g face others) least
+  pub no_step : (heights names waiting : List ℕ) (least d : ℕ) → AreFaceCosts price g face faces v heights names
+      → AreSums g (dart_heights g face heights) (dart_heights g face others) least
       → Relaxes price g face faces v others heights names waiting least d heights names waiting least d
   no_step heights names waiting least d costs sums = record {
     spreads = λ top s. s;
@@ -45,16 +49,20 @@ module _ (price : Pricing) (g : Named) (lawful : Lawful g.rows) (has : IsNamed g
   }
 
   -- a face is lowered and waits
-  lowered_relaxes : (heights names waiting waiting' : List ℕ) (least lower t x d : ℕ) → AreSums g (dart_heights g face heights) (dart_heights g face others) least → IsName g t → AreFaceCosts price g face faces v heights names
-      → x < slice_index (dart_heights g face heights) t → AreFaceCosts price g face faces v (set heights (face t) x) (set names (face t) t) → lower ≡ min least (x + number_at others (face t)) → length waiting' ≡ length waiting + 1
-      → ((top : ℕ → ℕ) → Spreads price g face faces v top (reach_of least) heights names waiting d → Spreads price g face faces v top (reach_of least) (set heights (face t) x) (set names (face t) t) waiting' d)
+  lowered_relaxes : (heights names waiting waiting' : List ℕ) (least lower t x d : ℕ)
+      → AreSums g (dart_heights g face heights) (dart_heights g face others) least → IsName g t → AreFaceCosts price g face faces v heights names
+      → x < slice_index (dart_heights g face heights) t → AreFaceCosts price g face faces v (set heights (face t) x) (set names (face t) t)
+      → lower ≡ min least (x + number_at others (face t)) → length waiting' ≡ length waiting + 1
+      → ((top : ℕ → ℕ) → Spreads price g face faces v top (reach_of least) heights names waiting d
+      → Spreads price g face faces v top (reach_of least) (set heights (face t) x) (set names (face t) t) waiting' d)
       → Relaxes price g face faces v others heights names waiting least d (set heights (face t) x) (set names (face t) t) waiting' lower d
   lowered_relaxes heights names waiting waiting' least lower t x d sums there costs low now is longer waits =
       let within = has_face has_faces costs t there in
       let at = of_face price g has face faces has_faces v heights names costs t there in
       let less = passed_effort heights waiting (face t) x within (omega arith) in
       record {
-        spreads = λ top s. narrowed price g face faces v (set heights (face t) x) (set names (face t) t) waiting' top top (reach_of least) (reach_of lower) d (waits top s) (λ k. omega arith) (omega arith);
+        spreads = λ top s. narrowed price g face faces v (set heights (face t) x) (set names (face t) t) waiting' top top (reach_of least)
+            (reach_of lower) d (waits top s) (λ k. omega arith) (omega arith);
         costs = now;
         sums = sums_lowered g has face heights others least t x lower there within (omega arith) sums is;
         less = omega arith;
@@ -63,34 +71,45 @@ module _ (price : Pricing) (g : Named) (lawful : Lawful g.rows) (has : IsNamed g
       }
 
   -- the face of the twin of a dart of the face in hand
-  pub twin_relaxes : (heights names waiting waiting' : List ℕ) (least lower d other p : ℕ) → AreSums g (dart_heights g face heights) (dart_heights g face others) least → AreFaceCosts price g face faces v heights names
+  pub twin_relaxes : (heights names waiting waiting' : List ℕ) (least lower d other p : ℕ)
+      → AreSums g (dart_heights g face heights) (dart_heights g face others) least → AreFaceCosts price g face faces v heights names
       → IsReached g (dart_heights g face heights) d → KeepsPromise price → Price price g.rows (dart_named g d) p → other ≡ twin_name g d → IsName g other
       → slice_index (dart_heights g face heights) d + p < min (slice_index (dart_heights g face heights) other) (reach_of least) → other < 2 ^ 32
       → lower ≡ min least (slice_index (dart_heights g face heights) d + p + number_at others (face other))
-      → ((i : ℕ) → is_waiting waiting' i ≡ (item_of other (slice_index (dart_heights g face heights) d + p) == i || is_waiting waiting i)) → length waiting' ≡ length waiting + 1
-      → Relaxes price g face faces v others heights names waiting least d (set heights (face other) (slice_index (dart_heights g face heights) d + p)) (set names (face other) other) waiting' lower d
+      → ((i : ℕ) → is_waiting waiting' i ≡ (item_of other (slice_index (dart_heights g face heights) d + p) == i || is_waiting waiting i))
+      → length waiting' ≡ length waiting + 1
+      → Relaxes price g face faces v others heights names waiting least d (set heights (face other) (slice_index (dart_heights g face heights) d + p))
+      (set names (face other) other) waiting' lower d
   twin_relaxes heights names waiting waiting' least lower d other p sums costs in_hand promise asked is there low short least_is added longer =
       lowered_relaxes heights names waiting waiting' least lower other (slice_index (dart_heights g face heights) d + p) d sums there costs (omega arith)
-      (twin_costs price g lawful has face faces has_faces v (reach_of least) heights names waiting d other p costs in_hand promise asked is there low) least_is longer
-      (λ top s. twin_waits price g lawful has face faces has_faces v (reach_of least) heights names waiting d other p costs in_hand promise asked is there low top waiting' short added s)
+      (twin_costs price g lawful has face faces has_faces v (reach_of least) heights names waiting d other p costs in_hand promise asked is there low)
+      least_is longer
+      (λ top s. twin_waits price g lawful has face faces has_faces v (reach_of least)
+      heights names waiting d other p costs in_hand promise asked is there low top waiting' short added s)
 
   -- ---- Round the face in hand
 
   -- crossed darts stay crossed while heights and the reach fall, where their own heights do not
-  pub still_crossed : (heights heights' : List ℕ) (reach reach' k : ℕ) → AreLowered heights heights' → reach' ≤ reach → slice_index heights' k ≡ slice_index heights k → IsCrossed price g reach heights k → IsCrossed price g reach' heights' k
+  pub still_crossed : (heights heights' : List ℕ) (reach reach' k : ℕ) → AreLowered heights heights' → reach' ≤ reach
+      → slice_index heights' k ≡ slice_index heights k → IsCrossed price g reach heights k → IsCrossed price g reach' heights' k
   still_crossed heights heights' reach reach' k lower less same crossed p asked = let was = crossed p asked in omega (arith, lower (twin_name g k))
 
   -- a dart that the walk meets has the height of the face
-  pub at_height : (heights : List ℕ) (n d at h : ℕ) → IsName g d → IsName g at → at ≡ after (next_name g) n d → slice_index (dart_heights g face heights) d ≡ h → slice_index (dart_heights g face heights) at ≡ h
-  at_height heights n d at h there here place is = one_height g face heights has at d here there (ap face place ∙ face_after g lawful has face faces has_faces n d there) ∙ is
+  pub at_height : (heights : List ℕ) (n d at h : ℕ) → IsName g d → IsName g at → at ≡ after (next_name g) n d → slice_index (dart_heights g face heights) d ≡ h
+      → slice_index (dart_heights g face heights) at ≡ h
+  at_height heights n d at h there here place is =
+      one_height g face heights has at d here there (ap face place ∙ face_after g lawful has face faces has_faces n d there) ∙ is
 
   -- one more dart of the face has been crossed, and their heights are what they were
-  pub crossed_on : (heights heights' : List ℕ) (least least' n d at : ℕ) → IsName g d → at ≡ after (next_name g) n d → AreLowered (dart_heights g face heights) (dart_heights g face heights') → least' ≤ least
+  pub crossed_on : (heights heights' : List ℕ) (least least' n d at : ℕ) → IsName g d → at ≡ after (next_name g) n d
+      → AreLowered (dart_heights g face heights) (dart_heights g face heights') → least' ≤ least
       → slice_index (dart_heights g face heights') at ≡ slice_index (dart_heights g face heights) d
-      → ((j : ℕ) → j < n → IsCrossed price g (reach_of least) (dart_heights g face heights) (after (next_name g) j d)) → IsCrossed price g (reach_of least') (dart_heights g face heights') at
+      → ((j : ℕ) → j < n → IsCrossed price g (reach_of least) (dart_heights g face heights) (after (next_name g) j d))
+      → IsCrossed price g (reach_of least') (dart_heights g face heights') at
       → (j : ℕ) → j < n + 1 → IsCrossed price g (reach_of least') (dart_heights g face heights') (after (next_name g) j d)
   crossed_on heights heights' least least' n d at there place lower less same so_far here j within = elim (cases_lt j n) [
-    | inr last ↦ let is : n ≡ j = omega arith in subst (IsCrossed price g (reach_of least') (dart_heights g face heights')) (place ∙ ap (λ i. after (next_name g) i d) is) here
+    | inr last ↦ let is : n ≡ j = omega arith in
+        subst (IsCrossed price g (reach_of least') (dart_heights g face heights')) (place ∙ ap (λ i. after (next_name g) i d) is) here
     | inl earlier ↦
         let k = after (next_name g) j d in
         let l = after_is g lawful has j d there in
@@ -102,7 +121,8 @@ module _ (price : Pricing) (g : Named) (lawful : Lawful g.rows) (has : IsNamed g
   ]
 
   -- another dart of the face may be said to be in hand
-  hand_over : (top : ℕ → ℕ) (reach : ℕ) (heights names waiting : List ℕ) (d at : ℕ) → IsName g at → face at ≡ face d → Spreads price g face faces v top reach heights names waiting d
+  hand_over : (top : ℕ → ℕ) (reach : ℕ) (heights names waiting : List ℕ) (d at : ℕ) → IsName g at → face at ≡ face d
+      → Spreads price g face faces v top reach heights names waiting d
       → Spreads price g face faces v top reach heights names waiting at
   hand_over top reach heights names waiting d at there same spreads = record {
     costs = spreads.costs;
@@ -110,10 +130,12 @@ module _ (price : Pricing) (g : Named) (lawful : Lawful g.rows) (has : IsNamed g
     reached_waits = spreads.reached_waits;
   }
 
-  pub same_hand : {hs ns ws : List ℕ} {l : ℕ} {hs' ns' ws' : List ℕ} {l' : ℕ} (d at : ℕ) → IsName g d → IsName g at → face at ≡ face d → Relaxes price g face faces v others hs ns ws l at hs' ns' ws' l' at
+  pub same_hand : {hs ns ws : List ℕ} {l : ℕ} {hs' ns' ws' : List ℕ} {l' : ℕ} (d at : ℕ) → IsName g d → IsName g at → face at ≡ face d
+      → Relaxes price g face faces v others hs ns ws l at hs' ns' ws' l' at
       → Relaxes price g face faces v others hs ns ws l d hs' ns' ws' l' d
   same_hand {hs} {ns} {ws} {l} {hs'} {ns'} {ws'} {l'} d at there here same relaxes = record {
-    spreads = λ top s. hand_over top (reach_of l') hs' ns' ws' at d there (sym same) (relaxes.spreads top (hand_over top (reach_of l) hs ns ws d at here same s));
+    spreads = λ top s. hand_over top (reach_of l') hs' ns' ws' at d there (sym same)
+        (relaxes.spreads top (hand_over top (reach_of l) hs ns ws d at here same s));
     costs = relaxes.costs;
     sums = relaxes.sums;
     less = relaxes.less;
@@ -122,7 +144,8 @@ module _ (price : Pricing) (g : Named) (lawful : Lawful g.rows) (has : IsNamed g
   }
 
   -- the face in hand is settled
-  pub put_down_relaxes : (heights names waiting : List ℕ) (least d : ℕ) → IsName g d → AreFaceCosts price g face faces v heights names → AreSums g (dart_heights g face heights) (dart_heights g face others) least
+  pub put_down_relaxes : (heights names waiting : List ℕ) (least d : ℕ) → IsName g d → AreFaceCosts price g face faces v heights names
+      → AreSums g (dart_heights g face heights) (dart_heights g face others) least
       → ((k : ℕ) → IsName g k → face k ≡ face d → IsCrossed price g (reach_of least) (dart_heights g face heights) k)
       → Relaxes price g face faces v others heights names waiting least d heights names waiting least g.size
   put_down_relaxes heights names waiting least d there costs sums crossed = record {
@@ -140,14 +163,19 @@ module _ (price : Pricing) (g : Named) (lawful : Lawful g.rows) (has : IsNamed g
   -- ---- The start
 
   -- a corner of the end gets height 0 and waits
-  module _ (heights names waiting waiting' : List ℕ) (least lower i c : ℕ) (costs : AreFaceCosts price g face faces v heights names) (sums : AreSums g (dart_heights g face heights) (dart_heights g face others) least) (there : IsName g c)
+  module _ (heights names waiting waiting' : List ℕ) (least lower i c : ℕ) (costs : AreFaceCosts price g face faces v heights names)
+      (sums : AreSums g (dart_heights g face heights) (dart_heights g face others) least) (there : IsName g c)
       (at : corner g.rows v i ≡ Some (dart_named g c)) (high : 0 < slice_index (dart_heights g face heights) c) (short : c < 2 ^ 32) where
-    pub started : lower ≡ min least (number_at others (face c)) → ((i : ℕ) → is_waiting waiting' i ≡ (item_of c 0 == i || is_waiting waiting i)) → length waiting' ≡ length waiting + 1
+    pub started : lower ≡ min least (number_at others (face c)) → ((i : ℕ) → is_waiting waiting' i ≡ (item_of c 0 == i || is_waiting waiting i))
+        → length waiting' ≡ length waiting + 1
         → Relaxes price g face faces v others heights names waiting least g.size (set heights (face c) 0) (set names (face c) c) waiting' lower g.size
     started is added longer =
-        let walk : Reaches price g.rows v (dart_named g c) 0 = record { crossed = []; position = i; to = dart_named g c; ends = at; walk = record { steps = 0; leads = refl }; cost = refl } in
-        lowered_relaxes heights names waiting waiting' least lower c 0 g.size sums there costs high (lowered_costs price g has face faces has_faces v heights names costs c 0 there high walk (omega arith)) (omega arith) longer
-        (λ top s. lowered_waits price g has face faces has_faces v heights names costs c 0 there high walk (omega arith) top (reach_of least) waiting waiting' g.size short s added)
+        let walk : Reaches price g.rows v (dart_named g c) 0 =
+        record { crossed = []; position = i; to = dart_named g c; ends = at; walk = record { steps = 0; leads = refl }; cost = refl } in
+        lowered_relaxes heights names waiting waiting' least lower c 0 g.size sums there costs high
+        (lowered_costs price g has face faces has_faces v heights names costs c 0 there high walk (omega arith)) (omega arith) longer
+        (λ top s. lowered_waits price g has face faces has_faces v heights names costs c 0 there high walk (omega arith) top (reach_of least)
+        waiting waiting' g.size short s added)
 
     pub started_zero : ((p : ℕ) (d : Dart) → p < i → corner g.rows v p ≡ Some d → height_of g (dart_heights g face heights) d ≡ 0)
         → (p : ℕ) (d : Dart) → p < i + 1 → corner g.rows v p ≡ Some d → height_of g (dart_heights g face (set heights (face c) 0)) d ≡ 0
@@ -158,17 +186,21 @@ module _ (price : Pricing) (g : Named) (lawful : Lawful g.rows) (has : IsNamed g
         (λ p d l here. let was = before p d l here in let less = face_less g has face heights c 0 within there (omega arith) (g.name d) in omega arith)
 
   -- a face is taken from those that wait, and relaxed
-  pub taken_relaxes : (top lower : ℕ → ℕ) {hs ns ws after : List ℕ} {l d : ℕ} {hs' ns' ws' : List ℕ} {l' : ℕ} → g.size < 2 ^ 32 → ((j k : ℕ) → IsName g j → IsName g k → face j ≡ face k → top j ≡ top k)
+  pub taken_relaxes : (top lower : ℕ → ℕ) {hs ns ws after : List ℕ} {l d : ℕ} {hs' ns' ws' : List ℕ} {l' : ℕ} → g.size < 2 ^ 32
+      → ((j k : ℕ) → IsName g j → IsName g k → face j ≡ face k → top j ≡ top k)
       → Spreads price g face faces v top (reach_of l) hs ns ws g.size → IsName g d
-      → ((k : ℕ) → k < 2 ^ 32 → IsName g k → slice_index (dart_heights g face hs) k < top k → k ≢ d → is_pending (dart_heights g face hs) after k ≡ is_pending (dart_heights g face hs) ws k)
-      → ((item : ℕ) → is_waiting after item ≡ true → is_waiting ws item ≡ true) → Relaxes price g face faces v others hs ns after l d hs' ns' ws' l' g.size → ((k : ℕ) → lower k ≤ top k)
+      → ((k : ℕ) → k < 2 ^ 32 → IsName g k → slice_index (dart_heights g face hs) k < top k → k ≢ d
+      → is_pending (dart_heights g face hs) after k ≡ is_pending (dart_heights g face hs) ws k)
+      → ((item : ℕ) → is_waiting after item ≡ true → is_waiting ws item ≡ true) → Relaxes price g face faces v others hs ns after l d hs' ns' ws' l' g.size
+      → ((k : ℕ) → lower k ≤ top k)
       → Spreads price g face faces v lower (reach_of l') hs' ns' ws' g.size
   taken_relaxes top lower {hs} {ns} {ws} {after} {l} {d} {hs'} {ns'} {ws'} {l'} small even spreads there same fewer relaxes low =
       narrowed price g face faces v hs' ns' ws' top lower (reach_of l') (reach_of l') g.size
       (relaxes.spreads top (taken_up price g face faces v hs ns ws has small top (reach_of l) even spreads after d there same fewer)) low (omega arith)
 
   -- what it leads to, by another name
-  pub renamed : {hs ns ws : List ℕ} {l d : ℕ} {hs' ns' ws' : List ℕ} {l' d' : ℕ} (hs'' ns'' ws'' : List ℕ) (l'' : ℕ) → hs'' ≡ hs' → ns'' ≡ ns' → ws'' ≡ ws' → l'' ≡ l'
+  pub renamed : {hs ns ws : List ℕ} {l d : ℕ} {hs' ns' ws' : List ℕ} {l' d' : ℕ} (hs'' ns'' ws'' : List ℕ) (l'' : ℕ) → hs'' ≡ hs' → ns'' ≡ ns'
+      → ws'' ≡ ws' → l'' ≡ l'
       → Relaxes price g face faces v others hs ns ws l d hs' ns' ws' l' d' → Relaxes price g face faces v others hs ns ws l d hs'' ns'' ws'' l'' d'
   renamed {hs} {ns} {ws} {l} {d} {hs'} {ns'} {ws'} {l'} {d'} hs'' ns'' ws'' l'' h n w m relaxes =
       subst (λ (x : List ℕ). Relaxes price g face faces v others hs ns ws l d x ns'' ws'' l'' d') (sym h)

@@ -1,5 +1,6 @@
 -- How heights spread: faces are lowered, wait and are settled, said of darts by their names.
-use Rattle.std.proofs.Common.{◌≡◌, ◌≢◌, ℕ, ◌+◌, ◌*◌, ◌^◌, ◌<◌, ◌≤◌, ◌||◌, ◌==◌, Bool, true, false, cond, List, length, inl, inr, refl, sym, ap, subst, ◌∙◌, arith, get_or-set_same, get_or-set_other}
+use Rattle.std.proofs.Common.{◌≡◌, ◌≢◌, ℕ, ◌+◌, ◌*◌, ◌^◌, ◌<◌, ◌≤◌, ◌||◌, ◌==◌, Bool, true, false, cond, List}
+use Rattle.std.proofs.Common.{length, inl, inr, refl, sym, ap, subst, ◌∙◌, arith, get_or-set_same, get_or-set_other}
 use Rattle.std.specs.Prelude.{slice_index, sum_by}
 use Rattle.std.proofs.Math.ListN.{set}
 use Rattle.std.proofs.lemmas.Bool.{cases_eq, cases_lt, eqb-true, eq-eqb, ne_eqb, false≢true}
@@ -10,7 +11,8 @@ use Rattle.topo_core.proofs.numbering.NumberOrder.{either}
 use Rattle.topo_route.specs.FaceHeights.{AreLabelled, dart_heights}
 use Rattle.topo_route.specs.Names.{HasFaces, IsName, IsNamed, Named, dart_named, height_of, next_name, twin_name}
 use Rattle.topo_route.specs.Plans.{IsZeroAt}
-use Rattle.topo_route.specs.Settling.{AreCosts, AreFaceCosts, AreLowered, IsCrossed, IsReached, IsSettled, Spreads, dart_of_item, effort, is_pending, is_waiting, item_of, reached}
+use Rattle.topo_route.specs.Settling.{AreCosts, AreFaceCosts, AreLowered, IsCrossed, IsReached, IsSettled}
+use Rattle.topo_route.specs.Settling.{Spreads, dart_of_item, effort, is_pending, is_waiting, item_of, reached}
 use Rattle.topo_route.proofs.spreading.FaceHeights.{dart_capped, face_less, face_lowered, face_other, height_by_face, one_for_each, one_height, reached_named}
 use Rattle.topo_route.proofs.spreading.FaceWalks.{crosses_from}
 use Rattle.topo_route.proofs.spreading.Fits.{counts, reached_within}
@@ -60,10 +62,12 @@ module _ (heights : List ℕ) (t x : ℕ) (within : t < length heights) where
 -- ---- Faces and their labels
 
 -- labels have a height for each dart's face
-pub has_face : {price : Pricing} {g : Named} {face : ℕ → ℕ} {faces v : ℕ} {heights names : List ℕ} → HasFaces g face faces → AreFaceCosts price g face faces v heights names → (k : ℕ) → IsName g k → face k < length heights
+pub has_face : {price : Pricing} {g : Named} {face : ℕ → ℕ} {faces v : ℕ} {heights names : List ℕ} → HasFaces g face faces
+    → AreFaceCosts price g face faces v heights names → (k : ℕ) → IsName g k → face k < length heights
 has_face has_faces costs k l = omega (arith, costs.labelled.one_each, has_faces.within k l)
 
-module _ (price : Pricing) (g : Named) (has : IsNamed g) (face : ℕ → ℕ) (faces : ℕ) (has_faces : HasFaces g face faces) (v : ℕ) (heights names : List ℕ) (costs : AreFaceCosts price g face faces v heights names) where
+module _ (price : Pricing) (g : Named) (has : IsNamed g) (face : ℕ → ℕ) (faces : ℕ) (has_faces : HasFaces g face faces) (v : ℕ) (heights names : List ℕ)
+    (costs : AreFaceCosts price g face faces v heights names) where
   abbrev of_darts : List ℕ
   of_darts = dart_heights g face heights
 
@@ -74,7 +78,8 @@ module _ (price : Pricing) (g : Named) (has : IsNamed g) (face : ℕ → ℕ) (f
   pub near_dart : (k : ℕ) → IsName g k → slice_index of_darts k ≢ unreached → slice_index of_darts k ≤ 1000 * reached heights
   near_dart k l some = let is = of_face k l in let near = costs.bounded (face k) (has_faces.within k l) (λ e. some (is ∙ e)) in omega arith
 
-  module _ (t x : ℕ) (there : IsName g t) (low : x < slice_index of_darts t) (walk : Reaches price g.rows v (dart_named g t) x) (near : x ≤ 1000 * reached heights + 1000) where
+  module _ (t x : ℕ) (there : IsName g t) (low : x < slice_index of_darts t) (walk : Reaches price g.rows v (dart_named g t) x)
+      (near : x ≤ 1000 * reached heights + 1000) where
     abbrev heights' : List ℕ
     heights' = set heights (face t) x
 
@@ -91,7 +96,8 @@ module _ (price : Pricing) (g : Named) (has : IsNamed g) (face : ℕ → ℕ) (f
     low_face = omega (arith, of_face t there)
 
     pub face_near : (f : ℕ) → f < faces → slice_index heights' f ≢ unreached → slice_index heights' f ≤ 1000 * reached heights'
-    face_near f l = grind (arith, cases_eq, inside, low_face, lowered_there, lowered_other, lowered_more, some, lowered_reached, counts_unreached, costs.bounded f l)
+    face_near f l = grind
+        (arith, cases_eq, inside, low_face, lowered_there, lowered_other, lowered_more, some, lowered_reached, counts_unreached, costs.bounded f l)
 
     face_capped : (f : ℕ) → slice_index heights' f ≤ unreached
     face_capped f = let cap = costs.capped f in let less = lowered_less heights (face t) x inside f (omega (arith, low_face)) in omega arith
@@ -105,7 +111,8 @@ module _ (price : Pricing) (g : Named) (has : IsNamed g) (face : ℕ → ℕ) (f
           as_many = omega (arith, length-set names (face t) t, was.as_many);
           named = λ f l reached. elim (cases_eq f (face t)) [
             | inl e ↦ subst (IsName g) (sym (ap (slice_index (set names (face t) t)) e ∙ lowered_there names (face t) t room)) there
-            | inr ne ↦ subst (IsName g) (sym (lowered_other names (face t) t room f ne)) (was.named f l (λ e. reached (lowered_other heights (face t) x inside f ne ∙ e)))
+            | inr ne ↦ subst (IsName g) (sym (lowered_other names (face t) t room f ne))
+                (was.named f l (λ e. reached (lowered_other heights (face t) x inside f ne ∙ e)))
           ];
           inside = λ f l reached. elim (cases_eq f (face t)) [
             | inl e ↦ ap face (ap (slice_index (set names (face t) t)) e ∙ lowered_there names (face t) t room) ∙ sym e
@@ -159,19 +166,23 @@ module _ (price : Pricing) (g : Named) (has : IsNamed g) (face : ℕ → ℕ) (f
         )
 
     -- the face is lowered, and its dart t waits
-    pub lowered_waits : (top : ℕ → ℕ) (reach : ℕ) (waiting waiting' : List ℕ) (in_hand : ℕ) → t < 2 ^ 32 → Spreads price g face faces v top reach heights names waiting in_hand
-        → ((i : ℕ) → is_waiting waiting' i ≡ (item_of t x == i || is_waiting waiting i)) → Spreads price g face faces v top reach heights' (set names (face t) t) waiting' in_hand
+    pub lowered_waits : (top : ℕ → ℕ) (reach : ℕ) (waiting waiting' : List ℕ) (in_hand : ℕ) → t < 2 ^ 32
+        → Spreads price g face faces v top reach heights names waiting in_hand
+        → ((i : ℕ) → is_waiting waiting' i ≡ (item_of t x == i || is_waiting waiting i))
+        → Spreads price g face faces v top reach heights' (set names (face t) t) waiting' in_hand
     lowered_waits top reach waiting waiting' in_hand short spreads added = record {
       costs = lowered_costs;
       others = λ k l ne less idle.
-          let own : is_waiting waiting' (item_of t x) ≡ true = added (item_of t x) ∙ ap (λ b. b || is_waiting waiting (item_of t x)) (eq-eqb (item_of t x) (item_of t x) refl) in
+          let own : is_waiting waiting' (item_of t x) ≡ true = added (item_of t x)
+          ∙ ap (λ b. b || is_waiting waiting (item_of t x)) (eq-eqb (item_of t x) (item_of t x) refl) in
           let here = face_lowered g has face heights t x inside t there refl in
           let apart : face k ≢ face t = λ e. false≢true (sym (idle t there (sym e)) ∙ ap (λ h. is_waiting waiting' (item_of t h)) here ∙ own) in
           let same = face_other g has face heights t x inside k (λ l. apart) in
           lowered_settled reach k (λ l. apart) (spreads.others k l ne (omega arith) (λ j lj e.
-              let still = face_other g has face heights t x inside j (λ l. λ c. apart (sym e ∙ c)) in
-              let item = item_of j (slice_index of_darts j) in
-              (either_false (item_of t x == item) (is_waiting waiting item) (sym (added item) ∙ ap (λ h. is_waiting waiting' (item_of j h)) (sym still) ∙ idle j lj e)).1));
+          let still = face_other g has face heights t x inside j (λ l. λ c. apart (sym e ∙ c)) in
+          let item = item_of j (slice_index of_darts j) in
+          (either_false (item_of t x == item) (is_waiting waiting item)
+          (sym (added item) ∙ ap (λ h. is_waiting waiting' (item_of j h)) (sym still) ∙ idle j lj e)).1));
       reached_waits = λ item waits. elim (either (item_of t x == item) (is_waiting waiting item) (sym (added item) ∙ waits)) [
         | inl here ↦
             let is : t ≡ dart_of_item item = sym (dart_of_own t x short) ∙ ap dart_of_item (eqb-true (item_of t x) item here) in (
@@ -195,7 +206,8 @@ module _ (price : Pricing) (g : Named) (has : IsNamed g) (face : ℕ → ℕ) (f
   }
 
 -- what is settled is settled as far as a lower reach
-pub settled_nearer : (price : Pricing) (g : Named) (reach nearer : ℕ) (heights : List ℕ) (k : ℕ) → nearer ≤ reach → IsSettled price g reach heights k → IsSettled price g nearer heights k
+pub settled_nearer : (price : Pricing) (g : Named) (reach nearer : ℕ) (heights : List ℕ) (k : ℕ) → nearer ≤ reach → IsSettled price g reach heights k
+    → IsSettled price g nearer heights k
 settled_nearer price g reach nearer heights k near (face, crossed) = (face, λ p asked. let climb = crossed p asked in omega arith)
 
 module _ (price : Pricing) (g : Named) (face : ℕ → ℕ) (faces v : ℕ) (heights names waiting : List ℕ) where
@@ -212,7 +224,8 @@ module _ (price : Pricing) (g : Named) (face : ℕ → ℕ) (faces v : ℕ) (hei
   }
 
   -- what waits is of darts, and has been reached
-  pub waits_named : (top : ℕ → ℕ) (reach : ℕ) (in_hand : ℕ) → Spreads price g face faces v top reach heights names waiting in_hand → (item : ℕ) → is_waiting waiting item ≡ true → IsName g (dart_of_item item)
+  pub waits_named : (top : ℕ → ℕ) (reach : ℕ) (in_hand : ℕ) → Spreads price g face faces v top reach heights names waiting in_hand → (item : ℕ)
+      → is_waiting waiting item ≡ true → IsName g (dart_of_item item)
   waits_named top reach in_hand spreads item waits = (spreads.reached_waits item waits).0
 
   pub taken_reached : (top : ℕ → ℕ) (reach : ℕ) (in_hand d : ℕ) → d < 2 ^ 32 → Spreads price g face faces v top reach heights names waiting in_hand
@@ -227,24 +240,29 @@ module _ (price : Pricing) (g : Named) (face : ℕ → ℕ) (faces v : ℕ) (hei
     below_top j k lj lk e less = omega (arith, one_height g face heights has j k lj lk e, even j k lj lk e)
 
     -- a face is taken from those that wait
-    pub taken_up : (left : List ℕ) (d : ℕ) → IsName g d → ((k : ℕ) → k < 2 ^ 32 → IsName g k → slice_index high k < top k → k ≢ d → is_pending high left k ≡ is_pending high waiting k)
+    pub taken_up : (left : List ℕ) (d : ℕ) → IsName g d
+        → ((k : ℕ) → k < 2 ^ 32 → IsName g k → slice_index high k < top k → k ≢ d → is_pending high left k ≡ is_pending high waiting k)
         → ((item : ℕ) → is_waiting left item ≡ true → is_waiting waiting item ≡ true) → Spreads price g face faces v top reach heights names left d
     taken_up left d there same fewer = record {
       costs = spreads.costs;
       others = λ k l ne less idle.
           let within = name_below g has d there in
           spreads.others k l (λ none. absurd (omega arith)) less (λ j lj e.
-              let below = name_below g has j lj in
-              sym (same j (omega arith) lj (below_top j k lj l e less) (λ is. ne within (sym e ∙ ap face is))) ∙ idle j lj e);
+          let below = name_below g has j lj in
+          sym (same j (omega arith) lj (below_top j k lj l e less) (λ is. ne within (sym e ∙ ap face is))) ∙ idle j lj e);
       reached_waits = λ item waits. spreads.reached_waits item (fewer item waits);
     }
 
     -- none waits with its height, so all below their tops are settled
-    pub all_settled : ((k : ℕ) → k < 2 ^ 32 → IsName g k → slice_index high k < top k → is_pending high waiting k ≡ false) → (k : ℕ) → IsName g k → slice_index high k < top k → IsSettled price g reach high k
-    all_settled none k l less = spreads.others k l (λ none. absurd (omega arith)) less (λ j lj e. let below = name_below g has j lj in none j (omega arith) lj (below_top j k lj l e less))
+    pub all_settled : ((k : ℕ) → k < 2 ^ 32 → IsName g k → slice_index high k < top k → is_pending high waiting k ≡ false) → (k : ℕ) → IsName g k
+        → slice_index high k < top k → IsSettled price g reach high k
+    all_settled none k l less =
+        spreads.others k l (λ none. absurd (omega arith)) less
+        (λ j lj e. let below = name_below g has j lj in none j (omega arith) lj (below_top j k lj l e less))
 
     -- and whatever is left of it still spreads
-    pub emptied : (left : List ℕ) → ((k : ℕ) → k < 2 ^ 32 → IsName g k → slice_index high k < top k → is_pending high waiting k ≡ false) → ((item : ℕ) → is_waiting left item ≡ true → is_waiting waiting item ≡ true)
+    pub emptied : (left : List ℕ) → ((k : ℕ) → k < 2 ^ 32 → IsName g k → slice_index high k < top k → is_pending high waiting k ≡ false)
+        → ((item : ℕ) → is_waiting left item ≡ true → is_waiting waiting item ≡ true)
         → Spreads price g face faces v top reach heights names left g.size
     emptied left none fewer = record {
       costs = spreads.costs;
@@ -254,16 +272,19 @@ module _ (price : Pricing) (g : Named) (face : ℕ → ℕ) (faces v : ℕ) (hei
 
 -- what is not reached is settled
 pub every_settled : (price : Pricing) (g : Named) (v : ℕ) (heights : List ℕ) → AreCosts price g v heights
-    → ((k : ℕ) → IsName g k → slice_index heights k < unreached → IsSettled price g unreached heights k) → (k : ℕ) → IsName g k → IsSettled price g unreached heights k
+    → ((k : ℕ) → IsName g k → slice_index heights k < unreached → IsSettled price g unreached heights k) → (k : ℕ) → IsName g k
+    → IsSettled price g unreached heights k
 every_settled price g v heights costs settled k l = elim (cases_lt (slice_index heights k) unreached) [
   | inl less ↦ settled k l less
   | inr high ↦ ((let cap = costs.capped (next_name g k) in omega arith), (λ p e. let cap = costs.capped (twin_name g k) in omega arith))
 ]
 
 -- lower heights meet the target where higher ones did
-pub meets_lower : (g : Named) (v : ℕ) (before after : List ℕ) → AreLowered before after → IsZeroAt g.rows v (height_of g before) → IsZeroAt g.rows v (height_of g after)
+pub meets_lower : (g : Named) (v : ℕ) (before after : List ℕ) → AreLowered before after → IsZeroAt g.rows v (height_of g before)
+    → IsZeroAt g.rows v (height_of g after)
 meets_lower g v before after lower meets p c at = omega (arith, lower (g.name c), meets p c at)
 
 -- a step falls
-pub passed_effort : (heights waiting : List ℕ) (t x : ℕ) → t < length heights → x < slice_index heights t → effort (set heights t x) waiting < effort heights waiting
+pub passed_effort : (heights waiting : List ℕ) (t x : ℕ) → t < length heights → x < slice_index heights t
+    → effort (set heights t x) waiting < effort heights waiting
 passed_effort heights waiting t x within low = let e = lowered_sum heights t x within in omega arith

@@ -12,7 +12,8 @@ use Rattle.topo_route.proofs.spreading.FaceHeights.{face_less, face_lowered, fac
 use Rattle.topo_route.proofs.names.Names.{name_below}
 
 -- one face is lowered
-pub sums_lowered : (g : Named) (has : IsNamed g) (face : ℕ → ℕ) (heights others : List ℕ) (least t x lower : ℕ) → IsName g t → face t < length heights → x ≤ slice_index (dart_heights g face heights) t
+pub sums_lowered : (g : Named) (has : IsNamed g) (face : ℕ → ℕ) (heights others : List ℕ) (least t x lower : ℕ) → IsName g t → face t < length heights
+    → x ≤ slice_index (dart_heights g face heights) t
     → AreSums g (dart_heights g face heights) (dart_heights g face others) least → lower ≡ min least (x + number_at others (face t))
     → AreSums g (dart_heights g face (set heights (face t) x)) (dart_heights g face others) lower
 sums_lowered g has face heights others least t x lower there within low sums is = record {
@@ -34,7 +35,8 @@ pub number_within : (others : List ℕ) (k : ℕ) → k < length others → numb
 number_within others k within = get_or_default_zero others k unreached within
 
 -- seen from the other end
-pub sums_swapped : (g : Named) → IsNamed g → (heights others : List ℕ) (least : ℕ) → length heights ≡ g.size → length others ≡ g.size → AreSums g heights others least
+pub sums_swapped : (g : Named) → IsNamed g → (heights others : List ℕ) (least : ℕ) → length heights ≡ g.size → length others ≡ g.size
+    → AreSums g heights others least
     → AreSums g others heights least
 sums_swapped g has heights others least one_each other_each sums = record {
   sums = λ k l. omega (arith, name_below g has k l, number_within heights k, number_within others k, sums.sums k l);
@@ -44,8 +46,10 @@ sums_swapped g has heights others least one_each other_each sums = record {
 }
 
 -- where nothing is known of the other end there are no sums
-pub none_alone : (g : Named) (has : IsNamed g) (face : ℕ → ℕ) (heights : List ℕ) (least : ℕ) → least ≤ unreached → AreSums g heights (dart_heights g face []) least → least ≡ unreached
+pub none_alone : (g : Named) (has : IsNamed g) (face : ℕ → ℕ) (heights : List ℕ) (least : ℕ) → least ≤ unreached
+    → AreSums g heights (dart_heights g face []) least → least ≡ unreached
 none_alone g has face heights least small sums = elim (cases_eq least unreached) [
   | inl e ↦ e
-  | inr ne ↦ let (k, l, at) = sums.attained ne in let alone : number_at (dart_heights g face []) k ≡ unreached = number_by_name g face [] has k l in absurd (omega arith)
+  | inr ne ↦ let (k, l, at) = sums.attained ne in let alone : number_at (dart_heights g face []) k ≡ unreached = number_by_name g face [] has k l in
+      absurd (omega arith)
 ]

@@ -1,5 +1,6 @@
 -- The evidence of a route that survives: tests that compute.
-use Rattle.std.proofs.Common.{◌≡◌, ◌≢◌, ℕ, zero, suc, ◌<◌, ◌≤◌, Bool, true, false, not, ◌&&◌, ◌||◌, nat_le, List, [], ◌∷◌, Some, slice_get, slice_index_or, refl, sym, ap, subst, ◌∙◌, arith, inl, inr}
+use Rattle.std.proofs.Common.{◌≡◌, ◌≢◌, ℕ, zero, suc, ◌<◌, ◌≤◌, Bool, true, false, not, ◌&&◌, ◌||◌, nat_le, List}
+use Rattle.std.proofs.Common.{[], ◌∷◌, Some, slice_get, slice_index_or, refl, sym, ap, subst, ◌∙◌, arith, inl, inr}
 use Rattle.std.specs.Prelude.{◌==◌, map, option_map}
 use Rattle.std.specs.List.{list_all}
 use Rattle.std.specs.Ordering.{is_gt}
@@ -82,10 +83,22 @@ either_true false b h k = cc
 -- ---- The pictures
 
 pub lawful_before : Lawful before
-lawful_before = record { embedding = record { well_formed = record { paths = refl; crossings = refl; rotations = refl }; connected = connected_by_tests (system before) 10 refl refl }; genus_zero = refl }
+lawful_before = record {
+  embedding = record {
+    well_formed = record { paths = refl; crossings = refl; rotations = refl };
+    connected = connected_by_tests (system before) 10 refl refl;
+  };
+  genus_zero = refl;
+}
 
 pub lawful_after : Lawful after
-lawful_after = record { embedding = record { well_formed = record { paths = refl; crossings = refl; rotations = refl }; connected = connected_by_tests (system after) 12 refl refl }; genus_zero = refl }
+lawful_after = record {
+  embedding = record {
+    well_formed = record { paths = refl; crossings = refl; rotations = refl };
+    connected = connected_by_tests (system after) 12 refl refl;
+  };
+  genus_zero = refl;
+}
 
 abbrev kept : List Dart
 kept = map ahead seen
@@ -94,19 +107,27 @@ pub faces : KeepsFaces before after renamed
 faces = record {
   of_before = for_each (has_dart (darts before)) seen refl;
   of_after = for_each (has_dart (darts after)) kept refl;
-  there = λ d h. (for_each (λ d. has_dart kept (ahead d)) seen refl d h, same_dart_true (behind (ahead d)) d (for_each (λ d. same_dart (behind (ahead d)) d) seen refl d h));
-  here = λ e h. (for_each (λ e. has_dart seen (behind e)) kept refl e h, same_dart_true (ahead (behind e)) e (for_each (λ e. same_dart (ahead (behind e)) e) kept refl e h));
+  there = λ d h. (
+    for_each (λ d. has_dart kept (ahead d)) seen refl d h,
+    same_dart_true (behind (ahead d)) d (for_each (λ d. same_dart (behind (ahead d)) d) seen refl d h),
+  );
+  here = λ e h. (
+    for_each (λ e. has_dart seen (behind e)) kept refl e h,
+    same_dart_true (ahead (behind e)) e (for_each (λ e. same_dart (ahead (behind e)) e) kept refl e h),
+  );
   round = for_each (λ d. has_dart seen (face_step (system before) d)) seen refl;
   step = λ d h. same_dart_true (face_step (system after) (ahead d)) (ahead (face_step (system before) d))
       (for_each (λ d. same_dart (face_step (system after) (ahead d)) (ahead (face_step (system before) d))) seen refl d h);
   twin_kept = λ d h. same_truth_true (has_dart kept (dart_twin (ahead d))) (has_dart seen (dart_twin d))
       (for_each (λ d. same_truth (has_dart kept (dart_twin (ahead d))) (has_dart seen (dart_twin d))) seen refl d h);
-  twin_moves = λ d h l. same_dart_true (ahead (dart_twin d)) (dart_twin (ahead d)) (for_each (λ d. same_dart (ahead (dart_twin d)) (dart_twin (ahead d))) seen refl d h);
+  twin_moves = λ d h l. same_dart_true (ahead (dart_twin d)) (dart_twin (ahead d))
+      (for_each (λ d. same_dart (ahead (dart_twin d)) (dart_twin (ahead d))) seen refl d h);
   order = λ c d h l. same_order_true (dart_cmp (ahead c) (ahead d)) (dart_cmp c d)
       (for_each (λ d. same_order (dart_cmp (ahead c) (ahead d)) (dart_cmp c d)) seen
       (for_each (λ c. list_all (λ d. same_order (dart_cmp (ahead c) (ahead d)) (dart_cmp c d)) seen) seen refl c h) d l);
   edge = λ d h. eq_true (ahead d).edge d.edge (for_each (λ d. (ahead d).edge == d.edge) seen refl d h);
-  same_edge = λ d h. same_row_true (edge_at before d.edge) (edge_at after d.edge) (for_each (λ d. same_row (edge_at before d.edge) (edge_at after d.edge)) seen refl d h);
+  same_edge = λ d h. same_row_true (edge_at before d.edge) (edge_at after d.edge)
+      (for_each (λ d. same_row (edge_at before d.edge) (edge_at after d.edge)) seen refl d h);
 }
 
 -- ---- Corners
@@ -149,7 +170,23 @@ plan = record {
 }
 
 passes : Passes before 3 4 plan
-passes = record { starts = refl; ends = refl; closed = refl; twins = refl; corners = refl; even = refl; gentle = refl; target = refl; walk = refl; priced = refl; least_height = refl; first_start = refl; first_darts = refl; arrival_held = refl; first_end = refl }
+passes = record {
+  starts = refl;
+  ends = refl;
+  closed = refl;
+  twins = refl;
+  corners = refl;
+  even = refl;
+  gentle = refl;
+  target = refl;
+  walk = refl;
+  priced = refl;
+  least_height = refl;
+  first_start = refl;
+  first_darts = refl;
+  arrival_held = refl;
+  first_end = refl;
+}
 
 certificate : IsCertificate price before 4 height
 certificate = certificate_by_tests before 3 4 plan passes

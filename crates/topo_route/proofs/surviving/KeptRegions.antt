@@ -1,5 +1,6 @@
 -- A picture that has kept a region: its faces and corners in the region are those of the picture before.
-use Rattle.std.proofs.Common.{◌≡◌, ℕ, zero, suc, ◌+◌, ◌&&◌, ◌<◌, ◌≤◌, Bool, true, false, cond, ◌||◌, List, [], ◌∷◌, length, Some, None, inl, inr, refl, sym, ap, subst, ◌∙◌, arith}
+use Rattle.std.proofs.Common.{◌≡◌, ℕ, zero, suc, ◌+◌, ◌&&◌, ◌<◌, ◌≤◌, Bool, true, false, cond, ◌||◌, List}
+use Rattle.std.proofs.Common.{[], ◌∷◌, length, Some, None, inl, inr, refl, sym, ap, subst, ◌∙◌, arith}
 use Rattle.std.specs.Prelude.{◌⊎◌, ◌==◌, Option, map, option_map, slice_get, slice_index_or, unwrap_or}
 use Rattle.std.proofs.Math.ListN.{get_or-map}
 use Rattle.std.proofs.lemmas.Bool.{cases_Bool, eqb-true, or_cases, or_left}
@@ -16,7 +17,8 @@ use Rattle.std.specs.List.{list_all, position_or_len}
 use Rattle.topo_core.specs.Darts.{dart_twin, same_dart, same_way}
 use Rattle.topo_core.specs.Items.{IsIn, occurrences}
 use Rattle.topo_core.specs.Lawful.{IsWellFormed, Lawful, is_good_crossing}
-use Rattle.topo_core.specs.Picture.{ahead, around_crossing, around_vertex, behind, clockwise, corner, cross_row, darts, edge_at, edge_row, end_dart, rotation, system, vertices}
+use Rattle.topo_core.specs.Picture.{ahead, around_crossing, around_vertex, behind, clockwise, corner}
+use Rattle.topo_core.specs.Picture.{cross_row, darts, edge_at, edge_row, end_dart, rotation, system, vertices}
 use Rattle.topo_core.specs.Systems.{System, darts_in, face_step, follower, has_dart, turn}
 use Rattle.topo_core.proofs.numbering.Counting.{one}
 use Rattle.topo_core.proofs.numbering.DartLaws.{same_dart_self, same_dart_true}
@@ -52,19 +54,22 @@ own_edge h edges d e is = elim (cases_Bool (d.edge == e)) [
   | inr apart ↦ other_edge d (h e) (ap (λ n. d.edge == n) (edges e) ∙ apart) ∙ sym apart
 ]
 
-follower_by_edge : (h : ℕ → Dart) → ((e : ℕ) → (h e).edge ≡ e) → (first : ℕ) (es : List ℕ) (d : Dart) → h d.edge ≡ d → follower (h first) (map h es) d ≡ h (following first es d.edge)
+follower_by_edge : (h : ℕ → Dart) → ((e : ℕ) → (h e).edge ≡ e) → (first : ℕ) (es : List ℕ) (d : Dart) → h d.edge ≡ d
+    → follower (h first) (map h es) d ≡ h (following first es d.edge)
 follower_by_edge h edges first [] d is = refl
 follower_by_edge h edges first (e ∷ es) d is =
     ap (λ (t : Bool). cond t (slice_index_or (map h es) 0 (h first)) (follower (h first) (map h es) d)) (own_edge h edges d e is)
     ∙ ap (λ (y : Dart). cond (d.edge == e) y (follower (h first) (map h es) d)) (get_or-map h es 0 first)
     ∙ ap (λ (y : Dart). cond (d.edge == e) (h (slice_index_or es 0 first)) y) (follower_by_edge h edges first es d is)
     ∙ by_test (d.edge == e) where
-      by_test : (t : Bool) → cond t (h (slice_index_or es 0 first)) (h (following first es d.edge)) ≡ h (cond {A = ℕ} t (slice_index_or es 0 first) (following first es d.edge))
+      by_test : (t : Bool)
+          → cond t (h (slice_index_or es 0 first)) (h (following first es d.edge)) ≡ h (cond {A = ℕ} t (slice_index_or es 0 first) (following first es d.edge))
       by_test true = refl
       by_test false = refl
 
 -- so it is with what comes next round the point
-next_by_edge : (h : ℕ → Dart) → ((e : ℕ) → (h e).edge ≡ e) → (es : List ℕ) (d : Dart) → h d.edge ≡ d → next_around (map h es) d ≡ h (following (slice_index_or es 0 d.edge) es d.edge)
+next_by_edge : (h : ℕ → Dart) → ((e : ℕ) → (h e).edge ≡ e) → (es : List ℕ) (d : Dart) → h d.edge ≡ d
+    → next_around (map h es) d ≡ h (following (slice_index_or es 0 d.edge) es d.edge)
 next_by_edge h edges es d is =
     ap (λ c. follower (slice_index_or (map h es) 0 c) (map h es) d) (sym is)
     ∙ ap (λ c. follower c (map h es) d) (get_or-map h es 0 d.edge)
@@ -101,7 +106,8 @@ of_four P a b c d t (inr (inr (inr (inr none)))) pa pb pc pd = absurd none
 abbrev Alternates : List Dart → ℕ → ℕ → Dart → Type 0
 Alternates around a b t = ((t.edge ≡ a) × ((next_around around t).edge ≡ b)) ⊎ ((t.edge ≡ b) × ((next_around around t).edge ≡ a))
 
-edges_alternate : (c n d m t : Dart) (a b : ℕ) → c.edge ≡ a → d.edge ≡ a → n.edge ≡ b → m.edge ≡ b → IsDistinct (c ∷ n ∷ d ∷ m ∷ []) → IsIn t (c ∷ n ∷ d ∷ m ∷ []) → Alternates (c ∷ n ∷ d ∷ m ∷ []) a b t
+edges_alternate : (c n d m t : Dart) (a b : ℕ) → c.edge ≡ a → d.edge ≡ a → n.edge ≡ b → m.edge ≡ b → IsDistinct (c ∷ n ∷ d ∷ m ∷ [])
+    → IsIn t (c ∷ n ∷ d ∷ m ∷ []) → Alternates (c ∷ n ∷ d ∷ m ∷ []) a b t
 edges_alternate c n d m t a b c_is d_is n_is m_is distinct there =
     let four = next_of_four c n d m distinct in
     of_four (Alternates (c ∷ n ∷ d ∷ m ∷ []) a b) c n d m t there
@@ -110,23 +116,30 @@ edges_alternate c n d m t a b c_is d_is n_is m_is distinct there =
     (inl (d_is, ap (λ (x : Dart). x.edge) four.third ∙ m_is))
     (inr (m_is, ap (λ (x : Dart). x.edge) four.last ∙ c_is))
 
-crossing_alternates : (rows : Rows) (x : CrossRow) (t : Dart) → IsDistinct (around_crossing rows x) → IsIn t (around_crossing rows x) → Alternates (around_crossing rows x) x.crossed x.newcomer t
+crossing_alternates : (rows : Rows) (x : CrossRow) (t : Dart) → IsDistinct (around_crossing rows x) → IsIn t (around_crossing rows x)
+    → Alternates (around_crossing rows x) x.crossed x.newcomer t
 crossing_alternates rows x t = by_sign x.sign where
-  by_sign : (sign : Sign) → IsDistinct (clockwise sign (ahead rows x.crossed x.id) (behind rows x.crossed x.id) (ahead rows x.newcomer x.id) (behind rows x.newcomer x.id))
+  by_sign : (sign : Sign)
+      → IsDistinct (clockwise sign (ahead rows x.crossed x.id) (behind rows x.crossed x.id) (ahead rows x.newcomer x.id) (behind rows x.newcomer x.id))
       → IsIn t (clockwise sign (ahead rows x.crossed x.id) (behind rows x.crossed x.id) (ahead rows x.newcomer x.id) (behind rows x.newcomer x.id))
-      → Alternates (clockwise sign (ahead rows x.crossed x.id) (behind rows x.crossed x.id) (ahead rows x.newcomer x.id) (behind rows x.newcomer x.id)) x.crossed x.newcomer t
-  by_sign LeftToRight distinct there = edges_alternate (ahead rows x.crossed x.id) (ahead rows x.newcomer x.id) (behind rows x.crossed x.id) (behind rows x.newcomer x.id) t x.crossed x.newcomer refl refl refl refl distinct there
-  by_sign RightToLeft distinct there = edges_alternate (ahead rows x.crossed x.id) (behind rows x.newcomer x.id) (behind rows x.crossed x.id) (ahead rows x.newcomer x.id) t x.crossed x.newcomer refl refl refl refl distinct there
+      → Alternates (clockwise sign (ahead rows x.crossed x.id) (behind rows x.crossed x.id) (ahead rows x.newcomer x.id) (behind rows x.newcomer x.id))
+      x.crossed x.newcomer t
+  by_sign LeftToRight distinct there = edges_alternate (ahead rows x.crossed x.id) (ahead rows x.newcomer x.id) (behind rows x.crossed x.id)
+      (behind rows x.newcomer x.id) t x.crossed x.newcomer refl refl refl refl distinct there
+  by_sign RightToLeft distinct there = edges_alternate (ahead rows x.crossed x.id) (behind rows x.newcomer x.id) (behind rows x.crossed x.id)
+      (ahead rows x.newcomer x.id) t x.crossed x.newcomer refl refl refl refl distinct there
 
 of_count : (b : Bool) (n : ℕ) → n ≡ one b → 1 ≤ n → b ≡ true
 of_count true n e h = refl
 of_count false n e h = absurd (omega arith)
 
 -- an edge round a vertex has an end there
-pub end_of : (rows : Rows) → IsWellFormed rows → (w e : ℕ) (row : EdgeRow) → IsIn w (vertices rows) → edge_row rows e ≡ Some row → IsIn e (rotation rows w) → (row.a ≡ w) ⊎ (row.b ≡ w)
+pub end_of : (rows : Rows) → IsWellFormed rows → (w e : ℕ) (row : EdgeRow) → IsIn w (vertices rows) → edge_row rows e ≡ Some row → IsIn e (rotation rows w)
+    → (row.a ≡ w) ⊎ (row.b ≡ w)
 end_of rows good w e row w_in at e_in =
     let counted = (good_rotation rows good.rotations w w_in).counted row (row_in rows e row at) in
-    let ends = of_count (row.a == w || row.b == w) (occurrences e (rotation rows w)) (ap (λ n. occurrences n (rotation rows w)) (sym (row_id rows e row at)) ∙ counted) (counted_in e (rotation rows w) e_in) in
+    let ends = of_count (row.a == w || row.b == w) (occurrences e (rotation rows w))
+    (ap (λ n. occurrences n (rotation rows w)) (sym (row_id rows e row at)) ∙ counted) (counted_in e (rotation rows w) e_in) in
     elim (or_cases (row.a == w) (row.b == w) ends) [
       | inl same ↦ inl (eqb-true row.a w same)
       | inr same ↦ inr (eqb-true row.b w same)
@@ -160,15 +173,18 @@ module _ (before now : Rows) (region : RegionState) (kept : IsKept before now re
 
   -- the dart at an end of an edge
   same_end : (w e : ℕ) → holds_edge region e ≡ true → end_dart now w e ≡ end_dart before w e
-  same_end w e h = ap (λ (row : EdgeRow). cond {A = Dart} (row.a == w) (record { edge = e; seg = 0; way = Forward }) (record { edge = e; seg = length row.crossings; way = Back })) (same_row e h)
+  same_end w e h = ap (λ (row : EdgeRow). cond {A = Dart} (row.a == w) (record { edge = e; seg = 0; way = Forward })
+      (record { edge = e; seg = length row.crossings; way = Back })) (same_row e h)
 
   -- and those at a crossing
   same_crossing : (x : CrossRow) → holds_edge region x.crossed ≡ true → holds_edge region x.newcomer ≡ true → around_crossing now x ≡ around_crossing before x
   same_crossing x h l =
       let first = ap (λ (row : EdgeRow). position_or_len (λ y. y == x.id) row.crossings) (same_row x.crossed h) in
       let second = ap (λ (row : EdgeRow). position_or_len (λ y. y == x.id) row.crossings) (same_row x.newcomer l) in
-      ap (λ n. clockwise x.sign (record { edge = x.crossed; seg = n + 1; way = Forward }) (record { edge = x.crossed; seg = n; way = Back }) (ahead now x.newcomer x.id) (behind now x.newcomer x.id)) first
-      ∙ ap (λ n. clockwise x.sign (ahead before x.crossed x.id) (behind before x.crossed x.id) (record { edge = x.newcomer; seg = n + 1; way = Forward }) (record { edge = x.newcomer; seg = n; way = Back })) second
+      ap (λ n. clockwise x.sign (record { edge = x.crossed; seg = n + 1; way = Forward }) (record { edge = x.crossed; seg = n; way = Back })
+      (ahead now x.newcomer x.id) (behind now x.newcomer x.id)) first
+      ∙ ap (λ n. clockwise x.sign (ahead before x.crossed x.id) (behind before x.crossed x.id) (record { edge = x.newcomer; seg = n + 1; way = Forward })
+      (record { edge = x.newcomer; seg = n; way = Back })) second
 
   module _ (good : IsWellFormed before) (good_now : IsWellFormed now) (of_before : IsRegionOf before region) where
     distinct_before : IsDistinct (darts_in (system before))
@@ -201,15 +217,18 @@ module _ (before now : Rows) (region : RegionState) (kept : IsKept before now re
         let e_in : IsIn e (rotation now w) = subst (IsIn e) (sym same) image.1 in
         let w_now : IsIn w (vertices now) = vertex_in now w (vertex_of_item now.rotations w e e_in) in
         let t_now : t ≡ end_dart now w e = image.2 ∙ sym (same_end w e held) in
-        let there : has_dart (around_vertex now w) t ≡ true = has_item t (around_vertex now w) (subst (λ c. IsIn c (around_vertex now w)) (sym t_now) (in_map (end_dart now w) e (rotation now w) e_in)) in
-        let old : next_around (map (end_dart before w) es) t ≡ next = sym (turn_at_point (system before) distinct_before (around_vertex before w) t (vertex_point before w w_in) at) ∙ leads in
+        let there : has_dart (around_vertex now w) t ≡ true =
+        has_item t (around_vertex now w) (subst (λ c. IsIn c (around_vertex now w)) (sym t_now) (in_map (end_dart now w) e (rotation now w) e_in)) in
+        let old : next_around (map (end_dart before w) es) t ≡ next =
+        sym (turn_at_point (system before) distinct_before (around_vertex before w) t (vertex_point before w w_in) at) ∙ leads in
         turn_at_point (system now) distinct_now (around_vertex now w) t (vertex_point now w w_now) there
         ∙ ap (λ list. next_around (map (end_dart now w) list) t) same
         ∙ next_agrees (end_dart now w) (end_dart before w) (end_dart_edge now w) (end_dart_edge before w) es t next
         (ap (end_dart before w) edge ∙ sym image.2) (ap (end_dart now w) edge ∙ sym t_now) old (same_end w next.edge l)
 
     -- both edges of a crossing where two darts of the region follow each other
-    both_held : (x : CrossRow) (t next : Dart) → IsIn x before.crossings → has_dart (around_crossing before x) t ≡ true → next_around (around_crossing before x) t ≡ next
+    both_held : (x : CrossRow) (t next : Dart) → IsIn x before.crossings → has_dart (around_crossing before x) t ≡ true
+        → next_around (around_crossing before x) t ≡ next
         → holds_edge region t.edge ≡ true → holds_edge region next.edge ≡ true → (holds_edge region x.crossed ≡ true) × (holds_edge region x.newcomer ≡ true)
     both_held x t next x_in at leads h l =
         let distinct = distinct_point (system before) distinct_before (around_crossing before x) (crossing_point before x x_in) in
@@ -222,21 +241,26 @@ module _ (before now : Rows) (region : RegionState) (kept : IsKept before now re
     -- a crossing of two edges of the region is there
     crossing_now : (x : CrossRow) → IsIn x before.crossings → holds_edge region x.crossed ≡ true → IsIn x now.crossings
     crossing_now x x_in h =
-        let on_path = on_path_of before good x x_in x.crossed (of_before.there x.crossed h) (or_left (x.crossed == x.crossed) (x.crossed == x.newcomer) (eqb_self x.crossed)) in
-        let old : cross_row before x.id ≡ Some x = find_by_id (λ x. x.id) before.next_crossing before.crossings (left_true _ (list_all (is_good_crossing before) before.crossings) good.crossings) x x_in in
+        let on_path = on_path_of before good x x_in x.crossed (of_before.there x.crossed h)
+        (or_left (x.crossed == x.crossed) (x.crossed == x.newcomer) (eqb_self x.crossed)) in
+        let old : cross_row before x.id ≡ Some x = find_by_id (λ x. x.id) before.next_crossing before.crossings
+        (left_true _ (list_all (is_good_crossing before) before.crossings) good.crossings) x x_in in
         (found (λ row. row.id == x.id) x now.crossings (kept.crossings x.crossed x.id h on_path ∙ old)).0
 
     turn_at_crossing : (x : CrossRow) (t next : Dart) → IsIn x before.crossings → has_dart (around_crossing before x) t ≡ true → turn (system before) t ≡ next
         → holds_edge region t.edge ≡ true → holds_edge region next.edge ≡ true → turn (system now) t ≡ next
     turn_at_crossing x t next x_in at leads h l =
-        let old : next_around (around_crossing before x) t ≡ next = sym (turn_at_point (system before) distinct_before (around_crossing before x) t (crossing_point before x x_in) at) ∙ leads in
+        let old : next_around (around_crossing before x) t ≡ next =
+        sym (turn_at_point (system before) distinct_before (around_crossing before x) t (crossing_point before x x_in) at) ∙ leads in
         let both = both_held x t next x_in at old h l in
         let same = same_crossing x both.0 both.1 in
-        turn_at_point (system now) distinct_now (around_crossing now x) t (crossing_point now x (crossing_now x x_in both.0)) (ap (λ ds. has_dart ds t) same ∙ at)
+        turn_at_point (system now) distinct_now (around_crossing now x) t (crossing_point now x (crossing_now x x_in both.0))
+        (ap (λ ds. has_dart ds t) same ∙ at)
         ∙ ap (λ ds. next_around ds t) same ∙ old
 
     -- where a dart of the region turns to another one, it still does
-    same_turn : (t : Dart) → has_dart (darts before) t ≡ true → holds_edge region t.edge ≡ true → holds_edge region (turn (system before) t).edge ≡ true → turn (system now) t ≡ turn (system before) t
+    same_turn : (t : Dart) → has_dart (darts before) t ≡ true → holds_edge region t.edge ≡ true → holds_edge region (turn (system before) t).edge ≡ true
+        → turn (system now) t ≡ turn (system before) t
     same_turn t there h l =
         let point = point_of (system before) t (system_test before good.paths good.crossings good.rotations t ∙ there) in
         elim (point_is before point.0 point.1) [
@@ -253,7 +277,8 @@ module _ (before now : Rows) (region : RegionState) (kept : IsKept before now re
 -- ---- Faces and corners
 
 -- whole faces whose edges the region holds are still there
-pub kept_faces : (before now : Rows) (region : RegionState) (inside : Dart → Bool) → Lawful before → Lawful now → IsRegionOf before region → IsKept before now region
+pub kept_faces : (before now : Rows) (region : RegionState) (inside : Dart → Bool) → Lawful before → Lawful now → IsRegionOf before region
+    → IsKept before now region
     → IsRegion before inside → ((d : Dart) → inside d ≡ true → holds_edge region d.edge ≡ true) → KeepsFaces before now (unmoved inside)
 kept_faces before now region inside lawful lawful_now of_before kept faces held = record {
   of_before = faces.of_rows;
@@ -261,35 +286,47 @@ kept_faces before now region inside lawful lawful_now of_before kept faces held 
   there = λ d h. (h, refl);
   here = λ e h. (h, refl);
   round = faces.round;
-  step = λ d h. same_turn before now region kept lawful.embedding.well_formed lawful_now.embedding.well_formed of_before (dart_twin d) (twin_in before d (faces.of_rows d h)) (held d h) (held (face_step (system before) d) (faces.round d h));
+  step = λ d h. same_turn before now region kept lawful.embedding.well_formed lawful_now.embedding.well_formed of_before (dart_twin d)
+      (twin_in before d (faces.of_rows d h)) (held d h) (held (face_step (system before) d) (faces.round d h));
   twin_kept = λ d h. refl;
   twin_moves = λ d h l. refl;
   order = λ c d h l. refl;
   edge = λ d h. refl;
   same_edge = λ d h.
       let same = same_row before now region kept d.edge (held d h) in
-      record { id = ap (λ (r : EdgeRow). r.id) same; a = ap (λ (r : EdgeRow). r.a) same; b = ap (λ (r : EdgeRow). r.b) same; kind = ap (λ (r : EdgeRow). r.kind) same };
+      record {
+        id = ap (λ (r : EdgeRow). r.id) same;
+        a = ap (λ (r : EdgeRow). r.a) same;
+        b = ap (λ (r : EdgeRow). r.b) same;
+        kind = ap (λ (r : EdgeRow). r.kind) same;
+      };
 }
 
 -- a corner inside is where it was
 pub kept_corner : (before now : Rows) (region : RegionState) (inside : Dart → Bool) (w q : ℕ) → IsRegionOf before region → IsKept before now region
-    → ((d : Dart) → inside d ≡ true → holds_edge region d.edge ≡ true) → holds_vertex region w ≡ true → ((c : Dart) → corner before w q ≡ Some c → inside c ≡ true)
+    → ((d : Dart) → inside d ≡ true → holds_edge region d.edge ≡ true) → holds_vertex region w ≡ true
+    → ((c : Dart) → corner before w q ≡ Some c → inside c ≡ true)
     → corner now w q ≡ corner before w q
 kept_corner before now region inside w q of_before kept held at_w corners =
     slice_get-map (end_dart now w) (rotation now w) q
     ∙ ap (λ es. option_map (end_dart now w) (slice_get es q)) (kept.rotations w at_w)
     ∙ by_entry (slice_get (rotation before w) q) (λ c e. corners c (slice_get-map (end_dart before w) (rotation before w) q ∙ e))
     ∙ sym (slice_get-map (end_dart before w) (rotation before w) q) where
-      by_entry : (o : Option ℕ) → ((c : Dart) → option_map (end_dart before w) o ≡ Some c → inside c ≡ true) → option_map (end_dart now w) o ≡ option_map (end_dart before w) o
+      by_entry : (o : Option ℕ) → ((c : Dart) → option_map (end_dart before w) o ≡ Some c → inside c ≡ true)
+          → option_map (end_dart now w) o ≡ option_map (end_dart before w) o
       by_entry None is_inside = refl
-      by_entry (Some e) is_inside = ap (λ (c : Dart). Some c) (same_end before now region kept w e (ap (holds_edge region) (sym (end_dart_edge before w e)) ∙ held (end_dart before w e) (is_inside (end_dart before w e) refl)))
+      by_entry (Some e) is_inside =
+          ap (λ (c : Dart). Some c) (same_end before now region kept w e
+          (ap (holds_edge region) (sym (end_dart_edge before w e)) ∙ held (end_dart before w e) (is_inside (end_dart before w e) refl)))
 
 -- a corner of a dart inside was there before
 corner_before : (before now : Rows) (region : RegionState) (inside : Dart → Bool) (w q : ℕ) (c : Dart) → IsKept before now region
-    → ((d : Dart) → inside d ≡ true → holds_edge region d.edge ≡ true) → holds_vertex region w ≡ true → corner now w q ≡ Some c → inside c ≡ true → corner before w q ≡ Some c
+    → ((d : Dart) → inside d ≡ true → holds_edge region d.edge ≡ true) → holds_vertex region w ≡ true → corner now w q ≡ Some c → inside c ≡ true
+    → corner before w q ≡ Some c
 corner_before before now region inside w q c kept held at_w at h =
     slice_get-map (end_dart before w) (rotation before w) q
-    ∙ by_entry (slice_get (rotation before w) q) (sym (slice_get-map (end_dart now w) (rotation now w) q ∙ ap (λ es. option_map (end_dart now w) (slice_get es q)) (kept.rotations w at_w)) ∙ at) where
+    ∙ by_entry (slice_get (rotation before w) q)
+    (sym (slice_get-map (end_dart now w) (rotation now w) q ∙ ap (λ es. option_map (end_dart now w) (slice_get es q)) (kept.rotations w at_w)) ∙ at) where
       by_entry : (o : Option ℕ) → option_map (end_dart now w) o ≡ Some c → option_map (end_dart before w) o ≡ Some c
       by_entry None e = cc
       by_entry (Some e) is =
@@ -299,7 +336,8 @@ corner_before before now region inside w q c kept held at_w at h =
 
 -- and so are all corners of a vertex, where all of them are inside
 pub kept_corners : (before now : Rows) (region : RegionState) (inside : Dart → Bool) (w : ℕ) → IsRegionOf before region → IsKept before now region
-    → ((d : Dart) → inside d ≡ true → holds_edge region d.edge ≡ true) → holds_vertex region w ≡ true → ((q : ℕ) (c : Dart) → corner before w q ≡ Some c → inside c ≡ true)
+    → ((d : Dart) → inside d ≡ true → holds_edge region d.edge ≡ true) → holds_vertex region w ≡ true
+    → ((q : ℕ) (c : Dart) → corner before w q ≡ Some c → inside c ≡ true)
     → (q : ℕ) → corner now w q ≡ corner before w q
 kept_corners before now region inside w of_before kept held at_w corners q = kept_corner before now region inside w q of_before kept held at_w (corners q)
 
@@ -319,4 +357,5 @@ pub kept_ends : (before now : Rows) (region : RegionState) (inside : Dart → Bo
     → ((d : Dart) → inside d ≡ true → holds_edge region d.edge ≡ true) → holds_vertex region u ≡ true → holds_vertex region v ≡ true
     → ((q : ℕ) (c : Dart) → corner before u q ≡ Some c → inside c ≡ true) → ((q : ℕ) (c : Dart) → corner before v q ≡ Some c → inside c ≡ true)
     → KeepsEnds before now (unmoved inside) u v start
-kept_ends before now region inside u v start of_before kept held at_u at_v starts target = kept_ends_to_start before now region inside u v start of_before kept held at_u at_v (λ q c low at. starts q c at) target
+kept_ends before now region inside u v start of_before kept held at_u at_v starts target =
+    kept_ends_to_start before now region inside u v start of_before kept held at_u at_v (λ q c low at. starts q c at) target

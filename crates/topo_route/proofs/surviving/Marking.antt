@@ -1,5 +1,6 @@
 -- A region grows by the edges of darts, and what is written is gone through.
-use Rattle.std.proofs.Common.{◌≡◌, ◌≢◌, ℕ, zero, suc, ◌+◌, ◌<◌, ◌≤◌, ◌||◌, ◌==◌, true, List, [], ◌∷◌, length, Some, inl, inr, ◌⊎◌, refl, sym, ap, subst, eq-eqb, ◌∙◌, arith}
+use Rattle.std.proofs.Common.{◌≡◌, ◌≢◌, ℕ, zero, suc, ◌+◌, ◌<◌, ◌≤◌, ◌||◌, ◌==◌, true, List, [], ◌∷◌}
+use Rattle.std.proofs.Common.{length, Some, inl, inr, ◌⊎◌, refl, sym, ap, subst, eq-eqb, ◌∙◌, arith}
 use Rattle.std.specs.Prelude.{is_some, slice_index}
 use Rattle.std.proofs.Math.Bool.{or-true}
 use Rattle.std.proofs.lemmas.Bool.{cases_lt, eqb-true, false≢true}
@@ -45,8 +46,10 @@ pub record Marks (rows : Rows) (before after : RegionState) (d : Dart) : Type 0 
   pub more : HoldsMore before after
   pub itself : holds_edge after d.edge ≡ true
 
-module _ (rows : Rows) (good : IsWellFormed rows) (before after : RegionState) (d : Dart) (facts : Facts) (of : IsRegionOf rows before) (there : has_dart (darts rows) d ≡ true) (known : AreFactsOf (edge_at rows d.edge) facts)
-    (edges : (e : ℕ) → holds_edge after e ≡ (facts.id == e || holds_edge before e)) (vertices : (w : ℕ) → holds_vertex after w ≡ (facts.b == w || (facts.a == w || holds_vertex before w))) where
+module _ (rows : Rows) (good : IsWellFormed rows) (before after : RegionState) (d : Dart) (facts : Facts) (of : IsRegionOf rows before)
+    (there : has_dart (darts rows) d ≡ true) (known : AreFactsOf (edge_at rows d.edge) facts)
+    (edges : (e : ℕ) → holds_edge after e ≡ (facts.id == e || holds_edge before e))
+    (vertices : (w : ℕ) → holds_vertex after w ≡ (facts.b == w || (facts.a == w || holds_vertex before w))) where
   record Row : Type 0 where
     row : EdgeRow
     row_there : edge_row rows d.edge ≡ Some row
@@ -67,7 +70,8 @@ module _ (rows : Rows) (good : IsWellFormed rows) (before after : RegionState) (
   ]
 
   vertex_stays : (w : ℕ) → holds_vertex before w ≡ true → holds_vertex after w ≡ true
-  vertex_stays w h = vertices w ∙ ap (λ b. facts.b == w || (facts.a == w || b)) h ∙ ap (λ b. facts.b == w || b) (or-true (facts.a == w)) ∙ or-true (facts.b == w)
+  vertex_stays w h = vertices w ∙ ap (λ b. facts.b == w || (facts.a == w || b)) h ∙ ap (λ b. facts.b == w || b) (or-true (facts.a == w))
+      ∙ or-true (facts.b == w)
 
   a_stays : holds_vertex after facts.a ≡ true
   a_stays = vertices facts.a ∙ ap (λ b. facts.b == facts.a || (b || holds_vertex before facts.a)) (eq-eqb facts.a facts.a refl) ∙ or-true (facts.b == facts.a)
@@ -124,8 +128,10 @@ abbrev pub HoldsFirst : Named → (ℕ → ℕ) → List ℕ → ℕ → List �
 HoldsFirst g face heights bound places n region = (i : ℕ) → i < n → slice_index heights (slice_index places i) < bound
     → (k : ℕ) → IsName g k → face k ≡ slice_index places i → holds_edge region (dart_named g k).edge ≡ true
 
-pub holds_next : (g : Named) (face : ℕ → ℕ) (heights : List ℕ) (bound : ℕ) (places : List ℕ) (n : ℕ) (before after : RegionState) → HoldsMore before after → HoldsFirst g face heights bound places n before
-    → (slice_index heights (slice_index places n) < bound → (k : ℕ) → IsName g k → face k ≡ slice_index places n → holds_edge after (dart_named g k).edge ≡ true) → HoldsFirst g face heights bound places (n + 1) after
+pub holds_next : (g : Named) (face : ℕ → ℕ) (heights : List ℕ) (bound : ℕ) (places : List ℕ) (n : ℕ) (before after : RegionState) → HoldsMore before after
+    → HoldsFirst g face heights bound places n before
+    → (slice_index heights (slice_index places n) < bound → (k : ℕ) → IsName g k → face k ≡ slice_index places n
+    → holds_edge after (dart_named g k).edge ≡ true) → HoldsFirst g face heights bound places (n + 1) after
 holds_next g face heights bound places n before after more first next i less low k l e = elim (cases_lt i n) [
   | inl earlier ↦ more.edges (dart_named g k).edge (first i earlier low k l e)
   | inr last ↦
@@ -133,8 +139,10 @@ holds_next g face heights bound places n before after more first next i less low
       next (subst (λ j. slice_index heights (slice_index places j) < bound) is low) k l (e ∙ ap (slice_index places) is)
 ]
 
-pub holds_below : (g : Named) → IsNamed g → (face : ℕ → ℕ) (faces : ℕ) → HasFaces g face faces → (heights : List ℕ) (bound : ℕ) (places : List ℕ) (region : RegionState) → length heights ≡ faces → bound ≤ unreached
-    → ((f : ℕ) → f < length heights → slice_index heights f ≢ unreached → has_id places f ≡ true) → HoldsFirst g face heights bound places (length places) region → HoldsBelow g (dart_heights g face heights) bound region
+pub holds_below : (g : Named) → IsNamed g → (face : ℕ → ℕ) (faces : ℕ) → HasFaces g face faces
+    → (heights : List ℕ) (bound : ℕ) (places : List ℕ) (region : RegionState) → length heights ≡ faces → bound ≤ unreached
+    → ((f : ℕ) → f < length heights → slice_index heights f ≢ unreached → has_id places f ≡ true)
+    → HoldsFirst g face heights bound places (length places) region → HoldsBelow g (dart_heights g face heights) bound region
 holds_below g has face faces has_faces heights bound places region one_each small all first k l low =
     let within : face k < length heights = omega (arith, has_faces.within k l) in
     let is = height_by_face g face heights has k l within in
@@ -145,7 +153,8 @@ holds_below g has face faces has_faces heights bound places region one_each smal
 abbrev pub HoldsAlong : Named → ℕ → ℕ → RegionState → Type 0
 HoldsAlong g d n region = (j : ℕ) → j < n → holds_edge region (dart_named g (after (next_name g) j d)).edge ≡ true
 
-pub along_next : (g : Named) (d n at : ℕ) (before region : RegionState) → HoldsMore before region → at ≡ after (next_name g) n d → HoldsAlong g d n before → holds_edge region (dart_named g at).edge ≡ true → HoldsAlong g d (n + 1) region
+pub along_next : (g : Named) (d n at : ℕ) (before region : RegionState) → HoldsMore before region → at ≡ after (next_name g) n d → HoldsAlong g d n before
+    → holds_edge region (dart_named g at).edge ≡ true → HoldsAlong g d (n + 1) region
 along_next g d n at before region more place so_far here j less = elim (cases_lt j n) [
   | inl earlier ↦ more.edges (dart_named g (after (next_name g) j d)).edge (so_far j earlier)
   | inr last ↦ let is : n ≡ j = omega arith in subst (λ k. holds_edge region (dart_named g k).edge ≡ true) (place ∙ ap (λ k. after (next_name g) k d) is) here

@@ -89,7 +89,8 @@ module _ (price : Pricing) (promise : KeepsPromise price) (old : Rows) (lawful :
   -- ---- Down the walk
 
   -- behind each dart of a walk that costs no more than the price, darts are lower than the price and inside
-  inside_on : (x : Dart) (xs : List Dart) (c to : Dart) (n : ℕ) → has_dart (darts old) c ≡ true → Crosses (system old) c (x ∷ xs) to → (cost : Costs price old (x ∷ xs) n)
+  inside_on : (x : Dart) (xs : List Dart) (c to : Dart) (n : ℕ) → has_dart (darts old) c ≡ true → Crosses (system old) c (x ∷ xs) to
+      → (cost : Costs price old (x ∷ xs) n)
       → height to ≡ 0 → height c ≡ n → n ≤ p → (cost.1 < p) × (m.inside (dart_twin x) ≡ true)
   inside_on x xs c to n h walk cost down same low =
       let next = falls_on price old lawful v height covers.certificate x xs c to n h walk cost down same in
@@ -100,7 +101,8 @@ module _ (price : Pricing) (promise : KeepsPromise price) (old : Rows) (lawful :
       (lower, covers.near (dart_twin x) next.there (omega arith))
 
   -- the walk stays inside
-  crosses_inside : (xs : List Dart) (c to : Dart) (n : ℕ) → has_dart (darts old) c ≡ true → Crosses (system old) c xs to → Costs price old xs n → height to ≡ 0 → height c ≡ n → n ≤ p
+  crosses_inside : (xs : List Dart) (c to : Dart) (n : ℕ) → has_dart (darts old) c ≡ true → Crosses (system old) c xs to → Costs price old xs n → height to ≡ 0
+      → height c ≡ n → n ≤ p
       → AllByRecursion (λ x. m.inside (dart_twin x) ≡ true) xs
   crosses_inside [] c to n h walk cost down same low = tt
   crosses_inside (x ∷ xs) c to n h walk cost down same low =
@@ -116,13 +118,15 @@ module _ (price : Pricing) (promise : KeepsPromise price) (old : Rows) (lawful :
       let here : n ≡ tight.cost + level (dart_twin y) = omega (arith, level_inside y h) in
       record { cost = tight.cost; asked = tight.asked; drop = same ∙ cut_tight (m.inside (dart_twin y)) p tight.cost n (height (dart_twin y)) some low here }
 
-  first_cut : (xs : List Dart) (c to : Dart) (n : ℕ) → has_dart (darts old) c ≡ true → m.inside c ≡ true → Crosses (system old) c xs to → Costs price old xs n → height to ≡ 0 → height c ≡ n → n ≤ p
+  first_cut : (xs : List Dart) (c to : Dart) (n : ℕ) → has_dart (darts old) c ≡ true → m.inside c ≡ true → Crosses (system old) c xs to → Costs price old xs n
+      → height to ≡ 0 → height c ≡ n → n ≤ p
       → TakesFirstDarts price old height c xs → TakesFirstDarts price old level c xs
   first_cut [] c to n h l walk cost down same low takes = tt
   first_cut (x ∷ xs) c to n h l walk cost down same low takes =
       let next = falls_on price old lawful v height covers.certificate x xs c to n h walk cost down same in
       let (below, stays_in) = inside_on x xs c to n h walk cost down same low in (
-        (λ y y_in face tight. takes.0 y y_in face (tight_uncut y n (stays c y l face) (one_level price old lawful v height covers.certificate c y h face ∙ same) low tight)),
+        (λ y y_in face tight. takes.0 y y_in face
+            (tight_uncut y n (stays c y l face) (one_level price old lawful v height covers.certificate c y h face ∙ same) low tight)),
         first_cut xs (dart_twin x) to cost.1 next.there stays_in walk.1 cost.3 down next.to (omega arith) takes.1,
       )
 
@@ -158,14 +162,16 @@ module _ (price : Pricing) (promise : KeepsPromise price) (old : Rows) (lawful :
     certificate = level_certificate;
     first = by_level;
     level = λ d there h. level_outside d h;
-    crossed = crosses_inside r.crossed from covers.first.priced.route.to p from_in covers.first.priced.route.walk covers.first.priced.cost ends_down from_height (omega arith);
+    crossed = crosses_inside r.crossed from covers.first.priced.route.to p from_in covers.first.priced.route.walk covers.first.priced.cost ends_down
+        from_height (omega arith);
     target = covers.target;
     starts = covers.starts;
     new = λ q c at h. omega arith;
   }
 
 -- the first route survives where all that the search has seen is still there
-pub survives : (price : Pricing) (old new : Rows) (m : Renaming) (u v : ℕ) (height : Dart → ℕ) (r : Route) (p : ℕ) → KeepsPromise price → Lawful old → Lawful new
+pub survives : (price : Pricing) (old new : Rows) (m : Renaming) (u v : ℕ) (height : Dart → ℕ) (r : Route) (p : ℕ) → KeepsPromise price
+    → Lawful old → Lawful new
     → KeepsFaces old new m → KeepsEnds old new m u v r.start → CoversSearch price old m u v height r p → IsFirst price new u v (moved m r) p
 survives price old new m u v height r p promise lawful lawful_new keeps ends covers =
     let stays = face_inside old new m keeps in
@@ -173,7 +179,8 @@ survives price old new m u v height r p promise lawful lawful_new keeps ends cov
     (covers_search price promise old lawful m u v height r p keeps.round stays covers new) promise lawful_new
 
 -- the same of the heights that a search leaves
-pub found_survives : (price : Pricing) (g : Named) (new : Rows) (m : Renaming) (u v : ℕ) (top : ℕ → ℕ) (heights : List ℕ) (r : Route) (p : ℕ) → KeepsPromise price → Lawful g.rows → IsNamed g → Lawful new
+pub found_survives : (price : Pricing) (g : Named) (new : Rows) (m : Renaming) (u v : ℕ) (top : ℕ → ℕ) (heights : List ℕ) (r : Route) (p : ℕ)
+    → KeepsPromise price → Lawful g.rows → IsNamed g → Lawful new
     → KeepsFaces g.rows new m → KeepsEnds g.rows new m u v r.start → CoversKnown price g m u v top heights r p → IsFirst price new u v (moved m r) p
 found_survives price g new m u v top heights r p promise lawful has lawful_new keeps ends covers =
     survives price g.rows new m u v (capped price g lawful has u v top heights covers.known) r p promise lawful lawful_new keeps ends

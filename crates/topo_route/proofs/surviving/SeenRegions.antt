@@ -1,5 +1,6 @@
 -- What a search from both ends has seen is enough: its route is the first of each picture that has kept the region.
-use Rattle.std.proofs.Common.{◌≡◌, ℕ, zero, suc, ◌+◌, ◌-◌, ◌<◌, ◌≤◌, Bool, true, false, ◌&&◌, ◌||◌, ◌==◌, List, [], ◌∷◌, length, Some, inl, inr, ◌⊎◌, refl, sym, ap, subst, ◌∙◌, arith}
+use Rattle.std.proofs.Common.{◌≡◌, ℕ, zero, suc, ◌+◌, ◌-◌, ◌<◌, ◌≤◌, Bool, true, false, ◌&&◌, ◌||◌, ◌==◌}
+use Rattle.std.proofs.Common.{List, [], ◌∷◌, length, Some, inl, inr, ◌⊎◌, refl, sym, ap, subst, ◌∙◌, arith}
 use Rattle.std.specs.Prelude.{IfSome, IsSomeAnd, None, Option, map, nat_lt, slice_get, slice_index, slice_index_or}
 use Rattle.std.proofs.lemmas.Bool.{cases_lt, eqb-true}
 use Rattle.std.proofs.lemmas.Iterator.Adapters.{option_map_id}
@@ -56,14 +57,16 @@ one_true true h = refl
 one_true false h = absurd (omega arith)
 
 -- an end of the edge of a corner's dart
-pub corner_end : (rows : Rows) → IsWellFormed rows → (w q : ℕ) (c : Dart) → corner rows w q ≡ Some c → ((edge_at rows c.edge).a ≡ w) ⊎ ((edge_at rows c.edge).b ≡ w)
+pub corner_end : (rows : Rows) → IsWellFormed rows → (w q : ℕ) (c : Dart) → corner rows w q ≡ Some c → ((edge_at rows c.edge).a ≡ w)
+    ⊎ ((edge_at rows c.edge).b ≡ w)
 corner_end rows good w q c at =
     let (e, at_e, is) = from_mapped (end_dart rows w) (rotation rows w) q c at in
     let edge : c.edge ≡ e = sym (ap (λ (d : Dart). d.edge) is) ∙ end_dart_edge rows w e in
     let round = good_rotation rows good.rotations w (vertex_in rows w (within_rotations rows w q e at_e)) in
     let (row, there) = some_of (edge_row rows e) (round.known e (item_at e (rotation rows w) q at_e)) in
     let here : edge_at rows c.edge ≡ row = ap (edge_at rows) edge ∙ edge_at_row rows e row there in
-    let counted : occurrences e (rotation rows w) ≡ one (row.a == w || row.b == w) = subst (λ n. occurrences n (rotation rows w) ≡ one (row.a == w || row.b == w)) (row_id rows e row there) (round.counted row (row_in rows e row there)) in
+    let counted : occurrences e (rotation rows w) ≡ one (row.a == w || row.b == w) =
+    subst (λ n. occurrences n (rotation rows w) ≡ one (row.a == w || row.b == w)) (row_id rows e row there) (round.counted row (row_in rows e row there)) in
     let some = counted_at e (rotation rows w) q at_e in
     elim (either (row.a == w) (row.b == w) (one_true (row.a == w || row.b == w) (omega arith))) [
       | inl a ↦ inl (ap (λ (r : EdgeRow). r.a) here ∙ eqb-true row.a w a)
@@ -71,7 +74,8 @@ corner_end rows good w q c at =
     ]
 
 -- a region that holds its edge holds the vertex
-pub held_corner : (rows : Rows) (region : RegionState) → IsWellFormed rows → IsRegionOf rows region → (w q : ℕ) (c : Dart) → corner rows w q ≡ Some c → holds_edge region c.edge ≡ true → holds_vertex region w ≡ true
+pub held_corner : (rows : Rows) (region : RegionState) → IsWellFormed rows → IsRegionOf rows region → (w q : ℕ) (c : Dart) → corner rows w q ≡ Some c
+    → holds_edge region c.edge ≡ true → holds_vertex region w ≡ true
 held_corner rows region good of w q c at held = elim (corner_end rows good w q c at) [
   | inl a ↦ subst (λ x. holds_vertex region x ≡ true) a (of.a_held c.edge held)
   | inr b ↦ subst (λ x. holds_vertex region x ≡ true) b (of.b_held c.edge held)
@@ -101,7 +105,8 @@ low_at_target : (level least height distance : ℕ) → height < level → is_lo
 low_at_target level least height distance low = first_of_two (nat_lt height level) (nat_lt distance (least + 1 - level)) (lt_test height level low)
 
 low_at_start : (level least height distance : ℕ) → distance < least + 1 - level → is_low level least height distance ≡ true
-low_at_start level least height distance low = second_of_two (nat_lt height level) (nat_lt distance (least + 1 - level)) (lt_test distance (least + 1 - level) low)
+low_at_start level least height distance low =
+    second_of_two (nat_lt height level) (nat_lt distance (least + 1 - level)) (lt_test distance (least + 1 - level) low)
 
 -- either of the two
 low_either : (level least height distance : ℕ) → is_low level least height distance ≡ true → (height < level) ⊎ (distance < least + 1 - level)
@@ -110,7 +115,8 @@ low_either level least height distance h = elim (either (nat_lt height level) (n
   | inr e ↦ inr (lt_of_test distance (least + 1 - level) e)
 ]
 
-module _ (price : Pricing) (g : Named) (lawful : Lawful g.rows) (has : IsNamed g) (u v : ℕ) (heights distances : List ℕ) (level least : ℕ) (met : Meets price g u v heights distances level least) where
+module _ (price : Pricing) (g : Named) (lawful : Lawful g.rows) (has : IsNamed g) (u v : ℕ) (heights distances : List ℕ) (level least : ℕ)
+    (met : Meets price g u v heights distances level least) where
   abbrev height : Dart → ℕ
   height = height_of g heights
 
@@ -130,7 +136,8 @@ module _ (price : Pricing) (g : Named) (lawful : Lawful g.rows) (has : IsNamed g
   near_target d h low = both (has_dart (darts g.rows) d) (is_low level least (height d) (distance d)) h (low_at_target level least (height d) (distance d) low)
 
   near_start : (d : Dart) → has_dart (darts g.rows) d ≡ true → distance d + level ≤ least → seen d ≡ true
-  near_start d h low = both (has_dart (darts g.rows) d) (is_low level least (height d) (distance d)) h (low_at_start level least (height d) (distance d) (omega arith))
+  near_start d h low =
+      both (has_dart (darts g.rows) d) (is_low level least (height d) (distance d)) h (low_at_start level least (height d) (distance d) (omega arith))
 
   -- the next along the face
   next_named : (d : Dart) → has_dart (darts g.rows) d ≡ true → next_name g (g.name d) ≡ g.name (face_step (system g.rows) d)
@@ -145,10 +152,12 @@ module _ (price : Pricing) (g : Named) (lawful : Lawful g.rows) (has : IsNamed g
       let is = next_named d there in
       elim (is_low_there d h) [
         | inl low ↦
-            let step : slice_index heights (g.name next) ≤ height d = subst (λ k. slice_index heights k ≤ height d) is (met.below (g.name d) (name_is g has d there) low).0 in
+            let step : slice_index heights (g.name next) ≤ height d =
+            subst (λ k. slice_index heights k ≤ height d) is (met.below (g.name d) (name_is g has d there) low).0 in
             near_target next on (omega arith)
         | inr low ↦
-            let step : slice_index distances (g.name next) ≤ distance d = subst (λ k. slice_index distances k ≤ distance d) is (met.near (g.name d) (name_is g has d there) (omega arith)).0 in
+            let step : slice_index distances (g.name next) ≤ distance d =
+            subst (λ k. slice_index distances k ≤ distance d) is (met.near (g.name d) (name_is g has d there) (omega arith)).0 in
             near_start next on (omega arith)
       ]
 
@@ -175,12 +184,14 @@ module _ (price : Pricing) (g : Named) (lawful : Lawful g.rows) (has : IsNamed g
         ])
 
     -- the route is the first, at its price, while the region is kept
-    pub first_while_kept : KeepsPromise price → level ≤ least → (r : Route) (p : ℕ) → IsFirstByHeights price g.rows u v height r p → IsFirstWhileKept price g.rows u v region r p
+    pub first_while_kept : KeepsPromise price → level ≤ least → (r : Route) (p : ℕ) → IsFirstByHeights price g.rows u v height r p
+        → IsFirstWhileKept price g.rows u v region r p
     first_while_kept promise within r p first now lawful_now kept =
         let is : p ≡ least = met_price price g lawful has u v heights distances level least met r p first in
         let route = first.priced.route in
         let good = lawful.embedding.well_formed in
-        let at_u = held_corner g.rows region good holds.of_rows u r.start route.from route.starts (seen_held route.from (start_seen within r.start route.from route.starts)) in
+        let at_u = held_corner g.rows region good holds.of_rows u r.start route.from route.starts
+        (seen_held route.from (start_seen within r.start route.from route.starts)) in
         let at_v = held_corner g.rows region good holds.of_rows v r.end route.to route.ends (seen_held route.to (target_seen r.end route.to route.ends)) in
         let faces = kept_faces g.rows now region seen lawful lawful_now holds.of_rows kept seen_region seen_held in
         let ends = kept_ends g.rows now region seen u v r.start holds.of_rows kept seen_held at_u at_v (start_seen within) target_seen in
@@ -191,19 +202,24 @@ module _ (price : Pricing) (g : Named) (lawful : Lawful g.rows) (has : IsNamed g
           near_target = near_target;
           near_start = near_start;
           starts = λ q c before at. start_seen within q c at;
-          all_starts = λ l q. kept_corners g.rows now region seen u holds.of_rows kept seen_held at_u (start_seen within) q ∙ sym (option_map_id (corner g.rows u q));
+          all_starts = λ l q. kept_corners g.rows now region seen u holds.of_rows kept seen_held at_u (start_seen within) q
+              ∙ sym (option_map_id (corner g.rows u q));
         } in
         let survives = met_survives price g now (unmoved seen) u v heights distances level least r promise lawful has lawful_now faces ends covers in
         let same : moved (unmoved seen) r ≡ r = ap (λ xs. record { start = r.start; crossed = xs; end = r.end }) (unmoved_list r.crossed) in
         subst (λ s. IsFirst price now u v s p) same (subst (λ n. IsFirst price now u v (moved (unmoved seen) r) n) (sym is) survives)
 
 -- what a search hands out
-pub first_seen : (price : Pricing) (g : Named) (lawful : Lawful g.rows) (has : IsNamed g) (u v : ℕ) (heights distances : List ℕ) (stop : Option Stop) (r : Route) (p : ℕ) (found : Option RegionState) → KeepsPromise price
+pub first_seen : (price : Pricing) (g : Named) (lawful : Lawful g.rows) (has : IsNamed g) (u v : ℕ) (heights distances : List ℕ) (stop : Option Stop)
+    (r : Route) (p : ℕ) (found : Option RegionState) → KeepsPromise price
     → IfSome stop (λ s. RestsOn price g u v heights distances s.level s.least r p)
     → IfSome found (λ region. IsSomeAnd stop (λ s. (0 < s.least) × (s.least < unreached) × HoldsSeen g heights distances s.level s.least region))
     → IfSome found (λ region. IsRegionOf g.rows region × IsFirstWhileKept price g.rows u v region r p)
 first_seen price g lawful has u v heights distances stop r p None promise rests seen = tt
 first_seen price g lawful has u v heights distances None r p (Some region) promise rests seen = absurd seen
 first_seen price g lawful has u v heights distances (Some stop) r p (Some region) promise rests seen =
-    let met = rests.met.meets seen.1 in
-    (seen.2.of_rows, first_while_kept price g lawful has u v heights distances stop.level stop.least met region seen.2 promise (rests.met.within seen.0) r p rests.first)
+    let met = rests.met.meets seen.1 in (
+      seen.2.of_rows,
+      first_while_kept price g lawful has u v heights distances stop.level stop.least met region seen.2 promise (rests.met.within seen.0)
+          r p rests.first,
+    )

@@ -1,5 +1,6 @@
 -- Calls that spare a region leave it as it was.
-use Rattle.std.proofs.Common.{◌≡◌, ◌≢◌, ℕ, suc, ◌+◌, ◌<◌, ◌≤◌, Bool, true, false, not, ◌&&◌, ◌||◌, List, [], ◌∷◌, ◌++◌, length, get_or, get_or-set_other, Some, inl, inr, refl, sym, ap, subst, ◌∙◌, arith}
+use Rattle.std.proofs.Common.{◌≡◌, ◌≢◌, ℕ, suc, ◌+◌, ◌<◌, ◌≤◌, Bool, true, false, not, ◌&&◌, ◌||◌, List, [], ◌∷◌, ◌++◌}
+use Rattle.std.proofs.Common.{length, get_or, get_or-set_other, Some, inl, inr, refl, sym, ap, subst, ◌∙◌, arith}
 use Rattle.std.specs.Prelude.{◌==◌, All, IfSome, Option, is_some, map, nat_le}
 use Rattle.std.specs.List.{list_all}
 use Rattle.std.proofs.Math.ListN.{get_or-append, length-set}
@@ -43,7 +44,8 @@ apart_by f m n h l e = false≢true (sym l ∙ ap f (sym e) ∙ h)
 kept_twice : (before p q : Rows) (region : RegionState) → IsKept before p region → IsKept p q region → IsKept before q region
 kept_twice before p q region kept on = record {
   edges = λ e h. on.edges e h ∙ kept.edges e h;
-  crossings = λ e x h at. on.crossings e x h (subst (λ (row : EdgeRow). IsIn x row.crossings) (sym (same_row before p region kept e h)) at) ∙ kept.crossings e x h at;
+  crossings = λ e x h at. on.crossings e x h (subst (λ (row : EdgeRow). IsIn x row.crossings) (sym (same_row before p region kept e h)) at)
+      ∙ kept.crossings e x h at;
   rotations = λ w h. on.rotations w h ∙ kept.rotations w h;
 }
 
@@ -70,7 +72,8 @@ region_now before p region lawful of_before kept = record {
 
 -- ---- Growth
 
-grown_kept : (p : Rows) (region : RegionState) (u position kind : ℕ) → IsRegionOf p region → holds_vertex region u ≡ false → IsKept p (grown p u position kind) region
+grown_kept : (p : Rows) (region : RegionState) (u position kind : ℕ) → IsRegionOf p region → holds_vertex region u ≡ false
+    → IsKept p (grown p u position kind) region
 grown_kept p region u position kind region_p spares = record {
   edges = λ e h. let (row, at) = some_of (edge_row p e) (region_p.there e h) in found_more (λ row. row.id == e) p.edges _ row at ∙ sym at;
   crossings = λ e x h at. refl;
@@ -100,13 +103,16 @@ other_id f m n t l h = elim (cases_Bool (m == n)) [
 ]
 
 module _ (p : Rows) (region : RegionState) (u v kind : ℕ) (r : Route) (good : IsWellFormed p) (region_p : IsRegionOf p region)
-    (u_spared : holds_vertex region u ≡ false) (v_spared : holds_vertex region v ≡ false) (route_spares : All (λ d. holds_edge region d.edge ≡ false) r.crossed) where
+    (u_spared : holds_vertex region u ≡ false) (v_spared : holds_vertex region v ≡ false)
+    (route_spares : All (λ d. holds_edge region d.edge ≡ false) r.crossed) where
   none_new : (e s : ℕ) → holds_edge region e ≡ true → new_on p r e s ≡ []
   none_new e s h = ap (map {A = ℕ × Dart} (λ x. x.0)) (filter_nothing (λ x. x.1.edge == e && x.1.seg == s) (numbered p r) (λ x at.
-      other_id (holds_edge region) x.1.edge e (x.1.seg == s) (all_in (λ (d : Dart). holds_edge region d.edge ≡ false) r.crossed route_spares x.1 (numbered_in p.next_crossing x.0 x.1 r.crossed at)) h))
+      other_id (holds_edge region) x.1.edge e (x.1.seg == s)
+      (all_in (λ (d : Dart). holds_edge region d.edge ≡ false) r.crossed route_spares x.1 (numbered_in p.next_crossing x.0 x.1 r.crossed at)) h))
 
   row_stays : (e : ℕ) (row : EdgeRow) → holds_edge region e ≡ true → row.id ≡ e → crossed_row p r row ≡ row
-  row_stays e row h id = ap (λ (path : List ℕ). record row { crossings = path }) (woven_nothing (new_on p r row.id) 0 row.crossings (λ s. none_new row.id s (ap (holds_edge region) id ∙ h)))
+  row_stays e row h id = ap (λ (path : List ℕ). record row { crossings = path })
+      (woven_nothing (new_on p r row.id) 0 row.crossings (λ s. none_new row.id s (ap (holds_edge region) id ∙ h)))
 
   shown_kept : IsKept p (shown p u v kind r) region
   shown_kept = record {
@@ -123,7 +129,8 @@ module _ (p : Rows) (region : RegionState) (u v kind : ℕ) (r : Route) (good : 
 
 -- ---- Deletion
 
-module _ (before p : Rows) (region : RegionState) (e : ℕ) (good : IsWellFormed before) (good_p : IsWellFormed p) (of_before : IsRegionOf before region) (kept : IsKept before p region)
+module _ (before p : Rows) (region : RegionState) (e : ℕ) (good : IsWellFormed before) (good_p : IsWellFormed p) (of_before : IsRegionOf before region)
+    (kept : IsKept before p region)
     (region_p : IsRegionOf p region) (known : is_some (edge_row p e) ≡ true) (spares : IfSome (edge_row before e) (IsApart before region)) where
   -- the edge was there, and apart
   spared_row : (row : EdgeRow) → edge_row before e ≡ Some row → IsApart before region row
@@ -136,13 +143,16 @@ module _ (before p : Rows) (region : RegionState) (e : ℕ) (good : IsWellFormed
       false≢true (sym (spared_row row at).edge ∙ ap (holds_edge region) (row_id before e row at ∙ sym same) ∙ h)
 
   -- a crossing of the picture is one of the picture before, where an edge of the region has it
-  crossing_before : (f : ℕ) (c : CrossRow) → holds_edge region f ≡ true → IsIn c p.crossings → IsIn c.id (edge_at p f).crossings → cross_row before c.id ≡ Some c
+  crossing_before : (f : ℕ) (c : CrossRow) → holds_edge region f ≡ true → IsIn c p.crossings → IsIn c.id (edge_at p f).crossings
+      → cross_row before c.id ≡ Some c
   crossing_before f c h c_in on_path =
       let on_before : IsIn c.id (edge_at before f).crossings = subst (λ (row : EdgeRow). IsIn c.id row.crossings) (same_row before p region kept f h) on_path in
-      sym (kept.crossings f c.id h on_before) ∙ find_by_id (λ x. x.id) p.next_crossing p.crossings (left_true _ (list_all (is_good_crossing p) p.crossings) good_p.crossings) c c_in
+      sym (kept.crossings f c.id h on_before)
+      ∙ find_by_id (λ x. x.id) p.next_crossing p.crossings (left_true _ (list_all (is_good_crossing p) p.crossings) good_p.crossings) c c_in
 
   -- no edge of the region crosses it
-  not_crossed : (f : ℕ) (c : CrossRow) → holds_edge region f ≡ true → IsIn c p.crossings → IsIn c.id (edge_at p f).crossings → IsIn c.id (edge_at p e).crossings → ⊥
+  not_crossed : (f : ℕ) (c : CrossRow) → holds_edge region f ≡ true → IsIn c p.crossings → IsIn c.id (edge_at p f).crossings
+      → IsIn c.id (edge_at p e).crossings → ⊥
   not_crossed f c h c_in on_path on_gone =
       let c_at = crossing_before f c h c_in on_path in
       let c_before = (found (λ x. x.id == c.id) c before.crossings c_at).0 in
@@ -157,7 +167,8 @@ module _ (before p : Rows) (region : RegionState) (e : ℕ) (good : IsWellFormed
         | inr same ↦ or_right (e == c.crossed) (e == c.newcomer) (eq-eqb e c.newcomer same)
       ] in
       let (row, at) = some_of (edge_row before e) there in
-      let on_row : IsIn c.id row.crossings = subst (λ (row : EdgeRow). IsIn c.id row.crossings) (edge_at_row before e row at) (on_path_of before good c c_before e there one_of) in
+      let on_row : IsIn c.id row.crossings =
+      subst (λ (row : EdgeRow). IsIn c.id row.crossings) (edge_at_row before e row at) (on_path_of before good c c_before e there one_of) in
       let apart = spared_row row at in
       elim (is_one_of p good_p f c (region_p.there f h) c_in on_path) [
         | inl same ↦ false≢true (sym (apart.crossed c.id c on_row c_at) ∙ ap (holds_edge region) (sym same) ∙ h)
@@ -168,7 +179,8 @@ module _ (before p : Rows) (region : RegionState) (e : ℕ) (good : IsWellFormed
   stays f x h on_path = elim (cases_Bool (has_id (edge_at p e).crossings x)) [
     | inl gone ↦
         let (c, c_in, id) = crossing_on p good_p f x (region_p.there f h) on_path in
-        absurd (not_crossed f c h c_in (subst (λ n. IsIn n (edge_at p f).crossings) (sym id) on_path) (subst (λ n. IsIn n (edge_at p e).crossings) (sym id) (in_has_id x (edge_at p e).crossings gone)))
+        absurd (not_crossed f c h c_in (subst (λ n. IsIn n (edge_at p f).crossings) (sym id) on_path)
+        (subst (λ n. IsIn n (edge_at p e).crossings) (sym id) (in_has_id x (edge_at p e).crossings gone)))
     | inr left ↦ left
   ]
 
@@ -201,7 +213,8 @@ module _ (before p : Rows) (region : RegionState) (e : ℕ) (good : IsWellFormed
   without_kept = record {
     edges = λ f h.
         let (row, at) = some_of (edge_row p f) (region_p.there f h) in
-        let on_path = λ (x : ℕ) (k : IsIn x row.crossings). ap not (stays f x h (subst (λ (row : EdgeRow). IsIn x row.crossings) (sym (edge_at_row p f row at)) k)) in
+        let on_path = λ (x : ℕ)
+        (k : IsIn x row.crossings). ap not (stays f x h (subst (λ (row : EdgeRow). IsIn x row.crossings) (sym (edge_at_row p f row at)) k)) in
         without_row p e f (not_gone f h) row at
         ∙ ap (λ (path : List ℕ). Some (record row { crossings = path })) (filter_whole (λ x. not (has_id (edge_at p e).crossings x)) row.crossings on_path)
         ∙ sym at;
@@ -218,10 +231,12 @@ module _ (before p : Rows) (region : RegionState) (e : ℕ) (good : IsWellFormed
 pub spared : (price : Pricing) (limits : Limits) (before p q : Rows) (region : RegionState) (call : Call) (reply : Reply)
     → Lawful before → Lawful p → IsRegionOf before region → IsKept before p region
     → Step price limits p call reply q → Spares before region call reply → IsKept before q region
-spared price limits before p q region call (Refused why) lawful lawful_p of_before kept step spares = subst (λ rows. IsKept before rows region) (sym step.1) kept
+spared price limits before p q region call (Refused why) lawful lawful_p of_before kept step spares =
+    subst (λ rows. IsKept before rows region) (sym step.1) kept
 spared price limits before p q region (Grow u position kind) (Grown vertex edge) lawful lawful_p of_before kept step spares =
     let region_p = region_now before p region lawful of_before kept in
-    subst (λ rows. IsKept before rows region) (sym step.3) (kept_twice before p (grown p u position kind) region kept (grown_kept p region u position kind region_p spares))
+    subst (λ rows. IsKept before rows region) (sym step.3)
+    (kept_twice before p (grown p u position kind) region kept (grown_kept p region u position kind region_p spares))
 spared price limits before p q region (Insert u v kind) (Put made) lawful lawful_p of_before kept step spares =
     let region_p = region_now before p region lawful of_before kept in
     subst (λ rows. IsKept before rows region) (sym step.4) (kept_twice before p (shown p u v kind made.route) region kept

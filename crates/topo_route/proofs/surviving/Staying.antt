@@ -47,7 +47,8 @@ pub whole_region : (rows : Rows) → Lawful rows → IsRegion rows (has_dart (da
 whole_region rows lawful = record { of_rows = λ d h. h; round = face_stays rows lawful }
 
 -- which covers each search
-pub covers_whole : (price : Pricing) (rows : Rows) → Lawful rows → (u v : ℕ) (height : Dart → ℕ) (r : Route) (p : ℕ) → IsCertificate price rows v height → IsFirstByHeights price rows u v height r p
+pub covers_whole : (price : Pricing) (rows : Rows) → Lawful rows → (u v : ℕ) (height : Dart → ℕ) (r : Route) (p : ℕ) → IsCertificate price rows v height
+    → IsFirstByHeights price rows u v height r p
     → CoversSearch price rows (unmoved (has_dart (darts rows))) u v height r p
 covers_whole price rows lawful u v height r p certificate first = record {
   certificate = certificate;
@@ -71,12 +72,14 @@ test_within : (a b : Bool) → a ≡ false → (b ≡ true → a ≡ true) → b
 test_within a true h l = absurd (false≢true (sym h ∙ l refl))
 test_within a false h l = refl
 
-same_edge_on : (old mid new : Rows) (i j : ℕ) → j ≡ i → IsSameEdge (edge_at old i) (edge_at mid i) → IsSameEdge (edge_at mid j) (edge_at new j) → IsSameEdge (edge_at old i) (edge_at new i)
+same_edge_on : (old mid new : Rows) (i j : ℕ) → j ≡ i → IsSameEdge (edge_at old i) (edge_at mid i) → IsSameEdge (edge_at mid j) (edge_at new j)
+    → IsSameEdge (edge_at old i) (edge_at new i)
 same_edge_on old mid new i j e first second =
     let on = subst (λ k. IsSameEdge (edge_at mid k) (edge_at new k)) e second in
     record { id = on.id ∙ first.id; a = on.a ∙ first.a; b = on.b ∙ first.b; kind = on.kind ∙ first.kind }
 
-module _ (old mid new : Rows) (m on : Renaming) (keeps : KeepsFaces old mid m) (keeps_on : KeepsFaces mid new on) (within : (d : Dart) → m.kept d ≡ true → on.inside d ≡ true) where
+module _ (old mid new : Rows) (m on : Renaming) (keeps : KeepsFaces old mid m) (keeps_on : KeepsFaces mid new on)
+    (within : (d : Dart) → m.kept d ≡ true → on.inside d ≡ true) where
   abbrev Inside : Dart → Type 0
   Inside d = m.inside d ≡ true
 
@@ -89,7 +92,8 @@ module _ (old mid new : Rows) (m on : Renaming) (keeps : KeepsFaces old mid m) (
 
   there_on : (d : Dart) → Inside d → ((followed m on).kept (on.move (m.move d)) ≡ true) × (m.back (on.back (on.move (m.move d))) ≡ d)
   there_on d h = (
-    both_true (on.kept (on.move (m.move d))) (m.kept (on.back (on.move (m.move d)))) (keeps_on.there (m.move d) (moves_on d h)).0 (ap m.kept (came_from d h) ∙ (keeps.there d h).0),
+    both_true (on.kept (on.move (m.move d))) (m.kept (on.back (on.move (m.move d)))) (keeps_on.there (m.move d) (moves_on d h)).0 (ap m.kept (came_from d h)
+        ∙ (keeps.there d h).0),
     ap m.back (came_from d h) ∙ (keeps.there d h).1,
   )
 
@@ -130,7 +134,8 @@ module _ (old mid new : Rows) (m on : Renaming) (keeps : KeepsFaces old mid m) (
   }
 
 -- corners that are kept and kept on
-pub kept_ends_on : (old mid new : Rows) (m on : Renaming) (u v start : ℕ) → KeepsEnds old mid m u v start → KeepsEnds mid new on u v start → KeepsEnds old new (followed m on) u v start
+pub kept_ends_on : (old mid new : Rows) (m on : Renaming) (u v start : ℕ) → KeepsEnds old mid m u v start → KeepsEnds mid new on u v start
+    → KeepsEnds old new (followed m on) u v start
 kept_ends_on old mid new m on u v start ends ends_on = record {
   target = λ q. ends_on.target q ∙ ap (option_map on.move) (ends.target q) ∙ option_map_twice m.move on.move (corner old v q);
   starts = λ q before. ends_on.starts q before ∙ ap (option_map on.move) (ends.starts q before) ∙ option_map_twice m.move on.move (corner old u q);

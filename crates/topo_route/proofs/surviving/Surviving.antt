@@ -116,15 +116,18 @@ module _ (old new : Rows) (m : Renaming) (keeps : KeepsFaces old new m) where
     abbrev pub StaysInside : List Dart → Type 0
     StaysInside xs = AllByRecursion (λ x. m.inside (dart_twin x) ≡ true) xs
 
-    pub crosses_moved : (xs : List Dart) (c d : Dart) → m.inside c ≡ true → StaysInside xs → Crosses (system old) c xs d → Crosses (system new) (m.move c) (map m.move xs) (m.move d)
+    pub crosses_moved : (xs : List Dart) (c d : Dart) → m.inside c ≡ true → StaysInside xs → Crosses (system old) c xs d
+        → Crosses (system new) (m.move c) (map m.move xs) (m.move d)
     crosses_moved [] c d h stays walk = face_moved c d h walk
     crosses_moved (x ∷ xs) c d h stays walk =
         let here = face_inside c x h walk.0 in (
           face_moved c x h walk.0,
-          subst (λ y. Crosses (system new) y (map m.move xs) (m.move d)) (keeps.twin_moves x here stays.0) (crosses_moved xs (dart_twin x) d stays.0 stays.1 walk.1),
+          subst (λ y. Crosses (system new) y (map m.move xs) (m.move d)) (keeps.twin_moves x here stays.0)
+              (crosses_moved xs (dart_twin x) d stays.0 stays.1 walk.1),
         )
 
-    pub costs_moved : (xs : List Dart) (c d : Dart) (n : ℕ) → m.inside c ≡ true → StaysInside xs → Crosses (system old) c xs d → Costs price old xs n → Costs price new (map m.move xs) n
+    pub costs_moved : (xs : List Dart) (c d : Dart) (n : ℕ) → m.inside c ≡ true → StaysInside xs → Crosses (system old) c xs d → Costs price old xs n
+        → Costs price new (map m.move xs) n
     costs_moved [] c d n h stays walk cost = cost
     costs_moved (x ∷ xs) c d n h stays walk cost =
         let here = face_inside c x h walk.0 in
@@ -182,7 +185,8 @@ module _ (old new : Rows) (m : Renaming) (keeps : KeepsFaces old new m) where
                 let first = takes.0 s (keeps.of_before s from.is_inside) from.face tight_there in
                 subst (λ z. dart_cmp (m.move x) z ≢ Greater) from.moves
                 (subst (λ o. o ≢ Greater) (sym (keeps.order x s here from.is_inside)) first)),
-            subst (λ z. TakesFirstDarts price new carried z (map m.move xs)) (keeps.twin_moves x here stays.0) (first_moved xs (dart_twin x) d stays.0 stays.1 walk.1 takes.1),
+            subst (λ z. TakesFirstDarts price new carried z (map m.move xs)) (keeps.twin_moves x here stays.0)
+                (first_moved xs (dart_twin x) d stays.0 stays.1 walk.1 takes.1),
           )
 
       -- ---- The certificate
@@ -309,7 +313,8 @@ module _ (price : Pricing) (old new : Rows) (m : Renaming) (u v : ℕ) (height :
     priced = priced_moved;
     least_height = least_moved;
     first_start = start_moved;
-    first_darts = first_moved old new m keeps price height outside covers.level r.crossed from to from_inside covers.crossed covers.first.priced.route.walk covers.first.first_darts;
+    first_darts = first_moved old new m keeps price height outside covers.level r.crossed from to from_inside covers.crossed covers.first.priced.route.walk
+        covers.first.first_darts;
     first_end = end_moved;
   }
 

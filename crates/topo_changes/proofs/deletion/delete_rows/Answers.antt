@@ -25,12 +25,14 @@ leave_ends-requires-clause-apart c = ends_apart c.args.rows.now c.requires.well_
 pub leave_ends-requires-clause-rotation_a : goal.leave_ends-requires-clause-rotation_a
 leave_ends-requires-clause-rotation_a c =
     let row = c.delete_edge-row.result in
-    subst (λ (rows : Rows). IsRotation row.id (rotation rows row.a)) (sym c.delete_edge-row.ensures.rows) (rotation_a c.args.rows.now c.requires.well_formed c.args.e row c.delete_edge-row.ensures.row)
+    subst (λ (rows : Rows). IsRotation row.id (rotation rows row.a)) (sym c.delete_edge-row.ensures.rows)
+    (rotation_a c.args.rows.now c.requires.well_formed c.args.e row c.delete_edge-row.ensures.row)
 
 pub leave_ends-requires-clause-rotation_b : goal.leave_ends-requires-clause-rotation_b
 leave_ends-requires-clause-rotation_b c =
     let row = c.delete_edge-row.result in
-    subst (λ (rows : Rows). IsRotation row.id (rotation rows row.b)) (sym c.delete_edge-row.ensures.rows) (rotation_b c.args.rows.now c.requires.well_formed c.args.e row c.delete_edge-row.ensures.row)
+    subst (λ (rows : Rows). IsRotation row.id (rotation rows row.b)) (sym c.delete_edge-row.ensures.rows)
+    (rotation_b c.args.rows.now c.requires.well_formed c.args.e row c.delete_edge-row.ensures.row)
 
 pub returns : goal.returns
 returns c =
@@ -38,6 +40,8 @@ returns c =
     let row = c.delete_edge-row.result in
     let left = ap (map crossing_row) c.delete_crossings.ensures.entries ∙ rows_of_left (λ x. not (has_id c.as_slice.result.now x)) (entries was)
     ∙ ap (λ (path : List ℕ). filter (λ (x : CrossRow). not (has_id path x.id)) (rows_of was)) c.as_slice.ensures in
-    parts_left c.args.rows.now c.requires.well_formed c.args.e row c.delete_edge-row.ensures.row c.delete_edge-row.new.rows c.leave_ends.new.rows _ c.delete_edge-row.ensures.rows c.leave_ends.ensures
+    parts_left c.args.rows.now c.requires.well_formed c.args.e row c.delete_edge-row.ensures.row c.delete_edge-row.new.rows c.leave_ends.new.rows _
+    c.delete_edge-row.ensures.rows c.leave_ends.ensures
     (ap (λ (rows : Rows). record rows { crossings = rows_of c.delete_crossings.new.crossings }) c.rows.view_is
-    ∙ ap (λ (xs : List CrossRow). record c.leave_ends.new.rows { crossings = xs }) (left ∙ ap (λ (rows : Rows). filter (λ (x : CrossRow). not (has_id row.crossings x.id)) rows.crossings) c.rows.view_is))
+    ∙ ap (λ (xs : List CrossRow). record c.leave_ends.new.rows { crossings = xs })
+    (left ∙ ap (λ (rows : Rows). filter (λ (x : CrossRow). not (has_id row.crossings x.id)) rows.crossings) c.rows.view_is))

@@ -12,11 +12,16 @@ pub loop-i-init : goal.loop-i-init
 loop-i-init c = added_none c.args.crossings.now c.args.darts.now c.args.first c.args.edge c.requires.room c.requires.below
 
 -- the entry that is put in
-made : (edge x : ℕ) (d : Dart) (crossed : ℕ) (sign : Sign) → crossed ≡ d.edge → sign ≡ sign_of d.way → ◌≡◌ {A = ℕ × Crossing} (x, record { crossed = crossed; newcomer = edge; sign = sign }) (new_entry edge (x, d))
-made edge x d crossed sign is way = ap (λ (n : ℕ). (x, record { crossed = n; newcomer = edge; sign = sign })) is ∙ ap (λ (s : Sign). (x, record { crossed = d.edge; newcomer = edge; sign = s })) way
+made : (edge x : ℕ) (d : Dart) (crossed : ℕ) (sign : Sign) → crossed ≡ d.edge → sign ≡ sign_of d.way
+    → ◌≡◌ {A = ℕ × Crossing} (x, record { crossed = crossed; newcomer = edge; sign = sign }) (new_entry edge (x, d))
+made edge x d crossed sign is way = ap (λ (n : ℕ). (x, record { crossed = n; newcomer = edge; sign = sign })) is
+    ∙ ap (λ (s : Sign). (x, record { crossed = d.edge; newcomer = edge; sign = s })) way
 
 pub loop-i-preserved : goal.loop-i-preserved
-loop-i-preserved c = added_more c.args.crossings.now c.loop-i.crossings c.push.new.self c.args.darts.now c.args.first c.args.edge c.loop-i.i c.index-darts-i.result _ c.loop-i-test.true c.loop-i.invariant c.index-darts-i.is (made c.args.edge (c.args.first + c.loop-i.i) c.index-darts-i.result c.number.result c.sign_of.result c.number.ensures c.sign_of.ensures) c.push.ensures.slots c.push.ensures.entries c.push.ensures.room
+loop-i-preserved c = added_more c.args.crossings.now c.loop-i.crossings c.push.new.self c.args.darts.now c.args.first c.args.edge c.loop-i.i
+    c.index-darts-i.result _ c.loop-i-test.true c.loop-i.invariant c.index-darts-i.is
+    (made c.args.edge (c.args.first + c.loop-i.i) c.index-darts-i.result c.number.result c.sign_of.result c.number.ensures c.sign_of.ensures)
+    c.push.ensures.slots c.push.ensures.entries c.push.ensures.room
 
 pub returns-clause-entries : goal.returns-clause-entries
 returns-clause-entries c = grind (arith, take_all, added_all)

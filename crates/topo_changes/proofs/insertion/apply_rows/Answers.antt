@@ -16,18 +16,31 @@ use Rattle.topo_changes.proofs.insertion.apply_rows.Goals as goal
 
 pub insert_lists-requires-clause-new : goal.insert_lists-requires-clause-new
 insert_lists-requires-clause-new c =
-    let rows : Rows = record { rotations = c.rows.inside.rotations; edges = c.rows.inside.edges; crossings = rows_of c.rows.inside.crossings; next_edge = c.rows.inside.next_edge; next_crossing = c.rows.inside.next_crossing } in
+    let rows : Rows = record {
+      rotations = c.rows.inside.rotations;
+      edges = c.rows.inside.edges;
+      crossings = rows_of c.rows.inside.crossings;
+      next_edge = c.rows.inside.next_edge;
+      next_crossing = c.rows.inside.next_crossing;
+    } in
     let formed = subst IsWellFormed (sym c.rows.view_is) c.requires.formed in
     let insertable = subst (λ (rows : Rows). IsInsertable rows c.args.u c.args.v c.args.kind c.args.route.now) (sym c.rows.view_is) c.requires.insertable in
     let lists : c.deref_mut.result.now ≡ rows.rotations = search rules in
-    subst (λ xs. list_all (λ e. nat_lt e rows.next_edge) (slice_index_or xs c.args.u []) ≡ true) (sym lists) (rotation_old rows formed c.args.u insertable.u_there)
+    subst (λ xs. list_all (λ e. nat_lt e rows.next_edge) (slice_index_or xs c.args.u []) ≡ true) (sym lists)
+    (rotation_old rows formed c.args.u insertable.u_there)
 
 pub insert_lists-requires-clause-below : goal.insert_lists-requires-clause-below
 insert_lists-requires-clause-below c = grind (arith, crossings_old)
 
 pub insert_lists-requires-clause-there : goal.insert_lists-requires-clause-there
 insert_lists-requires-clause-there c =
-    let rows : Rows = record { rotations = c.rows.inside.rotations; edges = c.rows.inside.edges; crossings = rows_of c.rows.inside.crossings; next_edge = c.rows.inside.next_edge; next_crossing = c.rows.inside.next_crossing } in
+    let rows : Rows = record {
+      rotations = c.rows.inside.rotations;
+      edges = c.rows.inside.edges;
+      crossings = rows_of c.rows.inside.crossings;
+      next_edge = c.rows.inside.next_edge;
+      next_crossing = c.rows.inside.next_crossing;
+    } in
     let formed = subst IsWellFormed (sym c.rows.view_is) c.requires.formed in
     let insertable = subst (λ (rows : Rows). IsInsertable rows c.args.u c.args.v c.args.kind c.args.route.now) (sym c.rows.view_is) c.requires.insertable in
     let edges : c.as_vec_mut-2.result.now.items ≡ rows.edges = search rules in
@@ -35,9 +48,22 @@ insert_lists-requires-clause-there c =
 
 pub returns-clause-ok : goal.returns-clause-ok
 returns-clause-ok c =
-    let rows : Rows = record { rotations = c.rows.inside.rotations; edges = c.rows.inside.edges; crossings = rows_of c.rows.inside.crossings; next_edge = c.rows.inside.next_edge; next_crossing = c.rows.inside.next_crossing } in
-    let with_rotations : List (List ℕ) → Rows = λ rs. record { rotations = rs; edges = c.insert_lists.new.edges.items; crossings = rows_of c.insert_lists.new.crossings; next_edge = rows.next_edge + 1; next_crossing = rows.next_crossing + length c.as_slice-2.result.now } in
+    let rows : Rows = record {
+      rotations = c.rows.inside.rotations;
+      edges = c.rows.inside.edges;
+      crossings = rows_of c.rows.inside.crossings;
+      next_edge = c.rows.inside.next_edge;
+      next_crossing = c.rows.inside.next_crossing;
+    } in
+    let with_rotations : List (List ℕ) → Rows = λ rs. record {
+      rotations = rs;
+      edges = c.insert_lists.new.edges.items;
+      crossings = rows_of c.insert_lists.new.crossings;
+      next_edge = rows.next_edge + 1;
+      next_crossing = rows.next_crossing + length c.as_slice-2.result.now;
+    } in
     let long : length c.insert_lists.new.rotations ≡ vec_len c.as_vec_mut.result.now = c.insert_lists.auto.rotations ∙ c.deref_mut.ensures.len in
-    let made : with_rotations c.insert_lists.new.rotations ≡ shown rows c.args.u c.args.v c.args.kind c.args.route.now = grind (arith, take_at, rows_made, added_rows) in
+    let made : with_rotations c.insert_lists.new.rotations ≡ shown rows c.args.u c.args.v c.args.kind c.args.route.now =
+    grind (arith, take_at, rows_made, added_rows) in
     ap with_rotations (take_at c.insert_lists.new.rotations _ _ long)
     ∙ made ∙ ap (λ (rows : Rows). shown rows c.args.u c.args.v c.args.kind c.args.route.now) c.rows.view_is

@@ -5,4 +5,5 @@ use Rattle.topo_changes.proofs.insertion.cross.Goals as goal
 
 pub uncross-requires-clause-rise : goal.uncross-requires-clause-rise
 uncross-requires-clause-rise c =
-    subst EdgesRise (sym c.cross_some-done.ensures.crossed) (crossed_rise c.args.first (take c.cross_some-done.result c.args.darts.now) c.args.edges.now c.requires.rise)
+    subst EdgesRise (sym c.cross_some-done.ensures.crossed)
+    (crossed_rise c.args.first (take c.cross_some-done.result c.args.darts.now) c.args.edges.now c.requires.rise)

@@ -13,7 +13,8 @@ returns-in-Some-clause-ok c =
     let place = c.in-Some.ensures in
     ok_more c.cross_path.result
     (λ ok. ap (λ path. set edges at (record (get_or edges at row) { crossings = path })) ok
-    ∙ repathed_at c.requires.0 c.args.e at (crossed_path c.args.first c.args.segment c.args.x) row edges c.requires.1 place.within (ap (λ (r : EdgeRow). r.id) (get_or_from_slice_get edges at place.row row place.at) ∙ place.named))
+    ∙ repathed_at c.requires.0 c.args.e at (crossed_path c.args.first c.args.segment c.args.x) row edges c.requires.1 place.within
+    (ap (λ (r : EdgeRow). r.id) (get_or_from_slice_get edges at place.row row place.at) ∙ place.named))
     c.cross_path.ensures.ok
 
 pub returns-in-None-clause-ok : goal.returns-in-None-clause-ok

@@ -16,4 +16,5 @@ uncross-requires-clause-rise c =
     let edges : c.deref_mut.result.now ≡ c.args.edges.now.items = c.deref_mut.ensures.value ∙ c.reserve.ensures.items in
     let long : length c.cross.new.edges ≡ vec_len c.reserve.new.self = c.cross.auto.edges ∙ c.deref_mut.ensures.len in
     let back : c.deref_mut-then-is_err.result.now ≡ c.cross.new.edges = c.deref_mut-then-is_err.ensures.value ∙ take_at c.cross.new.edges _ _ long in
-    subst EdgesRise (sym (back ∙ c.in_ok-cross.ensures.ok)) (crossed_rise c.args.first c.as_slice-darts.result.now c.deref_mut.result.now (subst EdgesRise (sym edges) c.requires.rise))
+    subst EdgesRise (sym (back ∙ c.in_ok-cross.ensures.ok))
+    (crossed_rise c.args.first c.as_slice-darts.result.now c.deref_mut.result.now (subst EdgesRise (sym edges) c.requires.rise))

@@ -8,7 +8,8 @@ abbrev pub invariant-loop-n : goal.invariant-loop-n
 invariant-loop-n l = record {
   within : l.n ≤ length l.darts;
   rise : EdgesRise l.edges;
-  crossed : (was : List EdgeRow) → paths_below l.first was ≡ true → l.fn.edges ≡ map (crossed_by l.first l.darts) was → l.edges ≡ map (crossed_by l.first (take l.n l.darts)) was;
+  crossed : (was : List EdgeRow) → paths_below l.first was ≡ true → l.fn.edges ≡ map (crossed_by l.first l.darts) was
+      → l.edges ≡ map (crossed_by l.first (take l.n l.darts)) was;
 }
 
 abbrev pub decreases-loop-n : goal.decreases-loop-n

@@ -9,15 +9,18 @@ use Rattle.topo_check.proofs.check.check_io.Goals as goal
 pub returns-in_err-line-clause-fault : goal.returns-in_err-line-clause-fault
 returns-in_err-line-clause-fault g c =
     let told : IfErr c.from_residual-in_err-line.result (IsUnlawful c.in_ok-bytes.bytes.items) = search rules in
-    err_so c.from_residual-in_err-line.result _ _ (λ fault is. check_fails _ _ _ _ c.in_ok-bytes.bytes.items c.in_ok-bytes.ensures.read fault is (Keeps-refl _)) told
+    err_so c.from_residual-in_err-line.result _ _
+    (λ fault is. check_fails _ _ _ _ c.in_ok-bytes.bytes.items c.in_ok-bytes.ensures.read fault is (Keeps-refl _)) told
 
 pub returns-clause-done : goal.returns-clause-done
 returns-clause-done g c =
     let told = subst (λ (bs : List ℕ). IsSizeOfBytes bs (string_bytes c.in_ok-line.line)) c.as_slice.ensures.value c.in_ok-line.ensures.line in
-    ok_by c.write_text.result _ _ (λ written. checked _ _ _ _ c.in_ok-bytes.bytes.items c.in_ok-bytes.ensures.read _ _ told c.as_str.ensures.value written) c.write_text.ensures.all
+    ok_by c.write_text.result _ _ (λ written. checked _ _ _ _ c.in_ok-bytes.bytes.items c.in_ok-bytes.ensures.read _ _ told c.as_str.ensures.value written)
+    c.write_text.ensures.all
 
 pub returns-clause-fault : goal.returns-clause-fault
 returns-clause-fault g c =
     let told = subst (λ (bs : List ℕ). IsSizeOfBytes bs (string_bytes c.in_ok-line.line)) c.as_slice.ensures.value c.in_ok-line.ensures.line in
-    err_by c.write_text.result _ _ _ (λ fault part is. check_unwritten _ _ _ _ c.in_ok-bytes.bytes.items c.in_ok-bytes.ensures.read fault _ _ told c.as_str.ensures.value part is) c.write_text.ensures.part
+    err_by c.write_text.result _ _ _ (λ fault part is. check_unwritten _ _ _ _ c.in_ok-bytes.bytes.items c.in_ok-bytes.ensures.read fault _ _ told
+    c.as_str.ensures.value part is) c.write_text.ensures.part
     c.write_text.ensures.err

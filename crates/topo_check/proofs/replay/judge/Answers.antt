@@ -27,19 +27,22 @@ pub returns-then-is_same-clause-good : goal.returns-then-is_same-clause-good
 returns-then-is_same-clause-good c =
     let report = c.args.report.now in
     let start = c.in_ok-table.start in
-    let replayed = subst (λ (p : Rows). Replays (priced report.prices) start.limits p report.history c.in-Ok.rows) c.in_ok-table.ensures.rows c.in-Ok.ensures.replayed in
+    let replayed = subst (λ (p : Rows). Replays (priced report.prices) start.limits p report.history c.in-Ok.rows)
+    c.in_ok-table.ensures.rows c.in-Ok.ensures.replayed in
     record {
       limits = start.limits;
       sound = sound_so report.limits _ report.prices _ _ start.limits c.as_slice-prices.ensures refl c.in_ok-table.ensures.sound;
       replayed =
-          subst (λ (q : Rows). Replays (priced report.prices) start.limits report.start report.history q) (c.equals-is_same.ensures.0 c.if-is_same.true) replayed;
+          subst (λ (q : Rows). Replays (priced report.prices) start.limits report.start report.history q)
+          (c.equals-is_same.ensures.0 c.if-is_same.true) replayed;
     }
 
 pub returns-else-is_same-clause-fault : goal.returns-else-is_same-clause-fault
 returns-else-is_same-clause-fault c =
     let report = c.args.report.now in
     let start = c.in_ok-table.start in
-    let replayed = subst (λ (p : Rows). Replays (priced report.prices) start.limits p report.history c.in-Ok.rows) c.in_ok-table.ensures.rows c.in-Ok.ensures.replayed in
+    let replayed = subst (λ (p : Rows). Replays (priced report.prices) start.limits p report.history c.in-Ok.rows)
+    c.in_ok-table.ensures.rows c.in-Ok.ensures.replayed in
     record {
       limits = start.limits;
       sound = sound_so report.limits _ report.prices _ _ start.limits c.as_slice-prices.ensures refl c.in_ok-table.ensures.sound;

@@ -10,7 +10,8 @@ returns-clause-replayed c =
     let start = c.args.start.now in
     let table = c.args.table.now in
     ok_so c.asked_replay.result _ _
-    (λ picture replayed. replays_by_table _ report.prices table c.requires.own (λ facts n h. subst (λ (f : Facts). slice_get table f.kind ≡ Some (Some n)) h.shows h.says.met.0)
+    (λ picture replayed. replays_by_table _ report.prices table c.requires.own
+    (λ facts n h. subst (λ (f : Facts). slice_get table f.kind ≡ Some (Some n)) h.shows h.says.met.0)
     (λ facts n h. record {
       shown = record { ref_ptr = (0, 0); now = facts };
       shows = refl;
@@ -24,7 +25,8 @@ returns-clause-first_wrong c =
     let start = c.args.start.now in
     let table = c.args.table.now in
     err_so c.asked_replay.result _ _
-    (λ fault is. fault_by_table _ report.prices table c.requires.own (λ facts n h. subst (λ (f : Facts). slice_get table f.kind ≡ Some (Some n)) h.shows h.says.met.0)
+    (λ fault is. fault_by_table _ report.prices table c.requires.own
+    (λ facts n h. subst (λ (f : Facts). slice_get table f.kind ≡ Some (Some n)) h.shows h.says.met.0)
     (λ facts n h. record {
       shown = record { ref_ptr = (0, 0); now = facts };
       shows = refl;
@@ -38,7 +40,8 @@ returns-clause-illegal c =
     let start = c.args.start.now in
     let table = c.args.table.now in
     err_so c.asked_replay.result _ _
-    (λ fault is. illegal_by_table _ report.prices table c.requires.own (λ facts n h. subst (λ (f : Facts). slice_get table f.kind ≡ Some (Some n)) h.shows h.says.met.0)
+    (λ fault is. illegal_by_table _ report.prices table c.requires.own
+    (λ facts n h. subst (λ (f : Facts). slice_get table f.kind ≡ Some (Some n)) h.shows h.says.met.0)
     (λ facts n h. record {
       shown = record { ref_ptr = (0, 0); now = facts };
       shows = refl;

@@ -31,7 +31,8 @@ returns-in-Err-clause-kinds g c =
 pub returns-in-Some-clause-kinds : goal.returns-in-Some-clause-kinds
 returns-in-Some-clause-kinds g c =
     let words = map g.S.AsStr.text c.args.words.now in
-    let none : fault_of planar_app words ≡ [] = subst (λ (a : App). is_simple_and_free a ≡ true → fault_of a words ≡ []) c.requires c.in-Ok.ensures.kinds planar_is_simple in
+    let none : fault_of planar_app words ≡ [] =
+    subst (λ (a : App). is_simple_and_free a ≡ true → fault_of a words ≡ []) c.requires c.in-Ok.ensures.kinds planar_is_simple in
     let asked : asked_verb words ≡ Some c.in-Some.verb = search rules in
     none_of (fault_of planar_app words) (is_some (asked_verb words)) none (ap (λ (o : Option Verb). is_some o) asked)
 

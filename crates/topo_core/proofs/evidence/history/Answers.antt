@@ -18,7 +18,23 @@ abbrev beside_grown : Planned
 beside_grown = record { prices = []; heights = 0 ∷ 0 ∷ 0 ∷ 0 ∷ []; crossed = []; start = 0; end = 0; from = back 0 0; to = back 1 0 }
 
 passes : Passes (grown seed 1 0 0) 1 2 beside_grown
-passes = record { starts = refl; ends = refl; closed = refl; twins = refl; corners = refl; even = refl; gentle = refl; target = refl; walk = refl; priced = refl; least_height = refl; first_start = refl; first_darts = refl; arrival_held = refl; first_end = refl }
+passes = record {
+  starts = refl;
+  ends = refl;
+  closed = refl;
+  twins = refl;
+  corners = refl;
+  even = refl;
+  gentle = refl;
+  target = refl;
+  walk = refl;
+  priced = refl;
+  least_height = refl;
+  first_start = refl;
+  first_darts = refl;
+  arrival_held = refl;
+  first_end = refl;
+}
 
 below_two : (entry : Entry) → IsIn entry two_callers → entry.caller < 2
 below_two entry (inl e) = subst (λ (x : Entry). x.caller < 2) (sym e) (lit≤ tt)
@@ -42,7 +58,8 @@ returns c =
       accepted = refl;
       version = record { accepted = refl; replayed = (grown seed 1 0 0, (grow, refl, refl, refl), (after_two, (join, first, omega arith, refl, refl), refl)) };
       agrees = record { entry = insertion; there = refl; same_call = refl; same_reply = refl };
-      differs = λ agrees. let wrong : Refused SameEnds ≡ Refused NoVertex = ap (λ (o : Option Entry). (unwrap_or o refusal).reply) agrees.there ∙ agrees.same_reply in cc;
+      differs = λ agrees. let wrong : Refused SameEnds ≡ Refused NoVertex = ap (λ (o : Option Entry). (unwrap_or o refusal).reply) agrees.there
+          ∙ agrees.same_reply in cc;
       no_more = λ agrees. let wrong : None ≡ Some agrees.entry = agrees.there in cc;
       run = grind (arith, by_caller, below_two);
     } where

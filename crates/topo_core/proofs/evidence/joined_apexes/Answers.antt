@@ -8,7 +8,21 @@ use Rattle.topo_core.proofs.evidence.joined_apexes.Goals as goal
 
 pub returns : goal.returns
 returns c = record {
-  lawful = record { lawful = record { embedding = record { well_formed = record { paths = refl; crossings = refl; rotations = refl }; connected = connected_by_tests (system (joined_apexes RightToLeft)) 8 refl refl }; genus_zero = refl }; vertex_count = refl; crossing_count = refl; edge_count = refl; total_segments = refl; total_faces = refl };
+  lawful = record {
+    lawful =
+        record {
+          embedding = record {
+            well_formed = record { paths = refl; crossings = refl; rotations = refl };
+            connected = connected_by_tests (system (joined_apexes RightToLeft)) 8 refl refl;
+          };
+          genus_zero = refl;
+        };
+    vertex_count = refl;
+    crossing_count = refl;
+    edge_count = refl;
+    total_segments = refl;
+    total_faces = refl;
+  };
   faces = refl;
   wrong_sign_faces = refl;
   wrong_sign_count = refl;

@@ -46,10 +46,34 @@ kept_past = record {
 }
 
 abbrev past : Planned
-past = record { prices = 1 ∷ 9 ∷ []; heights = 2 ∷ 1 ∷ 0 ∷ 1 ∷ 1 ∷ 2 ∷ 0 ∷ 1 ∷ 0 ∷ 2 ∷ 1 ∷ 1 ∷ 2 ∷ 2 ∷ 0 ∷ 0 ∷ []; crossed = forward 0 0 ∷ back 0 1 ∷ []; start = 0; end = 0; from = back 4 0; to = back 5 0 }
+past = record {
+  prices = 1 ∷ 9 ∷ [];
+  heights = 2 ∷ 1 ∷ 0 ∷ 1 ∷ 1 ∷ 2 ∷ 0 ∷ 1 ∷ 0 ∷ 2 ∷ 1 ∷ 1 ∷ 2 ∷ 2 ∷ 0 ∷ 0 ∷ [];
+  crossed = forward 0 0 ∷ back 0 1 ∷ [];
+  start = 0;
+  end = 0;
+  from = back 4 0;
+  to = back 5 0;
+}
 
 past_passes : Passes barrier 4 5 past
-past_passes = record { starts = refl; ends = refl; closed = refl; twins = refl; corners = refl; even = refl; gentle = refl; target = refl; walk = refl; priced = refl; least_height = refl; first_start = refl; first_darts = refl; arrival_held = refl; first_end = refl }
+past_passes = record {
+  starts = refl;
+  ends = refl;
+  closed = refl;
+  twins = refl;
+  corners = refl;
+  even = refl;
+  gentle = refl;
+  target = refl;
+  walk = refl;
+  priced = refl;
+  least_height = refl;
+  first_start = refl;
+  first_darts = refl;
+  arrival_held = refl;
+  first_end = refl;
+}
 
 simple : IsSimpleRoute barrier 4 5 (route 0 (forward 0 0 ∷ back 0 1 ∷ []) 0)
 simple = least_is_simple (by_kind (1 ∷ 9 ∷ [])) kept_past barrier (record { paths = refl; crossings = refl; rotations = refl }) 4 5
@@ -60,7 +84,8 @@ returns_there : (c : Dart) → forward 5 0 ≡ c → SameFace (system bipyramid)
 returns_there c same = subst (λ x. SameFace (system bipyramid) x (back 1 0)) same (record { steps = 1; leads = refl })
 
 not_simple : IsSimpleRoute bipyramid 3 4 there_and_back → ⊥
-not_simple simple = simple.once.0.1.0 (returns_there simple.route.from (same_some (corner bipyramid 3 2) (forward 5 0) simple.route.from refl simple.route.starts))
+not_simple simple = simple.once.0.1.0
+    (returns_there simple.route.from (same_some (corner bipyramid 3 2) (forward 5 0) simple.route.from refl simple.route.starts))
 
 pub returns : goal.returns
 returns c = record {

@@ -4,4 +4,5 @@ use Rattle.topo_core.proofs.route_laws.first_by_heights_is_first.Goals as goal
 
 pub returns : goal.returns
 returns g c rows u v height promise good certificate =
-    first_by_heights g.P.Prices.price rows u v height (certified g.P.Prices.price rows u v height good certificate) (λ d p asked. promise.positive asked.facts p asked.asked)
+    first_by_heights g.P.Prices.price rows u v height (certified g.P.Prices.price rows u v height good certificate)
+    (λ d p asked. promise.positive asked.facts p asked.asked)

@@ -21,10 +21,34 @@ use Rattle.topo_core.proofs.routing.RouteOrder.{one_first}
 use Rattle.topo_core.proofs.step_cases.no_steps.Goals as goal
 
 abbrev by_price : Planned
-by_price = record { prices = 1 ∷ 5 ∷ 2 ∷ 9 ∷ []; heights = 0 ∷ 3 ∷ 0 ∷ 2 ∷ 0 ∷ 3 ∷ 3 ∷ 3 ∷ 3 ∷ 2 ∷ 2 ∷ 3 ∷ 0 ∷ 0 ∷ 0 ∷ 0 ∷ 0 ∷ 0 ∷ []; crossed = back 1 0 ∷ []; start = 2; end = 2; from = forward 5 0; to = forward 7 0 }
+by_price = record {
+  prices = 1 ∷ 5 ∷ 2 ∷ 9 ∷ [];
+  heights = 0 ∷ 3 ∷ 0 ∷ 2 ∷ 0 ∷ 3 ∷ 3 ∷ 3 ∷ 3 ∷ 2 ∷ 2 ∷ 3 ∷ 0 ∷ 0 ∷ 0 ∷ 0 ∷ 0 ∷ 0 ∷ [];
+  crossed = back 1 0 ∷ [];
+  start = 2;
+  end = 2;
+  from = forward 5 0;
+  to = forward 7 0;
+}
 
 passes : Passes bipyramid 3 4 by_price
-passes = record { starts = refl; ends = refl; closed = refl; twins = refl; corners = refl; even = refl; gentle = refl; target = refl; walk = refl; priced = refl; least_height = refl; first_start = refl; first_darts = refl; arrival_held = refl; first_end = refl }
+passes = record {
+  starts = refl;
+  ends = refl;
+  closed = refl;
+  twins = refl;
+  corners = refl;
+  even = refl;
+  gentle = refl;
+  target = refl;
+  walk = refl;
+  priced = refl;
+  least_height = refl;
+  first_start = refl;
+  first_darts = refl;
+  arrival_held = refl;
+  first_end = refl;
+}
 
 first : IsFirst uneven bipyramid 3 4 cheapest 2
 first = first_by_tests bipyramid 3 4 by_price passes
@@ -74,7 +98,8 @@ segment_of NoRoute = 0
 -- the cut is at segment 1, and not before
 cut_later : (wide : Limits) → IsRefused uneven wide barrier (Delete 3) (Cut 0) → ⊥
 cut_later wide (inl gone) = not_refused (edge_row barrier 3) _ gone.0 refl
-cut_later wide (inr other) = let same : 0 ≡ other.0 = ap segment_of other.2 in other.3.apart_after (subst (λ i. Connected (opened barrier 3 (i + 1))) same (whole_before 0 (lit≤ tt)))
+cut_later wide (inr other) = let same : 0 ≡ other.0 = ap segment_of other.2 in
+    other.3.apart_after (subst (λ i. Connected (opened barrier 3 (i + 1))) same (whole_before 0 (lit≤ tt)))
 
 never_cut : (wide : Limits) → IsRefused uneven wide (joined_apexes RightToLeft) (Delete 9) (Cut 0) → ⊥
 never_cut wide (inl gone) = let h = ap refusal_number gone.1 in omega arith
@@ -91,7 +116,8 @@ returns c =
       no_cause = λ step. not_refused (grow_refusal wide seed 1 0 0) Full grow step.0;
       changed = λ step. let h = ap (λ (rows : Rows). rows.next_edge) step.1 in omega arith;
       later_cause = λ step. ends_come_first wide step.0;
-      dearer = λ step. let h = ap (λ (r : Route). r.start) (one_first uneven bipyramid 3 4 cheapest (route 1 (back 0 0 ∷ []) 0) 2 5 first step.1) in omega arith;
+      dearer = λ step. let h =
+          ap (λ (r : Route). r.start) (one_first uneven bipyramid 3 4 cheapest (route 1 (back 0 0 ∷ []) 0) 2 5 first step.1) in omega arith;
       not_shown = λ step. let h = ap (λ (rows : Rows). rows.next_edge) step.4 in omega arith;
       no_route = λ step. route_there wide admit step.0;
       parted = λ step. step.1 1 cut;

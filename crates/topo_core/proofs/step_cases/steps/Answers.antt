@@ -13,17 +13,58 @@ use Rattle.topo_core.specs.Routes.{HasNoRoute}
 use Rattle.topo_core.specs.StepCases.{joined_before}
 use Rattle.topo_core.specs.Steps.{grow_refusal, insert_refusal}
 use Rattle.topo_core.specs.Systems.{Connected}
-use Rattle.topo_core.proofs.stepping.Computed.{Encloses, Passes, Planned, connected_by_tests, cut_by_tests, first_by_tests, has_price, no_cut_by_tests, no_route_by_tests, price_has}
+use Rattle.topo_core.proofs.stepping.Computed.{Encloses, Passes, Planned, connected_by_tests, cut_by_tests}
+use Rattle.topo_core.proofs.stepping.Computed.{first_by_tests, has_price, no_cut_by_tests, no_route_by_tests, price_has}
 use Rattle.topo_core.proofs.step_cases.steps.Goals as goal
 
 abbrev by_price : Planned
-by_price = record { prices = 1 ∷ 5 ∷ 2 ∷ 9 ∷ []; heights = 0 ∷ 3 ∷ 0 ∷ 2 ∷ 0 ∷ 3 ∷ 3 ∷ 3 ∷ 3 ∷ 2 ∷ 2 ∷ 3 ∷ 0 ∷ 0 ∷ 0 ∷ 0 ∷ 0 ∷ 0 ∷ []; crossed = back 1 0 ∷ []; start = 2; end = 2; from = forward 5 0; to = forward 7 0 }
+by_price = record {
+  prices = 1 ∷ 5 ∷ 2 ∷ 9 ∷ [];
+  heights = 0 ∷ 3 ∷ 0 ∷ 2 ∷ 0 ∷ 3 ∷ 3 ∷ 3 ∷ 3 ∷ 2 ∷ 2 ∷ 3 ∷ 0 ∷ 0 ∷ 0 ∷ 0 ∷ 0 ∷ 0 ∷ [];
+  crossed = back 1 0 ∷ [];
+  start = 2;
+  end = 2;
+  from = forward 5 0;
+  to = forward 7 0;
+}
 
 passes : Passes bipyramid 3 4 by_price
-passes = record { starts = refl; ends = refl; closed = refl; twins = refl; corners = refl; even = refl; gentle = refl; target = refl; walk = refl; priced = refl; least_height = refl; first_start = refl; first_darts = refl; arrival_held = refl; first_end = refl }
+passes = record {
+  starts = refl;
+  ends = refl;
+  closed = refl;
+  twins = refl;
+  corners = refl;
+  even = refl;
+  gentle = refl;
+  target = refl;
+  walk = refl;
+  priced = refl;
+  least_height = refl;
+  first_start = refl;
+  first_darts = refl;
+  arrival_held = refl;
+  first_end = refl;
+}
 
 passes_again : Passes joined_before 3 4 by_price
-passes_again = record { starts = refl; ends = refl; closed = refl; twins = refl; corners = refl; even = refl; gentle = refl; target = refl; walk = refl; priced = refl; least_height = refl; first_start = refl; first_darts = refl; arrival_held = refl; first_end = refl }
+passes_again = record {
+  starts = refl;
+  ends = refl;
+  closed = refl;
+  twins = refl;
+  corners = refl;
+  even = refl;
+  gentle = refl;
+  target = refl;
+  walk = refl;
+  priced = refl;
+  least_height = refl;
+  first_start = refl;
+  first_darts = refl;
+  arrival_held = refl;
+  first_end = refl;
+}
 
 -- the darts of the three faces at apex 3
 abbrev upper : List Dart
@@ -70,5 +111,9 @@ returns c =
       room = omega arith;
       no_room = λ room. omega arith;
       inserted = (admits c.args.single c.requires.single_edges, first, omega arith, refl, refl);
-      no_crossing_left = (inr (inr (admits_again c.args.single c.requires.single_edges, refl, record { route = cheapest; cost = 2; first = again; too_many = omega arith })), refl);
+      no_crossing_left = (
+        inr
+            (inr (admits_again c.args.single c.requires.single_edges, refl, record { route = cheapest; cost = 2; first = again; too_many = omega arith })),
+        refl,
+      );
     }

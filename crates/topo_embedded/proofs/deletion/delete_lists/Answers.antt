@@ -7,7 +7,8 @@ pub open_path-requires : goal.open_path-requires
 open_path-requires c = (
   c.args.edge,
   handed_out c.args.rows.now c.args.edge c.args.paths.now.items c.args.segments.now c.requires.lawful c.requires.there c.requires.shows c.laws.ensures
-      c.edges.result.now c.place_of_edge-place.result c.edges.ensures c.place_of_edge-place.ensures c.replace-path.new.dest c.index_mut.result.now c.replace-path.result c.as_slice.result.now
+      c.edges.result.now c.place_of_edge-place.result c.edges.ensures c.place_of_edge-place.ensures c.replace-path.new.dest c.index_mut.result.now
+      c.replace-path.result c.as_slice.result.now
       (c.replace-path.ensures.value ∙ c.index_mut.ensures.value) c.as_slice.ensures.value,
 )
 
@@ -15,7 +16,8 @@ pub smooth_path-requires : goal.smooth_path-requires
 smooth_path-requires c = (
   c.args.edge,
   opened_here c.args.rows.now c.args.edge c.args.paths.now.items c.args.segments.now c.requires.lawful c.requires.there c.requires.shows c.laws.ensures
-      c.edges.result.now c.place_of_edge-place.result c.edges.ensures c.place_of_edge-place.ensures c.replace-path.new.dest c.index_mut.result.now c.replace-path.result c.as_slice.result.now
+      c.edges.result.now c.place_of_edge-place.result c.edges.ensures c.place_of_edge-place.ensures c.replace-path.new.dest c.index_mut.result.now
+      c.replace-path.result c.as_slice.result.now
       (c.replace-path.ensures.value ∙ c.index_mut.ensures.value) c.as_slice.ensures.value
       c.open_path.new.segments c.open_path.new.path (mids_of c.open_path.new.path) c.open_path.ensures refl,
 )
@@ -25,7 +27,8 @@ remove-requires c = omega (
   arith,
   c.smooth_path.new.paths.ok.0,
   inside_lists c.args.rows.now c.args.edge c.args.paths.now.items c.args.segments.now c.requires.lawful c.requires.there c.requires.shows c.laws.ensures
-      c.edges.result.now c.place_of_edge-place.result c.edges.ensures c.place_of_edge-place.ensures c.replace-path.new.dest c.index_mut.result.now c.replace-path.result c.as_slice.result.now
+      c.edges.result.now c.place_of_edge-place.result c.edges.ensures c.place_of_edge-place.ensures c.replace-path.new.dest c.index_mut.result.now
+      c.replace-path.result c.as_slice.result.now
       (c.replace-path.ensures.value ∙ c.index_mut.ensures.value) c.as_slice.ensures.value
       c.open_path.new.segments c.open_path.new.path (mids_of c.open_path.new.path) c.open_path.ensures refl
       c.smooth_path.new.segments c.smooth_path.new.paths.items c.smooth_path.ensures,
@@ -33,7 +36,8 @@ remove-requires c = omega (
 
 pub returns : goal.returns
 returns c = shows_left c.args.rows.now c.args.edge c.args.paths.now.items c.args.segments.now c.requires.lawful c.requires.there c.requires.shows c.laws.ensures
-    c.edges.result.now c.place_of_edge-place.result c.edges.ensures c.place_of_edge-place.ensures c.replace-path.new.dest c.index_mut.result.now c.replace-path.result c.as_slice.result.now
+    c.edges.result.now c.place_of_edge-place.result c.edges.ensures c.place_of_edge-place.ensures c.replace-path.new.dest c.index_mut.result.now
+    c.replace-path.result c.as_slice.result.now
     (c.replace-path.ensures.value ∙ c.index_mut.ensures.value) c.as_slice.ensures.value
     c.open_path.new.segments c.open_path.new.path (mids_of c.open_path.new.path) c.open_path.ensures refl
     c.smooth_path.new.segments c.smooth_path.new.paths.items c.smooth_path.ensures c.remove.new.self.items c.remove.ensures.items

@@ -8,7 +8,8 @@ use Rattle.topo_embedded.proofs.inserting.AddedChords.{chords_last, chords_more,
 use Rattle.topo_embedded.proofs.insertion.add_chords.Goals as goal
 
 pub loop-n-init : goal.loop-n-init
-loop-n-init c = chords_none c.args.segments.now c.args.crossed.now c.args.end c.args.edge c.args.line.now c.laws.ensures c.requires.end c.requires.room c.requires.line
+loop-n-init c = chords_none c.args.segments.now c.args.crossed.now c.args.end c.args.edge c.args.line.now c.laws.ensures c.requires.end
+    c.requires.room c.requires.line
 
 pub chord-requires-clause-live : goal.chord-requires-clause-live
 chord-requires-clause-live c =
@@ -16,7 +17,8 @@ chord-requires-clause-live c =
     let cross : Crossed = c.index-crossed-n.result in
     let within = c.loop-n.invariant.within in
     let less : n < length c.args.crossed.now = omega (arith, within) in
-    let alive : is_live c.args.segments.now (twin cross.near) ≡ true = subst (λ (b : Crossed). is_live c.args.segments.now (twin b.near) ≡ true) (sym c.index-crossed-n.is) (c.requires.alive n cross less).0 in
+    let alive : is_live c.args.segments.now (twin cross.near) ≡ true =
+    subst (λ (b : Crossed). is_live c.args.segments.now (twin b.near) ≡ true) (sym c.index-crossed-n.is) (c.requires.alive n cross less).0 in
     ap (is_live c.loop-n.segments) c.twin.ensures ∙ c.loop-n.invariant.stays (twin cross.near) alive
 
 pub loop-n-preserved : goal.loop-n-preserved
@@ -26,14 +28,22 @@ loop-n-preserved c =
     let more : c.loop-n.n ≡ n + 1 = omega arith in
     let within = c.loop-n.invariant.within in
     let less : n < length c.args.crossed.now = omega (arith, within) in
-    let alive : is_live c.args.segments.now (twin cross.near) ≡ true = subst (λ (b : Crossed). is_live c.args.segments.now (twin b.near) ≡ true) (sym c.index-crossed-n.is) (c.requires.alive n cross less).0 in
-    let beyond : is_live c.args.segments.now cross.beyond ≡ true = subst (λ (b : Crossed). is_live c.args.segments.now b.beyond ≡ true) (sym c.index-crossed-n.is) (c.requires.alive n cross less).1 in
-    subst (λ (line : List ℕ). AreChordsAddedFrom c.args.segments.now c.chord.new.self c.args.crossed.now n cross.beyond c.args.end c.args.edge line) (sym c.set.ensures)
-    (chords_more c.args.segments.now c.loop-n.segments c.chord.new.self c.args.crossed.now c.args.end c.args.edge c.loop-n.line c.chord.result n c.loop-n.to cross less c.index-crossed-n.is alive beyond
-    (subst (λ (k : ℕ). AreChordsAddedFrom c.args.segments.now c.loop-n.segments c.args.crossed.now k c.loop-n.to c.args.end c.args.edge c.loop-n.line) more c.loop-n.invariant)
-    (subst (λ (h : ℕ). IsChord (turn c.loop-n.segments) (turn c.chord.new.self) half_limit h c.loop-n.to c.chord.result) c.twin.ensures c.chord.ensures.edit) c.chord.ensures.grows c.chord.ensures.label)
+    let alive : is_live c.args.segments.now (twin cross.near) ≡ true =
+    subst (λ (b : Crossed). is_live c.args.segments.now (twin b.near) ≡ true) (sym c.index-crossed-n.is) (c.requires.alive n cross less).0 in
+    let beyond : is_live c.args.segments.now cross.beyond ≡ true =
+    subst (λ (b : Crossed). is_live c.args.segments.now b.beyond ≡ true) (sym c.index-crossed-n.is) (c.requires.alive n cross less).1 in
+    subst (λ (line : List ℕ). AreChordsAddedFrom c.args.segments.now c.chord.new.self c.args.crossed.now n cross.beyond c.args.end c.args.edge line)
+    (sym c.set.ensures)
+    (chords_more c.args.segments.now c.loop-n.segments c.chord.new.self c.args.crossed.now c.args.end c.args.edge c.loop-n.line c.chord.result n c.loop-n.to
+    cross less c.index-crossed-n.is alive beyond
+    (subst (λ (k : ℕ). AreChordsAddedFrom c.args.segments.now c.loop-n.segments c.args.crossed.now k c.loop-n.to c.args.end c.args.edge c.loop-n.line)
+    more c.loop-n.invariant)
+    (subst (λ (h : ℕ). IsChord (turn c.loop-n.segments) (turn c.chord.new.self) half_limit h c.loop-n.to c.chord.result) c.twin.ensures c.chord.ensures.edit)
+    c.chord.ensures.grows c.chord.ensures.label)
 
 pub returns : goal.returns
 returns c =
-    subst (λ (line : List ℕ). AreChordsAdded c.args.segments.now c.chord-2.new.self c.args.crossed.now c.args.start c.args.end c.args.edge line) (sym c.set-2.ensures)
-    (chords_last c.args.segments.now c.loop-n.segments c.chord-2.new.self c.args.crossed.now c.args.end c.args.edge c.loop-n.line c.chord-2.result c.loop-n.n c.loop-n.to c.args.start (omega arith) c.requires.start c.loop-n.invariant c.chord-2.ensures.edit c.chord-2.ensures.grows c.chord-2.ensures.label)
+    subst (λ (line : List ℕ). AreChordsAdded c.args.segments.now c.chord-2.new.self c.args.crossed.now c.args.start c.args.end c.args.edge line)
+    (sym c.set-2.ensures)
+    (chords_last c.args.segments.now c.loop-n.segments c.chord-2.new.self c.args.crossed.now c.args.end c.args.edge c.loop-n.line c.chord-2.result c.loop-n.n
+    c.loop-n.to c.args.start (omega arith) c.requires.start c.loop-n.invariant c.chord-2.ensures.edit c.chord-2.ensures.grows c.chord-2.ensures.label)

@@ -10,4 +10,5 @@ pub add_chords-requires-clause-end : goal.add_chords-requires-clause-end
 add_chords-requires-clause-end g c = grind (arith, subdivided_alive, alive_still)
 
 pub add_chords-requires-clause-alive : goal.add_chords-requires-clause-alive
-add_chords-requires-clause-alive g c = route_alive g.p c.requires.0.formed c.args.segments.now c.requires.0.shows c.split_crossed.new.segments c.split_crossed.new.crossed c.laws.ensures c.split_crossed.ensures.split c.split_crossed.ensures.marked
+add_chords-requires-clause-alive g c = route_alive g.p c.requires.0.formed c.args.segments.now c.requires.0.shows c.split_crossed.new.segments
+    c.split_crossed.new.crossed c.laws.ensures c.split_crossed.ensures.split c.split_crossed.ensures.marked

@@ -23,11 +23,14 @@ loop-n-preserved c =
           let here = c.loop-n.invariant.padded was p in
           let long : length c.args.paths.now ≡ length was = p.as_many in
           pad_less was c.loop-n.paths (set c.loop-n.paths cross.place c.drop_last.new.self) c.args.crossed.now n cross c.drop_last.new.self
-          (subst (λ (k : ℕ). ArePadded (λ hs. hs) was (take k c.args.crossed.now) c.loop-n.paths) more here) less (get_or_default c.args.crossed.now n d cross less) (omega (arith, placed, long)) refl
-          (λ xs x held is. c.drop_last.ensures xs x held (get_or_default c.loop-n.paths cross.place c.index-paths-crossed.result [] (omega (arith, placed, c.loop-n.invariant.many)) ∙ is));
+          (subst (λ (k : ℕ). ArePadded (λ hs. hs) was (take k c.args.crossed.now) c.loop-n.paths) more here) less
+          (get_or_default c.args.crossed.now n d cross less) (omega (arith, placed, long)) refl
+          (λ xs x held is. c.drop_last.ensures xs x held
+          (get_or_default c.loop-n.paths cross.place c.index-paths-crossed.result [] (omega (arith, placed, c.loop-n.invariant.many)) ∙ is));
     }
 
 pub returns : goal.returns
 returns c = λ was p.
     let none : c.loop-n.n ≡ 0 = omega arith in
-    no_pads was c.loop-n.paths c.args.crossed.now (subst (λ (k : ℕ). ArePadded (λ hs. hs) was (take k c.args.crossed.now) c.loop-n.paths) none (c.loop-n.invariant.padded was p))
+    no_pads was c.loop-n.paths c.args.crossed.now
+    (subst (λ (k : ℕ). ArePadded (λ hs. hs) was (take k c.args.crossed.now) c.loop-n.paths) none (c.loop-n.invariant.padded was p))

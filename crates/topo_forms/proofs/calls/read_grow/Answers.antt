@@ -5,7 +5,8 @@ use Rattle.topo_forms.proofs.calls.read_grow.Goals as goal
 
 pub returns-in_err-u : goal.returns-in_err-u
 unfolding grow_form
-returns-in_err-u c = let same : c.from_residual.result ≡ Err c.in_err-u.field-0.0 = search rules in stops_at3 _ _ _ _ _ c.from_residual.result same c.in_err-u.ensures
+returns-in_err-u c = let same : c.from_residual.result ≡ Err c.in_err-u.field-0.0 = search rules in
+    stops_at3 _ _ _ _ _ c.from_residual.result same c.in_err-u.ensures
 
 pub returns : goal.returns
 unfolding grow_form

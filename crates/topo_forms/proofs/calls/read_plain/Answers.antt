@@ -5,7 +5,8 @@ use Rattle.topo_forms.proofs.calls.read_plain.Goals as goal
 
 pub returns-in_err-call : goal.returns-in_err-call
 unfolding plain_form
-returns-in_err-call c = let same : c.from_residual.result ≡ Err c.in_err-call.field-0.0 = search rules in stops_at _ _ _ c.from_residual.result same c.in_err-call.ensures
+returns-in_err-call c = let same : c.from_residual.result ≡ Err c.in_err-call.field-0.0 = search rules in
+    stops_at _ _ _ c.from_residual.result same c.in_err-call.ensures
 
 pub returns : goal.returns
 unfolding plain_form

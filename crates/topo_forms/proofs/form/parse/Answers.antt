@@ -10,4 +10,5 @@ returns-in-Ok c = within c.args.limit c.args.bytes.now _ c.if-bytes-limit.false 
 
 pub returns-else-is_memory : goal.returns-else-is_memory
 returns-else-is_memory c =
-    within c.args.limit c.args.bytes.now None c.if-bytes-limit.false (json_of-none c.args.bytes.now (c.in-Err.ensures.err (λ m. true≢false (sym (c.is_memory.ensures.1 m) ∙ c.if-is_memory.false))))
+    within c.args.limit c.args.bytes.now None c.if-bytes-limit.false
+    (json_of-none c.args.bytes.now (c.in-Err.ensures.err (λ m. true≢false (sym (c.is_memory.ensures.1 m) ∙ c.if-is_memory.false))))

@@ -11,14 +11,17 @@ returns-in-Err g c =
     let form = g.T.Form.form in
     subst (λ q. IsFirstFault q c.in-Err.fault) c.loop-i.invariant
     (item_refused form c.args.path c.args.items.now c.loop-i.i c.index-items-i.result c.loop-i.found.items c.in-Err.fault c.loop-i-test.true
-    (placed_fault form c.args.path c.element.result c.args.items.now c.loop-i.i c.index-items-i.result c.in-Err.fault c.element.ensures c.index-items-i.is c.in-Err.ensures))
+    (placed_fault form c.args.path c.element.result c.args.items.now c.loop-i.i c.index-items-i.result c.in-Err.fault c.element.ensures c.index-items-i.is
+    c.in-Err.ensures))
 
 pub loop-i-preserved : goal.loop-i-preserved
 loop-i-preserved g c =
     let form = g.T.Form.form in
     let e : c.push.new.self.items ≡ c.loop-i.found.items ++ c.in-Ok.value ∷ [] = search rules in
     rw e (one_more form c.args.path c.args.items.now c.loop-i.i c.index-items-i.result c.loop-i.found.items c.in-Ok.value c.loop-i-test.true
-    (placed form c.args.path c.element.result c.args.items.now c.loop-i.i c.index-items-i.result (Ok c.in-Ok.value) c.element.ensures c.index-items-i.is c.in-Ok.ensures) ∙ c.loop-i.invariant)
+    (placed form c.args.path c.element.result c.args.items.now c.loop-i.i c.index-items-i.result (Ok c.in-Ok.value)
+    c.element.ensures c.index-items-i.is c.in-Ok.ensures) ∙ c.loop-i.invariant)
 
 pub returns : goal.returns
-returns g c = sym c.loop-i.invariant ∙ all_found g.T.Form.form c.args.path c.args.items.now c.loop-i.i c.loop-i.found.items c.loop-i-test.false ∙ ap (λ xs. Ok xs) (sym c.from_vec.ensures)
+returns g c = sym c.loop-i.invariant ∙ all_found g.T.Form.form c.args.path c.args.items.now c.loop-i.i c.loop-i.found.items c.loop-i-test.false
+    ∙ ap (λ xs. Ok xs) (sym c.from_vec.ensures)

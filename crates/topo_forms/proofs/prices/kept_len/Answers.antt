@@ -10,6 +10,8 @@ loop-i-preserved c =
           let other : c.is_one.result ≡ false = search rules in
           (omega arith, rw w.kept-is (all_kept c.args.prices.now c.loop-i.i _ c.loop-i-test.true (sym c.is_one.ensures ∙ other)))
       | else-not-is_one w ↦
-          let one : c.is_one.result ≡ true = search rules in
-          (omega arith, rw w.kept-is (one_more_kept c.args.prices.now c.loop-i.i c.loop-i.kept _ c.loop-i-test.true (sym c.is_one.ensures ∙ one) c.loop-i.invariant.1))
+          let one : c.is_one.result ≡ true = search rules in (
+            omega arith,
+            rw w.kept-is (one_more_kept c.args.prices.now c.loop-i.i c.loop-i.kept _ c.loop-i-test.true (sym c.is_one.ensures ∙ one) c.loop-i.invariant.1),
+          )
     ]

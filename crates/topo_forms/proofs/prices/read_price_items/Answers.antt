@@ -12,14 +12,17 @@ returns-in-Err c =
     let form = price_form c.args.nulls in
     subst (λ q. IsFirstFault q c.in-Err.fault) c.loop-i.invariant
     (item_refused form c.args.path c.args.items.now c.loop-i.i c.index-items-i.result c.loop-i.prices.items c.in-Err.fault c.loop-i-test.true
-    (placed_fault form c.args.path c.element.result c.args.items.now c.loop-i.i c.index-items-i.result c.in-Err.fault c.element.ensures c.index-items-i.is c.in-Err.ensures))
+    (placed_fault form c.args.path c.element.result c.args.items.now c.loop-i.i c.index-items-i.result c.in-Err.fault c.element.ensures c.index-items-i.is
+    c.in-Err.ensures))
 
 pub loop-i-preserved : goal.loop-i-preserved
 loop-i-preserved c =
     let form = price_form c.args.nulls in
     let e : c.push.new.self.items ≡ c.loop-i.prices.items ++ c.in-Ok.price ∷ [] = search rules in
     rw e (one_more form c.args.path c.args.items.now c.loop-i.i c.index-items-i.result c.loop-i.prices.items c.in-Ok.price c.loop-i-test.true
-    (placed form c.args.path c.element.result c.args.items.now c.loop-i.i c.index-items-i.result (Ok c.in-Ok.price) c.element.ensures c.index-items-i.is c.in-Ok.ensures) ∙ c.loop-i.invariant)
+    (placed form c.args.path c.element.result c.args.items.now c.loop-i.i c.index-items-i.result (Ok c.in-Ok.price)
+    c.element.ensures c.index-items-i.is c.in-Ok.ensures) ∙ c.loop-i.invariant)
 
 pub returns : goal.returns
-returns c = sym c.loop-i.invariant ∙ all_found (price_form c.args.nulls) c.args.path c.args.items.now c.loop-i.i c.loop-i.prices.items c.loop-i-test.false ∙ ap (λ (xs : List (Option ℕ)). Ok xs) (sym c.from_vec.ensures)
+returns c = sym c.loop-i.invariant ∙ all_found (price_form c.args.nulls) c.args.path c.args.items.now c.loop-i.i c.loop-i.prices.items c.loop-i-test.false
+    ∙ ap (λ (xs : List (Option ℕ)). Ok xs) (sym c.from_vec.ensures)

@@ -6,4 +6,5 @@ use Rattle.topo_forms.proofs.prices.read_price_items.Given as goal
 
 abbrev pub invariant-loop-i : goal.invariant-loop-i
 invariant-loop-i l =
-    and_then (items_from (price_form l.nulls) l.path l.i (items_view (drop l.i l.items))) (λ rest. Ok (l.prices.items ++ rest)) ≡ items_from (price_form l.nulls) l.path 0 (items_view l.items)
+    and_then (items_from (price_form l.nulls) l.path l.i (items_view (drop l.i l.items))) (λ rest. Ok (l.prices.items ++ rest))
+    ≡ items_from (price_form l.nulls) l.path 0 (items_view l.items)

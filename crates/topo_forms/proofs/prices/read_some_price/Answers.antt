@@ -5,7 +5,8 @@ use Rattle.topo_forms.proofs.prices.read_some_price.Goals as goal
 
 pub returns-in_err-price : goal.returns-in_err-price
 unfolding some_price
-returns-in_err-price c = let same : c.from_residual.result ≡ Err c.in_err-price.field-0.0 = search rules in stops_at _ _ _ c.from_residual.result same c.in_err-price.ensures
+returns-in_err-price c = let same : c.from_residual.result ≡ Err c.in_err-price.field-0.0 = search rules in
+    stops_at _ _ _ c.from_residual.result same c.in_err-price.ensures
 
 pub returns : goal.returns
 unfolding some_price

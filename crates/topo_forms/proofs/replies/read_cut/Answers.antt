@@ -5,7 +5,8 @@ use Rattle.topo_forms.proofs.replies.read_cut.Goals as goal
 
 pub returns-in_err-segment : goal.returns-in_err-segment
 unfolding cut_form
-returns-in_err-segment c = let same : c.from_residual.result ≡ Err c.in_err-segment.field-0.0 = search rules in stops_at _ _ _ c.from_residual.result same c.in_err-segment.ensures
+returns-in_err-segment c = let same : c.from_residual.result ≡ Err c.in_err-segment.field-0.0 = search rules in
+    stops_at _ _ _ c.from_residual.result same c.in_err-segment.ensures
 
 pub returns : goal.returns
 unfolding cut_form

@@ -6,7 +6,8 @@ use Rattle.topo_forms.proofs.Lookups.{member_or_there, member_or_missing}
 use Rattle.topo_forms.proofs.script_forms.read_prices_or_none.Goals as goal
 
 pub returns-then-has_key : goal.returns-then-has_key
-returns-then-has_key c = member_or_there [] (prices_form c.args.nulls) whole Prices _ c.read_price_member.result c.if-has_key.ensures c.read_price_member.ensures
+returns-then-has_key c =
+    member_or_there [] (prices_form c.args.nulls) whole Prices _ c.read_price_member.result c.if-has_key.ensures c.read_price_member.ensures
 
 pub returns-else-has_key : goal.returns-else-has_key
 returns-else-has_key c =

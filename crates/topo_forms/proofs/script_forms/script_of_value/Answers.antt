@@ -5,7 +5,8 @@ use Rattle.topo_forms.proofs.script_forms.script_of_value.Goals as goal
 
 pub returns-in_err-value : goal.returns-in_err-value
 unfolding script_of
-returns-in_err-value c = let same : c.from_residual.result ≡ Err c.in_err-value.field-0.0 = search rules in stops_at _ _ _ c.from_residual.result same c.in_err-value.ensures
+returns-in_err-value c = let same : c.from_residual.result ≡ Err c.in_err-value.field-0.0 = search rules in
+    stops_at _ _ _ c.from_residual.result same c.in_err-value.ensures
 
 pub returns : goal.returns
 unfolding script_of

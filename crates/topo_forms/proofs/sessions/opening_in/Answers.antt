@@ -5,24 +5,38 @@ use Rattle.topo_forms.proofs.sessions.opening_in.Goals as goal
 
 pub returns-in_err-nulls : goal.returns-in_err-nulls
 unfolding opening_form
-returns-in_err-nulls c = let same : c.from_residual.result ≡ Err c.in_err-nulls.field-0.0 = search rules in stops_at _ _ _ c.from_residual.result same c.in_err-nulls.ensures
+returns-in_err-nulls c = let same : c.from_residual.result ≡ Err c.in_err-nulls.field-0.0 = search rules in
+    stops_at _ _ _ c.from_residual.result same c.in_err-nulls.ensures
 
 pub returns-in_err-check_keys : goal.returns-in_err-check_keys
 unfolding opening_form
-returns-in_err-check_keys c = let same : c.from_residual-in_err-check_keys.result ≡ Err c.in_err-check_keys.field-0.0 = search rules in gives_past _ _ _ c.from_residual-in_err-check_keys.result c.in_ok-nulls.ensures (stops_at _ _ _ c.from_residual-in_err-check_keys.result same (told _ _ c.in_err-check_keys.ensures))
+returns-in_err-check_keys c = let same : c.from_residual-in_err-check_keys.result ≡ Err c.in_err-check_keys.field-0.0 = search rules in
+    gives_past _ _ _ c.from_residual-in_err-check_keys.result c.in_ok-nulls.ensures
+    (stops_at _ _ _ c.from_residual-in_err-check_keys.result same (told _ _ c.in_err-check_keys.ensures))
 
 pub returns-in_err-limits : goal.returns-in_err-limits
 unfolding opening_form
-returns-in_err-limits c = let same : c.from_residual-in_err-limits.result ≡ Err c.in_err-limits.field-0.0 = search rules in gives_past _ _ _ c.from_residual-in_err-limits.result c.in_ok-nulls.ensures (gives_past _ _ _ c.from_residual-in_err-limits.result (sym c.in_ok-check_keys.ensures) (stops_at _ _ _ c.from_residual-in_err-limits.result same c.in_err-limits.ensures))
+returns-in_err-limits c = let same : c.from_residual-in_err-limits.result ≡ Err c.in_err-limits.field-0.0 = search rules in
+    gives_past _ _ _ c.from_residual-in_err-limits.result c.in_ok-nulls.ensures (gives_past _ _ _ c.from_residual-in_err-limits.result
+    (sym c.in_ok-check_keys.ensures) (stops_at _ _ _ c.from_residual-in_err-limits.result same c.in_err-limits.ensures))
 
 pub returns-in_err-prices : goal.returns-in_err-prices
 unfolding opening_form
-returns-in_err-prices c = let same : c.from_residual-in_err-prices.result ≡ Err c.in_err-prices.field-0.0 = search rules in gives_past _ _ _ c.from_residual-in_err-prices.result c.in_ok-nulls.ensures (gives_past _ _ _ c.from_residual-in_err-prices.result (sym c.in_ok-check_keys.ensures) (gives_past _ _ _ c.from_residual-in_err-prices.result c.in_ok-limits.ensures (stops_at _ _ _ c.from_residual-in_err-prices.result same c.in_err-prices.ensures)))
+returns-in_err-prices c = let same : c.from_residual-in_err-prices.result ≡ Err c.in_err-prices.field-0.0 = search rules in
+    gives_past _ _ _ c.from_residual-in_err-prices.result c.in_ok-nulls.ensures
+    (gives_past _ _ _ c.from_residual-in_err-prices.result (sym c.in_ok-check_keys.ensures)
+    (gives_past _ _ _ c.from_residual-in_err-prices.result c.in_ok-limits.ensures
+    (stops_at _ _ _ c.from_residual-in_err-prices.result same c.in_err-prices.ensures)))
 
 pub returns-in_err-start : goal.returns-in_err-start
 unfolding opening_form
-returns-in_err-start c = let same : c.from_residual-in_err-start.result ≡ Err c.in_err-start.field-0.0 = search rules in gives_past _ _ _ c.from_residual-in_err-start.result c.in_ok-nulls.ensures (gives_past _ _ _ c.from_residual-in_err-start.result (sym c.in_ok-check_keys.ensures) (gives_past _ _ _ c.from_residual-in_err-start.result c.in_ok-limits.ensures (gives_past _ _ _ c.from_residual-in_err-start.result c.in_ok-prices.ensures (stops_at _ _ _ c.from_residual-in_err-start.result same c.in_err-start.ensures))))
+returns-in_err-start c = let same : c.from_residual-in_err-start.result ≡ Err c.in_err-start.field-0.0 = search rules in
+    gives_past _ _ _ c.from_residual-in_err-start.result c.in_ok-nulls.ensures
+    (gives_past _ _ _ c.from_residual-in_err-start.result (sym c.in_ok-check_keys.ensures)
+    (gives_past _ _ _ c.from_residual-in_err-start.result c.in_ok-limits.ensures (gives_past _ _ _ c.from_residual-in_err-start.result c.in_ok-prices.ensures
+    (stops_at _ _ _ c.from_residual-in_err-start.result same c.in_err-start.ensures))))
 
 pub returns : goal.returns
 unfolding opening_form
-returns c = went _ _ _ c.in_ok-nulls.ensures ∙ went _ _ _ (sym c.in_ok-check_keys.ensures) ∙ went _ _ _ c.in_ok-limits.ensures ∙ went _ _ _ c.in_ok-prices.ensures ∙ went _ _ _ c.in_ok-start.ensures
+returns c = went _ _ _ c.in_ok-nulls.ensures ∙ went _ _ _ (sym c.in_ok-check_keys.ensures) ∙ went _ _ _ c.in_ok-limits.ensures
+    ∙ went _ _ _ c.in_ok-prices.ensures ∙ went _ _ _ c.in_ok-start.ensures

@@ -6,7 +6,8 @@ use Rattle.topo_forms.proofs.tokens.token_items.Given as goal
 -- what is left to come is spelled behind what was found
 abbrev pub invariant-items : goal.invariant-items
 invariant-items g l =
-    (xs : List g.row.T.Denot) (rest : List Token) → SpellsItems g.T.FromTokens.nesting g.T.FromTokens.form l.reader xs rest → SpellsItems g.T.FromTokens.nesting g.T.FromTokens.form l.initial.reader (l.found.items ++ xs) rest
+    (xs : List g.row.T.Denot) (rest : List Token) → SpellsItems g.T.FromTokens.nesting g.T.FromTokens.form l.reader xs rest
+    → SpellsItems g.T.FromTokens.nesting g.T.FromTokens.form l.initial.reader (l.found.items ++ xs) rest
 
 abbrev pub decreases-items : goal.decreases-items
 decreases-items g l = length l.reader

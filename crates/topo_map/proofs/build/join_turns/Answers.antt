@@ -15,8 +15,10 @@ pub link-requires-clause-to : goal.link-requires-clause-to
 link-requires-clause-to c =
     let k : ℕ = c.loop-place.place in
     let lk : k < length c.args.turns.now = c.loop-place-test.true in
-    let lt : map_of c.args.turns.now k < length c.args.halves.now = subst (λ (n : ℕ). map_of c.args.turns.now k < n) (sym c.requires.same_length) (c.requires.permutation.within k lk) in
-    let e : c.index-halves-turns.result ≡ map_of c.args.halves.now (map_of c.args.turns.now k) = c.index-halves-turns.is ∙ get_or_default_zero c.args.halves.now (map_of c.args.turns.now k) _ lt in
+    let lt : map_of c.args.turns.now k < length c.args.halves.now =
+    subst (λ (n : ℕ). map_of c.args.turns.now k < n) (sym c.requires.same_length) (c.requires.permutation.within k lk) in
+    let e : c.index-halves-turns.result ≡ map_of c.args.halves.now (map_of c.args.turns.now k) = c.index-halves-turns.is
+    ∙ get_or_default_zero c.args.halves.now (map_of c.args.turns.now k) _ lt in
     ap (holds c.loop-place.segments) e ∙ c.loop-place.invariant.joined.listed.alive (map_of c.args.turns.now k) lt
 
 pub loop-place-preserved : goal.loop-place-preserved
@@ -24,7 +26,8 @@ loop-place-preserved c =
     let k : ℕ = c.loop-place.place in
     let lk : k < length c.args.turns.now = c.loop-place-test.true in
     let lh : k < length c.args.halves.now = subst (λ (n : ℕ). k < n) (sym c.requires.same_length) lk in
-    let lt : map_of c.args.turns.now k < length c.args.halves.now = subst (λ (n : ℕ). map_of c.args.turns.now k < n) (sym c.requires.same_length) (c.requires.permutation.within k lk) in
+    let lt : map_of c.args.turns.now k < length c.args.halves.now =
+    subst (λ (n : ℕ). map_of c.args.turns.now k < n) (sym c.requires.same_length) (c.requires.permutation.within k lk) in
     record {
       labels = c.link.ensures.edges ∙ c.loop-place.invariant.labels;
       blank = λ a h. ap (λ (l : ℕ → ℕ). l a) c.link.ensures.faces ∙ c.loop-place.invariant.blank a (ap (λ (p : ℕ → Bool). p a) (sym c.link.ensures.live) ∙ h);
@@ -38,4 +41,5 @@ loop-place-preserved c =
 pub returns-clause-joined : goal.returns-clause-joined
 returns-clause-joined c =
     let e : c.loop-place.place ≡ length c.args.turns.now = omega arith in
-    joined_all c.loop-place.segments c.args.halves.now c.args.turns.now c.loop-place.place c.requires.permutation c.requires.same_length e c.loop-place.invariant.joined
+    joined_all c.loop-place.segments c.args.halves.now c.args.turns.now c.loop-place.place c.requires.permutation c.requires.same_length e
+    c.loop-place.invariant.joined

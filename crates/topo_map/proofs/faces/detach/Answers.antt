@@ -9,7 +9,8 @@ pub face-requires-2 : goal.face-requires-2
 face-requires-2 c = live_twin c.args.segments.now c.args.x c.twin-other.result c.twin-other.ensures c.requires.live
 
 pub part_label-requires-clause-live_other : goal.part_label-requires-clause-live_other
-part_label-requires-clause-live_other c = ap (λ (h : ℕ → Bool). h c.next-after.result) c.take_out.ensures.turned.live ∙ ap (holds c.args.segments.now) c.next-after.ensures ∙ live_next c.args.segments.now c.args.x c.requires.kept c.requires.live
+part_label-requires-clause-live_other c = ap (λ (h : ℕ → Bool). h c.next-after.result) c.take_out.ensures.turned.live
+    ∙ ap (holds c.args.segments.now) c.next-after.ensures ∙ live_next c.args.segments.now c.args.x c.requires.kept c.requires.live
 
 pub share_label-requires-clause-live_other : goal.share_label-requires-clause-live_other
 share_label-requires-clause-live_other c = live_twin c.args.segments.now c.args.x c.twin-other.result c.twin-other.ensures c.requires.live
@@ -21,5 +22,6 @@ label_after-requires-clause-labels c = without_parts c.part_label.new.segments
 
 pub returns-else-face-clause-labels : goal.returns-else-face-clause-labels
 returns-else-face-clause-labels c = without_joins c.args.x c.twin-other.result
-    c.requires.kept c.requires.live c.twin-other.ensures c.requires.labels (λ e. c.if-face.false (c.face.ensures ∙ e ∙ sym c.face-2.ensures)) c.share_label.ensures
+    c.requires.kept c.requires.live c.twin-other.ensures c.requires.labels (λ e. c.if-face.false (c.face.ensures ∙ e ∙ sym c.face-2.ensures))
+    c.share_label.ensures
     c.take_out-else-face.ensures.turned c.take_out-else-face.ensures.faces

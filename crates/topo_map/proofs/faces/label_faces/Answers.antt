@@ -27,7 +27,8 @@ loop-number-preserved c =
             grind arith
         | else-lacks_label w ↦
             let done : IsPartlyLabelled s c.loop-number.segments (k + 1) c.loop-number.unused =
-            step_over s c.loop-number.segments k y c.loop-number.unused c.loop-number.invariant.partly c.numbered-half.ensures (c.lacks_label.ensures.no w.if-lacks_label.false) in
+            step_over s c.loop-number.segments k y c.loop-number.unused c.loop-number.invariant.partly c.numbered-half.ensures
+            (c.lacks_label.ensures.no w.if-lacks_label.false) in
             grind arith
       ];
     }

@@ -10,7 +10,8 @@ pub loop-steps-init : goal.loop-steps-init
 loop-steps-init c = record { walked = painted_start c.args.segments.now c.args.start c.args.label c.requires.live }
 
 pub set_face-requires : goal.set_face-requires
-set_face-requires c = painted_live c.args.segments.now c.loop-steps.segments _ c.loop-steps.at c.loop-steps.invariant.walked.painted c.loop-steps.invariant.walked.live
+set_face-requires c =
+    painted_live c.args.segments.now c.loop-steps.segments _ c.loop-steps.at c.loop-steps.invariant.walked.painted c.loop-steps.invariant.walked.live
 
 pub next-at-requires : goal.next-at-requires
 next-at-requires c = painted_live c.loop-steps.segments c.set_face.new.segments _ c.twin.result c.set_face.ensures

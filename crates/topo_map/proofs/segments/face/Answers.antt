@@ -9,7 +9,10 @@ pub index-segment-requires : goal.index-segment-requires
 index-segment-requires c = contains c.args.segments.now c.key.result c.args.at c.key.ensures c.requires
 
 pub returns-in-Forward : goal.returns-in-Forward
-returns-in-Forward c = sym (found sides c.args.segments.now c.key.result Forward c.args.at c.index-segment.result.now (half_of c.key.result Forward c.args.at c.key.ensures (sym c.in-Forward.is ∙ c.way.ensures)) c.index-segment.ensures)
+returns-in-Forward c =
+    sym (found sides c.args.segments.now c.key.result Forward c.args.at c.index-segment.result.now
+    (half_of c.key.result Forward c.args.at c.key.ensures (sym c.in-Forward.is ∙ c.way.ensures)) c.index-segment.ensures)
 
 pub returns-in-Back : goal.returns-in-Back
-returns-in-Back c = sym (found sides c.args.segments.now c.key.result Back c.args.at c.index-segment.result.now (half_of c.key.result Back c.args.at c.key.ensures (sym c.in-Back.is ∙ c.way.ensures)) c.index-segment.ensures)
+returns-in-Back c = sym (found sides c.args.segments.now c.key.result Back c.args.at c.index-segment.result.now
+    (half_of c.key.result Back c.args.at c.key.ensures (sym c.in-Back.is ∙ c.way.ensures)) c.index-segment.ensures)

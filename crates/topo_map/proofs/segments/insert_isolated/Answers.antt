@@ -7,9 +7,12 @@ pub returns : goal.returns
 returns c =
     let key : ℕ = c.insert_reserved-key.result in
     let at : IsNewAt c.args.segments.now (with_value c.insert_reserved-key.new.self key c.isolated-2.result) key c.args.edge c.args.left c.args.right =
-    two_writes c.args.edge c.args.left c.args.right c.isolated-2.result c.insert_reserved-key.ensures.was_vacant c.insert_reserved-key.ensures.updates c.isolated-2.ensures c.insert_reserved-key.ensures.len c.insert_reserved-key.ensures.capacity c.insert_reserved-key.ensures.key_in_range in
+    two_writes c.args.edge c.args.left c.args.right c.isolated-2.result c.insert_reserved-key.ensures.was_vacant c.insert_reserved-key.ensures.updates
+    c.isolated-2.ensures c.insert_reserved-key.ensures.len c.insert_reserved-key.ensures.capacity c.insert_reserved-key.ensures.key_in_range in
     record {
       inserted = inserted c.forward.result c.requires.kept c.requires.room at (sym c.forward.ensures);
-      label = label_stored c.args.segments.now (with_value c.insert_reserved-key.new.self key c.isolated-2.result) key c.args.edge c.args.left c.args.right c.forward.result at (sym c.forward.ensures);
-      faces = faces_stored c.args.segments.now (with_value c.insert_reserved-key.new.self key c.isolated-2.result) key c.args.edge c.args.left c.args.right c.forward.result at (sym c.forward.ensures);
+      label = label_stored c.args.segments.now (with_value c.insert_reserved-key.new.self key c.isolated-2.result)
+          key c.args.edge c.args.left c.args.right c.forward.result at (sym c.forward.ensures);
+      faces = faces_stored c.args.segments.now (with_value c.insert_reserved-key.new.self key c.isolated-2.result)
+          key c.args.edge c.args.left c.args.right c.forward.result at (sym c.forward.ensures);
     }

@@ -5,7 +5,8 @@ use Rattle.topo_perm.proofs.connection.count_components.Goals as goal
 use Rattle.topo_perm.proofs.connection.count_components.Goals.{then-not-seen-start, else-not-seen-start}
 
 pub loop-start-init : goal.loop-start-init
-loop-start-init c = counted_none (map_of c.args.images.now) (length c.args.images.now) c.args.seen.now c.requires.permutation c.requires.even c.requires.none_seen
+loop-start-init c = counted_none (map_of c.args.images.now)
+    (length c.args.images.now) c.args.seen.now c.requires.permutation c.requires.even c.requires.none_seen
 
 pub overflow_add-count : goal.overflow_add-count
 overflow_add-count c = omega (arith, counted_most (map_of c.args.images.now) (length c.args.images.now) _ _ _ _ c.loop-start.invariant)

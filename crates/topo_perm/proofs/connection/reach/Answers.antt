@@ -6,11 +6,16 @@ use Rattle.topo_perm.proofs.connection.reach.Goals as goal
 
 pub visit-found-requires-clause-room : goal.visit-found-requires-clause-room
 visit-found-requires-clause-room c fresh =
-    omega (arith, count_room (length c.args.images.now) c.args.seen.now c.args.before c.args.start c.requires.counted c.requires.within fresh, c.requires.order_length)
+    omega (
+      arith,
+      count_room (length c.args.images.now) c.args.seen.now c.args.before c.args.start c.requires.counted c.requires.within fresh,
+      c.requires.order_length,
+    )
 
 pub loop-done-init : goal.loop-done-init
 loop-done-init c =
-    search_start (map_of c.args.images.now) (length c.args.images.now) _ c.requires.within c.requires.seen_length c.requires.order_length c.requires.counted c.visit-found.ensures
+    search_start (map_of c.args.images.now)
+    (length c.args.images.now) _ c.requires.within c.requires.seen_length c.requires.order_length c.requires.counted c.visit-found.ensures
 
 pub returns-then-done-found-clause-reached : goal.returns-then-done-found-clause-reached
 returns-then-done-found-clause-reached c =
@@ -27,28 +32,37 @@ pub visit-found-requires-in-loop-done-clause-room : goal.visit-found-requires-in
 visit-found-requires-in-loop-done-clause-room c fresh =
     let f = map_of c.args.images.now in
     let n = length c.args.images.now in
-    let s : Searched f n c.args.seen.now c.args.start c.args.before c.loop-done.seen c.loop-done.order c.loop-done.found c.loop-done.done = c.loop-done.invariant in
+    let s : Searched f n c.args.seen.now c.args.start c.args.before c.loop-done.seen c.loop-done.order c.loop-done.found c.loop-done.done =
+    c.loop-done.invariant in
     let l : c.loop-done.done < c.loop-done.found = omega (arith, s.behind, c.if-done-found.false) in
-    omega (arith, count_room n _ _ _ s.state.count (c.requires.permutation.within _ (s.state.within c.loop-done.done (omega arith) l)) fresh, s.state.order_length)
+    omega (
+      arith,
+      count_room n _ _ _ s.state.count (c.requires.permutation.within _ (s.state.within c.loop-done.done (omega arith) l)) fresh,
+      s.state.order_length,
+    )
 
 pub visit-found-requires-in-loop-done-2-clause-room : goal.visit-found-requires-in-loop-done-2-clause-room
 visit-found-requires-in-loop-done-2-clause-room c fresh =
     let f = map_of c.args.images.now in
     let n = length c.args.images.now in
-    let s : Searched f n c.args.seen.now c.args.start c.args.before c.loop-done.seen c.loop-done.order c.loop-done.found c.loop-done.done = c.loop-done.invariant in
+    let s : Searched f n c.args.seen.now c.args.start c.args.before c.loop-done.seen c.loop-done.order c.loop-done.found c.loop-done.done =
+    c.loop-done.invariant in
     let l : c.loop-done.done < c.loop-done.found = omega (arith, s.behind, c.if-done-found.false) in
-    let v = first_visit c.visit-found-in-loop-done.new.seen c.visit-found-in-loop-done.new.order c.visit-found-in-loop-done.result c.requires.permutation s (omega arith) l c.visit-found-in-loop-done.ensures in
+    let v = first_visit c.visit-found-in-loop-done.new.seen c.visit-found-in-loop-done.new.order c.visit-found-in-loop-done.result c.requires.permutation s
+    (omega arith) l c.visit-found-in-loop-done.ensures in
     omega (arith, count_room n _ _ _ v.state.count c.other_dart-other.ensures.within fresh, v.state.order_length)
 
 pub loop-done-preserved : goal.loop-done-preserved
 loop-done-preserved c =
     let f = map_of c.args.images.now in
     let n = length c.args.images.now in
-    let s : Searched f n c.args.seen.now c.args.start c.args.before c.loop-done.seen c.loop-done.order c.loop-done.found c.loop-done.done = c.loop-done.invariant in
+    let s : Searched f n c.args.seen.now c.args.start c.args.before c.loop-done.seen c.loop-done.order c.loop-done.found c.loop-done.done =
+    c.loop-done.invariant in
     let l : c.loop-done.done < c.loop-done.found = omega (arith, s.behind, c.if-done-found.false) in
     two_visits c.visit-found-in-loop-done.new.seen
     c.visit-found-in-loop-done.new.order
     c.visit-found-in-loop-done.result
     c.requires.permutation c.requires.even c.requires.within s (omega arith) l c.visit-found-in-loop-done.ensures
-    (subst (λ d. IsVisit c.visit-found-in-loop-done.new.seen c.visit-found-in-loop-done-2.new.seen c.visit-found-in-loop-done.new.order c.visit-found-in-loop-done-2.new.order c.visit-found-in-loop-done.result c.visit-found-in-loop-done-2.result d)
+    (subst (λ d. IsVisit c.visit-found-in-loop-done.new.seen c.visit-found-in-loop-done-2.new.seen c.visit-found-in-loop-done.new.order
+    c.visit-found-in-loop-done-2.new.order c.visit-found-in-loop-done.result c.visit-found-in-loop-done-2.result d)
     c.other_dart-other.ensures.other c.visit-found-in-loop-done-2.ensures)

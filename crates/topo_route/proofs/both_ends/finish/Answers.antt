@@ -23,7 +23,8 @@ spread-requires-clause-spreads g c =
     let has_faces = g.met.W.FaceGraph.has_faces graph in
     let reach = reach_of c.args.least in
     let back = c.args.work.now.to_start in
-    narrowed price named face faces c.args.u back.heights back.names.items back.waiting (λ k. reach) (top_of (c.saturating_add-reach.result - c.clamp-level.result) (min 0 c.args.least) (dart_heights named face c.args.work.now.to_end.heights)) reach reach
+    narrowed price named face faces c.args.u back.heights back.names.items back.waiting (λ k. reach)
+    (top_of (c.saturating_add-reach.result - c.clamp-level.result) (min 0 c.args.least) (dart_heights named face c.args.work.now.to_end.heights)) reach reach
     named.size c.requires.both.back (λ k. omega (arith, c.saturating_add-reach.ensures)) (omega arith)
 
 pub spread-requires-clause-sums : goal.spread-requires-clause-sums
@@ -49,8 +50,10 @@ spread-requires-2-clause-spreads g c =
     let faces = g.W.FaceGraph.face_bound graph in
     let has_faces = g.met.W.FaceGraph.has_faces graph in
     let on = c.args.work.now.to_end in
-    narrowed price named face faces c.args.v on.heights on.names.items on.waiting (λ k. reach_of c.args.least) (top_of c.min-level.result (min 18446744073709551614 c.spread.new.least) (dart_heights named face c.spread.new.self.heights))
-    (reach_of c.args.least) (reach_of c.spread.new.least) named.size c.requires.both.on (λ k. omega (arith, c.max.ensures, c.min-level.ensures, c.in_ok-spread.ensures.less)) (omega (arith, c.in_ok-spread.ensures.less))
+    narrowed price named face faces c.args.v on.heights on.names.items on.waiting (λ k. reach_of c.args.least)
+    (top_of c.min-level.result (min 18446744073709551614 c.spread.new.least) (dart_heights named face c.spread.new.self.heights))
+    (reach_of c.args.least) (reach_of c.spread.new.least) named.size c.requires.both.on
+    (λ k. omega (arith, c.max.ensures, c.min-level.ensures, c.in_ok-spread.ensures.less)) (omega (arith, c.in_ok-spread.ensures.less))
 
 pub spread-requires-2-clause-sums : goal.spread-requires-2-clause-sums
 spread-requires-2-clause-sums g c =
@@ -64,7 +67,8 @@ spread-requires-2-clause-sums g c =
     let has_faces = g.met.W.FaceGraph.has_faces graph in
     let distances = dart_heights named face c.spread.new.self.heights in
     let heights = dart_heights named face c.args.work.now.to_end.heights in
-    sums_swapped named has distances heights c.spread.new.least (one_for_each named face c.spread.new.self.heights) (one_for_each named face c.args.work.now.to_end.heights) c.in_ok-spread.ensures.sums
+    sums_swapped named has distances heights c.spread.new.least (one_for_each named face c.spread.new.self.heights)
+    (one_for_each named face c.args.work.now.to_end.heights) c.in_ok-spread.ensures.sums
 
 pub returns : goal.returns
 returns g c =
@@ -92,11 +96,14 @@ returns g c =
     let within : level ≤ max 1 (min first 18446744073709551614) = omega arith in
     let in_range : first ≤ unreached = omega arith in
     let is : above ≡ min level (max second 1) = omega (arith, c.max.ensures, c.min-level.ensures) in
-    let near = λ (k : ℕ) (l : IsName named k) (low : slice_index distances k < reach_of first - level). back.settled k l (omega (arith, c.saturating_add-reach.ensures)) in
+    let near = λ (k : ℕ) (l : IsName named k) (low : slice_index distances k < reach_of first - level). back.settled k l
+    (omega (arith, c.saturating_add-reach.ensures)) in
     record {
-      heights = for_both price named lawful has c.args.u c.args.v promise heights distances first level second above least on.costs.costs back.costs.costs at_target at_start on.sums
+      heights = for_both price named lawful has c.args.u c.args.v promise heights distances first level second above least on.costs.costs back.costs.costs
+          at_target at_start on.sums
           positive within back.less on.less in_range is near on.settled;
-      met = has_met price named lawful has c.args.u c.args.v promise heights distances first level second above least on.costs.costs back.costs.costs at_target at_start on.sums
+      met = has_met price named lawful has c.args.u c.args.v promise heights distances first level second above least on.costs.costs back.costs.costs at_target
+          at_start on.sums
           positive within back.less on.less in_range is near on.settled c.min.result (omega (arith, c.max-2.ensures, c.min.ensures));
       to_end = on.costs.labelled;
       to_start = back.costs.labelled;

@@ -24,8 +24,10 @@ start_at-requires g c =
     let blank = c.in_ok-clear.ensures.heights ∙ ap (λ (n : ℕ). replicate n unreached) c.faces-faces.ensures in
     let many : faces ≤ length c.clear.new.self.names.items = omega (arith, c.in_ok-clear.ensures.names, c.faces-faces.ensures) in
     record {
-      costs = blank_costs price named lawful has face faces has_faces c.args.v c.args.v c.clear.new.self.heights c.clear.new.self.names.items few blank many c.args.v;
-      sums = blank_sums price named lawful has face faces has_faces c.args.v c.args.v c.clear.new.self.heights c.clear.new.self.names.items few blank many c.args.work.now.to_start.heights;
+      costs = blank_costs price named lawful has face faces has_faces c.args.v c.args.v c.clear.new.self.heights c.clear.new.self.names.items few
+          blank many c.args.v;
+      sums = blank_sums price named lawful has face faces has_faces c.args.v c.args.v c.clear.new.self.heights c.clear.new.self.names.items few blank many
+          c.args.work.now.to_start.heights;
     }
 
 pub spread-requires-clause-spreads : goal.spread-requires-clause-spreads
@@ -43,9 +45,11 @@ spread-requires-clause-spreads g c =
     let many : faces ≤ length c.clear.new.self.names.items = omega (arith, c.in_ok-clear.ensures.names, c.faces-faces.ensures) in
     let reach = reach_of c.start_at.new.least in
     let now = c.start_at.new.self in
-    narrowed price named face faces c.args.v now.heights now.names.items now.waiting (λ k. unreached) (top_of 18446744073709551615 (min 0 c.start_at.new.least) (dart_heights named face c.args.work.now.to_start.heights)) reach reach named.size
+    narrowed price named face faces c.args.v now.heights now.names.items now.waiting (λ k. unreached)
+    (top_of 18446744073709551615 (min 0 c.start_at.new.least) (dart_heights named face c.args.work.now.to_start.heights)) reach reach named.size
     (c.in_ok-start_at.ensures.relaxes.spreads (λ k. unreached)
-    (blank_spreads price named lawful has face faces has_faces c.args.v c.args.v c.clear.new.self.heights c.clear.new.self.names.items few blank many c.args.v (reach_of 18446744073709551615) c.clear.new.self.waiting
+    (blank_spreads price named lawful has face faces has_faces c.args.v c.args.v c.clear.new.self.heights c.clear.new.self.names.items few blank many c.args.v
+    (reach_of 18446744073709551615) c.clear.new.self.waiting
     c.in_ok-clear.ensures.waiting)) (λ k. omega arith) (omega arith)
 
 pub returns : goal.returns
@@ -60,11 +64,14 @@ returns g c =
     let has_faces = g.met.W.FaceGraph.has_faces graph in
     let heights = dart_heights named face c.spread.new.self.heights in
     let done = c.in_ok-spread.ensures in
-    let alone : c.spread.new.least ≡ unreached = none_alone named has face heights c.spread.new.least (omega (arith, done.less, c.in_ok-start_at.ensures.relaxes.less))
+    let alone : c.spread.new.least ≡ unreached =
+    none_alone named has face heights c.spread.new.least (omega (arith, done.less, c.in_ok-start_at.ensures.relaxes.less))
     (subst (λ (xs : List ℕ). AreSums named heights (dart_heights named face xs) c.spread.new.least) c.requires.alone done.sums) in
     record {
-      are_heights = are_heights price named lawful has c.args.v unreached heights done.costs.costs.capped (meets_lower named c.args.v (dart_heights named face c.start_at.new.self.heights) heights done.lower c.in_ok-start_at.ensures.ends)
-          (every_settled price named c.args.v heights done.costs.costs (λ k l less. settled_nearer price named (reach_of c.spread.new.least) unreached heights k (omega arith) (done.settled k l (omega arith))))
+      are_heights = are_heights price named lawful has c.args.v unreached heights done.costs.costs.capped
+          (meets_lower named c.args.v (dart_heights named face c.start_at.new.self.heights) heights done.lower c.in_ok-start_at.ensures.ends)
+          (every_settled price named c.args.v heights done.costs.costs
+          (λ k l less. settled_nearer price named (reach_of c.spread.new.least) unreached heights k (omega arith) (done.settled k l (omega arith))))
           (c.requires.right.promise c.requires.some) done.costs.costs;
       in_range = done.costs.costs.capped;
       one_each = done.costs.labelled.one_each;

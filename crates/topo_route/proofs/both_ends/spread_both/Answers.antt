@@ -26,7 +26,8 @@ loop-least-preserved-in-Some g c =
     let has_faces = g.met.W.FaceGraph.has_faces graph in
     let step = c.in_ok-height.ensures in
     let now = c.spread_next.new in
-    stepped_back price named lawful has face faces has_faces c.args.u c.args.v c.loop-least.invariant now.self.heights now.self.names.items now.self.waiting now.least step.spreads step.sums step.less step.lower
+    stepped_back price named lawful has face faces has_faces c.args.u c.args.v c.loop-least.invariant now.self.heights now.self.names.items now.self.waiting
+    now.least step.spreads step.sums step.less step.lower
 
 pub returns-in-None : goal.returns-in-None
 returns-in-None g c =
@@ -40,7 +41,8 @@ returns-in-None g c =
     let has_faces = g.met.W.FaceGraph.has_faces graph in
     let step = c.in_ok-height.ensures in
     let now = c.spread_next.new in
-    stepped_back price named lawful has face faces has_faces c.args.u c.args.v c.loop-least.invariant now.self.heights now.self.names.items now.self.waiting now.least step.spreads step.sums step.less step.lower
+    stepped_back price named lawful has face faces has_faces c.args.u c.args.v c.loop-least.invariant now.self.heights now.self.names.items now.self.waiting
+    now.least step.spreads step.sums step.less step.lower
 
 pub loop-least-preserved : goal.loop-least-preserved
 loop-least-preserved g c =
@@ -54,7 +56,8 @@ loop-least-preserved g c =
     let has_faces = g.met.W.FaceGraph.has_faces graph in
     let step = c.in_ok-height-2.ensures in
     let now = c.spread_next-else-count.new in
-    stepped_on price named lawful has face faces has_faces c.args.u c.args.v c.loop-least.invariant now.self.heights now.self.names.items now.self.waiting now.least step.spreads step.sums step.less step.lower
+    stepped_on price named lawful has face faces has_faces c.args.u c.args.v c.loop-least.invariant now.self.heights now.self.names.items now.self.waiting
+    now.least step.spreads step.sums step.less step.lower
 
 pub returns-in-None-2 : goal.returns-in-None-2
 returns-in-None-2 g c =
@@ -68,4 +71,5 @@ returns-in-None-2 g c =
     let has_faces = g.met.W.FaceGraph.has_faces graph in
     let step = c.in_ok-height-2.ensures in
     let now = c.spread_next-else-count.new in
-    stepped_on price named lawful has face faces has_faces c.args.u c.args.v c.loop-least.invariant now.self.heights now.self.names.items now.self.waiting now.least step.spreads step.sums step.less step.lower
+    stepped_on price named lawful has face faces has_faces c.args.u c.args.v c.loop-least.invariant now.self.heights now.self.names.items now.self.waiting
+    now.least step.spreads step.sums step.less step.lower

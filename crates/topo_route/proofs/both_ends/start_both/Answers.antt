@@ -20,8 +20,10 @@ start_at-requires g c =
     let blank = c.in_ok-clear.ensures.heights ∙ ap (λ (n : ℕ). replicate n unreached) c.faces-faces.ensures in
     let many : faces ≤ length c.clear.new.self.names.items = omega (arith, c.in_ok-clear.ensures.names, c.faces-faces.ensures) in
     record {
-      costs = blank_costs price named lawful has face faces has_faces c.args.u c.args.v c.clear.new.self.heights c.clear.new.self.names.items few blank many c.args.v;
-      sums = blank_sums price named lawful has face faces has_faces c.args.u c.args.v c.clear.new.self.heights c.clear.new.self.names.items few blank many c.clear-2.new.self.heights;
+      costs = blank_costs price named lawful has face faces has_faces c.args.u c.args.v c.clear.new.self.heights c.clear.new.self.names.items few
+          blank many c.args.v;
+      sums = blank_sums price named lawful has face faces has_faces c.args.u c.args.v c.clear.new.self.heights c.clear.new.self.names.items few blank many
+          c.clear-2.new.self.heights;
     }
 
 pub start_at-requires-2 : goal.start_at-requires-2
@@ -38,7 +40,8 @@ start_at-requires-2 g c =
     let blank = c.in_ok-clear-2.ensures.heights ∙ ap (λ (n : ℕ). replicate n unreached) c.faces-faces.ensures in
     let many : faces ≤ length c.clear-2.new.self.names.items = omega (arith, c.in_ok-clear-2.ensures.names, c.faces-faces.ensures) in
     record {
-      costs = blank_costs price named lawful has face faces has_faces c.args.u c.args.v c.clear-2.new.self.heights c.clear-2.new.self.names.items few blank many c.args.u;
+      costs = blank_costs price named lawful has face faces has_faces c.args.u c.args.v c.clear-2.new.self.heights c.clear-2.new.self.names.items few
+          blank many c.args.u;
       sums = sums_swapped named has _ _ c.start_at.new.least (one_for_each named face _) (one_for_each named face _) c.in_ok-start_at.ensures.relaxes.sums;
     }
 

@@ -9,5 +9,6 @@ returns-clause-first g c = grind (arith, first_verdict, lawful_shown)
 
 pub returns-clause-own : goal.returns-clause-own
 returns-clause-own g c =
-    own_verdict (prices_of (g.F.PriceFn.may_return c.args.tariff.now)) (g.D.Dual.shows c.args.dual.now) c.args.u c.args.v c.args.plan.now (lawful_shown (g.met.D.Dual.numbered c.args.dual.now) (g.met.D.FaceGraph.lawful c.args.dual.now))
+    own_verdict (prices_of (g.F.PriceFn.may_return c.args.tariff.now)) (g.D.Dual.shows c.args.dual.now) c.args.u c.args.v c.args.plan.now
+    (lawful_shown (g.met.D.Dual.numbered c.args.dual.now) (g.met.D.FaceGraph.lawful c.args.dual.now))
     c.verdict.result c.verdict.ensures.verdict

@@ -55,7 +55,8 @@ returns-then-not-comes_first-clause-verdict g c =
       },
       subst Least same (c.is_least_height.ensures.0 c.if-not-is_least_height.false),
       c.in-Some.ensures.1,
-      λ first. false≢true (sym c.if-not-comes_first.true ∙ c.comes_first.ensures.1 (subst (ComesFirst price rows c.args.u c.args.v c.args.plan.now) c.in-Some.ensures.2 first)),
+      λ first. false≢true (sym c.if-not-comes_first.true
+          ∙ c.comes_first.ensures.1 (subst (ComesFirst price rows c.args.u c.args.v c.args.plan.now) c.in-Some.ensures.2 first)),
     )
 
 pub returns-else-not-comes_first-clause-verdict : goal.returns-else-not-comes_first-clause-verdict
@@ -73,7 +74,8 @@ returns-else-not-comes_first-clause-verdict g c =
       };
       least = subst Least same (c.is_least_height.ensures.0 c.if-not-is_least_height.false);
       priced = c.in-Some.ensures.1;
-      comes_first = subst (ComesFirst price rows c.args.u c.args.v c.args.plan.now) (sym c.in-Some.ensures.2) (c.comes_first.ensures.0 c.if-not-comes_first.false);
+      comes_first = subst (ComesFirst price rows c.args.u c.args.v c.args.plan.now) (sym c.in-Some.ensures.2)
+          (c.comes_first.ensures.0 c.if-not-comes_first.false);
     }
 
 pub returns-in-None-clause-verdict : goal.returns-in-None-clause-verdict

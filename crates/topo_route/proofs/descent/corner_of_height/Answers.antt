@@ -16,4 +16,6 @@ pub returns : goal.returns
 returns g c =
     let named = g.W.FaceGraph.named c.args.graph.now in
     let whole : c.loop-position.position ≡ c.degree-position-end.result = omega arith in
-    before_all named.rows c.args.u (λ p d. height_of named (dart_heights (g.W.FaceGraph.named c.args.graph.now) (g.W.FaceGraph.face_of c.args.graph.now) c.args.heights.now) d ≢ c.args.height) c.loop-position.position (whole ∙ c.degree-position-end.ensures) c.loop-position.invariant
+    before_all named.rows c.args.u
+    (λ p d. height_of named (dart_heights (g.W.FaceGraph.named c.args.graph.now) (g.W.FaceGraph.face_of c.args.graph.now) c.args.heights.now) d ≢ c.args.height)
+    c.loop-position.position (whole ∙ c.degree-position-end.ensures) c.loop-position.invariant

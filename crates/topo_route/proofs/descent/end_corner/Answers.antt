@@ -15,13 +15,16 @@ loop-position-preserved g c =
     let named = g.W.FaceGraph.named c.args.graph.now in
     elim c.match-corner_at.branch [
       | in-Some+else-same_face w ↦
-          before_some named.rows c.args.v (λ p d. SameFace (system named.rows) (dart_named named c.args.last) d → ⊥) c.loop-position.position (dart_named named w.in-Some.corner) w.in-Some.ensures.1
+          before_some named.rows c.args.v (λ p d. SameFace (system named.rows) (dart_named named c.args.last) d → ⊥) c.loop-position.position
+          (dart_named named w.in-Some.corner) w.in-Some.ensures.1
           (λ same. false≢true (sym w.if-same_face.false ∙ w.same_face.ensures.1 same))
           c.loop-position.invariant
-      | in_default w ↦ before_past named.rows c.args.v (λ p d. SameFace (system named.rows) (dart_named named c.args.last) d → ⊥) c.loop-position.position w.in_default.ensures c.loop-position.invariant
+      | in_default w ↦ before_past named.rows c.args.v (λ p d. SameFace (system named.rows) (dart_named named c.args.last) d → ⊥)
+          c.loop-position.position w.in_default.ensures c.loop-position.invariant
     ]
 
 pub returns : goal.returns
 returns g c =
     let named = g.W.FaceGraph.named c.args.graph.now in
-    before_all named.rows c.args.v (λ p d. SameFace (system named.rows) (dart_named named c.args.last) d → ⊥) c.loop-position.position (omega (arith, c.degree-position-end.ensures)) c.loop-position.invariant
+    before_all named.rows c.args.v (λ p d. SameFace (system named.rows) (dart_named named c.args.last) d → ⊥) c.loop-position.position
+    (omega (arith, c.degree-position-end.ensures)) c.loop-position.invariant

@@ -12,7 +12,9 @@ loop-steps-init g c = grind (arith, none_so_far)
 
 pub first_of-first-requires-clause-first_there : goal.first_of-first-requires-clause-first_there
 first_of-first-requires-clause-first_there g c =
-    known_so_far (prices_of (g.F.PriceFn.may_return c.args.priced.now.tariff.now)) (g.W.FaceGraph.named c.args.priced.now.graph.now) (dart_heights (g.W.FaceGraph.named c.args.priced.now.graph.now) (g.W.FaceGraph.face_of c.args.priced.now.graph.now) c.args.heights.now) c.args.at c.loop-steps._steps c.loop-steps.first c.loop-steps.invariant.so_far
+    known_so_far (prices_of (g.F.PriceFn.may_return c.args.priced.now.tariff.now)) (g.W.FaceGraph.named c.args.priced.now.graph.now)
+    (dart_heights (g.W.FaceGraph.named c.args.priced.now.graph.now) (g.W.FaceGraph.face_of c.args.priced.now.graph.now) c.args.heights.now)
+    c.args.at c.loop-steps._steps c.loop-steps.first c.loop-steps.invariant.so_far
 
 pub returns-then-dart-at : goal.returns-then-dart-at
 returns-then-dart-at g c =
@@ -22,10 +24,16 @@ returns-then-dart-at g c =
     let price = prices_of (g.F.PriceFn.may_return c.args.priced.now.tariff.now) in
     let i = c.loop-steps._steps in
     let place = c.loop-steps.invariant.place in
-    let home : next_name named (after (next_name named) i c.args.at) ≡ c.args.at = ap (next_name named) (sym place) ∙ sym c.next_along-dart.ensures.next ∙ c.if-dart-at.true in
-    first_home price named (dart_heights (g.W.FaceGraph.named c.args.priced.now.graph.now) (g.W.FaceGraph.face_of c.args.priced.now.graph.now) c.args.heights.now) c.args.at lawful has c.requires.name i c.first_of-first.result
-    (first_step price named (dart_heights (g.W.FaceGraph.named c.args.priced.now.graph.now) (g.W.FaceGraph.face_of c.args.priced.now.graph.now) c.args.heights.now) c.args.at lawful has c.requires.name i c.loop-steps.dart c.loop-steps.first c.first_of-first.result place c.loop-steps.invariant.name c.loop-steps.invariant.so_far c.first_of-first.ensures)
-    home (has_tight price named lawful has c.args.v c.requires.known.top (dart_heights (g.W.FaceGraph.named c.args.priced.now.graph.now) (g.W.FaceGraph.face_of c.args.priced.now.graph.now) c.args.heights.now) c.requires.known.known c.args.at c.requires.name c.requires.known.below c.requires.above)
+    let home : next_name named (after (next_name named) i c.args.at) ≡ c.args.at = ap (next_name named) (sym place) ∙ sym c.next_along-dart.ensures.next
+    ∙ c.if-dart-at.true in
+    first_home price named (dart_heights (g.W.FaceGraph.named c.args.priced.now.graph.now)
+    (g.W.FaceGraph.face_of c.args.priced.now.graph.now) c.args.heights.now) c.args.at lawful has c.requires.name i c.first_of-first.result
+    (first_step price named (dart_heights (g.W.FaceGraph.named c.args.priced.now.graph.now) (g.W.FaceGraph.face_of c.args.priced.now.graph.now)
+    c.args.heights.now) c.args.at lawful has c.requires.name i c.loop-steps.dart c.loop-steps.first c.first_of-first.result place c.loop-steps.invariant.name
+    c.loop-steps.invariant.so_far c.first_of-first.ensures)
+    home (has_tight price named lawful has c.args.v c.requires.known.top
+    (dart_heights (g.W.FaceGraph.named c.args.priced.now.graph.now) (g.W.FaceGraph.face_of c.args.priced.now.graph.now) c.args.heights.now)
+    c.requires.known.known c.args.at c.requires.name c.requires.known.below c.requires.above)
 
 pub loop-steps-preserved : goal.loop-steps-preserved
 loop-steps-preserved g c =
@@ -38,7 +46,9 @@ loop-steps-preserved g c =
     record {
       place = c.next_along-dart.ensures.next ∙ ap (next_name named) place ∙ sym (after-one (next_name named) i c.args.at);
       name = c.next_along-dart.ensures.name;
-      so_far = first_step price named (dart_heights (g.W.FaceGraph.named c.args.priced.now.graph.now) (g.W.FaceGraph.face_of c.args.priced.now.graph.now) c.args.heights.now) c.args.at lawful has c.requires.name i c.loop-steps.dart c.loop-steps.first c.first_of-first.result place c.loop-steps.invariant.name c.loop-steps.invariant.so_far c.first_of-first.ensures;
+      so_far = first_step price named (dart_heights (g.W.FaceGraph.named c.args.priced.now.graph.now) (g.W.FaceGraph.face_of c.args.priced.now.graph.now)
+          c.args.heights.now) c.args.at lawful has c.requires.name i c.loop-steps.dart c.loop-steps.first c.first_of-first.result place
+          c.loop-steps.invariant.name c.loop-steps.invariant.so_far c.first_of-first.ensures;
     }
 
 pub returns : goal.returns
@@ -47,5 +57,8 @@ returns g c =
     let lawful = g.met.W.FaceGraph.lawful c.args.priced.now.graph.now in
     let has = g.met.W.FaceGraph.has_names c.args.priced.now.graph.now in
     let price = prices_of (g.F.PriceFn.may_return c.args.priced.now.tariff.now) in
-    first_all price named (dart_heights (g.W.FaceGraph.named c.args.priced.now.graph.now) (g.W.FaceGraph.face_of c.args.priced.now.graph.now) c.args.heights.now) c.args.at lawful has c.requires.name c.loop-steps._steps c.loop-steps.first (omega arith) c.loop-steps.invariant.so_far
-    (has_tight price named lawful has c.args.v c.requires.known.top (dart_heights (g.W.FaceGraph.named c.args.priced.now.graph.now) (g.W.FaceGraph.face_of c.args.priced.now.graph.now) c.args.heights.now) c.requires.known.known c.args.at c.requires.name c.requires.known.below c.requires.above)
+    first_all price named (dart_heights (g.W.FaceGraph.named c.args.priced.now.graph.now) (g.W.FaceGraph.face_of c.args.priced.now.graph.now)
+    c.args.heights.now) c.args.at lawful has c.requires.name c.loop-steps._steps c.loop-steps.first (omega arith) c.loop-steps.invariant.so_far
+    (has_tight price named lawful has c.args.v c.requires.known.top
+    (dart_heights (g.W.FaceGraph.named c.args.priced.now.graph.now) (g.W.FaceGraph.face_of c.args.priced.now.graph.now) c.args.heights.now)
+    c.requires.known.known c.args.at c.requires.name c.requires.known.below c.requires.above)

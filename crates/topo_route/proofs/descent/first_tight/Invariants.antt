@@ -13,5 +13,6 @@ invariant-loop-steps g l =
     record {
       place : l.dart ≡ after (next_name named) l._steps l.at;
       name : IsName named l.dart;
-      so_far : FirstSoFar (prices_of (g.F.PriceFn.may_return l.priced.tariff.now)) named (dart_heights named (g.W.FaceGraph.face_of l.priced.graph.now) l.heights) l.at l._steps l.first;
+      so_far : FirstSoFar (prices_of (g.F.PriceFn.may_return l.priced.tariff.now)) named
+          (dart_heights named (g.W.FaceGraph.face_of l.priced.graph.now) l.heights) l.at l._steps l.first;
     }

@@ -9,6 +9,7 @@ loop-start-preserved g c =
     let named = g.W.FaceGraph.named c.args.graph.now in
     elim c.match-corner_at.branch [
       | in-Some+in_default-end_corner w ↦
-          before_some named.rows c.args.u (λ p d. HasNoEnd named.rows c.args.v d) c.loop-start.start (dart_named named w.in-Some.corner) w.in-Some.ensures.1 w.in_default-end_corner.ensures c.loop-start.invariant
+          before_some named.rows c.args.u (λ p d. HasNoEnd named.rows c.args.v d) c.loop-start.start (dart_named named w.in-Some.corner)
+          w.in-Some.ensures.1 w.in_default-end_corner.ensures c.loop-start.invariant
       | in_default w ↦ before_past named.rows c.args.u (λ p d. HasNoEnd named.rows c.args.v d) c.loop-start.start w.in_default.ensures c.loop-start.invariant
     ]

@@ -12,6 +12,8 @@ pub returns-clause-name : goal.returns-clause-name
 returns-clause-name g c =
     let dual = c.args.dual.now in
     let whole : c.size.result ≡ length (darts (g.D.Dual.shows dual)) = c.size.ensures ∙ ap (λ (n : Named). n.size) (g.met.D.Dual.numbered dual) in (
-      λ w. number_is (g.D.FaceGraph.named dual) (g.D.Dual.shows dual) (g.met.D.Dual.numbered dual) (g.met.D.FaceGraph.lawful dual) c.args.number (grind (arith, nat_tests)),
-      λ name. let less = is_number (g.D.FaceGraph.named dual) (g.D.Dual.shows dual) (g.met.D.Dual.numbered dual) (g.met.D.FaceGraph.lawful dual) c.args.number name in grind (arith, nat_tests),
+      λ w. number_is (g.D.FaceGraph.named dual) (g.D.Dual.shows dual) (g.met.D.Dual.numbered dual)
+          (g.met.D.FaceGraph.lawful dual) c.args.number (grind (arith, nat_tests)),
+      λ name. let less = is_number (g.D.FaceGraph.named dual) (g.D.Dual.shows dual) (g.met.D.Dual.numbered dual)
+          (g.met.D.FaceGraph.lawful dual) c.args.number name in grind (arith, nat_tests),
     )

@@ -10,5 +10,6 @@ price_at-requires g c =
 pub returns-clause-price : goal.returns-clause-price
 returns-clause-price g c =
     let dual = c.args.dual.now in
-    price_is_at (g.D.FaceGraph.named dual) (g.D.Dual.shows dual) (g.met.D.Dual.numbered dual) (g.met.D.FaceGraph.lawful dual) (prices_of (g.F.PriceFn.may_return c.args.tariff.now))
+    price_is_at (g.D.FaceGraph.named dual) (g.D.Dual.shows dual) (g.met.D.Dual.numbered dual) (g.met.D.FaceGraph.lawful dual)
+    (prices_of (g.F.PriceFn.may_return c.args.tariff.now))
     c.args.dart c.price_at.result c.requires c.price_at.ensures.price

@@ -14,10 +14,12 @@ pub returns-then-saturating_sub-price-clause-gentle : goal.returns-then-saturati
 returns-then-saturating_sub-price-clause-gentle g c =
     let rows = g.D.Dual.shows c.args.dual.now in
     let within : c.loop-dart.dart < length (darts rows) = omega arith in
-    let other : get_or c.args.heights.now c.across.result 0 ≡ get_or c.args.heights.now (twin c.loop-dart.dart) 0 = ap (λ k. get_or c.args.heights.now k 0) c.across.ensures.twin in (
+    let other : get_or c.args.heights.now c.across.result 0 ≡ get_or c.args.heights.now (twin c.loop-dart.dart) 0 =
+    ap (λ k. get_or c.args.heights.now k 0) c.across.ensures.twin in (
       λ w. absurd (false≢true w),
       λ gentle.
-          let climb = gentle_numbers rows (lawful_shown (g.met.D.Dual.numbered c.args.dual.now) (g.met.D.FaceGraph.lawful c.args.dual.now)) c.args.heights.now (prices_of (g.F.PriceFn.may_return c.args.tariff.now)) gentle c.loop-dart.dart c.in-Some.price within c.in-Some.ensures.price in
+          let climb = gentle_numbers rows (lawful_shown (g.met.D.Dual.numbered c.args.dual.now) (g.met.D.FaceGraph.lawful c.args.dual.now)) c.args.heights.now
+          (prices_of (g.F.PriceFn.may_return c.args.tariff.now)) gentle c.loop-dart.dart c.in-Some.price within c.in-Some.ensures.price in
           absurd (omega arith),
     )
 
@@ -27,9 +29,11 @@ loop-dart-preserved g c =
     let price = prices_of (g.F.PriceFn.may_return c.args.tariff.now) in
     elim c.match-price_at.branch [
       | in-Some+else-saturating_sub-price w ↦
-          let other : get_or c.args.heights.now w.across.result 0 ≡ get_or c.args.heights.now (twin c.loop-dart.dart) 0 = ap (λ k. get_or c.args.heights.now k 0) w.across.ensures.twin in
+          let other : get_or c.args.heights.now w.across.result 0 ≡ get_or c.args.heights.now (twin c.loop-dart.dart) 0 =
+          ap (λ k. get_or c.args.heights.now k 0) w.across.ensures.twin in
           record {
-            gentle = gentle_some rows c.args.heights.now price c.loop-dart.dart w.in-Some.price (single_price price rows w.in-Some.ensures.promise (dart_of rows c.loop-dart.dart))
+            gentle = gentle_some rows c.args.heights.now price c.loop-dart.dart w.in-Some.price
+                (single_price price rows w.in-Some.ensures.promise (dart_of rows c.loop-dart.dart))
                 w.in-Some.ensures.price (omega arith) c.loop-dart.invariant.gentle;
             promise = λ l. w.in-Some.ensures.promise;
           }
@@ -41,5 +45,8 @@ loop-dart-preserved g c =
 
 pub returns-clause-gentle : goal.returns-clause-gentle
 returns-clause-gentle g c =
-    let rows = g.D.Dual.shows c.args.dual.now in
-    (λ w. gentle_darts rows (lawful_shown (g.met.D.Dual.numbered c.args.dual.now) (g.met.D.FaceGraph.lawful c.args.dual.now)) c.args.heights.now (prices_of (g.F.PriceFn.may_return c.args.tariff.now)) (λ k p l. c.loop-dart.invariant.gentle k p (omega arith)), λ gentle. refl)
+    let rows = g.D.Dual.shows c.args.dual.now in (
+      λ w. gentle_darts rows (lawful_shown (g.met.D.Dual.numbered c.args.dual.now) (g.met.D.FaceGraph.lawful c.args.dual.now)) c.args.heights.now
+          (prices_of (g.F.PriceFn.may_return c.args.tariff.now)) (λ k p l. c.loop-dart.invariant.gentle k p (omega arith)),
+      λ gentle. refl,
+    )

@@ -15,5 +15,8 @@ loop-position-preserved g c = grind (arith, in-Some+else-heights-corner-ne0, hei
 pub returns : goal.returns
 returns g c =
     let rows = g.D.Dual.shows c.args.dual.now in
-    let whole : c.loop-position.position ≡ c.degree-position-end.result = omega arith in
-    (λ w. before_all rows c.args.v (λ p d. height_in rows c.args.heights.now d ≡ 0) c.loop-position.position (whole ∙ c.degree-position-end.ensures) c.loop-position.invariant, λ meets. refl)
+    let whole : c.loop-position.position ≡ c.degree-position-end.result = omega arith in (
+      λ w. before_all rows c.args.v (λ p d. height_in rows c.args.heights.now d ≡ 0) c.loop-position.position (whole
+          ∙ c.degree-position-end.ensures) c.loop-position.invariant,
+      λ meets. refl,
+    )

@@ -5,4 +5,5 @@ use Rattle.topo_route.specs.Plans.{height_in}
 use Rattle.topo_route.proofs.heights.meets_target.Given as goal
 
 abbrev pub invariant-loop-position : goal.invariant-loop-position
-invariant-loop-position g l = (p : ℕ) (c : Dart) → p < l.position → corner (g.D.Dual.shows l.dual) l.v p ≡ Some c → height_in (g.D.Dual.shows l.dual) l.heights c ≡ 0
+invariant-loop-position g l = (p : ℕ) (c : Dart) → p < l.position → corner (g.D.Dual.shows l.dual) l.v p ≡ Some c
+    → height_in (g.D.Dual.shows l.dual) l.heights c ≡ 0

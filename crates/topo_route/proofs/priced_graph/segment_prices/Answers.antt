@@ -16,4 +16,5 @@ returns g c =
     let numbered = g.met.D.Dual.numbered c.args.dual.now in
     let price = prices_of (g.F.PriceFn.may_return c.args.tariff.now) in
     subst (λ n. ArePrices price n c.loop-segment.prices.items) (sym numbered)
-    (all_prices price rows (lawful_shown numbered (g.met.D.FaceGraph.lawful c.args.dual.now)) c.loop-segment.prices.items c.loop-segment.segment whole c.loop-segment.invariant)
+    (all_prices price rows (lawful_shown numbered (g.met.D.FaceGraph.lawful c.args.dual.now))
+    c.loop-segment.prices.items c.loop-segment.segment whole c.loop-segment.invariant)

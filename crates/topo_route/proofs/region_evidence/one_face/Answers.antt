@@ -74,22 +74,94 @@ region = record {
 -- ---- The first routes
 
 abbrev in_face : Planned
-in_face = record { prices = []; heights = 0 ∷ 1 ∷ 0 ∷ 0 ∷ 0 ∷ 0 ∷ 1 ∷ 0 ∷ 1 ∷ 1 ∷ 1 ∷ 1 ∷ 1 ∷ 0 ∷ 0 ∷ 1 ∷ []; crossed = []; start = 0; end = 1; from = forward 0 0; to = forward 2 0 }
+in_face = record {
+  prices = [];
+  heights = 0 ∷ 1 ∷ 0 ∷ 0 ∷ 0 ∷ 0 ∷ 1 ∷ 0 ∷ 1 ∷ 1 ∷ 1 ∷ 1 ∷ 1 ∷ 0 ∷ 0 ∷ 1 ∷ [];
+  crossed = [];
+  start = 0;
+  end = 1;
+  from = forward 0 0;
+  to = forward 2 0;
+}
 
 in_face_passes : Passes hexagon 0 2 in_face
-in_face_passes = record { starts = refl; ends = refl; closed = refl; twins = refl; corners = refl; even = refl; gentle = refl; target = refl; walk = refl; priced = refl; least_height = refl; first_start = refl; first_darts = refl; arrival_held = refl; first_end = refl }
+in_face_passes = record {
+  starts = refl;
+  ends = refl;
+  closed = refl;
+  twins = refl;
+  corners = refl;
+  even = refl;
+  gentle = refl;
+  target = refl;
+  walk = refl;
+  priced = refl;
+  least_height = refl;
+  first_start = refl;
+  first_darts = refl;
+  arrival_held = refl;
+  first_end = refl;
+}
 
 abbrev still_in_face : Planned
-still_in_face = record { prices = []; heights = 0 ∷ 1 ∷ 0 ∷ 0 ∷ 0 ∷ 0 ∷ 1 ∷ 0 ∷ 2 ∷ 1 ∷ 1 ∷ 1 ∷ 1 ∷ 0 ∷ 0 ∷ 1 ∷ 1 ∷ 2 ∷ []; crossed = []; start = 0; end = 1; from = forward 0 0; to = forward 2 0 }
+still_in_face = record {
+  prices = [];
+  heights = 0 ∷ 1 ∷ 0 ∷ 0 ∷ 0 ∷ 0 ∷ 1 ∷ 0 ∷ 2 ∷ 1 ∷ 1 ∷ 1 ∷ 1 ∷ 0 ∷ 0 ∷ 1 ∷ 1 ∷ 2 ∷ [];
+  crossed = [];
+  start = 0;
+  end = 1;
+  from = forward 0 0;
+  to = forward 2 0;
+}
 
 still_in_face_passes : Passes changed_outside 0 2 still_in_face
-still_in_face_passes = record { starts = refl; ends = refl; closed = refl; twins = refl; corners = refl; even = refl; gentle = refl; target = refl; walk = refl; priced = refl; least_height = refl; first_start = refl; first_darts = refl; arrival_held = refl; first_end = refl }
+still_in_face_passes = record {
+  starts = refl;
+  ends = refl;
+  closed = refl;
+  twins = refl;
+  corners = refl;
+  even = refl;
+  gentle = refl;
+  target = refl;
+  walk = refl;
+  priced = refl;
+  least_height = refl;
+  first_start = refl;
+  first_darts = refl;
+  arrival_held = refl;
+  first_end = refl;
+}
 
 abbrev across_new : Planned
-across_new = record { prices = []; heights = 1 ∷ 1 ∷ 0 ∷ 0 ∷ 0 ∷ 0 ∷ 1 ∷ 0 ∷ 1 ∷ 1 ∷ 1 ∷ 1 ∷ 1 ∷ 1 ∷ 0 ∷ 1 ∷ 1 ∷ 0 ∷ []; crossed = forward 8 0 ∷ []; start = 0; end = 1; from = forward 0 0; to = forward 2 0 }
+across_new = record {
+  prices = [];
+  heights = 1 ∷ 1 ∷ 0 ∷ 0 ∷ 0 ∷ 0 ∷ 1 ∷ 0 ∷ 1 ∷ 1 ∷ 1 ∷ 1 ∷ 1 ∷ 1 ∷ 0 ∷ 1 ∷ 1 ∷ 0 ∷ [];
+  crossed = forward 8 0 ∷ [];
+  start = 0;
+  end = 1;
+  from = forward 0 0;
+  to = forward 2 0;
+}
 
 across_new_passes : Passes changed_inside 0 2 across_new
-across_new_passes = record { starts = refl; ends = refl; closed = refl; twins = refl; corners = refl; even = refl; gentle = refl; target = refl; walk = refl; priced = refl; least_height = refl; first_start = refl; first_darts = refl; arrival_held = refl; first_end = refl }
+across_new_passes = record {
+  starts = refl;
+  ends = refl;
+  closed = refl;
+  twins = refl;
+  corners = refl;
+  even = refl;
+  gentle = refl;
+  target = refl;
+  walk = refl;
+  priced = refl;
+  least_height = refl;
+  first_start = refl;
+  first_darts = refl;
+  arrival_held = refl;
+  first_end = refl;
+}
 
 first_inside : IsFirst (by_kind []) changed_inside 0 2 (route 0 (forward 8 0 ∷ []) 1) 1
 first_inside = first_by_tests changed_inside 0 2 across_new across_new_passes

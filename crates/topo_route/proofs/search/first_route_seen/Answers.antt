@@ -13,6 +13,10 @@ returns-in_ok-region-in-Some-clause-region g c =
     let face = g.W.FaceGraph.face_of c.args.graph.now in
     let heights = dart_heights named face c.find_route.new.work.to_end.heights in
     let distances = dart_heights named face c.find_route.new.work.to_start.heights in
-    let rests = subst (λ o. IfSome o (λ r. IfSome r.stop (λ stop. RestsOn price named c.args.u c.args.v heights distances stop.level stop.least r.first.route r.first.price))) c.in-Some.is c.in_ok-found.ensures.stop in
-    first_seen price named (g.met.W.FaceGraph.lawful c.args.graph.now) (g.met.W.FaceGraph.has_names c.args.graph.now) c.args.u c.args.v heights distances c.in-Some.field-0.stop c.in-Some.field-0.first.route c.in-Some.field-0.first.price
+    let rests =
+    subst (λ o. IfSome o
+    (λ r. IfSome r.stop (λ stop. RestsOn price named c.args.u c.args.v heights distances stop.level stop.least r.first.route r.first.price)))
+    c.in-Some.is c.in_ok-found.ensures.stop in
+    first_seen price named (g.met.W.FaceGraph.lawful c.args.graph.now) (g.met.W.FaceGraph.has_names c.args.graph.now)
+    c.args.u c.args.v heights distances c.in-Some.field-0.stop c.in-Some.field-0.first.route c.in-Some.field-0.first.price
     c.in_ok-region-in-Some.region c.in_ok-found.ensures.promise rests c.in_ok-region-in-Some.ensures

@@ -11,7 +11,8 @@ use Rattle.topo_route.proofs.search.numbers_of.Goals as goal
 pub height_at-requires-clause-name : goal.height_at-requires-clause-name
 height_at-requires-clause-name g c =
     let dual = c.args.dual.now in
-    number_is (g.D.FaceGraph.named dual) (g.D.Dual.shows dual) (g.met.D.Dual.numbered dual) (g.met.D.FaceGraph.lawful dual) c.loop-dart.dart (omega (arith, c.dart_count-darts.ensures))
+    number_is (g.D.FaceGraph.named dual) (g.D.Dual.shows dual) (g.met.D.Dual.numbered dual)
+    (g.met.D.FaceGraph.lawful dual) c.loop-dart.dart (omega (arith, c.dart_count-darts.ensures))
 
 pub loop-dart-preserved : goal.loop-dart-preserved
 loop-dart-preserved g c =

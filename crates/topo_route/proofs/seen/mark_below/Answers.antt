@@ -29,7 +29,8 @@ mark_face-requires-clause-name g c =
     let within : face < length names = omega (arith, inside, c.requires.labelled.one_each, c.requires.labelled.as_many) in
     let dart : c.index.result.now ≡ slice_index names face = c.index.ensures ∙ get_or_default_zero names face c.index.result.now within in
     subst (IsName (g.W.FaceGraph.named c.args.graph.now)) (sym dart)
-    (c.requires.labelled.named face (omega (arith, inside, c.requires.labelled.one_each)) (λ e. omega (arith, c.get.ensures, c.if-get-bound.true, c.ranges.bound.fits)))
+    (c.requires.labelled.named face (omega (arith, inside, c.requires.labelled.one_each))
+    (λ e. omega (arith, c.get.ensures, c.if-get-bound.true, c.ranges.bound.fits)))
 
 pub loop-i-preserved : goal.loop-i-preserved
 loop-i-preserved g c =
@@ -52,16 +53,19 @@ loop-i-preserved g c =
           let after = w.mark_face.new.region in
           let within : face < length names = omega (arith, inside, c.requires.labelled.one_each, c.requires.labelled.as_many) in
           let dart : w.index.result.now ≡ slice_index names face = w.index.ensures ∙ get_or_default_zero names face w.index.result.now within in
-          let here : face_of w.index.result.now ≡ face = ap face_of dart ∙ c.requires.labelled.inside face (omega (arith, inside, c.requires.labelled.one_each)) (λ e. omega (arith, c.get.ensures, w.if-get-bound.true, c.ranges.bound.fits)) in
+          let here : face_of w.index.result.now ≡ face = ap face_of dart ∙ c.requires.labelled.inside face (omega (arith, inside, c.requires.labelled.one_each))
+          (λ e. omega (arith, c.get.ensures, w.if-get-bound.true, c.ranges.bound.fits)) in
           record {
             of_rows = subst OfRows (sym w.region-is) marks.of_rows;
             more = subst More (sym w.region-is) (more_on invariant.more marks.more);
-            first = subst First (sym w.region-is) (holds_next named face_of heights c.args.bound places i before after marks.more invariant.first (λ low k l e. marks.round k l (e ∙ sym here)));
+            first = subst First (sym w.region-is)
+                (holds_next named face_of heights c.args.bound places i before after marks.more invariant.first (λ low k l e. marks.round k l (e ∙ sym here)));
           }
       | else-get-bound w ↦ record {
         of_rows = subst OfRows (sym w.region-is) invariant.of_rows;
         more = subst More (sym w.region-is) invariant.more;
-        first = subst First (sym w.region-is) (holds_next named face_of heights c.args.bound places i before before (no_more before) invariant.first (λ low. absurd (omega (arith, c.get.ensures, w.if-get-bound.false))));
+        first = subst First (sym w.region-is) (holds_next named face_of heights c.args.bound places i before before (no_more before) invariant.first
+            (λ low. absurd (omega (arith, c.get.ensures, w.if-get-bound.false))));
       }
     ]
 
@@ -79,6 +83,7 @@ returns g c =
     record {
       of_rows = c.loop-i.invariant.of_rows;
       more = c.loop-i.invariant.more;
-      below = holds_below named has face faces has_faces c.args.labels.now.heights c.args.bound places c.loop-i.region c.requires.labelled.one_each (omega (arith, c.ranges.bound.fits)) c.written-places.ensures.all
+      below = holds_below named has face faces has_faces c.args.labels.now.heights c.args.bound places c.loop-i.region c.requires.labelled.one_each
+          (omega (arith, c.ranges.bound.fits)) c.written-places.ensures.all
           (subst (λ n. HoldsFirst named face c.args.labels.now.heights c.args.bound places n c.loop-i.region) whole c.loop-i.invariant.first);
     }

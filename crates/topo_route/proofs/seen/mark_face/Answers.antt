@@ -31,7 +31,8 @@ loop-steps-preserved g c =
     let marks = c.in_ok-mark_edge.ensures in
     let before = c.loop-steps.region in
     let now = c.mark_edge.new.region in
-    let place : c.next_along-at.result ≡ after (next_name named) (i + 1) dart = c.next_along-at.ensures.next ∙ ap (next_name named) was.place ∙ sym (after-one (next_name named) i dart) in
+    let place : c.next_along-at.result ≡ after (next_name named) (i + 1) dart = c.next_along-at.ensures.next ∙ ap (next_name named) was.place
+    ∙ sym (after-one (next_name named) i dart) in
     let along = along_next named dart i c.loop-steps.at before now marks.more was.place was.along marks.itself in
     record {
       of_rows = marks.of_rows;
@@ -56,7 +57,8 @@ returns-then-at-dart g c =
     let marks = c.in_ok-mark_edge.ensures in
     let before = c.loop-steps.region in
     let now = c.mark_edge.new.region in
-    let place : c.next_along-at.result ≡ after (next_name named) (i + 1) dart = c.next_along-at.ensures.next ∙ ap (next_name named) was.place ∙ sym (after-one (next_name named) i dart) in
+    let place : c.next_along-at.result ≡ after (next_name named) (i + 1) dart = c.next_along-at.ensures.next ∙ ap (next_name named) was.place
+    ∙ sym (after-one (next_name named) i dart) in
     let along = along_next named dart i c.loop-steps.at before now marks.more was.place was.along marks.itself in
     let P = λ (k : ℕ). holds_edge now (dart_named named k).edge ≡ true in
     record {

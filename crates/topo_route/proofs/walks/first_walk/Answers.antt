@@ -34,7 +34,8 @@ loop-dart-preserved g c =
     let to = c.loop-dart.invariant.walk.0 in
     let On = λ (ys : List Dart). Crosses (system rows) (dart_of rows c.loop-dart.at) ys to in
     let Takes = λ (ys : List Dart). TakesFirstDarts price rows (height_in rows heights) (dart_of rows c.loop-dart.at) ys in
-    let none = λ (before : HasTightBefore price rows heights c.loop-dart.at c.in-Some.number). false≢true (sym c.if-has_tight_before.false ∙ c.has_tight_before.ensures.1 before) in
+    let none = λ (before : HasTightBefore price rows heights c.loop-dart.at c.in-Some.number). false≢true
+    (sym c.if-has_tight_before.false ∙ c.has_tight_before.ensures.1 before) in
     let within = c.loop-dart.invariant.within in
     let there = c.in-Some.ensures.0 in
     let is = c.in-Some.ensures.1 in
@@ -42,10 +43,15 @@ loop-dart-preserved g c =
     let lands = c.across-at.ensures.twin in
     record {
       within = c.across-at.ensures.within;
-      walk = (to, walk_on price rows lawful heights c.loop-dart.at c.in-Some.number c.across-at.result c.dart-item.result xs within there is of lands to (subst On rest c.loop-dart.invariant.walk.1));
+      walk = (
+        to,
+        walk_on price rows lawful heights c.loop-dart.at c.in-Some.number c.across-at.result c.dart-item.result xs within there is of lands to
+            (subst On rest c.loop-dart.invariant.walk.1),
+      );
       arrives = arrives_on price rows lawful heights c.loop-dart.at c.in-Some.number c.across-at.result c.dart-item.result xs within there is of lands
           ∙ sym (ap (arrival (dart_of rows c.loop-dart.at)) rest) ∙ c.loop-dart.invariant.arrives;
-      forth = λ takes. takes_on price rows lawful heights c.loop-dart.at c.in-Some.number c.across-at.result c.dart-item.result xs within there is of lands (subst Takes rest (c.loop-dart.invariant.forth takes));
+      forth = λ takes. takes_on price rows lawful heights c.loop-dart.at c.in-Some.number c.across-at.result c.dart-item.result xs within there is of lands
+          (subst Takes rest (c.loop-dart.invariant.forth takes));
       back = λ takes. c.loop-dart.invariant.back (subst Takes (sym rest)
           (takes_back price rows lawful heights c.loop-dart.at c.in-Some.number c.across-at.result c.dart-item.result xs within there is of lands none takes));
     }

@@ -19,11 +19,14 @@ loop-position-preserved g c =
     let lawful = lawful_shown (g.met.D.Dual.numbered c.args.dual.now) (g.met.D.FaceGraph.lawful c.args.dual.now) in
     elim c.match-corner_at.branch [
       | in-Some+else-same_face w ↦
-          before_some rows c.args.v (λ p d. SameFace (system rows) (dart_of rows c.args.last) d → ⊥) c.loop-position.position (dart_of rows w.in-Some.corner) w.in-Some.ensures.1
+          before_some rows c.args.v (λ p d. SameFace (system rows) (dart_of rows c.args.last) d → ⊥) c.loop-position.position (dart_of rows w.in-Some.corner)
+          w.in-Some.ensures.1
           (λ same. false≢true (sym w.if-same_face.false ∙ w.same_face.ensures.1
-          (subst (SameCycle (next_of rows) c.args.last) (number_of rows lawful w.in-Some.corner w.in-Some.ensures.0) (numbers_of_face rows lawful c.args.last (dart_of rows w.in-Some.corner) c.requires same))))
+          (subst (SameCycle (next_of rows) c.args.last) (number_of rows lawful w.in-Some.corner w.in-Some.ensures.0)
+          (numbers_of_face rows lawful c.args.last (dart_of rows w.in-Some.corner) c.requires same))))
           c.loop-position.invariant
-      | in_default w ↦ before_past rows c.args.v (λ p d. SameFace (system rows) (dart_of rows c.args.last) d → ⊥) c.loop-position.position w.in_default.ensures c.loop-position.invariant
+      | in_default w ↦ before_past rows c.args.v (λ p d. SameFace (system rows) (dart_of rows c.args.last) d → ⊥)
+          c.loop-position.position w.in_default.ensures c.loop-position.invariant
     ]
 
 pub returns : goal.returns

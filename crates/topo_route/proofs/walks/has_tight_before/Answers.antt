@@ -19,10 +19,14 @@ returns-then-dart-at g c =
     let price = prices_of (g.F.PriceFn.may_return c.args.tariff.now) in
     let i = c.loop-steps._steps in
     let place = c.loop-steps.invariant.place in
-    let home : next_of rows (after (next_of rows) i c.args.at) ≡ c.args.at = ap (next_of rows) (sym place) ∙ sym c.next_along-dart.ensures.next ∙ c.if-dart-at.true in
+    let home : next_of rows (after (next_of rows) i c.args.at) ≡ c.args.at = ap (next_of rows) (sym place) ∙ sym c.next_along-dart.ensures.next
+    ∙ c.if-dart-at.true in
     let Free = λ (x : ℕ). x < c.args.number → IsTight price rows (height_in rows c.args.heights.now) (dart_of rows x) → ⊥ in
-    let here : Free c.loop-steps.dart = grind (arith, else-dart-number-via-then-dart-number+else-is_tight, false≢true, else-dart-number-via-else-dart-number) in
-    (λ w. absurd (false≢true w), λ before. absurd (none_before price rows c.args.heights.now c.args.at c.args.number i home c.loop-steps.invariant.none (subst Free place here) before))
+    let here : Free c.loop-steps.dart =
+    grind (arith, else-dart-number-via-then-dart-number+else-is_tight, false≢true, else-dart-number-via-else-dart-number) in (
+      λ w. absurd (false≢true w),
+      λ before. absurd (none_before price rows c.args.heights.now c.args.at c.args.number i home c.loop-steps.invariant.none (subst Free place here) before),
+    )
 
 pub returns : goal.returns
 returns g c =
@@ -31,6 +35,7 @@ returns g c =
     let Free = λ (x : ℕ). x < c.args.number → IsTight price rows (height_in rows c.args.heights.now) (dart_of rows x) → ⊥ in (
       λ w. absurd (false≢true w),
       λ before.
-          absurd (round_all (next_of rows) Free c.args.at (length (darts rows)) (next_permutes rows (lawful_shown (g.met.D.Dual.numbered c.args.dual.now) (g.met.D.FaceGraph.lawful c.args.dual.now))) c.requires.within
+          absurd (round_all (next_of rows) Free c.args.at (length (darts rows))
+          (next_permutes rows (lawful_shown (g.met.D.Dual.numbered c.args.dual.now) (g.met.D.FaceGraph.lawful c.args.dual.now))) c.requires.within
           (λ j l. c.loop-steps.invariant.none j (omega arith)) before.dart before.face before.before before.tight),
     )

@@ -13,10 +13,13 @@ returns-else-height-other g c =
     let rows = g.D.Dual.shows c.args.dual.now in
     let lawful = lawful_shown (g.met.D.Dual.numbered c.args.dual.now) (g.met.D.FaceGraph.lawful c.args.dual.now) in
     let price = prices_of (g.F.PriceFn.may_return c.args.tariff.now) in
-    let other : get_or c.args.heights.now c.across.result 0 ≡ get_or c.args.heights.now (twin c.args.dart) 0 = ap (λ k. get_or c.args.heights.now k 0) c.across.ensures.twin in (
-      λ w. let same = eqb-true _ _ w in tight_is price rows lawful c.args.heights.now c.args.dart c.in-Some.price c.requires.within c.in-Some.ensures.price (omega arith),
+    let other : get_or c.args.heights.now c.across.result 0 ≡ get_or c.args.heights.now (twin c.args.dart) 0 =
+    ap (λ k. get_or c.args.heights.now k 0) c.across.ensures.twin in (
+      λ w. let same = eqb-true _ _ w in
+          tight_is price rows lawful c.args.heights.now c.args.dart c.in-Some.price c.requires.within c.in-Some.ensures.price (omega arith),
       λ tight. eq-eqb _ _ (let drop = tight_drop price rows lawful c.args.heights.now c.args.dart c.in-Some.price c.requires.within
-          (λ q asked. single_price price rows c.in-Some.ensures.promise (dart_of rows c.args.dart) q c.in-Some.price asked c.in-Some.ensures.price) tight in omega arith),
+          (λ q asked. single_price price rows c.in-Some.ensures.promise (dart_of rows c.args.dart) q c.in-Some.price asked c.in-Some.ensures.price)
+          tight in omega arith),
     )
 
 pub returns-then-height-other : goal.returns-then-height-other
@@ -24,10 +27,12 @@ returns-then-height-other g c =
     let rows = g.D.Dual.shows c.args.dual.now in
     let lawful = lawful_shown (g.met.D.Dual.numbered c.args.dual.now) (g.met.D.FaceGraph.lawful c.args.dual.now) in
     let price = prices_of (g.F.PriceFn.may_return c.args.tariff.now) in
-    let other : get_or c.args.heights.now c.across.result 0 ≡ get_or c.args.heights.now (twin c.args.dart) 0 = ap (λ k. get_or c.args.heights.now k 0) c.across.ensures.twin in (
+    let other : get_or c.args.heights.now c.across.result 0 ≡ get_or c.args.heights.now (twin c.args.dart) 0 =
+    ap (λ k. get_or c.args.heights.now k 0) c.across.ensures.twin in (
       λ w. absurd (false≢true w),
       λ tight. let drop = tight_drop price rows lawful c.args.heights.now c.args.dart c.in-Some.price c.requires.within
-          (λ q asked. single_price price rows c.in-Some.ensures.promise (dart_of rows c.args.dart) q c.in-Some.price asked c.in-Some.ensures.price) tight in absurd (omega arith),
+          (λ q asked. single_price price rows c.in-Some.ensures.promise (dart_of rows c.args.dart) q c.in-Some.price asked c.in-Some.ensures.price) tight in
+          absurd (omega arith),
     )
 
 pub returns-in-None : goal.returns-in-None

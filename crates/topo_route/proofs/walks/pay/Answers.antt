@@ -11,14 +11,16 @@ returns-then-price-left g c =
     record {
       cost = c.in-Some.price;
       asked = c.in-Some.ensures.price;
-      single = λ other asked. single_price price rows c.in-Some.ensures.promise (dart_of rows c.args.number) other c.in-Some.price asked c.in-Some.ensures.price;
+      single = λ other asked. single_price price rows c.in-Some.ensures.promise (dart_of rows c.args.number)
+          other c.in-Some.price asked c.in-Some.ensures.price;
       sum = omega arith;
     }
 
 pub returns-else-price-left : goal.returns-else-price-left
 returns-else-price-left g c p asked low =
     let rows = g.D.Dual.shows c.args.dual.now in
-    let same = single_price (prices_of (g.F.PriceFn.may_return c.args.tariff.now)) rows c.in-Some.ensures.promise (dart_of rows c.args.number) p c.in-Some.price asked c.in-Some.ensures.price in
+    let same = single_price (prices_of (g.F.PriceFn.may_return c.args.tariff.now)) rows c.in-Some.ensures.promise (dart_of rows c.args.number)
+    p c.in-Some.price asked c.in-Some.ensures.price in
     omega arith
 
 pub returns-in-None : goal.returns-in-None

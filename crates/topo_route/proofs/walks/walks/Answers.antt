@@ -13,10 +13,12 @@ returns-in-None g c =
     let rows = g.D.Dual.shows c.args.dual.now in
     let price = prices_of (g.F.PriceFn.may_return c.args.tariff.now) in
     let i = c.loop-dart.dart-index in
-    let rest : drop i c.args.crossed.now ≡ c.dart-item.result ∷ drop (i + 1) c.args.crossed.now = from_item c.args.crossed.now i c.dart-item.result c.loop-dart-test.true c.dart-item.is in
+    let rest : drop i c.args.crossed.now ≡ c.dart-item.result ∷ drop (i + 1) c.args.crossed.now =
+    from_item c.args.crossed.now i c.dart-item.result c.loop-dart-test.true c.dart-item.is in
     let On = λ (xs : List Dart). Walks price rows (dart_of rows c.loop-dart.at) xs (dart_of rows c.args.to) c.loop-dart.left in (
       λ w. absurd (false≢true w),
-      λ walk. absurd (no_step price rows (lawful_shown (g.met.D.Dual.numbered c.args.dual.now) (g.met.D.FaceGraph.lawful c.args.dual.now)) c.loop-dart.at c.dart-item.result (drop (i + 1) c.args.crossed.now) (dart_of rows c.args.to) c.loop-dart.left
+      λ walk. absurd (no_step price rows (lawful_shown (g.met.D.Dual.numbered c.args.dual.now) (g.met.D.FaceGraph.lawful c.args.dual.now))
+          c.loop-dart.at c.dart-item.result (drop (i + 1) c.args.crossed.now) (dart_of rows c.args.to) c.loop-dart.left
           c.in-None.ensures (subst On rest (c.loop-dart.invariant.forth walk))),
     )
 
@@ -30,5 +32,6 @@ returns-then-left-eq0 g c =
     let i = c.loop-dart.dart-index in
     let none : drop i c.args.crossed.now ≡ [] = drop_all i c.args.crossed.now c.loop-dart-test.false in
     let Whole : Type 0 = Walks price rows (dart_of rows c.args.from) c.args.crossed.now (dart_of rows c.args.to) c.args.price in
-    walks_home price rows (lawful_shown (g.met.D.Dual.numbered c.args.dual.now) (g.met.D.FaceGraph.lawful c.args.dual.now)) c.loop-dart.at c.args.to c.loop-dart.left (drop i c.args.crossed.now) Whole c.same_face.result
+    walks_home price rows (lawful_shown (g.met.D.Dual.numbered c.args.dual.now) (g.met.D.FaceGraph.lawful c.args.dual.now))
+    c.loop-dart.at c.args.to c.loop-dart.left (drop i c.args.crossed.now) Whole c.same_face.result
     c.loop-dart.invariant.within c.requires.to_within none c.if-left-eq0.true c.loop-dart.invariant.forth c.loop-dart.invariant.back c.same_face.ensures

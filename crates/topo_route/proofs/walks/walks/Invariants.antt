@@ -11,6 +11,8 @@ invariant-loop-dart g l =
     let price = prices_of (g.F.PriceFn.may_return l.tariff) in
     record {
       within : l.at < length (darts rows);
-      forth : Walks price rows (dart_of rows l.from) l.crossed (dart_of rows l.to) l.price → Walks price rows (dart_of rows l.at) (drop l.dart-index l.crossed) (dart_of rows l.to) l.left;
-      back : Walks price rows (dart_of rows l.at) (drop l.dart-index l.crossed) (dart_of rows l.to) l.left → Walks price rows (dart_of rows l.from) l.crossed (dart_of rows l.to) l.price;
+      forth : Walks price rows (dart_of rows l.from) l.crossed (dart_of rows l.to) l.price
+          → Walks price rows (dart_of rows l.at) (drop l.dart-index l.crossed) (dart_of rows l.to) l.left;
+      back : Walks price rows (dart_of rows l.at) (drop l.dart-index l.crossed) (dart_of rows l.to) l.left
+          → Walks price rows (dart_of rows l.from) l.crossed (dart_of rows l.to) l.price;
     }

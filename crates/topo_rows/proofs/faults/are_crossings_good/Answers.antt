@@ -15,12 +15,15 @@ returns-then-not-branch-clause-good c = crossings_refused c.args.rows.now (sym c
 pub returns-clause-good : goal.returns-clause-good
 returns-clause-good c =
     let rows = c.args.rows.now in
-    let both : (rises_below rows.next_crossing (map (λ x. x.id) rows.crossings) && list_all (λ x. not (x.crossed == x.newcomer)) rows.crossings) ≡ true = sym c.in_ok-rise_and_differ.ensures ∙ c.if-not-branch.false in
+    let both : (rises_below rows.next_crossing (map (λ x. x.id) rows.crossings) && list_all (λ x. not (x.crossed == x.newcomer)) rows.crossings) ≡ true =
+    sym c.in_ok-rise_and_differ.ensures ∙ c.if-not-branch.false in
     let small : rows.next_crossing ≤ 4294967296 = omega arith in
     crossings_decided rows c.requires small (left_true _ _ both) c.in_ok-is_same.is_same
-    (told_of (path_pairs c.as_slice.result.now) (crossing_pairs c.as_slice-crossings.result.now) (path_pairs rows.edges) (crossing_pairs rows.crossings) c.in_ok-is_same.is_same (ap path_pairs c.as_slice.ensures) (ap crossing_pairs c.as_slice-crossings.ensures) c.in_ok-is_same.ensures.same)
+    (told_of (path_pairs c.as_slice.result.now) (crossing_pairs c.as_slice-crossings.result.now) (path_pairs rows.edges) (crossing_pairs rows.crossings)
+    c.in_ok-is_same.is_same (ap path_pairs c.as_slice.ensures) (ap crossing_pairs c.as_slice-crossings.ensures) c.in_ok-is_same.ensures.same)
     (right_true _ _ both)
 
 pub returns-clause-two_each : goal.returns-clause-two_each
 returns-clause-two_each c =
-    λ yes. ap (λ xs. length (path_pairs xs)) (sym c.as_slice.ensures) ∙ c.in_ok-is_same.ensures.as_many yes ∙ two_pairs_each c.as_slice-crossings.result.now ∙ ap (λ (xs : List CrossRow). 2 * length xs) c.as_slice-crossings.ensures
+    λ yes. ap (λ xs. length (path_pairs xs)) (sym c.as_slice.ensures) ∙ c.in_ok-is_same.ensures.as_many yes ∙ two_pairs_each c.as_slice-crossings.result.now
+    ∙ ap (λ (xs : List CrossRow). 2 * length xs) c.as_slice-crossings.ensures

@@ -11,7 +11,8 @@ pub place_of_edge-place-requires-clause-rise : goal.place_of_edge-place-requires
 place_of_edge-place-requires-clause-rise c = edges_rise c.args.rows.now c.as_slice-edges.result.now c.requires.paths c.as_slice-edges.ensures
 
 pub place_of_edge-place-requires-clause-there : goal.place_of_edge-place-requires-clause-there
-place_of_edge-place-requires-clause-there c = ap (λ (edges : List EdgeRow). is_some (find (λ row. row.id == c.args.e) edges)) c.as_slice-edges.ensures ∙ c.requires.there
+place_of_edge-place-requires-clause-there c = ap (λ (edges : List EdgeRow). is_some (find (λ row. row.id == c.args.e) edges)) c.as_slice-edges.ensures
+    ∙ c.requires.there
 
 pub bounds-begins-place : goal.bounds-begins-place
 bounds-begins-place c = grind (arith, begins_length)
@@ -24,18 +25,23 @@ apart m n h = grind (arith, nat_tests)
 
 pub overflow_sub-result : goal.overflow_sub-result
 overflow_sub-result c =
-    let at = at_edge_place c.args.rows.now c.args.e c.place_of_edge-place.result c.index-edges-place.result c.as_slice-edges.result.now c.as_slice-edges.ensures c.place_of_edge-place.ensures c.index-edges-place.is in
-    let last = last_number c.args.rows.now c.requires.paths c.args.v c.args.e c.place_of_edge-place.result c.index-edges-place.result at (apart _ _ c.if-row-v.false) in
+    let at = at_edge_place c.args.rows.now c.args.e c.place_of_edge-place.result c.index-edges-place.result c.as_slice-edges.result.now c.as_slice-edges.ensures
+    c.place_of_edge-place.ensures c.index-edges-place.is in
+    let last = last_number c.args.rows.now c.requires.paths c.args.v c.args.e c.place_of_edge-place.result c.index-edges-place.result at
+    (apart _ _ c.if-row-v.false) in
     let read = ap (λ xs. slice_index xs (c.place_of_edge-place.result + 1)) c.requires.begins in omega arith
 
 pub returns-then-row-v : goal.returns-then-row-v
 returns-then-row-v c =
-    let at = at_edge_place c.args.rows.now c.args.e c.place_of_edge-place.result c.index-edges-place.result c.as_slice-edges.result.now c.as_slice-edges.ensures c.place_of_edge-place.ensures c.index-edges-place.is in
+    let at = at_edge_place c.args.rows.now c.args.e c.place_of_edge-place.result c.index-edges-place.result c.as_slice-edges.result.now c.as_slice-edges.ensures
+    c.place_of_edge-place.ensures c.index-edges-place.is in
     ap (λ xs. slice_index xs c.place_of_edge-place.result) c.requires.begins
     ∙ first_number c.args.rows.now c.requires.paths c.args.v c.args.e c.place_of_edge-place.result c.index-edges-place.result at (eq-eqb _ _ c.if-row-v.true)
 
 pub returns-else-row-v : goal.returns-else-row-v
 returns-else-row-v c =
-    let at = at_edge_place c.args.rows.now c.args.e c.place_of_edge-place.result c.index-edges-place.result c.as_slice-edges.result.now c.as_slice-edges.ensures c.place_of_edge-place.ensures c.index-edges-place.is in
-    let last = last_number c.args.rows.now c.requires.paths c.args.v c.args.e c.place_of_edge-place.result c.index-edges-place.result at (apart _ _ c.if-row-v.false) in
+    let at = at_edge_place c.args.rows.now c.args.e c.place_of_edge-place.result c.index-edges-place.result c.as_slice-edges.result.now c.as_slice-edges.ensures
+    c.place_of_edge-place.ensures c.index-edges-place.is in
+    let last = last_number c.args.rows.now c.requires.paths c.args.v c.args.e c.place_of_edge-place.result c.index-edges-place.result at
+    (apart _ _ c.if-row-v.false) in
     let read = ap (λ xs. slice_index xs (c.place_of_edge-place.result + 1)) c.requires.begins in omega arith

@@ -13,8 +13,10 @@ note_paths-requires-clause-rise c = crossings_rise c.args.rows.now c.as_slice-cr
 
 pub note_paths-requires-clause-known : goal.note_paths-requires-clause-known
 note_paths-requires-clause-known c =
-    ap (λ (edges : List EdgeRow). list_all (λ row. list_all (λ x. is_some (find (λ (c : CrossRow). c.id == x) c.as_slice-crossings.result.now)) row.crossings) edges) c.as_slice.ensures
-    ∙ ap (λ (crossings : List CrossRow). list_all (λ (row : EdgeRow). list_all (λ x. is_some (find (λ (c : CrossRow). c.id == x) crossings)) row.crossings) c.args.rows.now.edges) c.as_slice-crossings.ensures
+    ap (λ (edges : List EdgeRow). list_all (λ row. list_all (λ x. is_some (find (λ (c : CrossRow). c.id == x) c.as_slice-crossings.result.now)) row.crossings)
+    edges) c.as_slice.ensures
+    ∙ ap (λ (crossings : List CrossRow). list_all (λ (row : EdgeRow). list_all (λ x. is_some (find (λ (c : CrossRow). c.id == x) crossings)) row.crossings)
+    c.args.rows.now.edges) c.as_slice-crossings.ensures
     ∙ paths_known c.args.rows.now c.requires.well_formed
 
 pub returns : goal.returns

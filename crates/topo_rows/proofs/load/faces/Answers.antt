@@ -6,4 +6,5 @@ use Rattle.topo_rows.proofs.load.faces.Goals as goal
 pub returns : goal.returns
 returns c =
     c.in_ok-count.ensures ∙ ap cycles_of c.deref.ensures.value
-    ∙ faces_of-list c.args.images.now c.loop-dart.nexts.items c.requires.permutation c.requires.even (omega arith) (λ a la. c.loop-dart.invariant.next a (omega arith))
+    ∙ faces_of-list c.args.images.now c.loop-dart.nexts.items c.requires.permutation c.requires.even (omega arith)
+    (λ a la. c.loop-dart.invariant.next a (omega arith))

@@ -19,9 +19,12 @@ returns-then-carry_out-clause-run g c =
     let begins = c.carry_out.ensures.same_book.1 ∙ c.in-Ok.ensures.start in
     let way : Replays (prices_of (g.F.PriceFn.may_return own)) start.limits start.rows book.history book.picture.rows =
     subst (λ (s : Shown). Replays (prices_of (g.F.PriceFn.may_return own)) s.limits s.rows book.history book.picture.rows) begins
-    (subst (λ t. Replays (prices_of (g.F.PriceFn.may_return t)) book.start.limits book.start.rows book.history book.picture.rows) tariff c.history.ensures.legal) in
-    let run = run_alone (prices_of (g.F.PriceFn.may_return own)) start.limits start.rows book.picture.rows list book.history (c.carry_out.ensures.entered c.if-carry_out.true) way in
+    (subst (λ t. Replays (prices_of (g.F.PriceFn.may_return t)) book.start.limits book.start.rows book.history book.picture.rows)
+    tariff c.history.ensures.legal) in
+    let run = run_alone (prices_of (g.F.PriceFn.may_return own)) start.limits start.rows book.picture.rows list book.history
+    (c.carry_out.ensures.entered c.if-carry_out.true) way in
     ok_both c.outcome_of.result _ _ _
-    (λ outcome history picture. subst (λ (es : List Entry). IsRun (prices_of (g.F.PriceFn.may_return own)) start.limits start.rows (list ∷ []) es outcome.picture) (sym history)
+    (λ outcome history picture. subst
+    (λ (es : List Entry). IsRun (prices_of (g.F.PriceFn.may_return own)) start.limits start.rows (list ∷ []) es outcome.picture) (sym history)
     (subst (λ (p : Rows). IsRun (prices_of (g.F.PriceFn.may_return own)) start.limits start.rows (list ∷ []) book.history p) (sym picture) run))
     c.outcome_of.ensures.history c.outcome_of.ensures.picture

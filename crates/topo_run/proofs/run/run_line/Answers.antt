@@ -29,5 +29,6 @@ returns-clause-fault g c =
     let script = c.args.script.now in
     let limits = c.in_ok-table.start.limits in
     let begun : _ ≡ script.start = search rules in
-    let sound : IsSound script.limits script.prices script.start limits = sound_so script.limits _ script.prices _ script.start limits c.as_slice-prices.ensures begun c.in_ok-table.ensures.sound in
+    let sound : IsSound script.limits script.prices script.start limits =
+    sound_so script.limits _ script.prices _ script.start limits c.as_slice-prices.ensures begun c.in_ok-table.ensures.sound in
     err_so c.priced_line.result _ _ (λ fault is. service_fails script fault (record { limits = limits; sound = sound }) is) c.priced_line.ensures.fault

@@ -9,11 +9,13 @@ returns-clause-report g c =
     let script = c.args.script.now in
     let outcome = c.in_ok-outcome.outcome in
     let heading = c.in-Ok.ensures in
-    let same : map commands c.as_slice-2.result.now ≡ script.workers = ap (map commands) c.as_slice-2.ensures.value ∙ c.in-Ok-lists_of.ensures ∙ c.as_slice.ensures in
+    let same : map commands c.as_slice-2.result.now ≡ script.workers = ap (map commands) c.as_slice-2.ensures.value ∙ c.in-Ok-lists_of.ensures
+    ∙ c.as_slice.ensures in
     record {
       same_limits = heading.limits;
       same_prices = heading.prices;
       same_start = heading.start;
-      run = own_run (g.F.PriceFn.may_return (arc_value c.args.tariff)) script.prices c.args.start.limits c.args.start.rows outcome.picture script.workers (map commands c.as_slice-2.result.now) outcome.history
+      run = own_run (g.F.PriceFn.may_return (arc_value c.args.tariff)) script.prices c.args.start.limits c.args.start.rows outcome.picture script.workers
+          (map commands c.as_slice-2.result.now) outcome.history
           c.requires same c.in_ok-outcome.ensures.run;
     }

@@ -11,7 +11,8 @@ loop-i-preserved g c =
     let pushed : c.push.new.self.items ≡ passes ++ pass ∷ [] = search rules in
     let inv = c.loop-i.invariant in
     record {
-      opened = subst (λ (ps : List PassState). AreOpened ps) (sym pushed) (opened_push passes pass inv.opened (omega (arith, inv.count, inv.given, c.in_ok-pass.ensures.number)) c.in_ok-pass.ensures.receipts);
+      opened = subst (λ (ps : List PassState). AreOpened ps) (sym pushed)
+          (opened_push passes pass inv.opened (omega (arith, inv.count, inv.given, c.in_ok-pass.ensures.number)) c.in_ok-pass.ensures.receipts);
       count = rw pushed (omega (arith, length-append passes (pass ∷ []), inv.count));
       given = omega (arith, c.in_ok-pass.ensures.given, inv.given);
       same = search rules;

@@ -21,9 +21,11 @@ returns-then-are_done-clause-worked g c =
     let as_many : length old ≡ length lists = omega (arith, ap length opens, c.in_ok-passes.ensures.count, count) in
     let still : length new ≡ length old = search rules in
     let one_each : length ends ≡ length lists = omega (arith, c.in-Ok.ensures.one_each, count) in
-    let done : All (λ (end : WorkerEnd). end ≡ Done) ends = subst (λ (es : List WorkerEnd). All (λ (end : WorkerEnd). end ≡ Done) es) c.as_slice.ensures.value (c.are_done.ensures c.if-are_done.true) in
+    let done : All (λ (end : WorkerEnd). end ≡ Done) ends =
+    subst (λ (es : List WorkerEnd). All (λ (end : WorkerEnd). end ≡ Done) es) c.as_slice.ensures.value (c.are_done.ensures c.if-are_done.true) in
     let len : c.in_ok-passes.passes.len ≡ length new = search (rules, arith) in
     let worked : HaveWorked lists new = all_worked old new lists ends opened as_many (still ∙ as_many) one_each done (λ i p e below.
     let here : i < length c.args.lists.now = omega (arith, count, below) in
     c.in-Ok.ensures.ended i p e here) in
-    subst (λ (ps : List PassState). HaveWorked lists ps) (sym (take_before new (drop (length new) c.in_ok-passes.passes.items) c.in_ok-passes.passes.len len)) worked
+    subst (λ (ps : List PassState). HaveWorked lists ps)
+    (sym (take_before new (drop (length new) c.in_ok-passes.passes.items) c.in_ok-passes.passes.len len)) worked

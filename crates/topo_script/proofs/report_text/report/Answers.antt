@@ -9,4 +9,5 @@ unfolding report_text
 returns-clause-text c = search rules
 
 pub returns-clause-reads_back : goal.returns-clause-reads_back
-returns-clause-reads_back c = report_text_read_back c.args.report.now (string_bytes c.write.new.out) (returns-clause-text c) (IsUtf8-string_bytes c.write.new.out)
+returns-clause-reads_back c =
+    report_text_read_back c.args.report.now (string_bytes c.write.new.out) (returns-clause-text c) (IsUtf8-string_bytes c.write.new.out)

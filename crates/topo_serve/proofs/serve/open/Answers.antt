@@ -22,14 +22,16 @@ pub returns-clause-opens : goal.returns-clause-opens
 returns-clause-opens g c =
     let t = first_so _ _ _ _ _ _ End c.in-End.is c.in_ok-take_first.ensures.line in
     let is_kept = c.as_slice-in-End.ensures.value ∙ t.is_kept in
-    both_so c.read_first-in-End.result _ _ _ (λ made opens fed. opens_so _ _ _ _ _ c.requires false t.line t.plain t.takes t.ends is_kept made.0 made.1 opens fed)
+    both_so c.read_first-in-End.result _ _ _
+    (λ made opens fed. opens_so _ _ _ _ _ c.requires false t.line t.plain t.takes t.ends is_kept made.0 made.1 opens fed)
     c.read_first-in-End.ensures.opens c.read_first-in-End.ensures.fed
 
 pub returns-clause-fault : goal.returns-clause-fault
 returns-clause-fault g c =
     let t = first_so _ _ _ _ _ _ End c.in-End.is c.in_ok-take_first.ensures.line in
     let is_kept = c.as_slice-in-End.ensures.value ∙ t.is_kept in
-    err_so c.read_first-in-End.result _ _ (λ fault is. none_so _ _ _ _ _ c.requires false t.line t.plain t.takes t.ends is_kept fault is) c.read_first-in-End.ensures.fault
+    err_so c.read_first-in-End.result _ _ (λ fault is. none_so _ _ _ _ _ c.requires false t.line t.plain t.takes t.ends is_kept fault is)
+    c.read_first-in-End.ensures.fault
 
 pub returns-in-More-clause-fault : goal.returns-in-More-clause-fault
 returns-in-More-clause-fault g c = first_long _ _ _ _ _ c.requires _ c.in-More.is c.in_ok-take_first.ensures.line

@@ -12,7 +12,8 @@ returns-clause-done g c =
     let book = c.in-Ok.book in
     let is = c.in-Ok.ensures in
     ok_so c.serve_book.result _ _
-    (λ _ all. begun_so (λ f limits at. BeginsAll c.args.has_feed (prices_of (g.F.PriceFn.may_return f)) limits old new at) book c.args.ask c.args.start opening is.tariff is.start is.history is.picture all)
+    (λ _ all. begun_so (λ f limits at. BeginsAll c.args.has_feed (prices_of (g.F.PriceFn.may_return f)) limits old new at)
+    book c.args.ask c.args.start opening is.tariff is.start is.history is.picture all)
     c.serve_book.ensures.done
 
 pub returns-clause-fault : goal.returns-clause-fault
@@ -23,5 +24,6 @@ returns-clause-fault g c =
     let book = c.in-Ok.book in
     let is = c.in-Ok.ensures in
     err_so c.serve_book.result _ _
-    (λ fault some. begun_so (λ f limits at. BeginFailsBy fault c.args.has_feed (prices_of (g.F.PriceFn.may_return f)) limits old new at) book c.args.ask c.args.start opening is.tariff is.start is.history is.picture some)
+    (λ fault some. begun_so (λ f limits at. BeginFailsBy fault c.args.has_feed (prices_of (g.F.PriceFn.may_return f)) limits old new at)
+    book c.args.ask c.args.start opening is.tariff is.start is.history is.picture some)
     c.serve_book.ensures.fault

@@ -30,5 +30,6 @@ returns-in_err-answer_if-clause-fault g c =
     let line = c.as_slice.result.now in
     let t : TakesLine 65537 old.left new.left old.ahead new.ahead line has_feed =
     subst (λ (k : List ℕ). TakesLine 65537 old.left new.left old.ahead new.ahead k has_feed) (sym c.as_slice.ensures.value) c.in_ok-has_feed.ensures.line in
-    let told : TurnFailsBy c.in_err-answer_if.field-0.0 price limits old new from = turn_told price limits old new from has_feed line t c.in_err-answer_if.field-0.0 c.in_err-answer_if.ensures.fault in
+    let told : TurnFailsBy c.in_err-answer_if.field-0.0 price limits old new from =
+    turn_told price limits old new from has_feed line t c.in_err-answer_if.field-0.0 c.in_err-answer_if.ensures.fault in
     search (rules, told)

@@ -27,7 +27,8 @@ returns-in_err-serve_line-clause-fault g c =
     let to = standing_of opening c.serve_line.new.book in
     let fault = c.in_err-serve_line.field-0.0 in
     let fails : TurnFailsBy fault price limits mid new now =
-    book_so (λ f l. TurnFailsBy fault (prices_of (g.F.PriceFn.may_return f)) l mid new now) c.args.book.now c.loop.book c.loop.invariant.same_book c.in_err-serve_line.ensures.fault in
+    book_so (λ f l. TurnFailsBy fault (prices_of (g.F.PriceFn.may_return f)) l mid new now)
+    c.args.book.now c.loop.book c.loop.invariant.same_book c.in_err-serve_line.ensures.fault in
     let told : LinesFailBy fault price limits old new from = turn_fails price limits old mid new from now c.loop.invariant.served fault fails in
     search (rules, told)
 
@@ -44,7 +45,8 @@ returns-then-not-branch-clause-done g c =
     let to = standing_of opening c.serve_line.new.book in
     let last : c.in_ok-serve_line.field-0 ≡ false = search rules in
     let turn : IsTurn price limits mid new now to c.in_ok-serve_line.field-0 =
-    book_so (λ f l. IsTurn (prices_of (g.F.PriceFn.may_return f)) l mid new now to c.in_ok-serve_line.field-0) c.args.book.now c.loop.book c.loop.invariant.same_book c.in_ok-serve_line.ensures.turn in
+    book_so (λ f l. IsTurn (prices_of (g.F.PriceFn.may_return f)) l mid new now to c.in_ok-serve_line.field-0)
+    c.args.book.now c.loop.book c.loop.invariant.same_book c.in_ok-serve_line.ensures.turn in
     turn_last price limits old mid new from now c.loop.invariant.served to (subst (IsTurn price limits mid new now to) last turn)
 
 pub loop-preserved : goal.loop-preserved
@@ -60,7 +62,8 @@ loop-preserved g c =
     let to = standing_of opening c.serve_line.new.book in
     let more : c.in_ok-serve_line.field-0 ≡ true = search rules in
     let turn : IsTurn price limits mid new now to c.in_ok-serve_line.field-0 =
-    book_so (λ f l. IsTurn (prices_of (g.F.PriceFn.may_return f)) l mid new now to c.in_ok-serve_line.field-0) c.args.book.now c.loop.book c.loop.invariant.same_book c.in_ok-serve_line.ensures.turn in
+    book_so (λ f l. IsTurn (prices_of (g.F.PriceFn.may_return f)) l mid new now to c.in_ok-serve_line.field-0)
+    c.args.book.now c.loop.book c.loop.invariant.same_book c.in_ok-serve_line.ensures.turn in
     let same = c.loop.invariant.same_book in
     let then = c.serve_line.ensures.same_book in
     record {

@@ -6,6 +6,8 @@ use Rattle.topo_serve.proofs.serve.serve_lines.Given as goal
 
 abbrev pub invariant-loop : goal.invariant-loop
 invariant-loop g l = record {
-  served : HasServed (prices_of (g.F.PriceFn.may_return l.fn.book.tariff)) l.fn.book.picture.limits (streams (g.I.Read.remaining l.fn.reader) l.fn.ahead (g.O.Write.contents l.fn.writer)) (streams (g.I.Read.remaining l.reader) l.ahead (g.O.Write.contents l.writer)) (standing_of l.opening l.fn.book) (standing_of l.opening l.book);
+  served : HasServed (prices_of (g.F.PriceFn.may_return l.fn.book.tariff)) l.fn.book.picture.limits (streams (g.I.Read.remaining l.fn.reader) l.fn.ahead
+      (g.O.Write.contents l.fn.writer)) (streams (g.I.Read.remaining l.reader) l.ahead (g.O.Write.contents l.writer)) (standing_of l.opening l.fn.book)
+      (standing_of l.opening l.book);
   same_book : IsSameBook l.fn.book l.book;
 }

@@ -37,6 +37,7 @@ pub returns-in_err-table-clause-fault : goal.returns-in_err-table-clause-fault
 returns-in_err-table-clause-fault g c =
     let held = g.O.Write.contents c.args.writer.now in
     let mid = g.I.Read.remaining c.args.reader.now in
-    let told : (left : Option (List ℕ)) → Opens left mid c.args.ahead.now c.args.opening.now c.args.has_feed → ServeFailsBy c.in_err-table.field-0.0 left mid held held =
+    let told : (left : Option (List ℕ)) → Opens left mid c.args.ahead.now c.args.opening.now c.args.has_feed
+    → ServeFailsBy c.in_err-table.field-0.0 left mid held held =
     λ left opens. unsound_none left mid held c.args.ahead.now c.args.opening.now c.args.has_feed c.in_err-table.field-0.0 opens c.in_err-table.ensures.fault in
     search (rules, told)

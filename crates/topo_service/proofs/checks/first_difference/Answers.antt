@@ -12,7 +12,8 @@ loop-entry-preserved c =
     let i = c.loop-entry.entry-index in
     let x = c.entry-item.result in
     let more : take (i + 1) es ≡ take i es ++ x ∷ [] = take_more es i x c.loop-entry-test.true ∙ ap (λ y. take i es ++ y ∷ []) (sym c.entry-item.is) in
-    subst (λ (l : List Entry). AreFound l c.args.number c.args.receipts.now c.in-Some.next) (sym more) (c.in-Some.ensures.some (take i es) c.loop-entry.invariant)
+    subst (λ (l : List Entry). AreFound l c.args.number c.args.receipts.now c.in-Some.next) (sym more)
+    (c.in-Some.ensures.some (take i es) c.loop-entry.invariant)
 
 pub returns-in-None-clause-some : goal.returns-in-None-clause-some
 returns-in-None-clause-some c =
@@ -20,7 +21,8 @@ returns-in-None-clause-some c =
     let i = c.loop-entry.entry-index in
     let x = c.entry-item.result in
     let all = parted es i x c.loop-entry-test.true ∙ ap (λ y. take i es ++ y ∷ drop (suc i) es) (sym c.entry-item.is) in
-    subst (λ (l : List Entry). Differs l c.args.number c.args.receipts.now c.loop-entry.k) (sym all) (c.in-None.ensures.none (take i es) (drop (suc i) es) c.loop-entry.invariant)
+    subst (λ (l : List Entry). Differs l c.args.number c.args.receipts.now c.loop-entry.k) (sym all)
+    (c.in-None.ensures.none (take i es) (drop (suc i) es) c.loop-entry.invariant)
 
 pub returns-then-k-receipts-clause-some : goal.returns-then-k-receipts-clause-some
 returns-then-k-receipts-clause-some c =

@@ -10,7 +10,8 @@ use Rattle.topo_service.proofs.checks.first_mismatch.Goals as goal
 pub returns-in-Some-clause-some : goal.returns-in-Some-clause-some
 returns-in-Some-clause-some g c =
     let p : PassState = c.pass-item.result in
-    let there : IsIn p c.args.passes.now = subst (λ (q : PassState). IsIn q c.args.passes.now) (sym c.pass-item.is) (in_at c.args.passes.now c.loop-pass.pass-index p c.loop-pass-test.true) in
+    let there : IsIn p c.args.passes.now =
+    subst (λ (q : PassState). IsIn q c.args.passes.now) (sym c.pass-item.is) (in_at c.args.passes.now c.loop-pass.pass-index p c.loop-pass-test.true) in
     let differs : Differs c.args.history.now p.number p.receipts c.in-Some.k = rw (← c.number.ensures, ← c.receipts.ensures) c.in-Some.ensures.some in
     record { pass = p; there = there; is_numbered = sym c.number-in-Some.ensures; differs = differs }
 

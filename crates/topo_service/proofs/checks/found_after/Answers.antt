@@ -24,7 +24,8 @@ returns-then-is_of-clause-some c es h =
     let e = c.args.entry.now in
     let eq = c.if-entry-number.false in
     let is : (e.caller == c.args.number) ≡ true = grind (arith, nat_tests, eq) in
-    found_one c.args.number c.args.receipts.now es c.args.k e is c.if-k-receipts.false c.index-receipts-k.result c.index-receipts-k.is (c.is_of.ensures.0 c.if-is_of.true) h
+    found_one c.args.number c.args.receipts.now es c.args.k e is c.if-k-receipts.false c.index-receipts-k.result c.index-receipts-k.is
+    (c.is_of.ensures.0 c.if-is_of.true) h
 
 pub returns-clause-none : goal.returns-clause-none
 returns-clause-none c before after h =
@@ -32,5 +33,7 @@ returns-clause-none c before after h =
     let r = c.index-receipts-k.result in
     let eq = c.if-entry-number.false in
     let is : (e.caller == c.args.number) ≡ true = grind (arith, nat_tests, eq) in
-    let there : slice_get c.args.receipts.now c.args.k ≡ Some r = slice_get-get_or c.args.receipts.now c.args.k r c.if-k-receipts.false ∙ ap Some (sym c.index-receipts-k.is) in
-    differs_here c.args.number c.args.receipts.now before after c.args.k e r is c.if-k-receipts.false there (λ same. absurd (cc (c.is_of.ensures.1 same, c.if-is_of.false))) h
+    let there : slice_get c.args.receipts.now c.args.k ≡ Some r = slice_get-get_or c.args.receipts.now c.args.k r c.if-k-receipts.false
+    ∙ ap Some (sym c.index-receipts-k.is) in
+    differs_here c.args.number c.args.receipts.now before after c.args.k e r is c.if-k-receipts.false there
+    (λ same. absurd (cc (c.is_of.ensures.1 same, c.if-is_of.false))) h

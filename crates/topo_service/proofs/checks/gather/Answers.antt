@@ -13,7 +13,8 @@ loop-pass-preserved g c =
     let ys = c.loop-pass.yielded in
     let p = c.in-Some.pass in
     let one = length-append ys (p ∷ []) in
-    let here : IsPrefix p.seen (versions c.args.state.now.history) = rw (← c.prefix.ensures.now, ← ap (λ s. s.seen) c.pass.view_is) (c.is_prefix_of.ensures.prefix c.if-not-is_prefix_of.false) in
+    let here : IsPrefix p.seen (versions c.args.state.now.history) =
+    rw (← c.prefix.ensures.now, ← ap (λ s. s.seen) c.pass.view_is) (c.is_prefix_of.ensures.prefix c.if-not-is_prefix_of.false) in
     let amount : c.pass.inside.share.amount ≡ length p.receipts = c.pass.invariant.1 ∙ ap (λ s. length s.receipts) c.pass.view_is in (
       omega (arith, i.0, c.merge.ensures.parts, c.pass.invariant.0, one),
       omega (arith, i.1, c.merge.ensures.amount, amount, sum_by-append (λ (s : PassState). length s.receipts) ys (p ∷ [])),
@@ -25,5 +26,6 @@ pub returns-clause-seen : goal.returns-clause-seen
 returns-clause-seen g c =
     let h = c.into_iter-pass-iterator.ensures.into_iter_gives in
     let len : c.into_iter-pass-iterator.result.rest.len ≡ length c.args.passes.items = search rules in
-    let t = YieldsList-end (YieldsList-from_vec {s = c.into_iter-pass-iterator.result} c.args.passes.items h.0 len) c.loop-pass.yielded c.loop-pass.pass-iterator c.loop-pass.yielded_by c.next.result c.next.new.self c.in-None.is c.next.ensures.steps in
+    let t = YieldsList-end (YieldsList-from_vec {s = c.into_iter-pass-iterator.result} c.args.passes.items h.0 len)
+    c.loop-pass.yielded c.loop-pass.pass-iterator c.loop-pass.yielded_by c.next.result c.next.new.self c.in-None.is c.next.ensures.steps in
     rw (← t.0, map-id) c.loop-pass.invariant.3

@@ -6,5 +6,6 @@ use Rattle.topo_service.proofs.checks.gather.Given as goal
 
 abbrev pub invariant-loop-pass : goal.invariant-loop-pass
 invariant-loop-pass g l =
-    (l.rest.parts ≡ l.fn.rest.parts + length l.yielded) × (l.rest.amount ≡ l.fn.rest.amount + receipt_count l.yielded) × (0 < length l.yielded → l.rest.parts ≤ g.K.Ledger.parts)
+    (l.rest.parts ≡ l.fn.rest.parts + length l.yielded) × (l.rest.amount ≡ l.fn.rest.amount + receipt_count l.yielded)
+    × (0 < length l.yielded → l.rest.parts ≤ g.K.Ledger.parts)
     × All (λ (p : PassState). IsPrefix p.seen (versions l.state.history)) l.yielded

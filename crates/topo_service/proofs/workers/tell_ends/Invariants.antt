@@ -8,4 +8,5 @@ use Rattle.topo_service.proofs.workers.tell_ends.Given as goal
 abbrev pub invariant-loop-i : goal.invariant-loop-i
 invariant-loop-i g l = (length l.ends.items ≡ l.i) × (vec_len l.ends ≡ l.i) × (length l.passes ≤ vec_capacity l.ends)
     × ((j : ℕ) (p : PassState) (e : WorkerEnd) → j < l.i
-    → slice_index_or l.ends.items j e ≡ end_by (receipts_of (slice_index_or l.passes j p) - slice_index_or l.before j 0) (length (slice_index_or (map commands l.lists) j [])))
+    → slice_index_or l.ends.items j e
+    ≡ end_by (receipts_of (slice_index_or l.passes j p) - slice_index_or l.before j 0) (length (slice_index_or (map commands l.lists) j [])))

@@ -5,4 +5,5 @@ use Rattle.topo_settings.proofs.settings.price_table.Goals as goal
 
 pub returns : goal.returns
 unfolding price_table
-returns c = fill_by_all (price_of_kind c.args.prices.now) c.loop-kind.table 64 None c.loop-kind.invariant.all (λ k h. c.loop-kind.invariant.so_far k (omega arith))
+returns c = fill_by_all (price_of_kind c.args.prices.now) c.loop-kind.table 64 None c.loop-kind.invariant.all
+    (λ k h. c.loop-kind.invariant.so_far k (omega arith))

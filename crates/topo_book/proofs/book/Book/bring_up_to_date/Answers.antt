@@ -8,7 +8,8 @@ pub returns-clause-equal : goal.returns-clause-equal
 returns-clause-equal g c =
     let s = c.args.self.now in
     let price = prices_of (g.F.PriceFn.may_return s.tariff) in
-    let book = subst (λ (b : BookState _). IsBook (prices_of (g.F.PriceFn.may_return b.tariff)) b.start b.history b.picture) c.self.view_is c.self.invariant.book in
+    let book = subst (λ (b : BookState _). IsBook (prices_of (g.F.PriceFn.may_return b.tariff)) b.start b.history b.picture)
+    c.self.view_is c.self.invariant.book in
     let reached = c.replay_missed-replica in
     let long = ap (λ (b : BookState _). length b.history) c.self.view_is in
     let all : reached.result ≡ length s.history = omega (arith, reached.ensures.there, c.self.inside.history.ok) in

@@ -21,7 +21,9 @@ invariant_of-self-2 g c =
     let next = c.apply_entry.new.picture in
     let same : c.deref-2.result.now ≡ arc_value f.tariff = c.deref-2.ensures in
     let limits = subst (λ (p : Shown). next.limits ≡ p.limits) c.in-Some.ensures.value c.apply_entry.ensures.same_limits in
-    let told = subst (λ t. Step (prices_of (g.F.PriceFn.may_return t)) c.in-Some.picture.now.limits c.in-Some.picture.now.rows entry.call entry.reply next.rows) same c.in_ok-apply_entry.ensures.step in
-    let step = subst (λ (p : Shown). Step (prices_of (g.F.PriceFn.may_return (arc_value f.tariff))) p.limits p.rows entry.call entry.reply next.rows) c.in-Some.ensures.value told in
+    let told = subst (λ t. Step (prices_of (g.F.PriceFn.may_return t)) c.in-Some.picture.now.limits c.in-Some.picture.now.rows entry.call entry.reply next.rows)
+    same c.in_ok-apply_entry.ensures.step in
+    let step = subst (λ (p : Shown). Step (prices_of (g.F.PriceFn.may_return (arc_value f.tariff))) p.limits p.rows entry.call entry.reply next.rows)
+    c.in-Some.ensures.value told in
     rw (c.push_reserved.ensures.items, c.reserve.ensures.items) (book_on c.self.invariant entry next
     (book_steps _ f.start before f.history.items c.self.invariant.book next entry step limits c.apply_entry.ensures.lawful))

@@ -11,5 +11,6 @@ pub invariant_of-self : goal.invariant_of-self
 invariant_of-self g c =
     let f = c.self.inside in
     let r = c.args.replica in
-    let stands = subst (λ (b : BookState _). IsReplica (prices_of (g.F.PriceFn.may_return b.tariff)) b.start b.history r.entries (arc_value r.picture)) (sym c.self.view_is) c.requires.stands in
+    let stands = subst (λ (b : BookState _). IsReplica (prices_of (g.F.PriceFn.may_return b.tariff)) b.start b.history r.entries (arc_value r.picture))
+    (sym c.self.view_is) c.requires.stands in
     rw c.keep.ensures (book_kept c.self.invariant (nat_lt (length f.replicas) MAX_REPLICAS) r stands)

@@ -14,4 +14,5 @@ returns-clause-legal g c =
 
 pub returns-clause-lawful : goal.returns-clause-lawful
 returns-clause-lawful g c =
-    subst (λ (b : BookState _). ReplaysLawfully (prices_of (g.F.PriceFn.may_return b.tariff)) b.start.limits b.start.rows b.history b.picture.rows) c.self.view_is c.self.invariant.book.replayed
+    subst (λ (b : BookState _). ReplaysLawfully (prices_of (g.F.PriceFn.may_return b.tariff)) b.start.limits b.start.rows b.history b.picture.rows)
+    c.self.view_is c.self.invariant.book.replayed

@@ -14,8 +14,11 @@ invariant_of-self g c =
     let f = c.self.inside in
     let price = prices_of (g.F.PriceFn.may_return (arc_value f.tariff)) in
     let stays = on_err c.apply_entry_unshared.result (sym c.is_err.ensures.value ∙ c.if-is_err.true) c.apply_entry_unshared.ensures.unchanged in
-    let same : arc_value f.picture ≡ arc_value c.apply_entry_unshared.new.picture = ap (λ (b : BookState _). b.picture) c.self.view_is ∙ sym c.in_ok-unshared.ensures.equal ∙ sym stays in
+    let same : arc_value f.picture ≡ arc_value c.apply_entry_unshared.new.picture = ap (λ (b : BookState _). b.picture) c.self.view_is
+    ∙ sym c.in_ok-unshared.ensures.equal ∙ sym stays in
     let all = whole price f.start f.history.items (arc_value f.picture) c.self.invariant.book in
     let long : length f.history.items ≡ c.len.result = omega (arith, f.history.ok) in
-    let stands = subst (λ (p : Shown). IsReplica price f.start f.history.items c.len.result p) same (subst (λ k. IsReplica price f.start f.history.items k (arc_value f.picture)) long all) in
-    rw c.keep.ensures (book_kept c.self.invariant (nat_lt (length f.replicas) MAX_REPLICAS) (record { picture = c.apply_entry_unshared.new.picture; entries = c.len.result }) stands)
+    let stands = subst (λ (p : Shown). IsReplica price f.start f.history.items c.len.result p) same
+    (subst (λ k. IsReplica price f.start f.history.items k (arc_value f.picture)) long all) in
+    rw c.keep.ensures (book_kept c.self.invariant (nat_lt (length f.replicas) MAX_REPLICAS)
+    (record { picture = c.apply_entry_unshared.new.picture; entries = c.len.result }) stands)

@@ -21,9 +21,11 @@ apply_entry-requires-clause-due g c =
     let picture = c.loop-index.picture in
     let history : c.history-history.result.now ≡ s.history = c.history-history.ensures.entries in
     let tariff : c.deref.result.now ≡ s.tariff = c.deref.ensures ∙ ap (λ (b : BookState _). b.tariff) c.self.view_is in
-    let book = subst (λ (b : BookState _). IsBook (prices_of (g.F.PriceFn.may_return b.tariff)) b.start b.history b.picture) c.self.view_is c.self.invariant.book in
+    let book = subst (λ (b : BookState _). IsBook (prices_of (g.F.PriceFn.may_return b.tariff)) b.start b.history b.picture)
+    c.self.view_is c.self.invariant.book in
     let there = subst (λ (h : List Entry). slice_get h c.loop-index.index ≡ Some entry) history
-    (slice_get_read c.history-history.result.now (length c.history-history.result.now) c.loop-index.index entry refl c.loop-index-test.true c.index-history-index.is) in
+    (slice_get_read c.history-history.result.now (length c.history-history.result.now)
+    c.loop-index.index entry refl c.loop-index-test.true c.index-history-index.is) in
     subst (λ t. IsDue (prices_of (g.F.PriceFn.may_return t)) picture.limits picture.rows entry.call entry.reply) (sym tariff)
     (due_at (prices_of (g.F.PriceFn.may_return s.tariff)) s.start s.history s.picture book c.loop-index.index entry picture c.loop-index.invariant there)
 
@@ -35,9 +37,12 @@ loop-index-preserved g c =
     let history : c.history-history.result.now ≡ s.history = c.history-history.ensures.entries in
     let tariff : c.deref.result.now ≡ s.tariff = c.deref.ensures ∙ ap (λ (b : BookState _). b.tariff) c.self.view_is in
     let there = subst (λ (h : List Entry). slice_get h c.loop-index.index ≡ Some entry) history
-    (slice_get_read c.history-history.result.now (length c.history-history.result.now) c.loop-index.index entry refl c.loop-index-test.true c.index-history-index.is) in
+    (slice_get_read c.history-history.result.now (length c.history-history.result.now)
+    c.loop-index.index entry refl c.loop-index-test.true c.index-history-index.is) in
     let long = ap (λ (h : List Entry). length h) history in
     let done = on_ok c.apply_entry.result (sym c.is_err.ensures.value ∙ c.if-is_err.false) c.apply_entry.ensures.step in
-    let step = subst (λ t. Step (prices_of (g.F.PriceFn.may_return t)) picture.limits picture.rows entry.call entry.reply c.apply_entry.new.picture.rows) tariff done in
-    one_on (prices_of (g.F.PriceFn.may_return s.tariff)) s.start s.history c.loop-index.index entry picture c.apply_entry.new.picture c.loop-index.invariant there (omega arith) step
+    let step =
+    subst (λ t. Step (prices_of (g.F.PriceFn.may_return t)) picture.limits picture.rows entry.call entry.reply c.apply_entry.new.picture.rows) tariff done in
+    one_on (prices_of (g.F.PriceFn.may_return s.tariff))
+    s.start s.history c.loop-index.index entry picture c.apply_entry.new.picture c.loop-index.invariant there (omega arith) step
     c.apply_entry.ensures.same_limits c.apply_entry.ensures.lawful

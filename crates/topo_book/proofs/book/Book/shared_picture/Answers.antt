@@ -16,4 +16,5 @@ returns-clause-replay g c =
 pub returns-clause-lawful : goal.returns-clause-lawful
 returns-clause-lawful g c =
     let f = c.self.inside in
-    subst (λ (b : BookState _). IsPicture b.picture.limits b.picture.rows) c.self.view_is (book_lawful _ f.start (arc_value f.picture) f.history.items c.self.invariant.book)
+    subst (λ (b : BookState _). IsPicture b.picture.limits b.picture.rows) c.self.view_is
+    (book_lawful _ f.start (arc_value f.picture) f.history.items c.self.invariant.book)

@@ -11,4 +11,5 @@ pub edge-requires : goal.edge-requires
 edge-requires c = is_half (known c.self.view_is c.self.invariant) c.args.dart c.requires c.half.result c.half.ensures
 
 pub returns : goal.returns
-returns c = told (known c.self.view_is c.self.invariant) c.args.dart c.requires c.half.result c.half.ensures (λ (rows : Rows) (d : Dart). c.edge.result ≡ d.edge) c.edge.ensures
+returns c = told (known c.self.view_is c.self.invariant) c.args.dart c.requires c.half.result c.half.ensures
+    (λ (rows : Rows) (d : Dart). c.edge.result ≡ d.edge) c.edge.ensures

@@ -12,4 +12,5 @@ pub facts-requires : goal.facts-requires
 facts-requires c = is_half (known c.self.view_is c.self.invariant) c.args.dart c.requires c.half.result c.half.ensures
 
 pub returns : goal.returns
-returns c = told (known c.self.view_is c.self.invariant) c.args.dart c.requires c.half.result c.half.ensures (λ (rows : Rows) (d : Dart). AreFactsOf (edge_at rows d.edge) c.facts.result) c.facts.ensures
+returns c = told (known c.self.view_is c.self.invariant) c.args.dart c.requires c.half.result c.half.ensures
+    (λ (rows : Rows) (d : Dart). AreFactsOf (edge_at rows d.edge) c.facts.result) c.facts.ensures

@@ -3,6 +3,7 @@ use Rattle.topo_embedded.proofs.embedded.Embedded.delete.Goals as goal
 
 pub invariant_of-self : goal.invariant_of-self
 invariant_of-self c = (
-  without_formed c.args.self.now c.self.inside.parts.rows c.delete.new.self.rows c.self.inside.parts.paths c.args.edge c.self.view_is c.self.invariant.0 c.requires.there c.delete.ensures.rows,
+  without_formed c.args.self.now c.self.inside.parts.rows c.delete.new.self.rows c.self.inside.parts.paths c.args.edge c.self.view_is c.self.invariant.0
+      c.requires.there c.delete.ensures.rows,
   c.delete.ensures.shows,
 )

@@ -10,6 +10,7 @@ pub returns : goal.returns
 returns c =
     let p : RowsWithPaths = record { rows = c.self.inside.parts.rows; paths = c.self.inside.parts.paths } in
     let cleared : c.reserve.new.self.items ≡ [] = c.reserve.ensures.items ∙ c.clear.ensures.items in
-    c.in_ok-write_paths.ensures ∙ ap (λ (hs : List ℕ). hs ++ flat_map halves_of c.as_slice.result.now) cleared ∙ ap (λ (paths : List (List ℕ)). flat_map halves_of paths) c.as_slice.ensures
+    c.in_ok-write_paths.ensures ∙ ap (λ (hs : List ℕ). hs ++ flat_map halves_of c.as_slice.result.now) cleared
+    ∙ ap (λ (paths : List (List ℕ)). flat_map halves_of paths) c.as_slice.ensures
     ∙ in_order p c.self.invariant.0 c.self.inside.parts.segments c.self.invariant.1
     ∙ ap (λ (q : RowsWithPaths). map (half_in q) (darts q.rows)) c.self.view_is

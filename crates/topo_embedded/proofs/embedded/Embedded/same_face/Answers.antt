@@ -18,6 +18,7 @@ pub returns : goal.returns
 returns c =
     let p : RowsWithPaths = record { rows = c.self.inside.parts.rows; paths = c.self.inside.parts.paths } in
     let r = c.self.inside.parts.segments in
-    subst (λ (q : RowsWithPaths). (x y : Dart) → has_dart (darts q.rows) x ≡ true → has_dart (darts q.rows) y ≡ true → half_in q x ≡ c.args.half → half_in q y ≡ c.args.other → IsTrue c.same_face.result ↔ SameFace (system q.rows) x y) c.self.view_is
+    subst (λ (q : RowsWithPaths). (x y : Dart) → has_dart (darts q.rows) x ≡ true → has_dart (darts q.rows) y ≡ true → half_in q x ≡ c.args.half
+    → half_in q y ≡ c.args.other → IsTrue c.same_face.result ↔ SameFace (system q.rows) x y) c.self.view_is
     (λ x y hx hy x_is y_is.
     let faces = same_faces p c.self.invariant.0 r c.self.invariant.1 x y hx hy in grind arith)

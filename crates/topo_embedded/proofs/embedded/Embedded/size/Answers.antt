@@ -9,9 +9,11 @@ use Rattle.topo_embedded.proofs.embedded.Embedded.size.Goals as goal
 pub returns-clause-named : goal.returns-clause-named
 returns-clause-named c =
     let p : RowsWithPaths = record { rows = c.self.inside.parts.rows; paths = c.self.inside.parts.paths } in
-    subst (λ (q : RowsWithPaths). IsNamed (named_in q c.limit.result)) c.self.view_is (halves_named p c.self.invariant.0 c.self.inside.parts.segments c.self.invariant.1 c.limit.result c.limit.ensures.above)
+    subst (λ (q : RowsWithPaths). IsNamed (named_in q c.limit.result)) c.self.view_is
+    (halves_named p c.self.invariant.0 c.self.inside.parts.segments c.self.invariant.1 c.limit.result c.limit.ensures.above)
 
 pub returns-clause-many : goal.returns-clause-many
 returns-clause-many c =
     let p : RowsWithPaths = record { rows = c.self.inside.parts.rows; paths = c.self.inside.parts.paths } in
-    subst (λ (q : RowsWithPaths). length (darts q.rows) ≤ c.limit.result) c.self.view_is (few_darts p c.self.invariant.0 c.self.inside.parts.segments c.self.invariant.1 c.limit.result c.limit.ensures.above)
+    subst (λ (q : RowsWithPaths). length (darts q.rows) ≤ c.limit.result) c.self.view_is
+    (few_darts p c.self.invariant.0 c.self.inside.parts.segments c.self.invariant.1 c.limit.result c.limit.ensures.above)

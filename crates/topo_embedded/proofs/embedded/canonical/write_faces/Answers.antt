@@ -6,4 +6,5 @@ use Rattle.topo_embedded.proofs.embedded.canonical.write_faces.Goals as goal
 pub loop-place-preserved : goal.loop-place-preserved
 loop-place-preserved c =
     let inside : c.loop-place.place < length c.loop-place.faces = grind arith in
-    label_more (λ i. face_of c.args.segments.now (slice_index c.args.halves.now i)) c.loop-place.faces c.loop-place.place c.face.result inside (c.face.ensures ∙ ap (face_of c.args.segments.now) c.numbered.ensures) c.loop-place.invariant
+    label_more (λ i. face_of c.args.segments.now (slice_index c.args.halves.now i)) c.loop-place.faces c.loop-place.place c.face.result inside
+    (c.face.ensures ∙ ap (face_of c.args.segments.now) c.numbered.ensures) c.loop-place.invariant

@@ -13,4 +13,5 @@ pub returns : goal.returns
 returns c =
     let all : length c.args.self.now ≤ c.loop-place.place = omega (arith, c.loop-place-test.false, c.len-place-end.ensures.len) in
     c.len.ensures.len
-    ∙ sym (position_or_len_is (on_segment c.args.half) c.args.self.now (length c.args.self.now) 0 (omega arith) (λ k less. c.loop-place.invariant k (omega (arith, all, less))) (λ inside. absurd (omega (arith, inside))))
+    ∙ sym (position_or_len_is (on_segment c.args.half) c.args.self.now (length c.args.self.now) 0 (omega arith)
+    (λ k less. c.loop-place.invariant k (omega (arith, all, less))) (λ inside. absurd (omega (arith, inside))))

@@ -8,7 +8,8 @@ use Rattle.topo_embedded.proofs.walking.EmbeddedRows.new.Goals as goal
 pub invariant_of-result : goal.invariant_of-result
 invariant_of-result c =
     let told : ∥ HasFaces (named_in c.args.embedded.now c.size-size.result) (turn_in c.segments-segments.result.now.labels) c.labels-labels.result ∥₁ =
-    ∣ walked_faces c.args.embedded.now c.requires.lawful.embedding.well_formed c.segments-segments.result.now c.segments-segments.ensures c.labels-labels.ensures.tell c.labels-labels.result c.labels-labels.ensures.above c.size-size.result ∣₁ in
+    ∣ walked_faces c.args.embedded.now c.requires.lawful.embedding.well_formed c.segments-segments.result.now c.segments-segments.ensures
+    c.labels-labels.ensures.tell c.labels-labels.result c.labels-labels.ensures.above c.size-size.result ∣₁ in
     (c.size-size.ensures.named, (∣ c.requires.lawful ∣₁, (told, search rules)))
 
 pub invariant_of-result-2 : goal.invariant_of-result-2

@@ -13,5 +13,7 @@ pub returns-in_ok-price-in-Some-Number : goal.returns-in_ok-price-in-Some-Number
 returns-in_ok-price-in-Some-Number c =
     let is : c.args.reader.now ≡ number c.in-Some-Number.text.now ∷ c.next.new.self = search rules in
     let same : c.in_ok-price-in-Some-Number.price ≡ c.in_ok-whole_number-in-Some-Number.field-0 = search rules in
-    let token : SpellsNumber c.args.reader.now c.in_ok-whole_number-in-Some-Number.field-0 c.next.new.self = (c.in-Some-Number.text.now, is, c.in_ok-whole_number-in-Some-Number.ensures) in
-    price_tokens c.in_ok-price-in-Some-Number.price c.args.reader.now c.next.new.self (subst (λ (n : ℕ). SpellsNumber c.args.reader.now n c.next.new.self) (sym same) token) (omega arith)
+    let token : SpellsNumber c.args.reader.now c.in_ok-whole_number-in-Some-Number.field-0 c.next.new.self =
+    (c.in-Some-Number.text.now, is, c.in_ok-whole_number-in-Some-Number.ensures) in
+    price_tokens c.in_ok-price-in-Some-Number.price c.args.reader.now c.next.new.self
+    (subst (λ (n : ℕ). SpellsNumber c.args.reader.now n c.next.new.self) (sym same) token) (omega arith)

@@ -15,4 +15,5 @@ pub returns-in_ok-rows-in-Some-BeginObject : goal.returns-in_ok-rows-in-Some-Beg
 returns-in_ok-rows-in-Some-BeginObject c =
     let token : c.args.reader.now ≡ begin_object ∷ c.next.new.self = search rules in
     let found = c.in_ok-rows-in-Some-BeginObject in
-    start_tokens found.rows c.args.reader.now c.token_members.new.reader (subst (λ ts. Spells 4 rows_form ts found.rows c.token_members.new.reader) (sym token) found.ensures)
+    start_tokens found.rows c.args.reader.now c.token_members.new.reader
+    (subst (λ ts. Spells 4 rows_form ts found.rows c.token_members.new.reader) (sym token) found.ensures)

@@ -9,8 +9,11 @@ pub returns-clause-made : goal.returns-clause-made
 returns-clause-made c =
     let hs : List ℕ = c.in_ok-halves.halves.items in
     let e : length hs ≡ length c.args.turns.now = c.in_ok-halves.ensures.length ∙ sym c.requires.two_each in
-    let j : IsJoined c.join_turns.new.segments hs c.args.turns.now = subst (λ (l : List ℕ). IsJoined c.join_turns.new.segments l c.args.turns.now) c.deref.ensures.value c.join_turns.ensures.joined in
-    made_from c.label_faces-unused.new.segments hs c.args.turns.now c.requires.permutation e (joined_painted c.join_turns.new.segments c.label_faces-unused.new.segments hs c.args.turns.now _ j c.label_faces-unused.ensures.same)
+    let j : IsJoined c.join_turns.new.segments hs c.args.turns.now =
+    subst (λ (l : List ℕ). IsJoined c.join_turns.new.segments l c.args.turns.now) c.deref.ensures.value c.join_turns.ensures.joined in
+    made_from c.label_faces-unused.new.segments hs c.args.turns.now c.requires.permutation e
+    (joined_painted c.join_turns.new.segments c.label_faces-unused.new.segments hs c.args.turns.now _ j c.label_faces-unused.ensures.same)
 
 pub returns-clause-labels : goal.returns-clause-labels
-returns-clause-labels c = subst (λ (f : ℕ → ℕ). AreLabelled c.args.edges.now c.in_ok-halves.halves.items f) (sym (c.label_faces-unused.ensures.same.edges ∙ c.join_turns.ensures.labels)) c.in_ok-halves.ensures.labels
+returns-clause-labels c = subst (λ (f : ℕ → ℕ). AreLabelled c.args.edges.now c.in_ok-halves.halves.items f)
+    (sym (c.label_faces-unused.ensures.same.edges ∙ c.join_turns.ensures.labels)) c.in_ok-halves.ensures.labels

@@ -7,7 +7,8 @@ use Rattle.topo_map.proofs.Steps.{IsHung, alone, hung, label_added}
 use Rattle.topo_map.proofs.embedding.Embedding.hang.Goals as goal
 
 pub put_before-requires-clause-alone : goal.put_before-requires-clause-alone
-put_before-requires-clause-alone c = alone c.self.inside.segments c.insert_isolated-x.new.segments c.insert_isolated-x.result (record { sound = c.self.invariant.kept; inserted = c.insert_isolated-x.ensures.inserted })
+put_before-requires-clause-alone c = alone c.self.inside.segments c.insert_isolated-x.new.segments c.insert_isolated-x.result
+    (record { sound = c.self.invariant.kept; inserted = c.insert_isolated-x.ensures.inserted })
 
 done : (c : goal.After-put_before) → IsHung c.self.inside.segments c.put_before.new.segments c.args.c c.insert_isolated-x.result
 done c = hung c.self.inside.segments c.insert_isolated-x.new.segments c.put_before.new.segments c.args.c c.insert_isolated-x.result
@@ -28,7 +29,8 @@ invariant_of-self c = record {
 }
 
 pub returns-clause-edit : goal.returns-clause-edit
-returns-clause-edit c = subst (λ (r : Rotation). IsHang (turn r) (turn (view_of c.put_before.new.segments)) half_limit c.args.c c.insert_isolated-x.result) c.self.view_is (done c).allowed.edit
+returns-clause-edit c = subst (λ (r : Rotation). IsHang (turn r) (turn (view_of c.put_before.new.segments)) half_limit c.args.c c.insert_isolated-x.result)
+    c.self.view_is (done c).allowed.edit
 
 pub returns-clause-grows : goal.returns-clause-grows
 returns-clause-grows c = subst (λ (r : Rotation). Grows r (view_of c.put_before.new.segments) c.insert_isolated-x.result) c.self.view_is (done c).added.grows
@@ -37,5 +39,7 @@ pub returns-clause-counts : goal.returns-clause-counts
 returns-clause-counts c = subst (λ (r : Rotation). CountsMore r (view_of c.put_before.new.segments) 1 0) c.self.view_is (done c).counts
 
 pub returns-clause-label : goal.returns-clause-label
-returns-clause-label c = subst (λ (r : Rotation). AddsLabel (is_live r) (edge_of r) (label_in c.put_before.new.segments) c.insert_isolated-x.result c.args.edge) c.self.view_is
-    (label_added c.self.inside.segments c.insert_isolated-x.new.segments c.put_before.new.segments c.insert_isolated-x.result c.args.edge c.put_before.ensures.turned.edges c.insert_isolated-x.ensures.label)
+returns-clause-label c =
+    subst (λ (r : Rotation). AddsLabel (is_live r) (edge_of r) (label_in c.put_before.new.segments) c.insert_isolated-x.result c.args.edge) c.self.view_is
+    (label_added c.self.inside.segments c.insert_isolated-x.new.segments c.put_before.new.segments c.insert_isolated-x.result c.args.edge
+    c.put_before.ensures.turned.edges c.insert_isolated-x.ensures.label)

@@ -13,5 +13,6 @@ returns c =
     let hb = ap (λ (r : Rotation). is_live r c.args.b) c.self.view_is ∙ c.requires.live_other in (
       λ t. subst (λ (r : Rotation). SameCycle (face_next (turn r)) c.args.a c.args.b) c.self.view_is
           (w.labels.same_face c.args.a c.args.b ha hb (sym c.face.ensures ∙ eqb-true _ _ t ∙ c.face-2.ensures)),
-      λ s. eq-eqb _ _ (c.face.ensures ∙ w.labels.same_label c.args.a c.args.b ha hb (subst (λ (r : Rotation). SameCycle (face_next (turn r)) c.args.a c.args.b) (sym c.self.view_is) s) ∙ sym c.face-2.ensures),
+      λ s. eq-eqb _ _ (c.face.ensures ∙ w.labels.same_label c.args.a c.args.b ha hb
+          (subst (λ (r : Rotation). SameCycle (face_next (turn r)) c.args.a c.args.b) (sym c.self.view_is) s) ∙ sym c.face-2.ensures),
     )

@@ -10,12 +10,17 @@ pub returns-clause-labels : goal.returns-clause-labels
 returns-clause-labels c = (c.insert_isolated-half.ensures.label.here, c.insert_isolated-half.ensures.label.here_twin)
 
 pub returns-clause-made : goal.returns-clause-made
-returns-clause-made c = seed_made c.reserve.new.segments c.insert_isolated-half.new.segments c.insert_isolated-half.result (c.in_ok-reserve.ensures.slots ∙ c.new-segments.ensures.empty) c.insert_isolated-half.ensures.inserted
+returns-clause-made c = seed_made c.reserve.new.segments c.insert_isolated-half.new.segments c.insert_isolated-half.result
+    (c.in_ok-reserve.ensures.slots ∙ c.new-segments.ensures.empty) c.insert_isolated-half.ensures.inserted
 
 pub invariant_of-result : goal.invariant_of-result
 invariant_of-result c = record {
   kept = c.insert_isolated-half.ensures.inserted.kept;
-  labels = seed_labels c.reserve.new.segments c.insert_isolated-half.new.segments c.insert_isolated-half.result (none_held c.reserve.new.segments (c.in_ok-reserve.ensures.slots ∙ c.new-segments.ensures.empty))
-      (record { sound = (empty_alone c.reserve.new.segments (c.in_ok-reserve.ensures.slots ∙ c.new-segments.ensures.empty)).kept; inserted = c.insert_isolated-half.ensures.inserted })
+  labels = seed_labels c.reserve.new.segments c.insert_isolated-half.new.segments c.insert_isolated-half.result
+      (none_held c.reserve.new.segments (c.in_ok-reserve.ensures.slots ∙ c.new-segments.ensures.empty))
+      (record {
+        sound = (empty_alone c.reserve.new.segments (c.in_ok-reserve.ensures.slots ∙ c.new-segments.ensures.empty)).kept;
+        inserted = c.insert_isolated-half.ensures.inserted;
+      })
       c.insert_isolated-half.ensures.faces;
 }

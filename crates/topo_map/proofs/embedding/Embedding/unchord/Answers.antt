@@ -22,24 +22,31 @@ invariant_of-self c = record {
   kept = (done c).taken.sound;
   labels = unhung_labels c.twin.result
       (ap (λ (r : Rotation). is_live r c.args.h) c.self.view_is ∙ c.requires)
-      c.twin.ensures c.detach-self-inside.ensures.turned c.take_out.ensures.turned c.take_out.ensures.faces c.remove_isolated.ensures.removed c.remove_isolated.ensures.faces c.detach-self-inside.ensures.labels;
+      c.twin.ensures c.detach-self-inside.ensures.turned c.take_out.ensures.turned c.take_out.ensures.faces c.remove_isolated.ensures.removed
+      c.remove_isolated.ensures.faces c.detach-self-inside.ensures.labels;
 }
 
 pub returns-clause-edit : goal.returns-clause-edit
-returns-clause-edit c = subst (λ (r : Rotation). IsUnchord (turn r) (turn (view_of c.remove_isolated.new.segments)) half_limit c.args.h) c.self.view_is (done c).edit
+returns-clause-edit c =
+    subst (λ (r : Rotation). IsUnchord (turn r) (turn (view_of c.remove_isolated.new.segments)) half_limit c.args.h) c.self.view_is (done c).edit
 
 pub returns-clause-shrinks : goal.returns-clause-shrinks
 returns-clause-shrinks c = subst (λ (r : Rotation). Shrinks r (view_of c.remove_isolated.new.segments) c.args.h) c.self.view_is (done c).taken.shrinks
 
 pub returns-clause-counts : goal.returns-clause-counts
-returns-clause-counts c = subst (λ (r : Rotation). PartsFaces r c.args.h → CountsFewer r (view_of c.remove_isolated.new.segments) 0 1) c.self.view_is (done c).counts
+returns-clause-counts c =
+    subst (λ (r : Rotation). PartsFaces r c.args.h → CountsFewer r (view_of c.remove_isolated.new.segments) 0 1) c.self.view_is (done c).counts
 
 pub remove_isolated-requires-clause-alone : goal.remove_isolated-requires-clause-alone
-remove_isolated-requires-clause-alone c = unchord_alone c.self.inside.segments c.detach-self-inside.new.segments c.take_out.new.segments c.args.h c.twin.result c.twin.ensures c.detach-self-inside.ensures.turned c.take_out.ensures.turned
+remove_isolated-requires-clause-alone c = unchord_alone c.self.inside.segments c.detach-self-inside.new.segments c.take_out.new.segments c.args.h c.twin.result
+    c.twin.ensures c.detach-self-inside.ensures.turned c.take_out.ensures.turned
 
 pub remove_isolated-requires-clause-twin_alone : goal.remove_isolated-requires-clause-twin_alone
-remove_isolated-requires-clause-twin_alone c = without_alone c.detach-self-inside.new.segments c.take_out.new.segments c.args.h c.twin.result c.twin.ensures c.take_out.ensures.turned
+remove_isolated-requires-clause-twin_alone c =
+    without_alone c.detach-self-inside.new.segments c.take_out.new.segments c.args.h c.twin.result c.twin.ensures c.take_out.ensures.turned
 
 pub returns-clause-labels : goal.returns-clause-labels
-returns-clause-labels c = subst (λ (r : Rotation). KeepsLabels (holds c.remove_isolated.new.segments) (edge_of r) (label_in c.remove_isolated.new.segments)) c.self.view_is
-    (labels_kept c.self.inside.segments c.take_out.new.segments c.remove_isolated.new.segments (c.take_out.ensures.turned.edges ∙ c.detach-self-inside.ensures.turned.edges) c.remove_isolated.ensures.labels)
+returns-clause-labels c =
+    subst (λ (r : Rotation). KeepsLabels (holds c.remove_isolated.new.segments) (edge_of r) (label_in c.remove_isolated.new.segments)) c.self.view_is
+    (labels_kept c.self.inside.segments c.take_out.new.segments c.remove_isolated.new.segments
+    (c.take_out.ensures.turned.edges ∙ c.detach-self-inside.ensures.turned.edges) c.remove_isolated.ensures.labels)

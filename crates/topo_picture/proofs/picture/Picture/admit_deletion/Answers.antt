@@ -19,5 +19,6 @@ returns-in-Some-clause-refused c =
       c.in-Some.segment,
       refl,
       in_view c.self.inside.limits c.self.inside.embedded.rows c.args.self.now c.self.view_is (λ rows. is_some (edge_row rows c.args.edge) ≡ true) there,
-      in_view c.self.inside.limits c.self.inside.embedded.rows c.args.self.now c.self.view_is (λ rows. IsCut rows c.args.edge c.in-Some.segment) (cut_of_picture c.self.inside.limits c.self.inside.embedded.rows c.args.edge c.self.invariant there c.in-Some.segment cut),
+      in_view c.self.inside.limits c.self.inside.embedded.rows c.args.self.now c.self.view_is (λ rows. IsCut rows c.args.edge c.in-Some.segment)
+          (cut_of_picture c.self.inside.limits c.self.inside.embedded.rows c.args.edge c.self.invariant there c.in-Some.segment cut),
     )

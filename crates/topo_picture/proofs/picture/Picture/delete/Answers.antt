@@ -20,7 +20,8 @@ on_err P (Err e) h = h
 
 pub returns-in_err-admit_deletion-clause-can_undo : goal.returns-in_err-admit_deletion-clause-can_undo
 returns-in_err-admit_deletion-clause-can_undo c =
-    on_err ((p : Rows) → IsShownOn p c.args.self.now.rows c.args.edge → ⊥) c.from_residual.result (λ p last. may_go p c.args.self.now.rows c.args.edge _ last c.in_err-admit_deletion.ensures.refused)
+    on_err ((p : Rows) → IsShownOn p c.args.self.now.rows c.args.edge → ⊥) c.from_residual.result
+    (λ p last. may_go p c.args.self.now.rows c.args.edge _ last c.in_err-admit_deletion.ensures.refused)
 
 pub returns-clause-undoes : goal.returns-clause-undoes
 returns-clause-undoes c p last = undone_rows p c.args.self.now.rows c.delete_known.new.self.rows c.args.edge last c.delete_known.ensures.without

@@ -24,8 +24,10 @@ delete-requires-clause-there c = grind (arith, there_inside)
 
 pub invariant_of-self : goal.invariant_of-self
 invariant_of-self c =
-    lawful_after c.self.inside.limits c.self.inside.embedded.rows c.args.self.now c.args.edge c.self.invariant c.self.view_is c.requires.there c.requires.whole c.delete.new.self.rows c.delete.ensures
+    lawful_after c.self.inside.limits c.self.inside.embedded.rows c.args.self.now c.args.edge c.self.invariant c.self.view_is c.requires.there c.requires.whole
+    c.delete.new.self.rows c.delete.ensures
 
 pub returns-clause-lawful : goal.returns-clause-lawful
 returns-clause-lawful c =
-    lawful_after c.self.inside.limits c.self.inside.embedded.rows c.args.self.now c.args.edge c.self.invariant c.self.view_is c.requires.there c.requires.whole c.delete.new.self.rows c.delete.ensures
+    lawful_after c.self.inside.limits c.self.inside.embedded.rows c.args.self.now c.args.edge c.self.invariant c.self.view_is c.requires.there c.requires.whole
+    c.delete.new.self.rows c.delete.ensures

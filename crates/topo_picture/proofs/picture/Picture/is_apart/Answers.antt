@@ -16,5 +16,6 @@ returns-in-Some c passed =
     let there = subst (λ (edges : List EdgeRow). IsPlaceOf edges (λ r. r.id) c.args.edge c.in-Some.place) c.edges-edges.ensures c.in-Some.ensures in
     let read = subst (λ (edges : List EdgeRow). row ≡ slice_index_or edges c.in-Some.place row) c.edges-edges.ensures c.index-edges-place.is in
     let apart = found_apart rows c.args.region.now c.args.edge c.in-Some.place row there read (sym c.lies_apart.ensures ∙ passed) in
-    in_view c.self.inside.limits c.self.inside.embedded.rows c.args.self.now c.self.view_is (λ rows. IfSome (edge_row rows c.args.edge) (IsApart rows c.args.region.now))
+    in_view c.self.inside.limits c.self.inside.embedded.rows c.args.self.now c.self.view_is
+    (λ rows. IfSome (edge_row rows c.args.edge) (IsApart rows c.args.region.now))
     (subst (λ (rows : Rows). IfSome (edge_row rows c.args.edge) (IsApart rows c.args.region.now)) c.rows-rows.ensures apart)

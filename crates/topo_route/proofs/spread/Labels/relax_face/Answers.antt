@@ -23,7 +23,8 @@ loop-steps-init g c =
     let faces = g.W.FaceGraph.face_bound graph in
     let has_faces = g.met.W.FaceGraph.has_faces graph in
     record {
-      relaxes = no_step price named lawful has face faces has_faces c.args.v c.args.other.now c.args.self.now.heights c.args.self.now.names.items c.args.self.now.waiting c.args.least.now c.args.dart c.requires.costs c.requires.sums;
+      relaxes = no_step price named lawful has face faces has_faces c.args.v c.args.other.now c.args.self.now.heights c.args.self.now.names.items
+          c.args.self.now.waiting c.args.least.now c.args.dart c.requires.costs c.requires.sums;
       place = refl;
       name = c.requires.in_hand.0;
       same = sym c.requires.height;
@@ -40,8 +41,12 @@ relax_twin-requires-clause-in_hand g c =
     let face = g.W.FaceGraph.face_of graph in
     let faces = g.W.FaceGraph.face_bound graph in
     let has_faces = g.met.W.FaceGraph.has_faces graph in
-    let was = c.loop-steps.invariant in
-    (was.name, λ e. c.requires.in_hand.1 (sym c.requires.height ∙ sym (at_height price named lawful has face faces has_faces c.args.v c.args.other.now c.loop-steps.self.heights c.loop-steps._steps c.args.dart c.loop-steps.at c.args.height c.requires.in_hand.0 was.name was.place was.same) ∙ e))
+    let was = c.loop-steps.invariant in (
+      was.name,
+      λ e. c.requires.in_hand.1 (sym c.requires.height
+          ∙ sym (at_height price named lawful has face faces has_faces c.args.v c.args.other.now c.loop-steps.self.heights c.loop-steps._steps c.args.dart
+          c.loop-steps.at c.args.height c.requires.in_hand.0 was.name was.place was.same) ∙ e),
+    )
 
 pub relax_twin-requires-clause-height : goal.relax_twin-requires-clause-height
 relax_twin-requires-clause-height g c =
@@ -54,7 +59,8 @@ relax_twin-requires-clause-height g c =
     let faces = g.W.FaceGraph.face_bound graph in
     let has_faces = g.met.W.FaceGraph.has_faces graph in
     let was = c.loop-steps.invariant in
-    sym (at_height price named lawful has face faces has_faces c.args.v c.args.other.now c.loop-steps.self.heights c.loop-steps._steps c.args.dart c.loop-steps.at c.args.height c.requires.in_hand.0 was.name was.place was.same)
+    sym (at_height price named lawful has face faces has_faces c.args.v c.args.other.now c.loop-steps.self.heights c.loop-steps._steps c.args.dart
+    c.loop-steps.at c.args.height c.requires.in_hand.0 was.name was.place was.same)
 
 pub loop-steps-preserved : goal.loop-steps-preserved
 loop-steps-preserved g c =
@@ -81,8 +87,10 @@ loop-steps-preserved g c =
     let l' = c.relax_twin.new.least in
     let inside : face at ≡ face dart = ap face was.place ∙ face_after named lawful has face faces has_faces i dart there in
     let on = same_hand price named lawful has face faces has_faces v others dart at there was.name inside step.relaxes in
-    let place : c.next_along-at.result ≡ after (next_name named) (i + 1) dart = c.next_along-at.ensures.next ∙ ap (next_name named) was.place ∙ sym (after-one (next_name named) i dart) in
-    let crossed = crossed_on price named lawful has face faces has_faces v others hs hs' c.loop-steps.least l' i dart at there was.place step.relaxes.lower step.relaxes.less (step.same ∙ sym was.same) was.crossed step.crossed in
+    let place : c.next_along-at.result ≡ after (next_name named) (i + 1) dart = c.next_along-at.ensures.next ∙ ap (next_name named) was.place
+    ∙ sym (after-one (next_name named) i dart) in
+    let crossed = crossed_on price named lawful has face faces has_faces v others hs hs' c.loop-steps.least l' i dart at there was.place step.relaxes.lower
+    step.relaxes.less (step.same ∙ sym was.same) was.crossed step.crossed in
     record {
       relaxes = both_steps price named lawful has face faces has_faces v others was.relaxes on;
       place = place;
@@ -116,8 +124,10 @@ returns-then-at-dart g c =
     let l' = c.relax_twin.new.least in
     let inside : face at ≡ face dart = ap face was.place ∙ face_after named lawful has face faces has_faces i dart there in
     let on = same_hand price named lawful has face faces has_faces v others dart at there was.name inside step.relaxes in
-    let place : c.next_along-at.result ≡ after (next_name named) (i + 1) dart = c.next_along-at.ensures.next ∙ ap (next_name named) was.place ∙ sym (after-one (next_name named) i dart) in
-    let crossed = crossed_on price named lawful has face faces has_faces v others hs hs' c.loop-steps.least l' i dart at there was.place step.relaxes.lower step.relaxes.less (step.same ∙ sym was.same) was.crossed step.crossed in
+    let place : c.next_along-at.result ≡ after (next_name named) (i + 1) dart = c.next_along-at.ensures.next ∙ ap (next_name named) was.place
+    ∙ sym (after-one (next_name named) i dart) in
+    let crossed = crossed_on price named lawful has face faces has_faces v others hs hs' c.loop-steps.least l' i dart at there was.place step.relaxes.lower
+    step.relaxes.less (step.same ∙ sym was.same) was.crossed step.crossed in
     let home : after (next_name named) (i + 1) dart ≡ dart = sym place ∙ c.if-at-dart.true in
     let P = λ (k : ℕ). IsCrossed price named (reach_of l') (dart_heights named face hs') k in
     both_steps price named lawful has face faces has_faces v others was.relaxes
@@ -142,5 +152,6 @@ returns g c =
     let hs = c.loop-steps.self.heights in
     let P = λ (k : ℕ). IsCrossed price named (reach_of c.loop-steps.least) (dart_heights named face hs) k in
     both_steps price named lawful has face faces has_faces v others was.relaxes
-    (put_down_relaxes price named lawful has face faces has_faces v others hs c.loop-steps.self.names.items c.loop-steps.self.waiting c.loop-steps.least dart c.requires.in_hand.0 was.relaxes.costs was.relaxes.sums
+    (put_down_relaxes price named lawful has face faces has_faces v others hs c.loop-steps.self.names.items c.loop-steps.self.waiting c.loop-steps.least dart
+    c.requires.in_hand.0 was.relaxes.costs was.relaxes.sums
     (face_whole named lawful has face faces has_faces P dart c.requires.in_hand.0 c.loop-steps._steps was.crossed (omega arith)))

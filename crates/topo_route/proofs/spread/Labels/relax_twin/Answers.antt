@@ -36,25 +36,35 @@ returns-in_ok-push-in-Some g c =
     let there = c.across-twin.ensures.name in
     let label : c.face_at-face.result ≡ face twin = c.face_at-face.ensures.face in
     let x : ℕ = slice_index (dart_heights named face heights) dart + c.in-Some.price in
-    let at : slice_index (dart_heights named face heights) twin ≡ slice_index heights c.face_at-face.result = of_face price named has face faces has_faces v heights names c.requires.costs twin there ∙ ap (slice_index heights) (sym label) in
+    let at : slice_index (dart_heights named face heights) twin ≡ slice_index heights c.face_at-face.result =
+    of_face price named has face faces has_faces v heights names c.requires.costs twin there ∙ ap (slice_index heights) (sym label) in
     let hs : c.lower.new.self.heights ≡ set heights (face twin) x =
-    c.in_ok-lower-in-Some.ensures.heights ∙ ap (λ (h : ℕ). set heights c.face_at-face.result (h + c.in-Some.price)) c.requires.height ∙ ap (λ (f : ℕ). set heights f x) label in
+    c.in_ok-lower-in-Some.ensures.heights ∙ ap (λ (h : ℕ). set heights c.face_at-face.result (h + c.in-Some.price)) c.requires.height
+    ∙ ap (λ (f : ℕ). set heights f x) label in
     let ns : c.lower.new.self.names.items ≡ set names (face twin) twin = c.in_ok-lower-in-Some.ensures.names ∙ ap (λ (f : ℕ). set names f twin) label in
     let item : c.item_of.result ≡ item_of twin x = c.item_of.ensures ∙ ap (λ (h : ℕ). item_of twin (h + c.in-Some.price)) c.requires.height in
-    let longer : length c.push.new.self ≡ length waiting + 1 = c.in_ok-push-in-Some.ensures.len ∙ ap (λ (ws : List ℕ). length ws + 1) c.in_ok-lower-in-Some.ensures.waiting in
+    let longer : length c.push.new.self ≡ length waiting + 1 = c.in_ok-push-in-Some.ensures.len
+    ∙ ap (λ (ws : List ℕ). length ws + 1) c.in_ok-lower-in-Some.ensures.waiting in
     let number : number_at others c.face_at-face.result ≡ number_at others (face twin) = ap (number_at others) label in
     record {
-      relaxes = subst (λ (xs : List ℕ). Relaxes price named face faces v others heights names waiting c.args.least.now dart xs c.lower.new.self.names.items c.push.new.self c.lower.new.least dart) (sym hs)
-          (subst (λ (xs : List ℕ). Relaxes price named face faces v others heights names waiting c.args.least.now dart (set heights (face twin) x) xs c.push.new.self c.lower.new.least dart) (sym ns)
-          (twin_relaxes price named lawful has face faces has_faces v others heights names waiting c.push.new.self c.args.least.now c.lower.new.least dart twin c.in-Some.price c.requires.sums c.requires.costs c.requires.in_hand
-          c.in-Some.ensures.promise c.in-Some.ensures.price c.across-twin.ensures.twin there (omega arith) c.across-twin.type_inv (omega (arith, c.in_ok-lower-in-Some.ensures.least))
-          (λ i. c.in_ok-push-in-Some.ensures.waits i ∙ ap (λ (j : ℕ). j == i || is_waiting c.lower.new.self.waiting i) item ∙ ap (λ (ws : List ℕ). item_of twin x == i || is_waiting ws i) c.in_ok-lower-in-Some.ensures.waiting)
+      relaxes = subst (λ (xs : List ℕ). Relaxes price named face faces v others heights names waiting c.args.least.now dart xs c.lower.new.self.names.items
+          c.push.new.self c.lower.new.least dart) (sym hs)
+          (subst (λ (xs : List ℕ). Relaxes price named face faces v others heights names waiting c.args.least.now dart (set heights (face twin) x)
+          xs c.push.new.self c.lower.new.least dart) (sym ns)
+          (twin_relaxes price named lawful has face faces has_faces v others heights names waiting c.push.new.self c.args.least.now c.lower.new.least dart twin
+          c.in-Some.price c.requires.sums c.requires.costs c.requires.in_hand
+          c.in-Some.ensures.promise c.in-Some.ensures.price c.across-twin.ensures.twin there (omega arith) c.across-twin.type_inv
+          (omega (arith, c.in_ok-lower-in-Some.ensures.least))
+          (λ i. c.in_ok-push-in-Some.ensures.waits i ∙ ap (λ (j : ℕ). j == i || is_waiting c.lower.new.self.waiting i) item
+          ∙ ap (λ (ws : List ℕ). item_of twin x == i || is_waiting ws i) c.in_ok-lower-in-Some.ensures.waiting)
           longer));
       crossed = subst (λ (xs : List ℕ). IsCrossed price named (reach_of c.lower.new.least) (dart_heights named face xs) dart) (sym hs)
-          (is_crossed price named lawful has face faces has_faces v (reach_of c.args.least.now) heights names waiting dart twin c.in-Some.price c.requires.costs c.requires.in_hand c.in-Some.ensures.promise c.in-Some.ensures.price
+          (is_crossed price named lawful has face faces has_faces v (reach_of c.args.least.now)
+          heights names waiting dart twin c.in-Some.price c.requires.costs c.requires.in_hand c.in-Some.ensures.promise c.in-Some.ensures.price
           c.across-twin.ensures.twin there (omega arith) (reach_of c.lower.new.least));
       same = subst (λ (xs : List ℕ). slice_index (dart_heights named face xs) dart ≡ c.args.height) (sym hs)
-          (twin_same price named lawful has face faces has_faces v (reach_of c.args.least.now) heights names waiting dart twin c.in-Some.price c.requires.costs c.requires.in_hand c.in-Some.ensures.promise c.in-Some.ensures.price
+          (twin_same price named lawful has face faces has_faces v (reach_of c.args.least.now)
+          heights names waiting dart twin c.in-Some.price c.requires.costs c.requires.in_hand c.in-Some.ensures.promise c.in-Some.ensures.price
           c.across-twin.ensures.twin there (omega arith) ∙ sym c.requires.height);
     }
 
@@ -71,8 +81,10 @@ returns-else-height-saturating_sub-clause-crossed g c =
     let heights = c.args.self.now.heights in
     let twin = c.across-twin.result in
     let at : slice_index (dart_heights named face heights) twin ≡ slice_index heights c.face_at-face.result =
-    of_face price named has face faces has_faces c.args.v heights c.args.self.now.names.items c.requires.costs twin c.across-twin.ensures.name ∙ ap (slice_index heights) (sym c.face_at-face.ensures.face) in
-    crossed_low price named (reach_of c.args.least.now) (dart_heights named face heights) c.args.dart twin c.in-Some.price c.in-Some.ensures.promise c.in-Some.ensures.price c.across-twin.ensures.twin (omega arith)
+    of_face price named has face faces has_faces c.args.v heights c.args.self.now.names.items c.requires.costs twin c.across-twin.ensures.name
+    ∙ ap (slice_index heights) (sym c.face_at-face.ensures.face) in
+    crossed_low price named (reach_of c.args.least.now) (dart_heights named face heights)
+    c.args.dart twin c.in-Some.price c.in-Some.ensures.promise c.in-Some.ensures.price c.across-twin.ensures.twin (omega arith)
 
 pub returns-in-None-clause-crossed : goal.returns-in-None-clause-crossed
 returns-in-None-clause-crossed g c p asked = absurd (c.in-None.ensures.price p asked)
@@ -90,5 +102,7 @@ returns-then-saturating_sub-le1-clause-crossed g c =
     let heights = c.args.self.now.heights in
     let twin = c.across-twin.result in
     let at : slice_index (dart_heights named face heights) twin ≡ slice_index heights c.face_at-face.result =
-    of_face price named has face faces has_faces c.args.v heights c.args.self.now.names.items c.requires.costs twin c.across-twin.ensures.name ∙ ap (slice_index heights) (sym c.face_at-face.ensures.face) in
-    crossed_already price named (reach_of c.args.least.now) (dart_heights named face heights) c.args.dart twin (c.requires.right.promise (name_some named c.args.dart c.requires.in_hand.0)) c.across-twin.ensures.twin (omega arith)
+    of_face price named has face faces has_faces c.args.v heights c.args.self.now.names.items c.requires.costs twin c.across-twin.ensures.name
+    ∙ ap (slice_index heights) (sym c.face_at-face.ensures.face) in
+    crossed_already price named (reach_of c.args.least.now) (dart_heights named face heights) c.args.dart twin
+    (c.requires.right.promise (name_some named c.args.dart c.requires.in_hand.0)) c.across-twin.ensures.twin (omega arith)

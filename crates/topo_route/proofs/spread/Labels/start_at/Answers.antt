@@ -27,7 +27,8 @@ loop-position-init g c =
     let has_faces = g.met.W.FaceGraph.has_faces graph in
     let now = c.args.self.now in
     record {
-      relaxes = no_step price named lawful has face faces has_faces c.args.v c.args.other.now now.heights now.names.items now.waiting c.args.least.now named.size c.requires.costs c.requires.sums;
+      relaxes = no_step price named lawful has face faces has_faces c.args.v c.args.other.now now.heights now.names.items now.waiting c.args.least.now
+          named.size c.requires.costs c.requires.sums;
       ends = λ p d less. absurd (omega arith);
     }
 
@@ -58,36 +59,48 @@ loop-position-preserved g c =
           let k = w.in-Some.corner in
           let short : k < 2 ^ 32 = omega arith in
           let label : w.face_at-face.result ≡ face k = w.face_at-face.ensures.face in
-          let hs_is : c.match-corner_at.self.heights ≡ set hs (face k) 0 = ap heights w.self-is ∙ w.in_ok-lower.ensures.heights ∙ ap (λ (f : ℕ). set hs f 0) label in
-          let ns_is : c.match-corner_at.self.names.items ≡ set ns (face k) k = ap names w.self-is ∙ w.in_ok-lower.ensures.names ∙ ap (λ (f : ℕ). set ns f k) label in
+          let hs_is : c.match-corner_at.self.heights ≡ set hs (face k) 0 = ap heights w.self-is ∙ w.in_ok-lower.ensures.heights
+          ∙ ap (λ (f : ℕ). set hs f 0) label in
+          let ns_is : c.match-corner_at.self.names.items ≡ set ns (face k) k = ap names w.self-is ∙ w.in_ok-lower.ensures.names
+          ∙ ap (λ (f : ℕ). set ns f k) label in
           let added : (i : ℕ) → is_waiting w.push.new.self i ≡ (item_of k 0 == i || is_waiting ws i) = λ i.
-          w.in_ok-push.ensures.waits i ∙ ap (λ (j : ℕ). j == i || is_waiting w.lower.new.self.waiting i) w.item_of.ensures ∙ ap (λ (ys : List ℕ). item_of k 0 == i || is_waiting ys i) w.in_ok-lower.ensures.waiting in
+          w.in_ok-push.ensures.waits i ∙ ap (λ (j : ℕ). j == i || is_waiting w.lower.new.self.waiting i) w.item_of.ensures
+          ∙ ap (λ (ys : List ℕ). item_of k 0 == i || is_waiting ys i) w.in_ok-lower.ensures.waiting in
           let longer : length w.push.new.self ≡ length ws + 1 = w.in_ok-push.ensures.len ∙ ap (λ (ys : List ℕ). length ys + 1) w.in_ok-lower.ensures.waiting in
-          let at : slice_index (dart_heights named face hs) k ≡ slice_index hs w.face_at-face.result = of_face price named has face faces has_faces v hs ns was.costs k w.in-Some.ensures.0 ∙ ap (slice_index hs) (sym label) in
+          let at : slice_index (dart_heights named face hs) k ≡ slice_index hs w.face_at-face.result =
+          of_face price named has face faces has_faces v hs ns was.costs k w.in-Some.ensures.0 ∙ ap (slice_index hs) (sym label) in
           let high : 0 < slice_index (dart_heights named face hs) k = omega (arith, w.if-get-gt0.true, w.get.ensures) in
           let number : number_at others w.face_at-face.result ≡ number_at others (face k) = ap (number_at others) label in
           record {
-            relaxes = renamed price named lawful has face faces has_faces v others c.match-corner_at.self.heights c.match-corner_at.self.names.items c.match-corner_at.self.waiting c.match-corner_at.least hs_is ns_is (ap waiting w.self-is) w.least-is
+            relaxes = renamed price named lawful has face faces has_faces v others c.match-corner_at.self.heights c.match-corner_at.self.names.items
+                c.match-corner_at.self.waiting c.match-corner_at.least hs_is ns_is (ap waiting w.self-is) w.least-is
                 (both_steps price named lawful has face faces has_faces v others was
-                (started price named lawful has face faces has_faces v others hs ns ws w.push.new.self least w.lower.new.least i k was.costs was.sums w.in-Some.ensures.0 w.in-Some.ensures.1 high short
+                (started price named lawful has face faces has_faces v others hs ns ws w.push.new.self least w.lower.new.least i k was.costs was.sums
+                w.in-Some.ensures.0 w.in-Some.ensures.1 high short
                 (omega (arith, w.in_ok-lower.ensures.least)) added longer));
-            ends = subst Zero (sym hs_is) (started_zero price named lawful has face faces has_faces v others hs ns ws w.push.new.self least w.lower.new.least i k was.costs was.sums w.in-Some.ensures.0 w.in-Some.ensures.1 high short c.loop-position.invariant.ends);
+            ends = subst Zero (sym hs_is) (started_zero price named lawful has face faces has_faces v others hs ns ws w.push.new.self least w.lower.new.least i
+                k was.costs was.sums w.in-Some.ensures.0 w.in-Some.ensures.1 high short c.loop-position.invariant.ends);
           }
       | in-Some+else-get-gt0 w ↦
           let k = w.in-Some.corner in
           let label : w.face_at-face.result ≡ face k = w.face_at-face.ensures.face in
-          let at : slice_index (dart_heights named face hs) k ≡ slice_index hs w.face_at-face.result = of_face price named has face faces has_faces v hs ns was.costs k w.in-Some.ensures.0 ∙ ap (slice_index hs) (sym label) in
+          let at : slice_index (dart_heights named face hs) k ≡ slice_index hs w.face_at-face.result =
+          of_face price named has face faces has_faces v hs ns was.costs k w.in-Some.ensures.0 ∙ ap (slice_index hs) (sym label) in
           let height = height_named named has (dart_heights named face hs) k w.in-Some.ensures.0 in
           record {
-            relaxes = renamed price named lawful has face faces has_faces v others c.match-corner_at.self.heights c.match-corner_at.self.names.items c.match-corner_at.self.waiting c.match-corner_at.least
+            relaxes = renamed price named lawful has face faces has_faces v others c.match-corner_at.self.heights c.match-corner_at.self.names.items
+                c.match-corner_at.self.waiting c.match-corner_at.least
                 (ap heights w.self-is) (ap names w.self-is) (ap waiting w.self-is) w.least-is was;
-            ends = subst Zero (sym (ap heights w.self-is)) (before_some named.rows v (λ p d. height_of named (dart_heights named face hs) d ≡ 0) i (dart_named named k) w.in-Some.ensures.1
+            ends = subst Zero (sym (ap heights w.self-is))
+                (before_some named.rows v (λ p d. height_of named (dart_heights named face hs) d ≡ 0) i (dart_named named k) w.in-Some.ensures.1
                 (omega (arith, w.if-get-gt0.false, w.get.ensures)) c.loop-position.invariant.ends);
           }
       | in_default w ↦ record {
-        relaxes = renamed price named lawful has face faces has_faces v others c.match-corner_at.self.heights c.match-corner_at.self.names.items c.match-corner_at.self.waiting c.match-corner_at.least
+        relaxes = renamed price named lawful has face faces has_faces v others c.match-corner_at.self.heights c.match-corner_at.self.names.items
+            c.match-corner_at.self.waiting c.match-corner_at.least
             (ap heights w.self-is) (ap names w.self-is) (ap waiting w.self-is) w.least-is was;
-        ends = subst Zero (sym (ap heights w.self-is)) (before_past named.rows v (λ p d. height_of named (dart_heights named face hs) d ≡ 0) i w.in_default.ensures c.loop-position.invariant.ends);
+        ends = subst Zero (sym (ap heights w.self-is))
+            (before_past named.rows v (λ p d. height_of named (dart_heights named face hs) d ≡ 0) i w.in_default.ensures c.loop-position.invariant.ends);
       }
     ]
 
@@ -96,4 +109,5 @@ returns-clause-ends g c =
     let named = g.W.FaceGraph.named c.args.priced.now.graph.now in
     let face = g.W.FaceGraph.face_of c.args.priced.now.graph.now in
     let whole : c.loop-position.position ≡ c.degree-position-end.result = omega arith in
-    before_all named.rows c.args.v (λ p d. height_of named (dart_heights named face c.loop-position.self.heights) d ≡ 0) c.loop-position.position (whole ∙ c.degree-position-end.ensures) c.loop-position.invariant.ends
+    before_all named.rows c.args.v (λ p d. height_of named (dart_heights named face c.loop-position.self.heights) d ≡ 0) c.loop-position.position
+    (whole ∙ c.degree-position-end.ensures) c.loop-position.invariant.ends

@@ -13,7 +13,8 @@ invariant-loop-position g l =
     let face = g.W.FaceGraph.face_of l.priced.graph.now in
     let faces = g.W.FaceGraph.face_bound l.priced.graph.now in
     record {
-      relaxes : Relaxes (prices_of (g.F.PriceFn.may_return l.priced.tariff.now)) named face faces l.v l.other l.initial.self.heights l.initial.self.names.items l.initial.self.waiting l.initial.least named.size
+      relaxes : Relaxes (prices_of (g.F.PriceFn.may_return l.priced.tariff.now))
+          named face faces l.v l.other l.initial.self.heights l.initial.self.names.items l.initial.self.waiting l.initial.least named.size
           l.self.heights l.self.names.items l.self.waiting l.least named.size;
       ends : (p : ℕ) (c : Dart) → p < l.position → corner named.rows l.v p ≡ Some c → height_of named (dart_heights named face l.self.heights) c ≡ 0;
     }

@@ -24,7 +24,8 @@ invariant_of-self-2 c =
     let words = c.self.inside.words.items in
     let written = c.self.inside.written.items in
     let place = c.args.place in
-    let inside : place < len = omega (arith, c.requires.within, all_long base len words c.self.invariant.as_many, ap (λ (xs : List ℕ). length xs) c.self.view_is) in
+    let inside : place < len =
+    omega (arith, c.requires.within, all_long base len words c.self.invariant.as_many, ap (λ (xs : List ℕ). length xs) c.self.view_is) in
     let many = c.self.invariant.as_many in
     let Goal = λ (s : Inside). AreWritten s.base s.len (set s.words.items place (s.base + c.args.number)) s.written.items in
     elim c.if-index-self-ge-SPAN.branch [
@@ -33,10 +34,12 @@ invariant_of-self-2 c =
           (number_written base len words written w.push.new.self.items place c.args.number c.self.invariant
           (subst (λ (xs : List ℕ). Lists written xs place) (sym w.in_ok-push.ensures.items) (lists_added written place)) inside)
       | else-index-self-ge-SPAN w ↦
-          let reads : slice_index words place ≡ c.index.result.now = sym (get_or_default_zero words place c.index.result.now (omega arith)) ∙ sym c.index.ensures in
+          let reads : slice_index words place ≡ c.index.result.now = sym (get_or_default_zero words place c.index.result.now (omega arith))
+          ∙ sym c.index.ensures in
           let here : slice_index words place - base < span = omega (arith, reads, w.if-index-self-ge-SPAN.false) in
           subst Goal (sym w.self-inside-is)
-          (number_written base len words written written place c.args.number c.self.invariant (lists_already written place (c.self.invariant.listed place inside here)) inside)
+          (number_written base len words written written place c.args.number c.self.invariant
+          (lists_already written place (c.self.invariant.listed place inside here)) inside)
     ]
 
 pub returns : goal.returns

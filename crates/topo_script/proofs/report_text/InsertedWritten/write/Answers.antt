@@ -5,5 +5,6 @@ use Rattle.topo_script.proofs.report_text.InsertedWritten.write.Goals as goal
 pub returns : goal.returns
 unfolding serde_json_on_literals
 returns c =
-    five_members c.push_str.result _ _ _ _ _ _ _ _ _ _ _ _ _ c.in_ok-write_after.ensures c.in_ok-write_after-2.ensures c.in_ok-write_after-3.ensures c.in_ok-write_after-4.ensures c.in_ok-write_after-5.ensures
+    five_members c.push_str.result _ _ _ _ _ _ _ _ _ _ _ _ _ c.in_ok-write_after.ensures c.in_ok-write_after-2.ensures c.in_ok-write_after-3.ensures
+    c.in_ok-write_after-4.ensures c.in_ok-write_after-5.ensures
     c.push_str.ensures.bytes

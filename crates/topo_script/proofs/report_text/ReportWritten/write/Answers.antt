@@ -5,5 +5,6 @@ use Rattle.topo_script.proofs.report_text.ReportWritten.write.Goals as goal
 pub returns : goal.returns
 unfolding serde_json_on_literals
 returns c =
-    six_members c.push_str.result _ _ _ _ _ _ _ _ _ _ _ _ _ _ _ c.in_ok-write_after.ensures c.in_ok-write_after-2.ensures c.in_ok-write_after-3.ensures c.in_ok-write_prices.ensures c.in_ok-write_after-4.ensures c.in_ok-write_version.ensures
+    six_members c.push_str.result _ _ _ _ _ _ _ _ _ _ _ _ _ _ _ c.in_ok-write_after.ensures c.in_ok-write_after-2.ensures c.in_ok-write_after-3.ensures
+    c.in_ok-write_prices.ensures c.in_ok-write_after-4.ensures c.in_ok-write_version.ensures
     c.push_str.ensures.bytes

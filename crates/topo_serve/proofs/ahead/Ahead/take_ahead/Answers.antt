@@ -23,7 +23,8 @@ returns-else-has_feed-clause-parts c =
     record {
       more = take n (lent shown at);
       plain = part_plain (lent shown at) n c.line_len-n.ensures.len;
-      parted = sym c.self.view_is ∙ ahead_all c.self.inside.bytes.items shown at n c.deref.ensures.value (omega (arith, c.self.invariant, c.deref.ensures.len)) c.line_len-n.ensures.len c.if-has_feed.false;
+      parted = sym c.self.view_is ∙ ahead_all c.self.inside.bytes.items shown at n c.deref.ensures.value (omega
+          (arith, c.self.invariant, c.deref.ensures.len)) c.line_len-n.ensures.len c.if-has_feed.false;
       kept = c.in_ok-keep.ensures.kept;
       no_end = tt;
     }

@@ -27,9 +27,19 @@ returns-then-is_prefix_of g c good =
     subst (λ (es : List Entry). IsPrefix es (versions book.history)) seen
     (subst (λ (es : List Entry). IsPrefix c.prefix-before.result.now es) c.requires.entries (c.is_prefix_of.ensures.prefix c.if-is_prefix_of.true)) in
     let count : length (versions book.history) ≡ length entries + accepted =
-    omega (arith, begins_length entries (versions book.history) there, c.len.ensures.len, c.len-then-is_prefix_of.ensures.len, ap length seen, ap length c.requires.entries) in
-    let spared = subst (λ (s : Shown). HaveSpared s.rows c.in-Some.region book.history accepted) c.picture-then-is_prefix_of.ensures.picture (c.has_spared.ensures good) in
-    let held = subst (λ (o : Option RegionState). IfSome o (IsHeldBy (prices_named answers closure) f.version.picture.rows f.u f.v f.first.route f.first.price)) c.in-Some.is c.self.invariant.1 in
+    omega (
+      arith,
+      begins_length entries (versions book.history) there,
+      c.len.ensures.len,
+      c.len-then-is_prefix_of.ensures.len,
+      ap length seen,
+      ap length c.requires.entries,
+    ) in
+    let spared = subst (λ (s : Shown). HaveSpared s.rows c.in-Some.region book.history accepted) c.picture-then-is_prefix_of.ensures.picture
+    (c.has_spared.ensures good) in
+    let held = subst (λ (o : Option RegionState). IfSome o (IsHeldBy (prices_named answers closure) f.version.picture.rows f.u f.v f.first.route f.first.price))
+    c.in-Some.is c.self.invariant.1 in
     subst (λ (s : FoundState). IsFirst (prices_of (answers book.tariff)) book.picture.rows s.u s.v s.route s.price) c.self.view_is
-    (still_first_now answers closure start book.start book.tariff book.history entries f.version.picture book.picture.rows c.in-Some.region f.u f.v f.first.route f.first.price accepted
+    (still_first_now answers closure start book.start book.tariff book.history entries f.version.picture book.picture.rows c.in-Some.region f.u f.v
+    f.first.route f.first.price accepted
     c.requires.named c.requires.begun c.history.ensures.lawful c.picture.ensures.version there count spared held)

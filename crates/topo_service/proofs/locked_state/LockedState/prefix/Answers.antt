@@ -8,4 +8,5 @@ returns-clause-replayed g c =
     let b = c.self.inside.book in
     let i = c.self.invariant in
     let same : b.picture ≡ c.args.self.now.picture = ap (λ s. s.picture) c.self.view_is in
-    rw (i.3, ← same, ← i.0, i.1) (is_version (prices_of (g.F.PriceFn.may_return b.tariff)) b.start.limits b.start.rows b.picture.rows b.history c.history.ensures.legal)
+    rw (i.3, ← same, ← i.0, i.1)
+    (is_version (prices_of (g.F.PriceFn.may_return b.tariff)) b.start.limits b.start.rows b.picture.rows b.history c.history.ensures.legal)

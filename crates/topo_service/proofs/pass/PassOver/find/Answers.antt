@@ -10,6 +10,7 @@ returns-in-Err-clause-fault g c =
     let version = c.in_ok-version.version in
     let seen : version.entries ≡ c.self.inside.prefix = c.in_ok-version.ensures.seen ∙ sym (ap (λ (p : PassState). p.seen) c.self.view_is) in (
       version.picture,
-      subst (λ (es : List Entry). IsVersionFrom (prices_named g.F.PriceFn.may_return g.K.ServiceBrand.closure) g.K.ServiceBrand.start es version.picture) seen c.in_ok-version.ensures.version,
+      subst (λ (es : List Entry). IsVersionFrom (prices_named g.F.PriceFn.may_return g.K.ServiceBrand.closure) g.K.ServiceBrand.start es version.picture)
+          seen c.in_ok-version.ensures.version,
       c.in-Err.ensures.refused,
     )

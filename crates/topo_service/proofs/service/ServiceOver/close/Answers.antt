@@ -17,16 +17,19 @@ audit-requires g c =
     let s = c.gather-all.ensures in
     let there : (n : ℕ) → n < given → HasNumber n c.args.passes.items = rw (← c.as_slice.ensures.value) c.in_default.ensures.all_there in
     let len : vec_len c.args.passes ≡ length c.args.passes.items = search rules in
-    (all_parts MAX_PASSES c.into_parts-parts.result.1.parts given _ _ _ sum c.self.invariant.1 s.parts s.apart (rw len (enough given c.args.passes.items there))).0
+    (all_parts MAX_PASSES c.into_parts-parts.result.1.parts given _ _ _ sum c.self.invariant.1 s.parts s.apart
+    (rw len (enough given c.args.passes.items there))).0
 
 pub returns-clause-all_there : goal.returns-clause-all_there
 returns-clause-all_there g c = rw (← c.self.view_is, ← c.as_slice.ensures.value) c.in_default.ensures.all_there
 
 pub returns-clause-agree : goal.returns-clause-agree
 returns-clause-agree g c =
-    let firsts : All (λ (p : PassState). AreFirst c.into_inner-state.result.history p.number p.receipts) c.args.passes.items = rw (← c.as_slice.ensures.value, ← c.history.ensures) c.in_default.ensures.agree in
+    let firsts : All (λ (p : PassState). AreFirst c.into_inner-state.result.history p.number p.receipts) c.args.passes.items =
+    rw (← c.as_slice.ensures.value, ← c.history.ensures) c.in_default.ensures.agree in
     let same = ap (λ b. b.history) (c.into_book-2.ensures.same ∙ c.audit.ensures.same) in
-    let agree : All (λ (p : PassState). AllAgree c.into_inner-state.result.history p.number p.receipts) c.args.passes.items = λ k d lt. first_agree _ _ _ (firsts k d lt) in
+    let agree : All (λ (p : PassState). AllAgree c.into_inner-state.result.history p.number p.receipts) c.args.passes.items =
+    λ k d lt. first_agree _ _ _ (firsts k d lt) in
     subst (λ (h : List Entry). All (λ (p : PassState). AllAgree h p.number p.receipts) c.args.passes.items) (sym same) agree
 
 pub returns-clause-whole : goal.returns-clause-whole
@@ -40,8 +43,10 @@ returns-clause-whole g c =
     let s = c.gather-all.ensures in
     let there : (n : ℕ) → n < given → HasNumber n passes = rw (← c.as_slice.ensures.value) c.in_default.ensures.all_there in
     let len : vec_len c.args.passes ≡ length passes = search rules in
-    let few : vec_len c.args.passes ≤ given = (all_parts MAX_PASSES rest.parts given _ _ _ sum c.self.invariant.1 s.parts s.apart (rw len (enough given passes there))).1 in
-    let firsts : All (λ (p : PassState). AreFirst history p.number p.receipts) passes = rw (← c.as_slice.ensures.value, ← c.history.ensures) c.in_default.ensures.agree in
+    let few : vec_len c.args.passes ≤ given =
+    (all_parts MAX_PASSES rest.parts given _ _ _ sum c.self.invariant.1 s.parts s.apart (rw len (enough given passes there))).1 in
+    let firsts : All (λ (p : PassState). AreFirst history p.number p.receipts) passes =
+    rw (← c.as_slice.ensures.value, ← c.history.ensures) c.in_default.ensures.agree in
     let count : length history ≡ receipt_count passes =
     omega (arith, ap (λ b. length b.history) c.audit.ensures.same, c.audit.ensures.counted, s.amount, none) in
     let all = whole history passes (apart given passes there (rw (← len) few)) firsts count in

@@ -23,7 +23,8 @@ pub returns-in_err-place-clause-entries : goal.returns-in_err-place-clause-entri
 returns-in_err-place-clause-entries g c = sym (without_id-none c.args.id (entries c.args.self.now) (missing g c))
 
 -- the place with the id is empty, and stays as it was
-same : (g : given.Over) (c : goal.After-from_residual-in_err-value g) → set_value_at c.self.inside.slots.entries c.in_ok-place.place c.take.new.self ≡ c.self.inside.slots.entries
+same : (g : given.Over) (c : goal.After-from_residual-in_err-value g)
+    → set_value_at c.self.inside.slots.entries c.in_ok-place.place c.take.new.self ≡ c.self.inside.slots.entries
 same g c =
     let slots = c.self.inside.slots.entries in
     let none : c.take.new.self ≡ c.index_mut.result.now = c.take.ensures.after ∙ c.in_err-value.ensures.value in
@@ -54,7 +55,8 @@ returns-in_err-value-clause-below g c = λ limit below.
 pub overflow_sub-self : goal.overflow_sub-self
 overflow_sub-self g c =
     let at = c.index_mut.ensures.value ∙ ap Some (sym c.in_ok-value.ensures.value) in
-    let facts = emptied c.args.id c.in_ok-place.place c.in_ok-value.value c.self.inside.slots.entries c.self.invariant.0 c.in_ok-place.ensures.index at c.in_ok-place.ensures.value in
+    let facts = emptied c.args.id c.in_ok-place.place c.in_ok-value.value c.self.inside.slots.entries c.self.invariant.0 c.in_ok-place.ensures.index at
+    c.in_ok-place.ensures.value in
     omega (arith, facts.count, c.self.invariant.1)
 
 pub invariant_of-self-2 : goal.invariant_of-self-2
@@ -63,11 +65,13 @@ invariant_of-self-2 g c =
     let at = c.index_mut.ensures.value ∙ ap Some (sym c.in_ok-value.ensures.value) in
     let facts = emptied c.args.id c.in_ok-place.place c.in_ok-value.value slots c.self.invariant.0 c.in_ok-place.ensures.index at c.in_ok-place.ensures.value in
     let fewer : c.self.inside.live - 1 ≡ length (present (set_value_at slots c.in_ok-place.place None)) = omega (arith, facts.count, c.self.invariant.1) in
-    subst (λ w. IsStrictlyIncreasing (ids_of (set_value_at slots c.in_ok-place.place w)) × (c.self.inside.live - 1 ≡ length (present (set_value_at slots c.in_ok-place.place w)))) (sym c.take.ensures.after)
+    subst (λ w. IsStrictlyIncreasing (ids_of (set_value_at slots c.in_ok-place.place w))
+    × (c.self.inside.live - 1 ≡ length (present (set_value_at slots c.in_ok-place.place w)))) (sym c.take.ensures.after)
     (facts.rises, fewer)
 
 -- the same where the function returns
-facts : (g : given.Over) (c : goal.After-close_up g) → Emptied c.args.id c.in_ok-value.value c.self.inside.slots.entries (set_value_at c.self.inside.slots.entries c.in_ok-place.place c.take.new.self)
+facts : (g : given.Over) (c : goal.After-close_up g)
+    → Emptied c.args.id c.in_ok-value.value c.self.inside.slots.entries (set_value_at c.self.inside.slots.entries c.in_ok-place.place c.take.new.self)
 facts g c =
     let slots = c.self.inside.slots.entries in
     let at = c.index_mut.ensures.value ∙ ap Some (sym c.in_ok-value.ensures.value) in

@@ -15,6 +15,7 @@ returns-clause-same g c alike =
 
 pub returns-clause-all : goal.returns-clause-all
 returns-clause-all g c alike =
-    let same : length c.self.inside.seen.log ≡ length c.other.inside.seen.log = ap (λ (l : List Entry). length l) (c.self.view_is ∙ alike ∙ sym c.other.view_is) in
+    let same : length c.self.inside.seen.log ≡ length c.other.inside.seen.log =
+    ap (λ (l : List Entry). length l) (c.self.view_is ∙ alike ∙ sym c.other.view_is) in
     let lens : c.self.inside.len ≡ c.other.inside.len = c.self.invariant.0 ∙ same ∙ sym c.other.invariant.0 in
     grind (arith, nat_tests, lens)
