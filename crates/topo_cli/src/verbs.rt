@@ -35,9 +35,10 @@ Statuses:
 const RUN: &str = "Reads a script and prints the report of its run";
 
 const RUN_LONG: &str = "\
-Reads a script from standard input, carries out each of its lists of commands in
-a thread of its own, and prints the report on one line of standard output: the
-start, each call with its list and its reply, and the picture at the end.
+Reads a script from standard input, carries out its lists of commands, each in a
+thread of its own if there are several, and prints the report on one line of
+standard output: the start, each call with its list and its reply, and the
+picture at the end.
 
 A script is a JSON object with a version and one to sixteen lists of commands:
 
@@ -96,7 +97,7 @@ const SERVE: &str = "Answers line by line, with one picture that each command ch
 
 const SERVE_LONG: &str = "\
 Reads lines from standard input and answers each with exactly one line on
-standard output, before it reads the next. It ends where its input ends.
+standard output, before it turns to the next. It ends where its input ends.
 
 The first line is a script without its lists. It opens the session, and is
 answered by how large the start is:
