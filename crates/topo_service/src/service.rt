@@ -169,14 +169,9 @@ impl<F: PriceFn, K: ServiceBrand<F>, W: VersionWriter<F, K>> ServiceOver<F, K, W
         self.call(rt, pass, Call::Insert { u, v, kind }, planned)
     }
 
-<<<<<<< HEAD
-    /// As `insert` between the ends of a route that was found: the route is taken as it is where it
-    /// was found on the version of now, and else the route is looked for.
-=======
     /// As `insert` between the ends of a route that was found. The route is taken as it is if nothing
-    /// that its search has seen has changed since, as far as the entries since then are looked through;
-    /// else the route is looked for.
->>>>>>> 97646b3b (Comments and help that say what is so: a found route, one list, a session)
+    /// that its search has seen has changed since, as far as the entries since then are looked
+    /// through; else the route is looked for.
     pub fn insert_found<G: VersionReader<F, K>, R: Wait>(
         &self,
         rt: &R,
