@@ -13,11 +13,12 @@ const STEPS: u32 = 8;
 /// How often a viewer looks.
 pub(crate) const LOOKS: u32 = 200;
 
-/// Draws a chain of vertices that begins at the editor's own vertex, and an edge back to that one from each
-/// of them. Then it takes the last edge out, and asks for one that is refused. All its edges are of one kind.
+/// Draws a chain of vertices that begins at the editor's own vertex, and an edge back to that one
+/// from each of them. Then it takes the last edge out, and asks for one that is refused. All its
+/// edges are of one kind.
 ///
-/// The calls of the other editor come in between, so which numbers its vertices and edges get, and which
-/// edges of the other it crosses, is another in each run. It learns that from the replies.
+/// The calls of the other editor come in between, so which numbers its vertices and edges get, and
+/// which edges of the other it crosses, is another in each run. It learns that from the replies.
 pub(crate) fn edit<F: PriceFn + Drop, K: ServiceBrand<F>, R: Wait>(
     rt: &R,
     alloc: Global,
@@ -43,8 +44,9 @@ pub(crate) fn edit<F: PriceFn + Drop, K: ServiceBrand<F>, R: Wait>(
     Ok(())
 }
 
-/// A new edge. Where it goes is looked for on a view, while others make their calls. The service takes that
-/// route as it is if no call meanwhile changed what the search has seen, and else looks for it under the lock.
+/// A new edge. Where it goes is looked for on a view, while others make their calls. The service
+/// takes that route as it is if no call meanwhile changed what the search has seen, and else looks
+/// for it under the lock.
 fn draw<F: PriceFn + Drop, K: ServiceBrand<F>, R: Wait>(
     rt: &R,
     alloc: Global,
@@ -60,8 +62,8 @@ fn draw<F: PriceFn + Drop, K: ServiceBrand<F>, R: Wait>(
     }
 }
 
-/// Takes views while the editors work. It says whether none was earlier than the one before, and none had
-/// fewer vertices, of which no editor takes one out.
+/// Takes views while the editors work. It says whether none was earlier than the one before, and
+/// none had fewer vertices, of which no editor takes one out.
 pub(crate) fn watch<F: PriceFn + Drop, K: ServiceBrand<F>>(pass: &mut Pass<F, K>) -> bool {
     let mut number = 0;
     let mut vertices = 0;

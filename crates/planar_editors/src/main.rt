@@ -1,9 +1,9 @@
 //! Two editors and a viewer on one picture, each in a thread of its own.
 //!
-//! A service keeps the picture under one lock. Whoever wants to call it is given a pass: the editors change
-//! the picture by calls of the service, the viewer only looks at versions of it, for which nobody waits. At
-//! the end the service is closed with all passes, which compares every receipt with the history. What is
-//! printed is the same whichever thread is faster.
+//! A service keeps the picture under one lock. Whoever wants to call it is given a pass: the
+//! editors change the picture by calls of the service, the viewer only looks at versions of it, for
+//! which nobody waits. At the end the service is closed with all passes, which compares every
+//! receipt with the history. What is printed is the same whichever thread is faster.
 #![tactic(auto)]
 
 ghost use Rattle.std.specs.Prelude.{◌≡◌, Some};
@@ -29,7 +29,8 @@ use topo_price::tariff::{PriceFn, Tariff};
 use topo_service::{FreshService, Pass, Service};
 use topo_versions::ServiceBrand;
 
-/// How many editors there are. Their passes have the numbers from 0 on, the viewer's comes after them.
+/// How many editors there are. Their passes have the numbers from 0 on, the viewer's comes after
+/// them.
 const EDITORS: u32 = 2;
 
 fn main(rt: HostRuntime) -> Result<()> {
@@ -40,8 +41,8 @@ fn main(rt: HostRuntime) -> Result<()> {
     )
 }
 
-/// Makes what a service begins with: an empty ledger of receipts, a picture and the prices. `Brand` is the
-/// type that stands for this one service, so that a pass of another cannot be handed in.
+/// Makes what a service begins with: an empty ledger of receipts, a picture and the prices. `Brand`
+/// is the type that stands for this one service, so that a pass of another cannot be handed in.
 fn begin<F: PriceFn + Drop + Send + Sync, R: Threads + Wait + Print + AllocGlobal + Sync>(
     rt: &R,
     prices: F,
@@ -59,8 +60,8 @@ fn begin<F: PriceFn + Drop + Send + Sync, R: Threads + Wait + Print + AllocGloba
     share::<F, Brand, R>(rt, alloc, FreshService::new(), start, tariff)
 }
 
-/// Two editors and a viewer at one service. The service and the passes are owned here, and handed back to it
-/// whatever happened: it has to be closed.
+/// Two editors and a viewer at one service. The service and the passes are owned here, and handed
+/// back to it whatever happened: it has to be closed.
 fn share<
     F: PriceFn + Drop + Send + Sync,
     K: ServiceBrand<F> + Send + Sync,
@@ -107,7 +108,8 @@ fn give_out<F: PriceFn + Drop, K: ServiceBrand<F>>(
     Ok(())
 }
 
-/// A thread for each pass: the first ones edit, the last one looks. It says whether each came to its end.
+/// A thread for each pass: the first ones edit, the last one looks. It says whether each came to
+/// its end.
 fn work<
     F: PriceFn + Drop + Send + Sync,
     K: ServiceBrand<F> + Send + Sync,

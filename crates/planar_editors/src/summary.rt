@@ -46,7 +46,8 @@ fn tell_editor<R: Print>(rt: &R, history: &[Entry], editor: u32) -> Result<()> {
     Ok(())
 }
 
-/// How many calls there were, and whether a single thread that makes them all again gets the same replies.
+/// How many calls there were, and whether a single thread that makes them all again gets the same
+/// replies.
 fn tell_history<F: PriceFn + Drop, R: Print>(rt: &R, alloc: Global, book: &Book<F>) -> Result<()> {
     let history = book.history();
     let again = replay(alloc, book.start(), history, book.tariff()).is_ok();

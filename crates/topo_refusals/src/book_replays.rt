@@ -22,7 +22,8 @@ fn print_replay<R: Print + Eprint + AllocGlobal>(
     Ok(())
 }
 
-/// What a replay of the history from a picture answers, which is made once more if it is out of memory.
+/// What a replay of the history from a picture answers, which is made once more if it is out of
+/// memory.
 fn replayed<R: Print + Eprint + AllocGlobal, F: PriceFn>(
     rt: &R,
     book: &Book<F>,

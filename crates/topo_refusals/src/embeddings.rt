@@ -1,5 +1,5 @@
-//! An embedding in its store: each call that takes memory is made once more if it is out of memory, and what the
-//! embedding shows is printed.
+//! An embedding in its store: each call that takes memory is made once more if it is out of memory,
+//! and what the embedding shows is printed.
 
 use crate::printed::compare;
 use crate::retry::{again, tell};

@@ -1,5 +1,5 @@
-//! A route that is found on a version, and two insertions by it. The first takes the route as it was found; for
-//! the second, which comes after a change, the route is looked for again.
+//! A route that is found on a version, and two insertions by it. The first takes the route as it
+//! was found; for the second, which comes after a change, the route is looked for again.
 
 use crate::service_calls::ENDS;
 use crate::service_views::{CALLER, PLANNER, compare_planning, compare_service, look, show};

@@ -1,10 +1,10 @@
-//! Shows that a refused growth of memory changes nothing. Each call that takes memory is carried out
-//! on a named picture. If it answers out of memory, all that must be as before is compared, a
-//! line that begins with `changed:` is printed if something differs, and the same call is made again.
-//! So a run in which one allocation fails prints what a run with ample memory prints.
+//! Shows that a refused growth of memory changes nothing. Each call that takes memory is carried
+//! out on a named picture. If it answers out of memory, all that must be as before is compared, a
+//! line that begins with `changed:` is printed if something differs, and the same call is made
+//! again. So a run in which one allocation fails prints what a run with ample memory prints.
 //!
-//! Standard error names each call that is out of memory. The script refuse in the repository refuses the
-//! allocations one by one.
+//! Standard error names each call that is out of memory. The script refuse in the repository
+//! refuses the allocations one by one.
 #![tactic(auto)]
 
 use anyhow::Result;

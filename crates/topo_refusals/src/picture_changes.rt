@@ -173,8 +173,8 @@ fn change_bipyramid<R: Print + Eprint + AllocGlobal, F: PriceFn>(
     grow(rt, picture, 3, 9, 7)
 }
 
-/// An edge leaves the triangle across its base and comes back, and is taken out, which the edge across
-/// the base is not.
+/// An edge leaves the triangle across its base and comes back, and is taken out, which the edge
+/// across the base is not.
 fn change_barrier<R: Print + Eprint + AllocGlobal, F: PriceFn>(
     rt: &R,
     picture: &mut Picture,

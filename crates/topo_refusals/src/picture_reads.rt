@@ -1,5 +1,5 @@
-//! Calls that only read: a picture is loaded, copied, given back as rows, frozen, numbered, and searched
-//! for a route.
+//! Calls that only read: a picture is loaded, copied, given back as rows, frozen, numbered, and
+//! searched for a route.
 
 ghost use Rattle.std.specs.Prelude.{◌≡◌, ◌≢◌, ◌<◌, IfOk, IsTrue, length};
 
@@ -228,7 +228,8 @@ fn compare_frozen<R: Print + Eprint + AllocGlobal>(
     Ok(())
 }
 
-/// What a search between two vertices of a frozen picture finds, which is made once more if it is out of memory.
+/// What a search between two vertices of a frozen picture finds, which is made once more if it is
+/// out of memory.
 fn searched<R: Print + Eprint + AllocGlobal, F: PriceFn>(
     rt: &R,
     frozen: &Frozen,

@@ -1,5 +1,5 @@
-//! Calls that are made once more if they are out of memory. In a run where only one allocation fails, the
-//! second time has what it wants.
+//! Calls that are made once more if they are out of memory. In a run where only one allocation
+//! fails, the second time has what it wants.
 
 use crate::printed::{compare, picture_state};
 use anyhow::Result;
@@ -11,7 +11,8 @@ pub(crate) fn tell<R: Eprint>(rt: &R, call: &str) {
     let _ = eprintln!(rt; "wants memory: {call}");
 }
 
-/// What a call of the program's own bookkeeping answers, which is made once more if it is out of memory.
+/// What a call of the program's own bookkeeping answers, which is made once more if it is out of
+/// memory.
 pub(crate) fn again<R: Eprint, T, F: Fn() -> Result<T, AllocError>>(
     rt: &R,
     call: F,
@@ -40,8 +41,8 @@ pub(crate) fn compare_picture<R: Print + Eprint + AllocGlobal>(
     Ok(())
 }
 
-/// What a call answers that only reads a picture. If it is out of memory, the picture is compared with its
-/// state before, and the call is made once more.
+/// What a call answers that only reads a picture. If it is out of memory, the picture is compared
+/// with its state before, and the call is made once more.
 pub(crate) fn reading<R: Print + Eprint + AllocGlobal, T, F: Fn() -> Result<T, AllocError>>(
     rt: &R,
     name: &str,

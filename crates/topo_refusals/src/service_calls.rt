@@ -26,8 +26,8 @@ pub(crate) const JOIN: Call = Call::Insert {
     kind: 0,
 };
 
-/// An edge that crosses another, a vertex on an edge that cannot be taken out, and an edge for which there
-/// is no way to end.
+/// An edge that crosses another, a vertex on an edge that cannot be taken out, and an edge for
+/// which there is no way to end.
 const FIRST: [Call; 4] = [
     JOIN,
     Call::Grow {
@@ -222,7 +222,8 @@ fn insert_by_plan<F: PriceFn + Drop, K: ServiceBrand<F>, R: Wait + Print + Eprin
     told
 }
 
-/// The first calls, insertions by a plan, the deletion of an edge that is crossed, a list that a worker carries out, and insertions by a route that was found.
+/// The first calls, insertions by a plan, the deletion of an edge that is crossed, a list that a
+/// worker carries out, and insertions by a route that was found.
 fn make_all<
     F: PriceFn + Drop + Send + Sync,
     K: ServiceBrand<F> + Send + Sync,

@@ -146,7 +146,8 @@ pub(crate) fn compare_service<
     compare_seen(rt, call, before.seen, after.seen)
 }
 
-/// The same of a plan or a search that is out of memory: the pass that plans may have seen the newest version by it.
+/// The same of a plan or a search that is out of memory: the pass that plans may have seen the
+/// newest version by it.
 pub(crate) fn compare_planning<
     F: PriceFn + Drop,
     K: ServiceBrand<F>,

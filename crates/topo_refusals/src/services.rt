@@ -106,8 +106,8 @@ fn named<
     use_and_close(rt, service, watch)
 }
 
-/// Uses a service and closes it. The service and its passes are owned here alone, and nothing returns early
-/// while they are.
+/// Uses a service and closes it. The service and its passes are owned here alone, and nothing
+/// returns early while they are.
 fn use_and_close<
     F: PriceFn + Drop + Send + Sync,
     K: ServiceBrand<F> + Send + Sync,

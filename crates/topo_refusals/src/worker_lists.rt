@@ -1,4 +1,5 @@
-//! A list that a worker carries out. If a command is out of memory, the rest of the list is run after it.
+//! A list that a worker carries out. If a command is out of memory, the rest of the list is run
+//! after it.
 
 use crate::retry::{again, tell};
 use crate::service_calls::JOIN;
@@ -40,8 +41,8 @@ const COMMANDS: &[Command] = &[
 /// So many prices the search for that route asks for.
 const SEARCHED: u32 = 12;
 
-/// What is noted while a worker carries out a list: how many commands its gate saw begin and end, whether one
-/// came in another order, and how many prices were asked for in the last of them.
+/// What is noted while a worker carries out a list: how many commands its gate saw begin and end,
+/// whether one came in another order, and how many prices were asked for in the last of them.
 #[derive(Drop)]
 pub(crate) struct Watch {
     begun: AtomicUsize,
@@ -153,8 +154,8 @@ fn run_list<
     }
 }
 
-/// Prints a line that begins with `changed:` where there is not one receipt more for each command before a
-/// place.
+/// Prints a line that begins with `changed:` where there is not one receipt more for each command
+/// before a place.
 fn compare_receipts<R: Print>(rt: &R, had: usize, has: usize, at: usize) -> Result<()> {
     if has != had.wrapping_add(at) {
         println!(rt; "changed: run_workers: {had} receipts became {has} before command {at}")?;
@@ -162,8 +163,8 @@ fn compare_receipts<R: Print>(rt: &R, had: usize, has: usize, at: usize) -> Resu
     Ok(())
 }
 
-/// Prints a line that begins with `changed:` where the gate did not see so many commands of a list begin and
-/// end.
+/// Prints a line that begins with `changed:` where the gate did not see so many commands of a list
+/// begin and end.
 fn compare_gate<R: Print>(rt: &R, watch: &Watch, commands: usize) -> Result<()> {
     if !watch.has_seen(commands) {
         println!(rt;
@@ -173,8 +174,9 @@ fn compare_gate<R: Print>(rt: &R, watch: &Watch, commands: usize) -> Result<()> 
     Ok(())
 }
 
-/// Prints such a line where the list ended with a search outside the lock that was out of memory: the route is then
-/// looked for once more, under the lock. So a list that ends at this command has asked for all its prices.
+/// Prints such a line where the list ended with a search outside the lock that was out of memory:
+/// the route is then looked for once more, under the lock. So a list that ends at this command has
+/// asked for all its prices.
 fn compare_search<R: Print>(rt: &R, watch: &Watch, command: Option<&Command>) -> Result<()> {
     let asked = watch.asked.load(Ordering::SeqCst);
     if command == Some(&CROSSING) && asked < SEARCHED {
@@ -193,8 +195,8 @@ fn rest_of(at: usize) -> Result<&'static [Command]> {
     }
 }
 
-/// Runs the rest of the list after a command that was out of memory, of which there is a receipt of each one
-/// before it.
+/// Runs the rest of the list after a command that was out of memory, of which there is a receipt of
+/// each one before it.
 fn run_rest<
     F: PriceFn + Drop + Send + Sync,
     K: ServiceBrand<F> + Send + Sync,
@@ -270,8 +272,8 @@ fn print_receipts<F: PriceFn + Drop, K: ServiceBrand<F>, R: Print>(
     }
 }
 
-/// Runs a list. Where the room for the answer is refused, no call was made, and the whole list is run once
-/// more.
+/// Runs a list. Where the room for the answer is refused, no call was made, and the whole list is
+/// run once more.
 fn run<
     F: PriceFn + Drop + Send + Sync,
     K: ServiceBrand<F> + Send + Sync,

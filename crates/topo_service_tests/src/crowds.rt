@@ -17,7 +17,8 @@ use topo_price::tariff::PriceFn;
 use topo_service::{Pass, Service, WorkerEnd};
 use topo_versions::{ServiceBrand, Version};
 
-/// So many workers, whether all came to their ends, and whether at least so many calls were accepted.
+/// So many workers, whether all came to their ends, and whether at least so many calls were
+/// accepted.
 #[derive(Drop)]
 struct Workers {
     number: usize,
@@ -107,9 +108,9 @@ fn stir(x: u32) -> u32 {
     y ^ (y >> 15)
 }
 
-/// The command at a place of all lists, were they carried out in turn, by such a number. Of 64 sixteen
-/// insert, one grows, and the others take out one of the last few hundred edges, or ask for one that is not
-/// there.
+/// The command at a place of all lists, were they carried out in turn, by such a number. Of 64
+/// sixteen insert, one grows, and the others take out one of the last few hundred edges, or ask for
+/// one that is not there.
 fn command_of(place: u32, x: u32) -> Command {
     let (u, v) = (x % 202, (x / 256) % 202);
     match (x >> 20) % 64 {

@@ -19,8 +19,8 @@ use topo_versions::ServiceBrand;
 /// How often a gate looks for a flag before the run is late.
 const LOOKS: u64 = 100_000_000;
 
-/// Worker 0 waits, in its first call, until worker 1 has made its own. It looks a bounded number of times and
-/// does not block.
+/// Worker 0 waits, in its first call, until worker 1 has made its own. It looks a bounded number of
+/// times and does not block.
 #[derive(Drop)]
 struct Turn {
     begun: AtomicBool,
@@ -159,8 +159,9 @@ fn workers_run_at_one_time(rt: HostRuntime) -> Result<(), Fail> {
     Ok(())
 }
 
-/// Worker 0 plans, and its search waits at the first price that it asks for until worker 1 has changed the
-/// picture; worker 1 waits for that search. Both look a bounded number of times and do not block.
+/// Worker 0 plans, and its search waits at the first price that it asks for until worker 1 has
+/// changed the picture; worker 1 waits for that search. Both look a bounded number of times and do
+/// not block.
 #[derive(Drop)]
 struct Between {
     planning: AtomicBool,
@@ -238,7 +239,8 @@ impl Story for PlanAndDelete<'_> {
     }
 }
 
-/// The text of a run of two workers with these lists, one of whom plans while the other changes the picture.
+/// The text of a run of two workers with these lists, one of whom plans while the other changes the
+/// picture.
 fn told_between<R: Threads + Wait + Abort + AllocGlobal + Sync>(
     rt: &R,
     lists: &[Vec<Command>],

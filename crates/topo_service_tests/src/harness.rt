@@ -28,9 +28,9 @@ pub(crate) trait Story {
     /// How many passes it asks for.
     fn pass_count(&self) -> usize;
 
-    /// Uses the service by its passes, of which there are fewer than asked for where the service gave no
-    /// more, and says what it saw. It gets how the workers' lists ended. The passes that it leaves are
-    /// those that the service is closed with.
+    /// Uses the service by its passes, of which there are fewer than asked for where the service
+    /// gave no more, and says what it saw. It gets how the workers' lists ended. The passes that it
+    /// leaves are those that the service is closed with.
     fn tell<F: PriceFn + Drop, K: ServiceBrand<F>, R: Wait>(
         &self,
         rt: &R,
@@ -54,8 +54,8 @@ impl Gate for Still {
 /// What the passes do before the story begins.
 #[derive(Drop)]
 pub(crate) enum Work<'a, T> {
-    /// Each carries out the list at its place, with the gate's calls round each command. Where there is no
-    /// list, no pass is used.
+    /// Each carries out the list at its place, with the gate's calls round each command. Where
+    /// there is no list, no pass is used.
     Lists(&'a [Vec<Command>], &'a T),
     /// Each makes calls of its own, and looks at versions meanwhile.
     Crowd(&'a Watch),
@@ -150,8 +150,8 @@ fn named<
     tell_and_close(rt, alloc, service, work, story)
 }
 
-/// The text of the story of a service, and how it ended. The service and its passes are owned here alone, and
-/// nothing returns early while they are.
+/// The text of the story of a service, and how it ended. The service and its passes are owned here
+/// alone, and nothing returns early while they are.
 fn tell_and_close<
     F: PriceFn + Drop + Send + Sync,
     K: ServiceBrand<F> + Send + Sync,
@@ -191,7 +191,8 @@ fn close<F: PriceFn + Drop, K: ServiceBrand<F>, R: Wait>(
     ending(alloc, service.close(rt, passes))
 }
 
-/// Gives out the passes that the story asks for, lets the workers do their work, and then plays the story.
+/// Gives out the passes that the story asks for, lets the workers do their work, and then plays the
+/// story.
 fn tell<
     F: PriceFn + Drop + Send + Sync,
     K: ServiceBrand<F> + Send + Sync,
@@ -369,8 +370,8 @@ pub(crate) fn even_prices(rt: &impl Abort) -> PriceTable {
     PriceTable::new([Some(1); 64]).expect(rt, "a table")
 }
 
-/// Prices at which the edges of the triangle cost 5, 2 and 9, so that the cheapest way from one apex to the
-/// other crosses edge 1.
+/// Prices at which the edges of the triangle cost 5, 2 and 9, so that the cheapest way from one
+/// apex to the other crosses edge 1.
 pub(crate) fn uneven_prices(rt: &impl Abort) -> PriceTable {
     let mut prices = [Some(1); 64];
     prices[1] = Some(5);

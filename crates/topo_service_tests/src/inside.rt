@@ -1,4 +1,5 @@
-//! Sixteen workers who are inside their gates at one time, and the numbers that a gate is called with.
+//! Sixteen workers who are inside their gates at one time, and the numbers that a gate is called
+//! with.
 
 use crate::harness::{Story, Work, even_prices, is_told, run_work_at, seed};
 use std::alloc::{AllocError, Global};
@@ -19,8 +20,8 @@ const LOOKS: u32 = 2_000_000;
 /// As many lists as a service has passes.
 const WORKERS: usize = 16;
 
-/// Each worker waits before its call until all are there. It looks a bounded number of times, leaving the
-/// processor to others between, and does not block.
+/// Each worker waits before its call until all are there. It looks a bounded number of times,
+/// leaving the processor to others between, and does not block.
 #[derive(Drop)]
 struct Meeting {
     inside: AtomicUsize,
@@ -56,7 +57,8 @@ impl Gate for Meeting {
     fn after(&self, _worker: usize, _index: usize) {}
 }
 
-/// Follows two lists: for each the calls are to be before command 0, after it, before command 1, and so on.
+/// Follows two lists: for each the calls are to be before command 0, after it, before command 1,
+/// and so on.
 #[derive(Drop)]
 struct Counted {
     calls: [AtomicUsize; 2],

@@ -12,7 +12,8 @@ use topo_price::tariff::PriceFn;
 use topo_service::{Pass, Service, WorkerEnd};
 use topo_versions::ServiceBrand;
 
-/// How many edges are put in and taken out again, one after the other: more calls than there are edge ids.
+/// How many edges are put in and taken out again, one after the other: more calls than there are
+/// edge ids.
 const PAIRS: u32 = 35_000;
 
 /// The commands.
@@ -36,7 +37,8 @@ fn long_lists(alloc: Global) -> Result<Vec<Vec<Command>>, AllocError> {
     Ok(lists)
 }
 
-/// How the list ended, how many receipts its pass has, and the version and the route that it finds then.
+/// How the list ended, how many receipts its pass has, and the version and the route that it finds
+/// then.
 #[derive(Drop)]
 struct Ended;
 

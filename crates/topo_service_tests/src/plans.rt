@@ -18,7 +18,8 @@ use topo_route::plan::Plan;
 use topo_service::{Pass, Service, WorkerEnd};
 use topo_versions::ServiceBrand;
 
-/// The least heights from the apexes' faces to apex 4, where the edges of the triangle cost 5, 2 and 9.
+/// The least heights from the apexes' faces to apex 4, where the edges of the triangle cost 5, 2
+/// and 9.
 const LEAST: [u64; 18] = [0, 3, 0, 2, 0, 3, 3, 3, 3, 2, 2, 3, 0, 0, 0, 0, 0, 0];
 
 /// The dart that the first route crosses.
@@ -119,8 +120,8 @@ impl Story for Joined<'_> {
     }
 }
 
-/// A plan of the picture at the start. Then an edge that it crosses is taken out and another grown, so that
-/// there are as many darts as before, and an edge is put in, by the plan or without it.
+/// A plan of the picture at the start. Then an edge that it crosses is taken out and another grown,
+/// so that there are as many darts as before, and an edge is put in, by the plan or without it.
 #[derive(Drop)]
 struct Late {
     planned: bool,

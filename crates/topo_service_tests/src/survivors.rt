@@ -18,8 +18,8 @@ use topo_versions::ServiceBrand;
 /// So many vertices has a row of the grid, and so many rows it has.
 const WIDTH: u8 = 8;
 
-/// The route is looked for between these: from the vertex in row 1 and column 1 to the one in row 3 and
-/// column 2. It crosses one edge, the one below the face to the right of and below its start.
+/// The route is looked for between these: from the vertex in row 1 and column 1 to the one in row 3
+/// and column 2. It crosses one edge, the one below the face to the right of and below its start.
 const FROM: u32 = 9;
 
 const TO: u32 = 26;
@@ -125,8 +125,8 @@ fn grid(rt: &impl Abort, alloc: Global) -> Result<Picture, AllocError> {
     load(rt, alloc, &rows)
 }
 
-/// A route that one pass found, an insertion along it after calls of another pass, and how many prices that
-/// insertion asked for.
+/// A route that one pass found, an insertion along it after calls of another pass, and how many
+/// prices that insertion asked for.
 #[derive(Drop)]
 struct Late<'a> {
     asked: &'a AtomicU64,
@@ -148,7 +148,8 @@ fn make<F: PriceFn + Drop, K: ServiceBrand<F>, R: Wait>(
 }
 
 impl Late<'_> {
-    /// The calls, and then an insertion along the route: whether it asked for a price, and its reply.
+    /// The calls, and then an insertion along the route: whether it asked for a price, and its
+    /// reply.
     fn insert_late<F: PriceFn + Drop, K: ServiceBrand<F>, R: Wait>(
         &self,
         rt: &R,
@@ -234,8 +235,8 @@ const fn delete(edge: u32) -> Call {
     Call::Delete { edge }
 }
 
-/// Each row says what is called between, whether the route is then taken with no price asked, and how many calls
-/// there are in all.
+/// Each row says what is called between, whether the route is then taken with no price asked, and
+/// how many calls there are in all.
 fn are_told<R: Threads + Wait + Abort + AllocGlobal + Sync>(
     rt: &R,
     rows: &[&[Call]],
@@ -330,8 +331,8 @@ fn told_of_list<R: Threads + Wait + Abort + AllocGlobal + Sync>(
     run_work(rt, rt.alloc(), ask, start, work, &Prices { asked: &asked })
 }
 
-/// One list with an insertion between each two ends, of which some have the greater number first, planned or
-/// not.
+/// One list with an insertion between each two ends, of which some have the greater number first,
+/// planned or not.
 fn list_of(alloc: Global, is_planned: bool) -> Result<Vec<Vec<Command>>, AllocError> {
     let ends = [
         (FROM, TO),

@@ -58,8 +58,8 @@ fn insert<F: PriceFn + Drop, K: ServiceBrand<F>, R: Wait>(
     Ok(())
 }
 
-/// The first turn of each pass, with three views. It says how many accepted calls the first pass had seen
-/// after its call.
+/// The first turn of each pass, with three views. It says how many accepted calls the first pass
+/// had seen after its call.
 fn take_first_turns<F: PriceFn + Drop, K: ServiceBrand<F>, R: Wait>(
     rt: &R,
     service: &Service<F, K>,
@@ -76,8 +76,8 @@ fn take_first_turns<F: PriceFn + Drop, K: ServiceBrand<F>, R: Wait>(
     Ok(seen)
 }
 
-/// The last turn of each pass, with two views. It says how many accepted calls the first pass had seen after
-/// its call.
+/// The last turn of each pass, with two views. It says how many accepted calls the first pass had
+/// seen after its call.
 fn take_last_turns<F: PriceFn + Drop, K: ServiceBrand<F>, R: Wait>(
     rt: &R,
     service: &Service<F, K>,
@@ -93,8 +93,8 @@ fn take_last_turns<F: PriceFn + Drop, K: ServiceBrand<F>, R: Wait>(
     Ok(told)
 }
 
-/// Calls by two passes in turn, with five views that are all kept. It says how many accepted calls the
-/// first pass had seen after its first call and after its second, and how a call was refused.
+/// Calls by two passes in turn, with five views that are all kept. It says how many accepted calls
+/// the first pass had seen after its first call and after its second, and how a call was refused.
 fn take_turns<F: PriceFn + Drop, K: ServiceBrand<F>, R: Wait>(
     rt: &R,
     service: &Service<F, K>,
@@ -272,7 +272,8 @@ struct Plans<'a> {
 }
 
 impl Plans<'_> {
-    /// How many prices a check of the plan on the version of now asks for, and whether the plan passes.
+    /// How many prices a check of the plan on the version of now asks for, and whether the plan
+    /// passes.
     fn checked<F: PriceFn + Drop, K: ServiceBrand<F>>(
         &self,
         alloc: Global,
@@ -316,8 +317,8 @@ impl Plans<'_> {
         Ok((after.wrapping_sub(before), reply))
     }
 
-    /// Whether the good plan passes, and whether an insertion by it asks for no more prices than the check
-    /// does.
+    /// Whether the good plan passes, and whether an insertion by it asks for no more prices than
+    /// the check does.
     fn tell_good<F: PriceFn + Drop, K: ServiceBrand<F>, R: Wait>(
         &self,
         rt: &R,
@@ -447,8 +448,8 @@ impl Story for Plans<'_> {
     }
 }
 
-/// The text of the story of a service that begins with the bipyramid. The prices that are asked for are
-/// counted.
+/// The text of the story of a service that begins with the bipyramid. The prices that are asked for
+/// are counted.
 fn told_counted<S: Story, R: Threads + Wait + Abort + AllocGlobal + Sync>(
     rt: &R,
     asked: &AtomicU64,
@@ -478,8 +479,9 @@ fn a_good_plan_spares_the_search_and_a_stale_one_does_not_harm(
     Ok(())
 }
 
-/// A found route that is still of the newest version, and one that other calls came after. Its route is looked
-/// for again then, and since the apexes have a face in common by then, no price is asked.
+/// A found route that is still of the newest version, and one that other calls came after. Its
+/// route is looked for again then, and since the apexes have a face in common by then, no price is
+/// asked.
 #[derive(Drop)]
 struct Finds<'a> {
     asked: &'a AtomicU64,
@@ -535,7 +537,8 @@ impl Finds<'_> {
         self.insert(rt, service, late, found)
     }
 
-    /// What the first route is, why other routes are not found, and what comes of an insertion along it.
+    /// What the first route is, why other routes are not found, and what comes of an insertion
+    /// along it.
     fn tell_first<F: PriceFn + Drop, K: ServiceBrand<F>, R: Wait>(
         &self,
         rt: &R,
