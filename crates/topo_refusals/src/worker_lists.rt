@@ -39,7 +39,7 @@ const COMMANDS: &[Command] = &[
 ];
 
 /// So many prices the search for that route asks for.
-const SEARCHED: u32 = 12;
+const SEARCHED: u32 = 7;
 
 /// What is noted while a worker carries out a list: how many commands its gate saw begin and end,
 /// whether one came in another order, and how many prices were asked for in the last of them.
