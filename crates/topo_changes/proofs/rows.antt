@@ -5,6 +5,7 @@ pub mod Rotating
 pub mod CrossedPaths
 pub mod CrossedRows
 pub mod Keeping
+pub mod KeepingEdges
 pub mod Inserting
 pub mod Totals
 pub mod WithoutCounts

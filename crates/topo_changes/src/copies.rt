@@ -22,7 +22,7 @@ pub(crate) fn copy_rotations(
 }
 
 /// An equal path.
-fn copy_path(alloc: Global, path: &[u32]) -> Result<Listed<u32>, AllocError>
+pub(crate) fn copy_path(alloc: Global, path: &[u32]) -> Result<Listed<u32>, AllocError>
     ensures { IfOk result (λ copy. copy ≡ path.now) }
 {
     if path.is_empty() {
@@ -33,7 +33,7 @@ fn copy_path(alloc: Global, path: &[u32]) -> Result<Listed<u32>, AllocError>
 }
 
 /// An equal list of edges.
-pub(crate) fn copy_edges(alloc: Global, edges: &[EdgeRow]) -> Result<Vec<EdgeRow>, AllocError>
+fn copy_edges(alloc: Global, edges: &[EdgeRow]) -> Result<Vec<EdgeRow>, AllocError>
     ensures { IfOk result (λ copy. copy.items ≡ edges.now) }
 {
     let mut copy = Vec::with_capacity(alloc, edges.len())?;

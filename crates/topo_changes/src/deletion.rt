@@ -8,18 +8,15 @@ ghost use Rattle.topo_core.specs.Changes.{from_least, uncrossed_row, without};
 ghost use Rattle.topo_core.specs.Items.{IsIn, has_id, occurrences};
 ghost use Rattle.topo_core.specs.Lawful.{IsWellFormed};
 ghost use Rattle.topo_core.specs.Picture.{edge_at, edge_row, rotation};
-ghost use Rattle.topo_rows.specs.Ids.{IdsRise};
-ghost use Rattle.topo_changes.specs.Keeping.{rows_of};
-ghost use Rattle.topo_table.specs.Places.{AreBelow, entries};
+ghost use Rattle.topo_changes.specs.Keeping.{edge_of, edges_of, rows_of};
+ghost use Rattle.topo_table.specs.Places.{AreBelow, entries, ids_of};
 ghost use Rattle.topo_changes.specs.Deleting.{IsCrossed, IsRotation};
 ghost use Rattle.topo_changes.specs.Deleting.{rotation_without, left_by, other_edge};
 
-use crate::kept::{Crossing, KeptRows};
+use crate::kept::{Crossing, EdgeBody, KeptRows};
 use topo_core::listed::Listed;
 use topo_core::rows::EdgeRow;
-use topo_rows::IdIndex;
-use topo_rows::by_id::place_of_edge;
-use topo_table::Table;
+use topo_table::{Hints, Table};
 
 /// Takes an id out of a list.
 fn take_id(list: &mut Listed<u32>, id: u32)
@@ -113,40 +110,66 @@ fn edge_across(crossings: &Table<Crossing>, e: u32, x: u32) -> u32
 
 /// Takes a crossing of `e` out of the path of the other edge.
 fn leave_path(
-    edges: &mut Vec<EdgeRow>,
+    edges: &mut Table<EdgeBody>,
     crossings: &Table<Crossing>,
-    hints: &IdIndex,
+    hints: &Hints,
     e: u32,
     x: u32,
 )
-    requires edges_rise { IdsRise (map (λ row. row.id) edges.old.items) }
-    requires crossed { IsCrossed (rows_of crossings.now) e edges.old.items x }
-    ensures { edges.new.items ≡ map (uncrossed_row (x ∷ [])) edges.old.items }
+    requires crossed { IsCrossed (rows_of crossings.now) e (edges_of edges.old) x }
+    ensures edges { edges_of edges.new ≡ map (uncrossed_row (x ∷ [])) (edges_of edges.old) }
+    ensures ids { ids_of edges.new.slots ≡ ids_of edges.old.slots }
 {
-    let place = place_of_edge(edges.as_slice(), hints, edge_across(crossings, e, x));
-    take_id(&mut edges[place].crossings, x);
+    let other = edge_across(crossings, e, x);
+    match edges.place_of(hints.place(other), other) {
+        Some(place) => {
+            let mut body = edges.take(place);
+            take_id(&mut body.crossings, x);
+            edges.put(place, body);
+        }
+        None => unreachable!(),
+    }
 }
 
 /// Takes the crossings of `e` out of the paths of the other edges.
 fn leave_paths(
-    edges: &mut Vec<EdgeRow>,
+    edges: &mut Table<EdgeBody>,
     crossings: &Table<Crossing>,
-    hints: &IdIndex,
+    hints: &Hints,
     e: u32,
     path: &[u32],
 )
-    requires edges_rise { IdsRise (map (λ row. row.id) edges.old.items) }
     requires crossed { (x : ℕ) → IsIn x path.now
-        → IsCrossed (rows_of crossings.now) e edges.old.items x }
-    ensures { edges.new.items ≡ map (uncrossed_row path.now) edges.old.items }
+        → IsCrossed (rows_of crossings.now) e (edges_of edges.old) x }
+    ensures edges { edges_of edges.new ≡ map (uncrossed_row path.now) (edges_of edges.old) }
+    ensures ids { ids_of edges.new.slots ≡ ids_of edges.old.slots }
 {
     for x in path {
         leave_path(edges, crossings, hints, e, *x);
     }
 }
 
+/// An edge with its id.
+fn with_id(id: u32, body: EdgeBody) -> EdgeRow
+    ensures { result ≡ edge_of (id, body) }
+{
+    let EdgeBody {
+        a,
+        b,
+        kind,
+        crossings,
+    } = body;
+    EdgeRow {
+        id,
+        a,
+        b,
+        kind,
+        crossings,
+    }
+}
+
 /// Takes out the row of an edge, and its crossings out of the paths of the others.
-fn delete_edge(rows: &mut KeptRows, hints: &mut IdIndex, e: u32) -> EdgeRow
+fn delete_edge(rows: &mut KeptRows, hints: &Hints, e: u32) -> EdgeRow
     requires well_formed { IsWellFormed rows.old }
     requires there { is_some (edge_row rows.old e) ≡ true }
     ensures row { edge_row rows.old e ≡ Some result }
@@ -155,11 +178,12 @@ fn delete_edge(rows: &mut KeptRows, hints: &mut IdIndex, e: u32) -> EdgeRow
           map (uncrossed_row result.crossings) (filter (λ row. not (row.id == e)) rows.old.edges);
     } }
 {
-    let edges = rows.edges.as_vec_mut();
-    let place = place_of_edge(edges.as_slice(), hints, e);
-    let row = edges.remove(place);
-    hints.leave(e);
-    leave_paths(edges, &rows.crossings, hints, e, row.crossings.as_slice());
+    let Some(body) = rows.edges.remove(e) else {
+        unreachable!()
+    };
+    let row = with_id(e, body);
+    let path = row.crossings.as_slice();
+    leave_paths(&mut rows.edges, &rows.crossings, hints, e, path);
     row
 }
 
@@ -193,7 +217,7 @@ fn delete_crossings(crossings: &mut Table<Crossing>, path: &[u32])
 }
 
 /// Takes out an edge and its crossings. The counters stay.
-pub fn delete_rows(rows: &mut KeptRows, hints: &mut IdIndex, e: u32)
+pub fn delete_rows(rows: &mut KeptRows, hints: &Hints, e: u32)
     requires well_formed { IsWellFormed rows.old }
     requires there { is_some (edge_row rows.old e) ≡ true }
     ensures { rows.new ≡ without rows.old e }

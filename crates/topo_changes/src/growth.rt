@@ -4,11 +4,14 @@ ghost use Rattle.std.specs.Prelude.{◌≡◌, ◌+◌, ◌<◌, ◌≤◌, ◌^
 ghost use Rattle.std.specs.Prelude.{length, slice_index_or, [], ◌∷◌, ◌++◌};
 ghost use Rattle.topo_core.specs.Picture.{rotation};
 ghost use Rattle.topo_core.specs.Changes.{put_in, with_end, grown};
+ghost use Rattle.topo_changes.specs.Keeping.{edges_of};
+ghost use Rattle.topo_table.specs.Places.{AreBelow};
 
-use crate::kept::KeptRows;
+use crate::kept::{EdgeBody, KeptRows, put_edge};
 use std::alloc::{AllocError, Global};
 use topo_core::listed::Listed;
 use topo_core::rows::EdgeRow;
+use topo_table::Table;
 
 /// The list of one number.
 pub fn one_listed(alloc: Global, x: u32) -> Result<Listed<u32>, AllocError>
@@ -79,30 +82,31 @@ pub fn grow_rows(
         crossings: Listed::new(alloc),
     };
     let rotations = rows.rotations.as_vec_mut();
-    let edges = rows.edges.as_vec_mut();
-    grow_lists(alloc, rotations, edges, row, position)?;
+    grow_lists(alloc, rotations, &mut rows.edges, row, position)?;
     rows.next_edge += 1;
     Ok(())
 }
 
-/// Puts the new edge into both lists, or leaves them as they were.
+/// Puts the new edge into the lists and the table, or leaves them as they were.
 fn grow_lists(
     alloc: Global,
     rotations: &mut Vec<Listed<u32>>,
-    edges: &mut Vec<EdgeRow>,
+    edges: &mut Table<EdgeBody>,
     row: EdgeRow,
     position: u32,
 ) -> Result<(), AllocError>
     requires vertex { row.a < length rotations.old.items }
     requires position { position ≤ length (slice_index_or rotations.old.items row.a []) }
+    requires below { AreBelow row.id edges.old.slots }
     ensures rotations { OnOk result (rotations.new.items
         ≡ with_end rotations.old.items row.a position row.id ++ (row.id ∷ []) ∷ []) }
-    ensures edges { OnOk result (edges.new.items ≡ edges.old.items ++ row ∷ []) }
+    ensures edges { OnOk result (edges_of edges.new ≡ edges_of edges.old ++ row ∷ []) }
+    ensures edges_below { OnOk result (AreBelow (row.id + 1) edges.new.slots) }
     ensures rotations_stay { OnErr result (rotations.new.items ≡ rotations.old.items) }
-    ensures edges_stay { OnErr result (edges.new.items ≡ edges.old.items) }
+    ensures edges_stay { OnErr result (edges.new.slots ≡ edges.old.slots) }
 {
     edges.reserve(1)?;
     grow_rotations(alloc, rotations, row.a, position, row.id)?;
-    edges.push(row).unwrap();
+    put_edge(edges, row);
     Ok(())
 }

@@ -8,21 +8,19 @@ ghost use Rattle.std.specs.List.{enumerate_from, list_all};
 ghost use Rattle.topo_core.specs.Changes.{shown, sign_of, with_end};
 ghost use Rattle.topo_core.specs.Insertions.{IsInsertable};
 ghost use Rattle.topo_core.specs.Lawful.{IsWellFormed};
-ghost use Rattle.topo_changes.specs.Keeping.{new_entry};
-ghost use Rattle.topo_table.specs.Places.{AreBelow, entries};
-ghost use Rattle.topo_changes.specs.Inserting.{AreOnPaths, EdgesRise, crossed_by, crossed_path};
+ghost use Rattle.topo_changes.specs.Keeping.{edges_of, new_entry};
+ghost use Rattle.topo_table.specs.Places.{AreBelow, KeepsPlaces, entries, ids_of};
+ghost use Rattle.topo_changes.specs.Inserting.{AreOnPaths, crossed_by, crossed_path};
 ghost use Rattle.topo_changes.specs.Inserting.{paths_below, repathed, segment_end};
 
 use crate::growth::put_into;
-use crate::kept::{Crossing, KeptRows};
+use crate::kept::{Crossing, EdgeBody, KeptRows, put_edge};
 use std::alloc::{AllocError, Global};
 use topo_core::darts::{Dart, Sign, Way};
 use topo_core::listed::Listed;
 use topo_core::routes::Route;
 use topo_core::rows::EdgeRow;
-use topo_rows::IdIndex;
-use topo_rows::by_id::edge_place;
-use topo_table::Table;
+use topo_table::{Hints, Table};
 
 /// The place on a path where a segment ends, when only the crossings with ids before `first` count.
 fn segment_end(path: &[u32], segment: u32, first: u32) -> usize
@@ -60,44 +58,56 @@ fn keep_below(list: &mut Listed<u32>, first: u32)
 
 /// Puts crossing `x` on the path of edge `e`.
 fn cross_edge(
-    edges: &mut [EdgeRow],
-    hints: &IdIndex,
+    edges: &mut Table<EdgeBody>,
+    hints: &Hints,
     e: u32,
     segment: u32,
     first: u32,
     x: u32,
 ) -> Result<(), AllocError>
-    requires { EdgesRise edges.old }
     ensures ok { OnOk result
-        (edges.new ≡ map (repathed e (crossed_path first segment x)) edges.old) }
-    ensures err { OnErr result (edges.new ≡ edges.old) }
+        (edges_of edges.new
+        ≡ map (repathed e (crossed_path first segment x)) (edges_of edges.old)) }
+    ensures err { OnErr result (edges_of edges.new ≡ edges_of edges.old) }
+    ensures places { KeepsPlaces edges.old edges.new }
 {
-    match edge_place(edges, hints, e) {
-        Some(i) => cross_path(&mut edges[i].crossings, segment, first, x),
+    match edges.place_of(hints.place(e), e) {
+        Some(place) => {
+            let mut body = edges.take(place);
+            let done = cross_path(&mut body.crossings, segment, first, x);
+            edges.put(place, body);
+            done
+        }
         None => Ok(()),
     }
 }
 
 /// Takes the crossings from `first` on out of the path of edge `e`.
-fn uncross_edge(edges: &mut [EdgeRow], hints: &IdIndex, e: u32, first: u32)
-    requires { EdgesRise edges.old }
-    ensures { edges.new ≡ map (repathed e (filter (λ x. nat_lt x first))) edges.old }
+fn uncross_edge(edges: &mut Table<EdgeBody>, hints: &Hints, e: u32, first: u32)
+    ensures edges { edges_of edges.new
+        ≡ map (repathed e (filter (λ x. nat_lt x first))) (edges_of edges.old) }
+    ensures places { KeepsPlaces edges.old edges.new }
 {
-    match edge_place(edges, hints, e) {
-        Some(i) => keep_below(&mut edges[i].crossings, first),
+    match edges.place_of(hints.place(e), e) {
+        Some(place) => {
+            let mut body = edges.take(place);
+            keep_below(&mut body.crossings, first);
+            edges.put(place, body);
+        }
         None => {}
     }
 }
 
 /// Puts crossings on the segments of the darts, with ids from `first` on, as far as there is
 /// memory, and answers how many.
-fn cross_some(edges: &mut [EdgeRow], hints: &IdIndex, darts: &[Dart], first: u32) -> usize
-    requires rise { EdgesRise edges.old }
-    requires below { paths_below first edges.old ≡ true }
-    requires there { AreOnPaths edges.old darts.now }
+fn cross_some(edges: &mut Table<EdgeBody>, hints: &Hints, darts: &[Dart], first: u32) -> usize
+    requires below { paths_below first (edges_of edges.old) ≡ true }
+    requires there { AreOnPaths (edges_of edges.old) darts.now }
     requires ids { first + length darts.now < 2 ^ 32 }
     ensures within { result ≤ length darts.now }
-    ensures crossed { edges.new ≡ map (crossed_by first (take result darts.now)) edges.old }
+    ensures crossed { edges_of edges.new
+        ≡ map (crossed_by first (take result darts.now)) (edges_of edges.old) }
+    ensures places { KeepsPlaces edges.old edges.new }
 {
     for (i, dart) in darts.iter().enumerate() {
         let x = first + i as u32;
@@ -109,11 +119,11 @@ fn cross_some(edges: &mut [EdgeRow], hints: &IdIndex, darts: &[Dart], first: u32
 }
 
 /// Takes the crossings of the darts out again, the last one first.
-fn uncross(edges: &mut [EdgeRow], hints: &IdIndex, darts: &[Dart], first: u32)
-    requires rise { EdgesRise edges.old }
+fn uncross(edges: &mut Table<EdgeBody>, hints: &Hints, darts: &[Dart], first: u32)
     requires ids { first + length darts.now < 2 ^ 32 }
-    ensures { (was : List EdgeRow) → paths_below first was ≡ true
-        → edges.old ≡ map (crossed_by first darts.now) was → edges.new ≡ was }
+    ensures edges { (was : List EdgeRow) → paths_below first was ≡ true
+        → edges_of edges.old ≡ map (crossed_by first darts.now) was → edges_of edges.new ≡ was }
+    ensures places { KeepsPlaces edges.old edges.new }
 {
     let mut n = darts.len();
     while n > 0 {
@@ -125,17 +135,18 @@ fn uncross(edges: &mut [EdgeRow], hints: &IdIndex, darts: &[Dart], first: u32)
 /// Puts crossings on the segments of the darts, with ids from `first` on, or none where memory is
 /// short.
 fn cross(
-    edges: &mut [EdgeRow],
-    hints: &IdIndex,
+    edges: &mut Table<EdgeBody>,
+    hints: &Hints,
     darts: &[Dart],
     first: u32,
 ) -> Result<(), AllocError>
-    requires rise { EdgesRise edges.old }
-    requires below { paths_below first edges.old ≡ true }
-    requires there { AreOnPaths edges.old darts.now }
+    requires below { paths_below first (edges_of edges.old) ≡ true }
+    requires there { AreOnPaths (edges_of edges.old) darts.now }
     requires ids { first + length darts.now < 2 ^ 32 }
-    ensures ok { OnOk result (edges.new ≡ map (crossed_by first darts.now) edges.old) }
-    ensures err { OnErr result (edges.new ≡ edges.old) }
+    ensures ok { OnOk result
+        (edges_of edges.new ≡ map (crossed_by first darts.now) (edges_of edges.old)) }
+    ensures err { OnErr result (edges_of edges.new ≡ edges_of edges.old) }
+    ensures places { KeepsPlaces edges.old edges.new }
 {
     let done = cross_some(edges, hints, darts, first);
     if done < darts.len() {
@@ -210,12 +221,13 @@ fn add_crossings(crossings: &mut Table<Crossing>, darts: &[Dart], first: u32, ed
     }
 }
 
-/// Puts the edge of a row and its crossings into the three lists, or leaves them as they were.
+/// Puts the edge of a row and its crossings into the lists and the tables, or leaves them as they
+/// were.
 fn insert_lists(
     rotations: &mut [Listed<u32>],
-    edges: &mut Vec<EdgeRow>,
+    edges: &mut Table<EdgeBody>,
     crossings: &mut Table<Crossing>,
-    hints: &IdIndex,
+    hints: &Hints,
     row: EdgeRow,
     route: &Route,
     first: u32,
@@ -226,22 +238,24 @@ fn insert_lists(
     requires start { route.now.start ≤ length (slice_index_or rotations.old row.a []) }
     requires end { route.now.end ≤ length (slice_index_or rotations.old row.b []) }
     requires new { list_all (λ e. nat_lt e row.id) (slice_index_or rotations.old row.a []) ≡ true }
-    requires rise { EdgesRise edges.old.items }
-    requires below { paths_below first edges.old.items ≡ true }
-    requires there { AreOnPaths edges.old.items route.now.crossed }
+    requires below { paths_below first (edges_of edges.old) ≡ true }
+    requires there { AreOnPaths (edges_of edges.old) route.now.crossed }
+    requires edges_below { AreBelow row.id edges.old.slots }
     requires crossings_below { AreBelow first crossings.old.slots }
     requires ids { first + length route.now.crossed < 2 ^ 32 }
     ensures rotations { OnOk result (rotations.new
         ≡ with_end (with_end rotations.old row.a route.now.start row.id)
         row.b route.now.end row.id) }
-    ensures edges { OnOk result
-        (edges.new.items ≡ map (crossed_by first route.now.crossed) edges.old.items ++ row ∷ []) }
+    ensures edges { OnOk result (edges_of edges.new
+        ≡ map (crossed_by first route.now.crossed) (edges_of edges.old) ++ row ∷ []) }
+    ensures edges_below { OnOk result (AreBelow (row.id + 1) edges.new.slots) }
     ensures crossings { OnOk result (entries crossings.new ≡ entries crossings.old
         ++ map (new_entry row.id) (enumerate_from first route.now.crossed)) }
     ensures crossings_below { OnOk result
         (AreBelow (first + length route.now.crossed) crossings.new.slots) }
     ensures rotations_stay { OnErr result (rotations.new ≡ rotations.old) }
-    ensures edges_stay { OnErr result (edges.new.items ≡ edges.old.items) }
+    ensures edges_stay { OnErr result (edges_of edges.new ≡ edges_of edges.old) }
+    ensures edge_ids_stay { OnErr result (ids_of edges.new.slots ≡ ids_of edges.old.slots) }
     ensures crossings_stay { OnErr result (crossings.new.slots ≡ crossings.old.slots) }
 {
     let darts = route.crossed.as_slice();
@@ -253,7 +267,7 @@ fn insert_lists(
         return Err(AllocError);
     }
     add_crossings(crossings, darts, first, row.id);
-    edges.push(row).unwrap();
+    put_edge(edges, row);
     Ok(())
 }
 
@@ -262,7 +276,7 @@ fn insert_lists(
 pub fn apply_rows(
     alloc: Global,
     rows: &mut KeptRows,
-    hints: &IdIndex,
+    hints: &Hints,
     u: u32,
     v: u32,
     kind: u32,
@@ -285,7 +299,7 @@ pub fn apply_rows(
     };
     insert_lists(
         rows.rotations.as_vec_mut(),
-        rows.edges.as_vec_mut(),
+        &mut rows.edges,
         &mut rows.crossings,
         hints,
         row,

@@ -1,20 +1,21 @@
-//! The rows of a picture as it keeps them: each crossing is found by its id in one look, and goes
-//! at its own cost.
+//! The rows of a picture as it keeps them: each edge and each crossing is found by its id in one
+//! look, and goes at its own cost.
 
-ghost use Rattle.std.specs.Prelude.{◌≡◌, ◌==◌, true, IfOk, if◌then◌else◌, length, map};
+ghost use Rattle.std.specs.Prelude.{◌≡◌, ◌==◌, ◌+◌, ◌<◌, ◌++◌, ◌∷◌, [], true, IfOk};
+ghost use Rattle.std.specs.Prelude.{if◌then◌else◌, length, map, option_map};
 ghost use Rattle.topo_core.specs.Items.{rises_below};
-ghost use Rattle.topo_core.specs.Lawful.{has_good_crossings};
-ghost use Rattle.topo_core.specs.Picture.{cross_row, rotation};
-ghost use Rattle.topo_changes.specs.Keeping.{crossing_row, rows_of};
+ghost use Rattle.topo_core.specs.Lawful.{has_good_crossings, has_good_paths};
+ghost use Rattle.topo_core.specs.Picture.{cross_row, edge_row, rotation};
+ghost use Rattle.topo_changes.specs.Keeping.{crossing_row, edge_of, edges_of, rows_of, viewed_row};
 ghost use Rattle.topo_table.specs.Places.{AreBelow};
 
-use crate::copies::{copy_edges, copy_rotations};
+use crate::copies::{copy_path, copy_rotations};
 use std::alloc::{AllocError, Global};
 use std::marker::Model;
 use topo_core::darts::Sign;
 use topo_core::listed::Listed;
 use topo_core::rows::{CrossRow, EdgeRow, Rows};
-use topo_table::Table;
+use topo_table::{Table, TryCopy};
 
 /// A crossing without its id.
 #[derive(Clone, Copy, Debug, PartialEq, Eq)]
@@ -37,10 +38,41 @@ impl Crossing {
     }
 }
 
-/// The rows of a picture, which contracts see. Its crossings are in a table.
+/// An edge without its id.
+#[derive(Drop)]
+pub(crate) struct EdgeBody {
+    pub(crate) a: u32,
+    pub(crate) b: u32,
+    pub(crate) kind: u32,
+    pub(crate) crossings: Listed<u32>,
+}
+
+impl TryCopy for EdgeBody {
+    fn try_copy(&self, alloc: Global) -> Result<Self, AllocError> {
+        let crossings = copy_path(alloc, self.crossings.as_slice())?;
+        Ok(EdgeBody {
+            a: self.a,
+            b: self.b,
+            kind: self.kind,
+            crossings,
+        })
+    }
+}
+
+/// An edge as it is read: its id, its ends, its kind, and the crossings on its path.
+#[derive(Clone, Copy)]
+pub struct EdgeView<'a> {
+    pub id: u32,
+    pub a: u32,
+    pub b: u32,
+    pub kind: u32,
+    pub crossings: &'a [u32],
+}
+
+/// The rows of a picture, which contracts see. Its edges and its crossings are in tables.
 pub struct KeptRows {
     pub(crate) rotations: Listed<Listed<u32>>,
-    pub(crate) edges: Listed<EdgeRow>,
+    pub(crate) edges: Table<EdgeBody>,
     pub(crate) crossings: Table<Crossing>,
     pub(crate) next_edge: u32,
     pub(crate) next_crossing: u32,
@@ -66,31 +98,34 @@ impl Drop for KeptRows {
 impl Model for KeptRows {
     ghost use Rattle.topo_core.specs.declared.rows.Rows.{Rows};
     ghost use Rattle.topo_table.specs.Places.{AreBelow};
-    ghost use Rattle.topo_changes.specs.Keeping.{rows_of};
+    ghost use Rattle.topo_changes.specs.Keeping.{edges_of, rows_of};
 
     ghost Value = { Rows };
 
     ghost view = { λ k. record {
       rotations = k.rotations;
-      edges = k.edges;
+      edges = edges_of k.edges;
       crossings = rows_of k.crossings;
       next_edge = k.next_edge;
       next_crossing = k.next_crossing;
     } };
 
-    ghost invariant = { λ k. AreBelow k.next_crossing k.crossings.slots };
+    ghost invariant = { λ k. AreBelow k.next_crossing k.crossings.slots
+        × AreBelow k.next_edge k.edges.slots };
 }
 
 impl KeptRows {
-    /// These rows, whose crossings have ids that rise.
+    /// These rows, whose edges and crossings have ids that rise.
     pub fn of(alloc: Global, rows: Rows) -> Result<Self, AllocError>
-        requires { has_good_crossings rows ≡ true }
+        requires crossings { has_good_crossings rows ≡ true }
+        requires edges { has_good_paths rows ≡ true }
         ensures { IfOk result (λ kept. kept ≡ rows) }
     {
+        let edges = edge_table(alloc, rows.edges.as_slice(), rows.next_edge)?;
         let crossings = table_of(alloc, rows.crossings.as_slice(), rows.next_crossing)?;
         Ok(KeptRows {
             rotations: rows.rotations,
-            edges: rows.edges,
+            edges,
             crossings,
             next_edge: rows.next_edge,
             next_crossing: rows.next_crossing,
@@ -102,7 +137,7 @@ impl KeptRows {
         ensures { IfOk result (λ rows. rows ≡ self.now) }
     {
         let rotations = copy_rotations(alloc, self.rotations.as_slice())?;
-        let edges = copy_edges(alloc, self.edges.as_slice())?;
+        let edges = edge_list(alloc, &self.edges)?;
         let crossings = list_of(alloc, &self.crossings)?;
         Ok(Rows {
             rotations: Listed::from_vec(rotations),
@@ -118,11 +153,11 @@ impl KeptRows {
         ensures { IfOk result (λ kept. kept ≡ self.now) }
     {
         let rotations = copy_rotations(alloc, self.rotations.as_slice())?;
-        let edges = copy_edges(alloc, self.edges.as_slice())?;
+        let edges = self.edges.try_copy(alloc)?;
         let crossings = self.crossings.copy()?;
         Ok(KeptRows {
             rotations: Listed::from_vec(rotations),
-            edges: Listed::from_vec(edges),
+            edges,
             crossings,
             next_edge: self.next_edge,
             next_crossing: self.next_crossing,
@@ -146,11 +181,25 @@ impl KeptRows {
         }
     }
 
-    /// The edges, in rising order of their ids.
-    pub fn edges(&self) -> &[EdgeRow]
-        ensures { result.now ≡ self.now.edges }
+    /// How many edges there are.
+    pub fn edge_count(&self) -> usize
+        ensures { result ≡ length self.now.edges }
     {
-        self.edges.as_slice()
+        self.edges.len()
+    }
+
+    /// The edge with an id, which is looked for at a place of the table first.
+    pub fn edge(&self, hint: usize, id: u32) -> Option<EdgeView<'_>>
+        ensures { option_map viewed_row result ≡ edge_row self.now id }
+    {
+        let body = self.edges.get_near(hint, id)?;
+        Some(EdgeView {
+            id,
+            a: body.a,
+            b: body.b,
+            kind: body.kind,
+            crossings: body.crossings.as_slice(),
+        })
     }
 
     /// How many crossings there are.
@@ -222,6 +271,78 @@ fn list_of(alloc: Global, table: &Table<Crossing>) -> Result<Vec<CrossRow>, Allo
     for place in 0..table.places() {
         match table.at(place) {
             Some((id, crossing)) => rows.push(shown(id, *crossing))?,
+            None => {}
+        }
+    }
+    Ok(rows)
+}
+
+/// Puts an edge behind the others. There is room for it.
+pub(crate) fn put_edge(edges: &mut Table<EdgeBody>, row: EdgeRow)
+    requires room { 0 < edges.old.room }
+    requires below { AreBelow row.id edges.old.slots }
+    ensures edges { edges_of edges.new ≡ edges_of edges.old ++ row ∷ [] }
+    ensures below { AreBelow (row.id + 1) edges.new.slots }
+{
+    let EdgeRow {
+        id,
+        a,
+        b,
+        kind,
+        crossings,
+    } = row;
+    let body = EdgeBody {
+        a,
+        b,
+        kind,
+        crossings,
+    };
+    edges.push(id, body);
+}
+
+/// The table of edges whose ids rise and are below `limit`.
+fn edge_table(alloc: Global, rows: &[EdgeRow], limit: u32) -> Result<Table<EdgeBody>, AllocError>
+    requires { rises_below limit (map (λ row. row.id) rows.now) ≡ true }
+    ensures rows { IfOk result (λ table. edges_of table ≡ rows.now) }
+    ensures below { IfOk result (λ table. AreBelow limit table.slots) }
+{
+    let mut table = Table::new(alloc);
+    table.reserve(rows.len())?;
+    for row in rows {
+        let crossings = copy_path(alloc, row.crossings.as_slice())?;
+        let body = EdgeBody {
+            a: row.a,
+            b: row.b,
+            kind: row.kind,
+            crossings,
+        };
+        table.push(row.id, body);
+    }
+    Ok(table)
+}
+
+/// A copy of an edge, with its id.
+fn edge_copy(alloc: Global, id: u32, body: &EdgeBody) -> Result<EdgeRow, AllocError>
+    ensures { IfOk result (λ row. row ≡ edge_of (id, body.now)) }
+{
+    let crossings = copy_path(alloc, body.crossings.as_slice())?;
+    Ok(EdgeRow {
+        id,
+        a: body.a,
+        b: body.b,
+        kind: body.kind,
+        crossings,
+    })
+}
+
+/// A copy of the rows of a table of edges.
+fn edge_list(alloc: Global, table: &Table<EdgeBody>) -> Result<Vec<EdgeRow>, AllocError>
+    ensures { IfOk result (λ rows. rows.items ≡ edges_of table.now) }
+{
+    let mut rows = Vec::with_capacity(alloc, table.len())?;
+    for place in 0..table.places() {
+        match table.at(place) {
+            Some((id, body)) => rows.push(edge_copy(alloc, id, body)?)?,
             None => {}
         }
     }

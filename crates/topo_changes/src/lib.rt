@@ -14,4 +14,4 @@ pub mod growth;
 pub mod insertion;
 pub mod kept;
 
-pub use kept::KeptRows;
+pub use kept::{EdgeView, KeptRows};

@@ -1,5 +1,6 @@
 -- The halves of darts, where they lie, and the faces beside them.
 pub mod Listing
+pub mod KeptPaths
 pub mod Numbers
 pub mod Made
 pub mod Apart

@@ -56,6 +56,9 @@ halves_of is = map (λ l. l.half) is
 
 -- ---- Crossed darts
 
+abbrev pub ids_of_edges : Rows → List ℕ
+ids_of_edges rows = map (λ row. row.id) rows.edges
+
 abbrev pub crossed_darts : List Crossed → List Dart
 crossed_darts cs = map (λ c. c.dart) cs
 
@@ -68,11 +71,10 @@ abbrev pub subdivided_half : List Crossed → ℕ → ℕ
 subdivided_half [] h = h
 subdivided_half (c ∷ cs) h = cond (h == twin c.near) (twin c.beyond) (subdivided_half cs h)
 
--- the dart is there, with its half, and its edge at this place
+-- the dart is there, with its half
 pub record IsMarked (p : RowsWithPaths) (c : Crossed) : Type 0 where
   pub there : has_dart (darts p.rows) c.dart ≡ true
   pub near : c.near ≡ half_in p c.dart
-  pub place : c.place ≡ position_or_len (λ row. row.id == c.dart.edge) p.rows.edges
 
 -- ---- Before
 
@@ -82,7 +84,7 @@ pub record IsReady (p : RowsWithPaths) (r : Rotation) (cs : List Crossed) (paths
   pub shows : ShowsRows p r
   pub marked : All (IsMarked p) cs
   pub once : CrossesOnce (crossed_darts cs)
-  pub padded : ArePadded (λ hs. hs) p.paths cs paths
+  pub padded : ArePadded (ids_of_edges p.rows) (λ hs. hs) p.paths cs paths
 
 -- an edge of this kind can be shown along the route, with its crossed darts marked and the halves of its corners
 pub record IsReadyFor (p : RowsWithPaths) (r : Rotation) (cs : List Crossed) (u v kind : ℕ) (route : Route) (start end : ℕ) : Type 0 where
@@ -111,7 +113,7 @@ pub record AreSplitFrom (p : RowsWithPaths) (before now : Rotation) (was cs : Li
   pub darts : crossed_darts cs ≡ crossed_darts was
   pub marked : All (IsMarked p) cs
   pub split : AreSplit p before now (drop n cs)
-  pub padded : ArePadded (put_halves (subdivisions_of p.rows (drop n cs))) p.paths (take n cs) paths
+  pub padded : ArePadded (ids_of_edges p.rows) (put_halves (subdivisions_of p.rows (drop n cs))) p.paths (take n cs) paths
   pub room : now.room + length cs ≡ before.room + n
 
 -- ---- The new edge

@@ -1,6 +1,7 @@
 pub mod Along
 pub mod Halves
 pub mod Parts
+pub mod Paths
 pub mod Making
 pub mod Walking
 pub mod Inserting

@@ -1,9 +1,12 @@
 //! Deletion from rows with their embedding. It takes no memory: the path of the edge is used again,
 //! for the points of degree two at its crossings until they are smoothed.
 
-ghost use Rattle.std.specs.Prelude.{◌≡◌, ◌≢◌, ℕ, true, is_some, length, slice_index_or};
+ghost use Rattle.std.specs.Prelude.{◌≡◌, ◌≢◌, ℕ, true, is_some, length, map, slice_index_or};
+ghost use Rattle.std.specs.Prelude.{[], ◌∷◌};
+ghost use Rattle.topo_core.specs.Items.{has_id};
+ghost use Rattle.topo_core.specs.declared.rows.Rows.{Rows};
 ghost use Rattle.topo_core.specs.Changes.{without};
-ghost use Rattle.topo_core.specs.Lawful.{IsWellFormed, Lawful};
+ghost use Rattle.topo_core.specs.Lawful.{Lawful};
 ghost use Rattle.topo_core.specs.Picture.{edge_row};
 ghost use Rattle.topo_core.specs.Rotations.{twin};
 ghost use Rattle.topo_map.specs.Rotation.{edge_of, is_live, turn};
@@ -12,55 +15,50 @@ ghost use Rattle.topo_embedded.specs.Halves.{ShowsRows, path_of};
 ghost use Rattle.topo_embedded.specs.Opening.{IsOpenTo, IsOpened, IsSetOut, IsSmoothedTo};
 ghost use Rattle.topo_embedded.specs.Opening.{leads_in, mids_of, without_half};
 ghost use Rattle.topo_embedded.specs.Parts.{Agree};
+ghost use Rattle.topo_embedded.specs.Paths.{AreForEdges, IsPathAt, KeepsIds, path_in};
+ghost use Rattle.topo_table.specs.Places.{ids_in, values_in};
 
 use crate::parts::Parts;
 use crate::path::Path;
-use std::mem;
-use topo_changes::KeptRows;
 use topo_changes::deletion::delete_rows;
 use topo_map::{Embedding, Half};
-use topo_rows::IdIndex;
-use topo_rows::by_id::place_of_edge;
+use topo_table::{Hints, Table};
 
 /// Whether a half is on the path of its edge, and so leads along it.
-fn leads_along(
-    rows: &KeptRows,
-    paths: &[Path],
-    segments: &Embedding,
-    hints: &IdIndex,
-    half: Half,
-) -> bool
-    requires formed { IsWellFormed rows.now }
-    requires many { length paths.now ≡ length rows.now.edges }
+fn leads_along(paths: &Table<Path>, segments: &Embedding, hints: &Hints, half: Half) -> bool
+    ghost rows: { Rows }
+    requires ids { ids_in paths.now ≡ map (λ row. row.id) rows.edges }
     requires live { is_live segments.now half ≡ true }
-    requires there { is_some (edge_row rows.now (edge_of segments.now half)) ≡ true }
-    ensures { result ≡ leads_in rows.now paths.now (edge_of segments.now) half }
+    requires there { is_some (edge_row rows (edge_of segments.now half)) ≡ true }
+    ensures { result ≡ leads_in rows (values_in paths.now) (edge_of segments.now) half }
 {
-    let place = place_of_edge(rows.edges(), hints, segments.edge(half));
-    paths[place].contains(half)
+    let edge = segments.edge(half);
+    match paths.get_near(hints.place(edge), edge) {
+        Some(path) => path.contains(half),
+        None => unreachable!(),
+    }
 }
 
 /// Of the halves that lead over a crossing from the segment before and the one behind, the one that
 /// leads along its edge.
 fn midpoint(
-    rows: &KeptRows,
-    paths: &[Path],
+    paths: &Table<Path>,
     segments: &Embedding,
-    hints: &IdIndex,
+    hints: &Hints,
     before: Half,
     behind: Half,
 ) -> Half
-    requires formed { IsWellFormed rows.now }
-    requires many { length paths.now ≡ length rows.now.edges }
+    ghost rows: { Rows }
+    requires ids { ids_in paths.now ≡ map (λ row. row.id) rows.edges }
     requires live { is_live segments.now (twin before) ≡ true }
     requires live_behind { is_live segments.now behind ≡ true }
     requires there { is_some
-        (edge_row rows.now (edge_of segments.now (turn segments.now (twin before)))) ≡ true }
-    ensures { result ≡ across (leads_in rows.now paths.now (edge_of segments.now))
+        (edge_row rows (edge_of segments.now (turn segments.now (twin before)))) ≡ true }
+    ensures { result ≡ across (leads_in rows (values_in paths.now) (edge_of segments.now))
         (turn segments.now) (twin before) behind }
 {
     let over = segments.turn(before.twin());
-    if leads_along(rows, paths, segments, hints, over) {
+    if leads_along(paths, segments, hints, over) {
         over
     } else {
         segments.turn(behind)
@@ -68,22 +66,18 @@ fn midpoint(
 }
 
 /// Takes the segments of an edge out, one after another, and puts the midpoints at their places.
-fn open_path(
-    rows: &KeptRows,
-    paths: &[Path],
-    segments: &mut Embedding,
-    hints: &IdIndex,
-    path: &mut Path,
-)
-    requires { (e : ℕ) × IsSetOut rows.now paths.now e path.old segments.old }
-    ensures { (e : ℕ) (o : IsSetOut rows.now paths.now e path.old segments.old)
-        → IsOpenTo (record { rows = rows.now; paths = o.paths }) e segments.old (length path.old)
+fn open_path(paths: &Table<Path>, segments: &mut Embedding, hints: &Hints, path: &mut Path)
+    ghost rows: { Rows }
+    requires ids { ids_in paths.now ≡ map (λ row. row.id) rows.edges }
+    requires set_out { (e : ℕ) × IsSetOut rows (values_in paths.now) e path.old segments.old }
+    ensures { (e : ℕ) (o : IsSetOut rows (values_in paths.now) e path.old segments.old)
+        → IsOpenTo (record { rows = rows; paths = o.paths }) e segments.old (length path.old)
         segments.new path.new }
 {
     let last = path.len() - 1;
     for i in 0..last {
         let half = path.at(i);
-        let mid = midpoint(rows, paths, segments, hints, half, path.at(i + 1));
+        let mid = midpoint(paths, segments, hints, half, path.at(i + 1));
         path.set(i, mid);
         segments.unchord(half);
     }
@@ -91,68 +85,82 @@ fn open_path(
 }
 
 /// Takes a half that is not the first out of the path of its edge.
-fn leave_path(
-    rows: &KeptRows,
-    paths: &mut Vec<Path>,
-    segments: &Embedding,
-    hints: &IdIndex,
-    half: Half,
-)
-    requires formed { IsWellFormed rows.now }
-    requires many { length paths.old.items ≡ length rows.now.edges }
+fn leave_path(paths: &mut Table<Path>, segments: &Embedding, hints: &Hints, half: Half)
+    ghost rows: { Rows }
+    requires ids { ids_in paths.old ≡ map (λ row. row.id) rows.edges }
     requires live { is_live segments.now half ≡ true }
-    requires there { is_some (edge_row rows.now (edge_of segments.now half)) ≡ true }
-    requires later { slice_index_or (path_of (record { rows = rows.now; paths = paths.old.items })
+    requires there { is_some (edge_row rows (edge_of segments.now half)) ≡ true }
+    requires later { slice_index_or (path_of (record { rows = rows; paths = values_in paths.old })
         (edge_of segments.now half)) 0 0 ≢ half }
-    ensures { paths.new.items
-        ≡ without_half rows.now (edge_of segments.now half) half paths.old.items }
+    ensures paths { values_in paths.new
+        ≡ without_half rows (edge_of segments.now half) half (values_in paths.old) }
+    ensures same { KeepsIds paths.old paths.new }
 {
-    let place = place_of_edge(rows.edges(), hints, segments.edge(half));
-    paths[place].remove(half);
+    let edge = segments.edge(half);
+    match paths.place_of(hints.place(edge), edge) {
+        Some(place) => {
+            let mut path = paths.take(place);
+            path.remove(half);
+            paths.put(place, path);
+        }
+        None => unreachable!(),
+    }
 }
 
 /// Smooths the midpoints that an edge has left, one after another, and takes each out of the path
 /// of its edge.
-fn smooth_path(
-    rows: &KeptRows,
-    paths: &mut Vec<Path>,
-    segments: &mut Embedding,
-    hints: &IdIndex,
-    path: &Path,
-)
-    requires { (e : ℕ) × IsOpened rows.now paths.old.items e (mids_of path.now) segments.old }
-    ensures { (e : ℕ) (o : IsOpened rows.now paths.old.items e (mids_of path.now) segments.old)
-        → IsSmoothedTo (record { rows = rows.now; paths = o.set_out.paths }) e o.before segments.old
-        (mids_of path.now) (length (mids_of path.now)) segments.new paths.new.items }
+fn smooth_path(paths: &mut Table<Path>, segments: &mut Embedding, hints: &Hints, path: &Path)
+    ghost rows: { Rows }
+    requires ids { ids_in paths.old ≡ map (λ row. row.id) rows.edges }
+    requires opened { (e : ℕ)
+        × IsOpened rows (values_in paths.old) e (mids_of path.now) segments.old }
+    ensures smoothed { (e : ℕ)
+        (o : IsOpened rows (values_in paths.old) e (mids_of path.now) segments.old)
+        → IsSmoothedTo (record { rows = rows; paths = o.set_out.paths }) e o.before segments.old
+        (mids_of path.now) (length (mids_of path.now)) segments.new (values_in paths.new) }
+    ensures same { KeepsIds paths.old paths.new }
 {
     let crossings = path.len() - 1;
     for i in 0..crossings {
         let mid = path.at(i);
-        leave_path(rows, paths, segments, hints, mid);
+        leave_path(paths, segments, hints, mid);
         segments.smooth(mid);
     }
 }
 
+/// Takes out the path of an edge, and puts one without a meaning in its place.
+fn stand_in(paths: &mut Table<Path>, hints: &Hints, edge: u32) -> Path
+    requires { has_id (ids_in paths.old) edge ≡ true }
+    ensures path { result ≡ path_in paths.old edge }
+    ensures paths { IsPathAt paths.old paths.new edge (0 ∷ []) }
+    ensures same { KeepsIds paths.old paths.new }
+{
+    match paths.place_of(hints.place(edge), edge) {
+        Some(place) => {
+            let path = paths.take(place);
+            paths.put(place, Path::of(Half::numbered(0)));
+            path
+        }
+        None => unreachable!(),
+    }
+}
+
 /// Takes the segments of an edge out, with its crossings, and its path.
-fn delete_lists(
-    rows: &KeptRows,
-    paths: &mut Vec<Path>,
-    segments: &mut Embedding,
-    hints: &IdIndex,
-    edge: u32,
-)
-    requires lawful { Lawful rows.now }
-    requires there { is_some (edge_row rows.now edge) ≡ true }
-    requires shows { ShowsRows (record { rows = rows.now; paths = paths.old.items }) segments.old }
-    ensures { ShowsRows (record { rows = without rows.now edge; paths = paths.new.items })
+fn delete_lists(paths: &mut Table<Path>, segments: &mut Embedding, hints: &Hints, edge: u32)
+    ghost rows: { Rows }
+    requires lawful { Lawful rows }
+    requires there { is_some (edge_row rows edge) ≡ true }
+    requires shows { ShowsRows (record { rows = rows; paths = values_in paths.old }) segments.old }
+    requires kept { AreForEdges rows paths.old }
+    ensures shows { ShowsRows (record { rows = without rows edge; paths = values_in paths.new })
         segments.new }
+    ensures kept { AreForEdges (without rows edge) paths.new }
 {
     segments.laws();
-    let place = place_of_edge(rows.edges(), hints, edge);
-    let mut path = mem::replace(&mut paths[place], Path::of(Half::numbered(0)));
-    open_path(rows, paths.as_slice(), segments, hints, &mut path);
-    smooth_path(rows, paths, segments, hints, &path);
-    paths.remove(place);
+    let mut path = stand_in(paths, hints, edge);
+    open_path(paths, segments, hints, &mut path);
+    smooth_path(paths, segments, hints, &path);
+    paths.remove(edge);
 }
 
 impl Parts {
@@ -161,12 +169,28 @@ impl Parts {
         requires lawful { Lawful self.old.rows }
         requires there { is_some (edge_row self.old.rows edge) ≡ true }
         requires shows { Agree self.old }
+        requires kept { AreForEdges self.old.rows self.old.paths }
         ensures rows { self.new.rows ≡ without self.old.rows edge }
         ensures shows { Agree self.new }
+        ensures kept { AreForEdges self.new.rows self.new.paths }
     {
-        let paths = self.paths.as_vec_mut();
-        delete_lists(&self.rows, paths, &mut self.segments, &self.index, edge);
-        delete_rows(&mut self.rows, &mut self.index, edge);
-        self.index.settle(self.rows.edges());
+        self.take_out(edge);
+        self.hints.settle(&self.paths);
+    }
+
+    // As `delete`, without the hints.
+    fn take_out(&mut self, edge: u32)
+        ghost rows: { Rows }
+        requires was { rows ≡ self.old.rows }
+        requires lawful { Lawful self.old.rows }
+        requires there { is_some (edge_row self.old.rows edge) ≡ true }
+        requires shows { Agree self.old }
+        requires kept { AreForEdges self.old.rows self.old.paths }
+        ensures rows { self.new.rows ≡ without self.old.rows edge }
+        ensures shows { Agree self.new }
+        ensures kept { AreForEdges self.new.rows self.new.paths }
+    {
+        delete_lists(&mut self.paths, &mut self.segments, &self.hints, edge);
+        delete_rows(&mut self.rows, &self.hints, edge);
     }
 }

@@ -1,38 +1,52 @@
 //! Rows with their embedding.
 
-ghost use Rattle.std.specs.List.{position_or_len};
-ghost use Rattle.std.specs.Prelude.{◌≡◌, ◌==◌, ◌↔◌, ◌*◌, ◌<◌, ◌≤◌, ◌^◌, true, IfOk};
+ghost use Rattle.std.specs.Prelude.{◌≡◌, ◌↔◌, ◌*◌, ◌<◌, ◌≤◌, ◌^◌, true, IfOk, Some};
 ghost use Rattle.std.specs.Prelude.{IsTrue, is_some, length, option_map, sum_by};
+ghost use Rattle.topo_changes.specs.Keeping.{viewed_row};
 ghost use Rattle.topo_core.specs.declared.darts.Dart.{Dart};
 ghost use Rattle.topo_core.specs.Lawful.{IsWellFormed};
 ghost use Rattle.topo_core.specs.Picture.{corner, darts, edge_at, edge_row};
 ghost use Rattle.topo_core.specs.Picture.{end_dart, segment_count, system};
 ghost use Rattle.topo_core.specs.Routes.{AreFactsOf};
 ghost use Rattle.topo_core.specs.Systems.{SameFace, face_step, has_dart};
-ghost use Rattle.topo_embedded.specs.Halves.{IsHalf, ShowsRows, half_in};
+ghost use Rattle.topo_embedded.specs.Halves.{IsHalf, ShowsRows, half_in, path_of};
 ghost use Rattle.topo_embedded.specs.Walking.{named_in};
 ghost use Rattle.topo_rows.specs.Flats.{AreTurnsOf};
 ghost use Rattle.topo_route.specs.Names.{IsNamed};
 
 mod canonical;
 
-use crate::copies::copy_paths;
 use crate::cuts::first_cut;
 use crate::making::{labels_of, paths_of};
 use crate::padding::Crossed;
 use crate::parts::Parts;
+use crate::path::Path;
 use crate::walking::{end_of, led, place_on_path};
 use std::alloc::{AllocError, Global};
 use std::marker::Model;
-use topo_changes::KeptRows;
+use topo_changes::{EdgeView, KeptRows};
 use topo_core::darts::{Dart, Way};
 use topo_core::ids::EdgeId;
 use topo_core::listed::Listed;
 use topo_core::routes::Route;
 use topo_core::rows::{Facts, Rows};
 use topo_map::{Embedding, Half};
-use topo_rows::by_id::place_of_edge;
-use topo_rows::{IdIndex, Turns};
+use topo_rows::Turns;
+use topo_table::Hints;
+
+/// The facts of an edge of a known kind.
+fn facts_of(edge: EdgeView<'_>) -> Facts
+    requires { edge.kind < 64 }
+    ensures { AreFactsOf (viewed_row edge.entry) result }
+{
+    let (id, a, b, kind) = (edge.id, edge.a, edge.b, edge.kind);
+    Facts {
+        id,
+        a,
+        b,
+        kind: kind as u8,
+    }
+}
 
 /// Well-formed rows with their embedding. Contracts see the rows, and for each edge, by its place
 /// among the edges, the half that leads along it on each of its segments.
@@ -53,12 +67,14 @@ impl Model for Embedded {
     ghost use Rattle.topo_core.specs.Lawful.{IsWellFormed};
     ghost use Rattle.topo_embedded.specs.Halves.{RowsWithPaths};
     ghost use Rattle.topo_embedded.specs.Parts.{Agree, with_paths};
+    ghost use Rattle.topo_embedded.specs.Paths.{AreForEdges};
 
     ghost Value = { RowsWithPaths };
 
     ghost view = { λ e. with_paths e.parts };
 
-    ghost invariant = { λ e. IsWellFormed e.parts.rows × Agree e.parts };
+    ghost invariant = { λ e. IsWellFormed e.parts.rows × Agree e.parts
+        × AreForEdges e.parts.rows e.parts.paths };
 }
 
 impl Embedded {
@@ -74,15 +90,16 @@ impl Embedded {
         let images = turns.images.as_slice();
         let labels = labels_of(alloc, edges, images.len() / 2)?;
         let (segments, halves) = Embedding::from_turns(alloc, images, labels.as_slice())?;
-        let paths = paths_of(alloc, edges, turns.begins.as_slice(), halves.as_slice())?;
+        let limit = rows.next_edge;
+        let begins = turns.begins.as_slice();
+        let paths = paths_of(alloc, edges, begins, halves.as_slice(), limit)?;
+        let hints = Hints::of(alloc, &paths, limit)?;
         let rows = KeptRows::of(alloc, rows)?;
-        let mut index = turns.hints;
-        index.forget_crossings();
         let parts = Parts {
             rows,
             paths,
             segments,
-            index,
+            hints,
         };
         Ok(Embedded { parts })
     }
@@ -92,14 +109,14 @@ impl Embedded {
         ensures { IfOk result (λ e. e ≡ self.now) }
     {
         let rows = self.parts.rows.copy(alloc)?;
-        let paths = copy_paths(alloc, self.parts.paths.as_slice())?;
+        let paths = self.parts.paths.try_copy(alloc)?;
         let segments = self.parts.segments.copy()?;
-        let index = self.parts.index.copy(alloc)?;
+        let hints = Hints::of(alloc, &paths, rows.next_edge())?;
         let parts = Parts {
             rows,
             paths,
             segments,
-            index,
+            hints,
         };
         Ok(Embedded { parts })
     }
@@ -118,30 +135,44 @@ impl Embedded {
         &self.parts.segments
     }
 
-    /// Places of rows by their ids, to be tried before a search.
-    pub fn hints(&self) -> &IdIndex {
-        &self.parts.index
+    /// The edge with an id.
+    pub fn find_edge(&self, id: u32) -> Option<EdgeView<'_>>
+        ensures { option_map viewed_row result ≡ edge_row self.now.rows id }
+    {
+        self.parts.edge(id)
     }
 
-    // The half of a dart whose edge has this place among the edges.
-    fn half_on(&self, place: usize, dart: Dart) -> Half
-        requires there { has_dart (darts self.now.rows) dart ≡ true }
-        requires place { place ≡ position_or_len (λ row. row.id == dart.edge) self.now.rows.edges }
+    // An edge that is there.
+    fn known_edge(&self, e: u32) -> EdgeView<'_>
+        requires { is_some (edge_row self.now.rows e) ≡ true }
+        ensures { edge_row self.now.rows e ≡ Some (viewed_row result) }
+    {
+        match self.parts.edge(e) {
+            Some(edge) => edge,
+            None => unreachable!(),
+        }
+    }
+
+    // The path of an edge that is there.
+    fn path(&self, e: u32) -> &Path
+        requires { is_some (edge_row self.now.rows e) ≡ true }
+        ensures { result.now ≡ path_of self.now e }
+    {
+        match self.parts.path(e) {
+            Some(path) => path,
+            None => unreachable!(),
+        }
+    }
+
+    // The half of a dart.
+    fn half_of(&self, dart: Dart) -> Half
+        requires { has_dart (darts self.now.rows) dart ≡ true }
         ensures { result ≡ half_in self.now dart }
     {
-        led(
-            self.parts.paths.as_slice()[place].at(dart.seg as usize),
-            dart.way,
-        )
-    }
-
-    // The place of a dart's edge among the edges.
-    fn place_of(&self, dart: &Dart) -> usize
-        requires { has_dart (darts self.now.rows) dart.now ≡ true }
-        ensures { result ≡ position_or_len (λ row. row.id == dart.now.edge) self.now.rows.edges }
-    {
-        let edges = self.parts.rows.edges();
-        place_of_edge(edges, &self.parts.index, dart.edge.number())
+        match self.parts.path(dart.edge.number()) {
+            Some(path) => led(path.at(dart.seg as usize), dart.way),
+            None => unreachable!(),
+        }
     }
 
     /// The half of the next dart along the face on the left.
@@ -188,12 +219,7 @@ impl Embedded {
         ensures { (d : Dart) → has_dart (darts self.now.rows) d ≡ true → half_in self.now d ≡ half
             → AreFactsOf (edge_at self.now.rows d.edge) result }
     {
-        let edges = self.parts.rows.edges();
-        let place = place_of_edge(edges, &self.parts.index, self.parts.segments.edge(half));
-        match Facts::from_row(&edges[place]) {
-            Some(facts) => facts,
-            None => unreachable!(),
-        }
+        facts_of(self.known_edge(self.parts.segments.edge(half)))
     }
 
     /// The dart of a half. It looks along the path of the edge.
@@ -203,9 +229,7 @@ impl Embedded {
             → half_in self.now d ≡ half → result ≡ d }
     {
         let label = self.parts.segments.edge(half);
-        let place = place_of_edge(self.parts.rows.edges(), &self.parts.index, label);
-        let path = &self.parts.paths.as_slice()[place];
-        let (seg, way) = place_on_path(path, half);
+        let (seg, way) = place_on_path(self.path(label), half);
         let edge = EdgeId::new(label);
         Dart { edge, seg, way }
     }
@@ -215,10 +239,11 @@ impl Embedded {
         requires { is_some (edge_row self.now.rows e) ≡ true }
         ensures { result ≡ half_in self.now (end_dart self.now.rows v e) }
     {
-        let edges = self.parts.rows.edges();
-        let place = place_of_edge(edges, &self.parts.index, e);
-        let (seg, way) = end_of(&edges[place], v);
-        led(self.parts.paths.as_slice()[place].at(seg), way)
+        let Some(edge) = self.parts.edge(e) else {
+            unreachable!()
+        };
+        let (seg, way) = end_of(edge, v);
+        led(self.path(e).at(seg), way)
     }
 
     /// The half that names the corner at a position of a vertex; none where there is no such
@@ -245,12 +270,7 @@ impl Embedded {
         requires { is_some (edge_row self.now.rows edge) ≡ true }
         ensures { IsFirstCut self.now.rows edge result }
     {
-        let place = place_of_edge(self.parts.rows.edges(), &self.parts.index, edge);
-        first_cut(
-            &self.parts.segments,
-            edge,
-            &self.parts.paths.as_slice()[place],
-        )
+        first_cut(&self.parts.segments, edge, self.path(edge))
     }
 }
 
@@ -310,9 +330,8 @@ impl Embedded {
         ensures marked { IsMarked self.now result }
         ensures dart { result.dart ≡ dart.now }
     {
-        let place = self.place_of(dart);
-        let near = self.half_on(place, *dart);
-        Crossed::new(*dart, place, near)
+        let hint = self.parts.hints.place(dart.edge.number());
+        Crossed::new(*dart, hint, self.half_of(*dart))
     }
 
     /// Draws a new edge of the given kind along a route that meets no face twice, from the first of

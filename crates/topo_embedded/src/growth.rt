@@ -8,6 +8,8 @@ ghost use Rattle.topo_core.specs.Picture.{corner, rotation};
 ghost use Rattle.topo_core.specs.declared.darts.Dart.{Dart};
 ghost use Rattle.topo_embedded.specs.Halves.{half_in};
 ghost use Rattle.topo_embedded.specs.Parts.{Agree, with_paths};
+ghost use Rattle.topo_embedded.specs.Paths.{AreForEdges};
+ghost use Rattle.topo_table.specs.Places.{values_in};
 
 use crate::parts::Parts;
 use crate::path::Path;
@@ -33,23 +35,24 @@ impl Parts {
         requires vertices { length self.old.rows.rotations < 2 ^ 32 }
         requires edges { self.old.rows.next_edge + 1 < 2 ^ 32 }
         requires shows { Agree self.old }
+        requires kept { AreForEdges self.old.rows self.old.paths }
         requires named { (c : Dart) → corner self.old.rows u position ≡ Some c
             → named ≡ half_in (with_paths self.old) c }
         ensures ok { OnOk result (self.new.rows ≡ grown self.old.rows u position kind) }
         ensures err { OnErr result (self.new.rows ≡ self.old.rows) }
-        ensures err_paths { OnErr result (self.new.paths ≡ self.old.paths) }
+        ensures err_paths { OnErr result (values_in self.new.paths ≡ values_in self.old.paths) }
         ensures shows { Agree self.new }
+        ensures kept { AreForEdges self.new.rows self.new.paths }
     {
-        let paths = self.paths.as_vec_mut();
-        self.index.reserve()?;
+        self.hints.reserve()?;
         self.segments.reserve(1)?;
-        paths.reserve(1)?;
+        self.paths.reserve(1)?;
         let edge = self.rows.next_edge();
         grow_rows(alloc, &mut self.rows, u, position, kind)?;
         self.segments.laws();
         let half = self.segments.hang(named, edge);
-        paths.push(Path::of(half)).unwrap();
-        self.index.join(self.rows.edges());
+        self.paths.push(edge, Path::of(half));
+        self.hints.join(&self.paths, edge);
         Ok(())
     }
 }

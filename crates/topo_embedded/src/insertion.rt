@@ -4,7 +4,6 @@
 ghost use Rattle.std.specs.Prelude.{◌≡◌, ◌+◌, ◌*◌, ◌≤◌, ◌<◌, ◌^◌, IfOk};
 ghost use Rattle.std.specs.Prelude.{OnErr, OnOk, length, map, true};
 ghost use Rattle.std.specs.List.{All};
-ghost use Rattle.std.specs.Vec.{vec_capacity, vec_len};
 ghost use Rattle.topo_core.specs.Changes.{shown};
 ghost use Rattle.topo_core.specs.Rotations.{twin};
 ghost use Rattle.topo_map.specs.Rotation.{is_live};
@@ -15,24 +14,30 @@ ghost use Rattle.topo_embedded.specs.Halves.{RowsWithPaths};
 ghost use Rattle.topo_embedded.specs.Inserting.{put_halves};
 ghost use Rattle.topo_embedded.specs.Padding.{ArePadded, ArePlaced};
 ghost use Rattle.topo_embedded.specs.Parts.{Agree, with_paths};
+ghost use Rattle.topo_embedded.specs.Paths.{AreForEdges, KeepsIds};
+ghost use Rattle.topo_table.specs.Places.{ids_in, ids_of, values_in};
 
-use crate::padding::{Crossed, pad, put_beside, unpad};
+use crate::padding::{Crossed, pad, split_path, unpad};
 use crate::parts::Parts;
 use crate::path::Path;
 use std::alloc::{AllocError, Global};
 use topo_changes::insertion::apply_rows;
 use topo_core::routes::Route;
 use topo_map::{Embedding, Half};
+use topo_table::Table;
 
 /// Splits the segments of the crossed darts, the last one first.
-fn split_crossed(paths: &mut [Path], segments: &mut Embedding, crossed: &mut [Crossed])
+fn split_crossed(paths: &mut Table<Path>, segments: &mut Embedding, crossed: &mut [Crossed])
     ghost p: { RowsWithPaths }
-    requires ready { IsReady p segments.old crossed.old paths.old }
+    requires ready { IsReady p segments.old crossed.old (values_in paths.old) }
     requires room { length crossed.old ≤ segments.old.room }
+    requires ids { ids_in paths.old ≡ map (λ row. row.id) p.rows.edges }
     ensures darts { crossed_darts crossed.new ≡ crossed_darts crossed.old }
     ensures marked { All (IsMarked p) crossed.new }
     ensures split { AreSplit p segments.old segments.new crossed.new }
-    ensures paths { paths.new ≡ map (put_halves (subdivisions_of p.rows crossed.new)) p.paths }
+    ensures paths { values_in paths.new
+        ≡ map (put_halves (subdivisions_of p.rows crossed.new)) p.paths }
+    ensures same { KeepsIds paths.old paths.new }
     ensures room { segments.new.room + length crossed.old ≡ segments.old.room }
 {
     segments.laws();
@@ -41,7 +46,7 @@ fn split_crossed(paths: &mut [Path], segments: &mut Embedding, crossed: &mut [Cr
         n -= 1;
         let cross = crossed[n];
         let beyond = segments.split(cross.near);
-        put_beside(&mut paths[cross.place], cross.near, beyond);
+        split_path(paths, &cross, beyond);
         crossed[n] = Crossed { beyond, ..cross };
     }
 }
@@ -92,19 +97,21 @@ fn add_chords(
 /// crossed edges, and a path for the new edge.
 fn make_room(
     alloc: Global,
-    paths: &mut Vec<Path>,
+    paths: &mut Table<Path>,
     segments: &mut Embedding,
     crossed: &[Crossed],
 ) -> Result<Path, AllocError>
     requires few { length crossed.now < 2 ^ 32 }
-    requires placed { ArePlaced (length paths.old.items) crossed.now }
+    requires placed { ArePlaced (ids_in paths.old) crossed.now }
     ensures slots { segments.new.slots ≡ segments.old.slots }
     ensures room { OnOk result (2 * length crossed.now + 1 ≤ segments.new.room) }
     ensures line { IfOk result (λ line. length line ≡ length crossed.now + 1) }
-    ensures padded { OnOk result
-        (ArePadded (λ hs. hs) paths.old.items crossed.now paths.new.items) }
-    ensures capacity { OnOk result (vec_len paths.new < vec_capacity paths.new) }
-    ensures err { OnErr result (paths.new.items ≡ paths.old.items) }
+    ensures padded { OnOk result (ArePadded (ids_in paths.old) (λ hs. hs) (values_in paths.old)
+        crossed.now (values_in paths.new)) }
+    ensures path_room { OnOk result (0 < paths.new.room) }
+    ensures ids { ids_in paths.new ≡ ids_in paths.old }
+    ensures places { ids_of paths.new.slots ≡ ids_of paths.old.slots }
+    ensures err { OnErr result (values_in paths.new ≡ values_in paths.old) }
 {
     segments.reserve(2 * crossed.len() + 1)?;
     paths.reserve(1)?;
@@ -117,7 +124,7 @@ fn make_room(
 
 /// Puts the new edge into the embedding.
 fn add_route(
-    paths: &mut [Path],
+    paths: &mut Table<Path>,
     segments: &mut Embedding,
     crossed: &mut [Crossed],
     corners: (Half, Half),
@@ -125,14 +132,17 @@ fn add_route(
     line: &mut Path,
 )
     ghost p: { RowsWithPaths }
-    requires ready { IsReady p segments.old crossed.old paths.old }
+    requires ready { IsReady p segments.old crossed.old (values_in paths.old) }
     requires room { 2 * length crossed.old + 1 ≤ segments.old.room }
     requires start { is_live segments.old corners.0 ≡ true }
     requires end { is_live segments.old corners.1 ≡ true }
     requires line { length line.old ≡ length crossed.old + 1 }
+    requires ids { ids_in paths.old ≡ map (λ row. row.id) p.rows.edges }
     ensures darts { crossed_darts crossed.new ≡ crossed_darts crossed.old }
     ensures marked { All (IsMarked p) crossed.new }
-    ensures paths { paths.new ≡ map (put_halves (subdivisions_of p.rows crossed.new)) p.paths }
+    ensures paths { values_in paths.new
+        ≡ map (put_halves (subdivisions_of p.rows crossed.new)) p.paths }
+    ensures same { KeepsIds paths.old paths.new }
     ensures routed { IsRouted p segments.old segments.new crossed.new corners.0
         corners.1 edge line.new }
 {
@@ -157,21 +167,24 @@ impl Parts {
     ) -> Result<(), AllocError>
         requires ready { IsReadyFor (with_paths self.old)
             self.old.segments crossed.old ends.0 ends.1 kind route.now corners.0 corners.1 }
+        requires kept { AreForEdges self.old.rows self.old.paths }
         requires edges { self.old.rows.next_edge + 1 < 2 ^ 32 }
         requires crossing_ids { self.old.rows.next_crossing + length route.now.crossed < 2 ^ 32 }
         ensures ok { OnOk result
             (self.new.rows ≡ shown self.old.rows ends.0 ends.1 kind route.now) }
         ensures err { OnErr result (self.new.rows ≡ self.old.rows) }
-        ensures err_paths { OnErr result (self.new.paths ≡ self.old.paths) }
+        ensures err_paths { OnErr result (values_in self.new.paths ≡ values_in self.old.paths) }
         ensures shows { Agree self.new }
+        ensures kept { AreForEdges self.new.rows self.new.paths }
     {
-        self.index.reserve()?;
+        let edge = self.rows.next_edge();
+        self.hints.reserve()?;
         self.add_edge(alloc, crossed, corners, ends, kind, route)?;
-        self.index.join(self.rows.edges());
+        self.hints.join(&self.paths, edge);
         Ok(())
     }
 
-    // As `insert`, without the index of the edges.
+    // As `insert`, without the hints.
     fn add_edge(
         &mut self,
         alloc: Global,
@@ -185,21 +198,22 @@ impl Parts {
         requires was { p ≡ with_paths self.old }
         requires ready { IsReadyFor p self.old.segments crossed.old ends.0 ends.1 kind route.now
             corners.0 corners.1 }
+        requires kept { AreForEdges self.old.rows self.old.paths }
         requires edges { self.old.rows.next_edge + 1 < 2 ^ 32 }
         requires crossing_ids { self.old.rows.next_crossing + length route.now.crossed < 2 ^ 32 }
         ensures ok { OnOk result
             (self.new.rows ≡ shown self.old.rows ends.0 ends.1 kind route.now) }
         ensures err { OnErr result (self.new.rows ≡ self.old.rows) }
-        ensures err_paths { OnErr result (self.new.paths ≡ self.old.paths) }
+        ensures err_paths { OnErr result (values_in self.new.paths ≡ values_in self.old.paths) }
         ensures shows { Agree self.new }
+        ensures kept { AreForEdges self.new.rows self.new.paths }
     {
-        let paths = self.paths.as_vec_mut();
         let edge = self.rows.next_edge();
-        let mut line = make_room(alloc, paths, &mut self.segments, crossed)?;
+        let mut line = make_room(alloc, &mut self.paths, &mut self.segments, crossed)?;
         if apply_rows(
             alloc,
             &mut self.rows,
-            &self.index,
+            &self.hints,
             ends.0,
             ends.1,
             kind,
@@ -207,12 +221,13 @@ impl Parts {
         )
         .is_err()
         {
-            unpad(paths, crossed);
+            unpad(&mut self.paths, crossed);
             return Err(AllocError);
         }
         self.segments.laws();
+        let paths = &mut self.paths;
         add_route(paths, &mut self.segments, crossed, corners, edge, &mut line);
-        paths.push(line).unwrap();
+        paths.push(edge, line);
         Ok(())
     }
 }

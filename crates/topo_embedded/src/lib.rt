@@ -7,7 +7,6 @@
 //! of darts (`ShowsRows`), which the edits of the embedding keep.
 #![tactic(auto)]
 
-mod copies;
 mod cuts;
 mod deletion;
 pub mod embedded;

@@ -1,15 +1,18 @@
 //! The halves of rows, made anew.
 
-ghost use Rattle.std.specs.Prelude.{◌≡◌, ◌+◌, ◌*◌, ◌≤◌, ◌<◌, ◌^◌, IfOk, flat_map, length, sum_by};
+ghost use Rattle.std.specs.Prelude.{◌≡◌, ◌+◌, ◌*◌, ◌≤◌, ◌<◌, ◌^◌, IfOk, flat_map, length, map};
+ghost use Rattle.std.specs.Prelude.{sum_by, true};
+ghost use Rattle.topo_core.specs.Items.{rises_below};
 ghost use Rattle.topo_core.specs.Picture.{darts_of, segment_count};
 ghost use Rattle.topo_embedded.specs.Making.{ArePathsOf, IsPathOf, labels_of};
 ghost use Rattle.topo_rows.specs.Flats.{begins_from};
+ghost use Rattle.topo_table.specs.Places.{AreBelow, ids_in, values_in};
 
 use crate::path::Path;
 use std::alloc::{AllocError, Global};
-use topo_core::listed::Listed;
 use topo_core::rows::EdgeRow;
 use topo_map::Half;
+use topo_table::Table;
 
 /// For each segment the id of its edge. So many segments are expected.
 pub(crate) fn labels_of(
@@ -44,22 +47,29 @@ fn path_of(
     Path::new(alloc, halves[begin], others)
 }
 
-/// The halves along each edge, where the darts of the edges begin as said.
+/// The halves along each edge, where the darts of the edges begin as said. The ids of the edges
+/// are below `limit`.
 pub(crate) fn paths_of(
     alloc: Global,
     edges: &[EdgeRow],
     begins: &[u32],
     halves: &[Half],
-) -> Result<Listed<Path>, AllocError>
+    limit: u32,
+) -> Result<Table<Path>, AllocError>
+    requires rise { rises_below limit (map (λ row. row.id) edges.now) ≡ true }
     requires begins { begins.now ≡ begins_from 0 edges.now }
     requires halves { length halves.now ≡ length (flat_map darts_of edges.now) }
-    ensures { IfOk result (ArePathsOf edges.now begins.now halves.now (length edges.now)) }
+    ensures paths { IfOk result (λ paths.
+        ArePathsOf edges.now begins.now halves.now (length edges.now) (values_in paths)) }
+    ensures ids { IfOk result (λ paths. ids_in paths ≡ map (λ row. row.id) edges.now) }
+    ensures below { IfOk result (λ paths. AreBelow limit paths.slots) }
 {
-    let mut paths = Vec::with_capacity(alloc, edges.len())?;
+    let mut paths = Table::new(alloc);
+    paths.reserve(edges.len())?;
     for place in 0..edges.len() {
         let crossings = edges[place].crossings.as_slice().len();
         let path = path_of(alloc, halves, begins[place] as usize, crossings)?;
-        paths.push(path)?;
+        paths.push(edges[place].id, path);
     }
-    Ok(Listed::from_vec(paths))
+    Ok(paths)
 }

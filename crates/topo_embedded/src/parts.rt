@@ -1,18 +1,39 @@
 //! Rows, the halves along each edge, and the segments that these are halves of.
 
+ghost use Rattle.std.specs.Prelude.{◌≡◌, option_copied, option_map};
+ghost use Rattle.topo_changes.specs.Keeping.{viewed_row};
+ghost use Rattle.topo_core.specs.Picture.{edge_row};
+ghost use Rattle.topo_table.specs.Places.{entries, value_of};
+
 use crate::path::Path;
-use topo_changes::KeptRows;
-use topo_core::listed::Listed;
+use topo_changes::{EdgeView, KeptRows};
 use topo_map::Embedding;
-use topo_rows::IdIndex;
+use topo_table::{Hints, Table};
 
 /// The parts of an embedding (`Embedded`), whether or not they agree. A method that changes them
 /// says what has to agree before, and that it agrees after.
 #[derive(Drop)]
 pub(crate) struct Parts {
     pub(crate) rows: KeptRows,
-    pub(crate) paths: Listed<Path>,
+    pub(crate) paths: Table<Path>,
     pub(crate) segments: Embedding,
-    // Places of edges by their ids, each of which is tested before it is used.
-    pub(crate) index: IdIndex,
+    // Places of edges in both tables, by their ids. Both have the same places, since an edge is put
+    // into both and taken out of both.
+    pub(crate) hints: Hints,
+}
+
+impl Parts {
+    /// The edge with an id.
+    pub(crate) fn edge(&self, id: u32) -> Option<EdgeView<'_>>
+        ensures { option_map viewed_row result ≡ edge_row self.now.rows id }
+    {
+        self.rows.edge(self.hints.place(id), id)
+    }
+
+    /// The path of the edge with an id.
+    pub(crate) fn path(&self, id: u32) -> Option<&Path>
+        ensures { option_copied result ≡ value_of id (entries self.now.paths) }
+    {
+        self.paths.get_near(self.hints.place(id), id)
+    }
 }

@@ -9,6 +9,7 @@ ghost use Rattle.topo_embedded.specs.Halves.{on_segment};
 use std::alloc::{AllocError, Global};
 use std::marker::Model;
 use topo_map::Half;
+use topo_table::TryCopy;
 
 /// The first half, and the others where there are some. They lie behind one word, so that this
 /// takes two.
@@ -206,11 +207,10 @@ impl Path {
         }
         self.settle();
     }
+}
 
-    /// An equal one, in memory of its own.
-    pub(crate) fn copy(&self, alloc: Global) -> Result<Self, AllocError>
-        ensures { IfOk result (λ copy. copy ≡ self.now) }
-    {
+impl TryCopy for Path {
+    fn try_copy(&self, alloc: Global) -> Result<Self, AllocError> {
         match &self.line {
             Line::One(first) => Ok(Path::of(*first)),
             Line::More(first, others) => {

@@ -2,6 +2,7 @@
 
 ghost use Rattle.std.specs.Prelude.{◌≡◌, ◌==◌, ◌↔◌, ◌<◌, ◌^◌, IsTrue, length, slice_index_or};
 ghost use Rattle.std.specs.declared.cmp.Ordering.TheVariants.{Less};
+ghost use Rattle.topo_changes.specs.Keeping.{viewed_row};
 ghost use Rattle.topo_core.specs.Darts.{dart_cmp};
 ghost use Rattle.topo_core.specs.Lawful.{Lawful};
 ghost use Rattle.topo_embedded.specs.Halves.{by_way};
@@ -12,8 +13,9 @@ ghost use Rattle.topo_route.specs.Names.{HasFaces, IsNamed};
 use crate::embedded::Embedded;
 use crate::path::Path;
 use std::marker::Model;
+use topo_changes::EdgeView;
 use topo_core::darts::{Dart, Way};
-use topo_core::rows::{EdgeRow, Facts};
+use topo_core::rows::Facts;
 use topo_map::{Embedding, Half};
 use topo_route::face_graph::FaceGraph;
 
@@ -43,14 +45,14 @@ pub(crate) fn led(half: Half, way: Way) -> Half
 }
 
 /// The segment of an edge that ends at its end `v`, and the way along it from there.
-pub(crate) fn end_of(row: &EdgeRow, v: u32) -> (usize, Way)
-    ensures seg { result.0 ≡ end_seg row.now (row.now.a == v) }
-    ensures way { result.1 ≡ end_way (row.now.a == v) }
+pub(crate) fn end_of(edge: EdgeView<'_>, v: u32) -> (usize, Way)
+    ensures seg { result.0 ≡ end_seg (viewed_row edge.entry) (edge.entry.a == v) }
+    ensures way { result.1 ≡ end_way (edge.entry.a == v) }
 {
-    if row.a == v {
+    if edge.a == v {
         (0, Way::Forward)
     } else {
-        (row.crossings.as_slice().len(), Way::Back)
+        (edge.crossings.len(), Way::Back)
     }
 }
 

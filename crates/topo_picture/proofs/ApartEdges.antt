@@ -1,8 +1,7 @@
 -- What the tests of an edge apart from a region say.
 use Rattle.std.proofs.Common.{◌≡◌, ℕ, Bool, true, false, List, Some, refl, ap, subst, sym, ◌∙◌}
-use Rattle.std.specs.Prelude.{IfSome, Option, not, slice_get, slice_index_or, ◌&&◌}
+use Rattle.std.specs.Prelude.{IfSome, not, ◌&&◌}
 use Rattle.std.specs.List.{list_all}
-use Rattle.std.proofs.lemmas.Option.{slice_get-get_or}
 use Rattle.topo_core.specs.declared.rows.CrossRow.{CrossRow}
 use Rattle.topo_core.specs.declared.rows.EdgeRow.{EdgeRow}
 use Rattle.topo_core.specs.declared.rows.Rows.{Rows}
@@ -10,7 +9,6 @@ use Rattle.topo_core.specs.Items.{IsIn}
 use Rattle.topo_core.specs.Picture.{cross_row, edge_row}
 use Rattle.topo_core.proofs.numbering.Members.{left_true, right_true, test_of_each}
 use Rattle.topo_route.specs.Regions.{IsApart, RegionState, holds_edge, holds_vertex}
-use Rattle.topo_rows.specs.Ids.{IsPlaceOf}
 use Rattle.topo_picture.specs.Apart.{is_of_others, lies_apart}
 
 off : (b : Bool) → not b ≡ true → b ≡ false
@@ -42,11 +40,7 @@ is_apart rows region row passed =
           → (not (holds_edge region c.crossed) && not (holds_edge region c.newcomer)) ≡ true
       one x c passed there is = sym (ap (is_of_others region) is) ∙ test_of_each (λ x. is_of_others region (cross_row rows x)) x row.crossings passed there
 
--- so does the edge that was found at a place
-pub found_apart : (rows : Rows) (region : RegionState) (edge place : ℕ) (row : EdgeRow) → IsPlaceOf rows.edges (λ r. r.id) edge place
-    → row ≡ slice_index_or rows.edges place row
-    → lies_apart rows region row ≡ true → IfSome (edge_row rows edge) (IsApart rows region)
-found_apart rows region edge place row there read passed =
-    let same : Some row ≡ Some there.row = ap Some read ∙ sym (slice_get-get_or rows.edges place row there.within) ∙ there.at in
-    let one : row ≡ there.row = cc in
-    subst (λ o. IfSome o (IsApart rows region)) (sym there.found) (subst (IsApart rows region) one (is_apart rows region row passed))
+-- so does the edge that was found
+pub found_apart : (rows : Rows) (region : RegionState) (edge : ℕ) (row : EdgeRow) → Some row ≡ edge_row rows edge → lies_apart rows region row ≡ true
+    → IfSome (edge_row rows edge) (IsApart rows region)
+found_apart rows region edge row there passed = subst (λ o. IfSome o (IsApart rows region)) there (is_apart rows region row passed)

@@ -17,10 +17,9 @@ use topo_dual::{Frozen, NumberLists, Numbered};
 use topo_embedded::{Embedded, EmbeddedRows};
 use topo_route::plan::Plan;
 use topo_route::region::Region;
-use topo_rows::by_id::edge_place;
+use topo_rows::Turns;
 use topo_rows::flat::turns_of;
 use topo_rows::load::{LoadFault, judge};
-use topo_rows::{IdIndex, Turns};
 
 /// A connected embedding of a graph of genus zero, within limits. It keeps its rows with the halves
 /// along their edges, in a slab of segments.
@@ -118,7 +117,7 @@ impl Picture {
         counted(
             rows.rotations().len(),
             rows.crossing_count(),
-            rows.edges().len(),
+            rows.edge_count(),
         )
     }
 
@@ -222,7 +221,7 @@ impl Picture {
             × IsCut self.now.rows edge i)) }
         ensures lawful { IsPicture self.now.limits self.now.rows }
     {
-        if !has_edge(self.embedded.rows(), self.embedded.hints(), edge) {
+        if self.embedded.find_edge(edge).is_none() {
             return Err(Refusal::NoEdge);
         }
         match self.embedded.first_cut(edge) {
@@ -239,10 +238,8 @@ impl Picture {
             → IfSome (edge_row self.now.rows edge) (IsApart self.now.rows region.now) }
     {
         let rows = self.embedded.rows();
-        let hints = self.embedded.hints();
-        let edges = rows.edges();
-        match edge_place(edges, hints, edge) {
-            Some(place) => lies_apart(rows, region, &edges[place]),
+        match self.embedded.find_edge(edge) {
+            Some(found) => lies_apart(rows, region, found),
             None => true,
         }
     }
@@ -388,9 +385,7 @@ impl Picture {
 }
 
 ghost use Rattle.std.specs.Prelude.{◌≡◌, ◌+◌, ◌<◌, ◌≤◌, true, IfErr, IfOk};
-ghost use Rattle.std.specs.Prelude.{None, Some, is_some, length, [], ◌∷◌};
-ghost use Rattle.topo_core.specs.Lawful.{has_good_paths};
-ghost use Rattle.topo_core.specs.Picture.{edge_row};
+ghost use Rattle.std.specs.Prelude.{None, Some, length, [], ◌∷◌};
 ghost use Rattle.topo_core.specs.Pictures.{seed};
 ghost use Rattle.topo_core.specs.Steps.{HasRoomFor, grow_refusal, insert_refusal};
 ghost use Rattle.topo_rows.specs.Flats.{AreTurnsOf};
@@ -450,14 +445,6 @@ fn seed_rows(alloc: Global) -> Result<Rows, AllocError>
         next_edge: 1,
         next_crossing: 0,
     })
-}
-
-/// Whether there is an edge with this id.
-fn has_edge(rows: &KeptRows, hints: &IdIndex, e: u32) -> bool
-    requires { has_good_paths rows.now ≡ true }
-    ensures { result ≡ is_some (edge_row rows.now e) }
-{
-    edge_place(rows.edges(), hints, e).is_some()
 }
 
 /// The numbers of a new vertex and its edge, or the first reason to refuse the growth.

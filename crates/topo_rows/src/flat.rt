@@ -264,15 +264,13 @@ pub fn fill_turns(
     Ok(())
 }
 
-/// How the darts of rows turn, in canonical numbers, with what that was worked out from.
+/// How the darts of rows turn, in canonical numbers.
 #[derive(Drop)]
 pub struct Turns {
     /// For each dart the next one clockwise at its point.
     pub images: Vec<u32>,
     /// For each edge the number of its first dart, and last the number of all darts.
     pub begins: Vec<u32>,
-    /// Places of rows by their ids, to be tried before a search.
-    pub hints: IdIndex,
 }
 
 /// How the darts of rows turn, in canonical numbers.
@@ -284,11 +282,11 @@ pub fn turns_of(alloc: Global, rows: &Rows) -> Result<Turns, AllocError>
     ensures { IfOk result (λ turns. AreTurnsOf rows.now turns.begins.items turns.images.items) }
 {
     let hints = IdIndex::of(alloc, rows)?;
-    hinted_turns(alloc, rows, hints)
+    hinted_turns(alloc, rows, &hints)
 }
 
 /// The same, where hints are made already.
-pub(crate) fn hinted_turns(alloc: Global, rows: &Rows, hints: IdIndex) -> Result<Turns, AllocError>
+pub(crate) fn hinted_turns(alloc: Global, rows: &Rows, hints: &IdIndex) -> Result<Turns, AllocError>
     requires well_formed { IsWellFormed rows.now }
     requires few { 2 * sum_by segment_count rows.now.edges < 2 ^ 32 }
     requires vertices { length rows.now.rotations < 2 ^ 32 }
@@ -298,10 +296,6 @@ pub(crate) fn hinted_turns(alloc: Global, rows: &Rows, hints: IdIndex) -> Result
     let begins = begins_of(alloc, rows.edges.as_slice())?;
     let mut ahead = Vec::new(alloc);
     let mut images = Vec::new(alloc);
-    fill_turns(&mut images, &mut ahead, rows, begins.as_slice(), &hints)?;
-    Ok(Turns {
-        images,
-        begins,
-        hints,
-    })
+    fill_turns(&mut images, &mut ahead, rows, begins.as_slice(), hints)?;
+    Ok(Turns { images, begins })
 }

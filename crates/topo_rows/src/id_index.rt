@@ -2,7 +2,7 @@
 
 use crate::by_id::Identified;
 use std::alloc::{AllocError, Global};
-use topo_core::rows::{EdgeRow, Rows};
+use topo_core::rows::Rows;
 
 /// No places are noted for ids when more than this many ids were given for each row that is there.
 const MAX_IDS_PER_ROW: usize = 16;
@@ -24,13 +24,6 @@ impl IdIndex {
         Ok(IdIndex { edges, crossings })
     }
 
-    /// The same.
-    pub fn copy(&self, alloc: Global) -> Result<Self, AllocError> {
-        let edges = Vec::from_slice(alloc, self.edges.as_slice())?;
-        let crossings = Vec::from_slice(alloc, self.crossings.as_slice())?;
-        Ok(IdIndex { edges, crossings })
-    }
-
     /// Where the edge with an id is expected.
     pub(crate) fn edge(&self, id: u32) -> usize {
         expected(self.edges.as_slice(), id)
@@ -39,32 +32,6 @@ impl IdIndex {
     /// Where the crossing with an id is expected.
     pub(crate) fn crossing(&self, id: u32) -> usize {
         expected(self.crossings.as_slice(), id)
-    }
-
-    /// Lets go of the places of crossings, and of their memory.
-    pub fn forget_crossings(&mut self) {
-        self.crossings.clear();
-        self.crossings.shrink_to_fit();
-    }
-
-    /// Room for one edge more.
-    pub fn reserve(&mut self) -> Result<(), AllocError> {
-        self.edges.reserve(1)
-    }
-
-    /// Follows an edge put at the end.
-    pub fn join(&mut self, edges: &[EdgeRow]) {
-        note_last(&mut self.edges, edges, edges.len().saturating_sub(1));
-    }
-
-    /// Follows an edge that goes.
-    pub fn leave(&mut self, edge: u32) {
-        lower_from(&mut self.edges, (edge as usize).saturating_add(1));
-    }
-
-    /// Forgets the ids of edges where few of them are left, once an edge is gone.
-    pub fn settle(&mut self, edges: &[EdgeRow]) {
-        forget_sparse(&mut self.edges, edges.len());
     }
 }
 
@@ -107,26 +74,5 @@ fn note_places<T: Identified>(places: &mut [u32], rows: &[T]) {
         if id < places.len() {
             places[id] = noted(place);
         }
-    }
-}
-
-/// Notes the place of a row with the next id.
-fn note_last<T: Identified>(places: &mut Vec<u32>, rows: &[T], place: usize) {
-    if place < rows.len() && rows[place].id() as usize == places.len() {
-        let _short = places.push(noted(place)).is_err();
-    }
-}
-
-/// Moves all that is noted from an index on one place down.
-fn lower_from(places: &mut [u32], first: usize) {
-    for i in first..places.len() {
-        places[i] = places[i].wrapping_sub(1);
-    }
-}
-
-/// Lets go of the places of ids where most of the ids are gone.
-fn forget_sparse(places: &mut Vec<u32>, rows: usize) {
-    if places.len() / MAX_IDS_PER_ROW > rows {
-        places.clear();
     }
 }

@@ -169,7 +169,7 @@ pub fn judge(
     if !are_rotations_good(alloc, rows, &hints)? {
         return Ok(Err(LoadFault::BadRotation));
     }
-    let turns = hinted_turns(alloc, rows, hints)?;
+    let turns = hinted_turns(alloc, rows, &hints)?;
     if !is_whole(alloc, rows, &turns.images)? {
         return Ok(Err(LoadFault::NotConnected));
     }

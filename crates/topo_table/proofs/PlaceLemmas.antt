@@ -1,7 +1,8 @@
 -- What the places of a table hold, after each change that a table makes.
 use native.Mathlib.Numerals.{unary_clauses}
 use Rattle.std.proofs.Common.{◌≡◌, ℕ, zero, suc, ◌+◌, ◌<◌, ◌≤◌, ◌&&◌, Bool, true, false, eqb, ltb, List, [], ◌∷◌, ◌++◌, length, get_or, map}
-use Rattle.std.proofs.Common.{position, filter, Option, Some, None, is_some, slice_get, refl, sym, ap, subst, ◌∙◌, arith, rules, add-one}
+use Rattle.std.proofs.Common.{IfNone, IfSome, length-append, position, filter, take, Option, Some, None}
+use Rattle.std.proofs.Common.{is_some, slice_get, refl, sym, ap, subst, ◌∙◌, arith, rules, add-one}
 use Rattle.std.specs.List.{AllPairs, AllZip, list_all}
 use Rattle.std.specs.List.Sorted.{IsStrictlyIncreasing}
 use Rattle.std.specs.Map.{values_of, lookup}
@@ -11,7 +12,9 @@ use Rattle.std.proofs.lemmas.Bool.Decides.{nat_tests}
 use Rattle.std.proofs.lemmas.List.Kept.{AllPairs-from_increasing}
 use Rattle.std.proofs.lemmas.List.Quantifiers.{position-Some}
 use Rattle.indexmap.specs.IndexMap.{set_value_at}
-use Rattle.topo_table.specs.Places.{AreBelow, EntriesRise, ids_of, present, value_of, without_id}
+use Rattle.std.proofs.lemmas.List.{take_all}
+use Rattle.topo_table.specs.Places.{AreBelow, EntriesRise, IsChangedAt, IsEmptyAt, IsLiveAt, KeepsPlaces}
+use Rattle.topo_table.specs.Places.{Places, entries, ids_of, present, value_of, with_value, without_id}
 
 -- a number is below each of the others
 abbrev pub IsBelowAll : ℕ → List ℕ → Type 0
@@ -87,7 +90,7 @@ module _ {V : Type 0} where
   length-present ((id, None) ∷ slots) = let h = length-present slots in omega arith
 
   -- an id below all of the entries has no value
-  value_of-below : (id : ℕ) (es : List (ℕ × V)) → IsBelowAll id (map (λ e. e.0) es) → value_of id es ≡ None
+  pub value_of-below : (id : ℕ) (es : List (ℕ × V)) → IsBelowAll id (map (λ e. e.0) es) → value_of id es ≡ None
   value_of-below id [] h = refl
   value_of-below id (e ∷ es) h =
       let ne : eqb e.0 id ≡ false = grind (arith, nat_tests) in
@@ -257,6 +260,262 @@ module _ {V : Type 0} where
   present-push id v [] = refl
   present-push id v ((i, Some x) ∷ slots) = ap (λ l. (i, x) ∷ l) (present-push id v slots)
   present-push id v ((i, None) ∷ slots) = present-push id v slots
+
+  -- ---- Values at places
+
+  -- the place of an id tells the look-up
+  lookup_at : (slots : List (ℕ × Option V)) (place id : ℕ) (w : Option V) → Rises (ids_of slots) → slice_get slots place ≡ Some (id, w)
+      → lookup (eqb id) slots ≡ Some w
+  lookup_at [] place id w h at = absurd (search (rules, at))
+  lookup_at (s ∷ slots) zero id w h at = by s (option_some_same at)
+    where
+      by : (s : ℕ × Option V) → s ≡ (id, w) → lookup (eqb id) (s ∷ slots) ≡ Some w
+      by s e =
+          let same : s.0 ≡ id = ap (λ s. s.0) e in
+          let q : eqb id s.0 ≡ true = grind (arith, nat_tests) in
+          rw q (ap (λ s. Some s.1) e)
+  lookup_at (s ∷ slots) (suc place) id w h at =
+      let lt : s.0 < id = below_later s.0 id slots place w h.0 at in
+      let q : eqb id s.0 ≡ false = grind (arith, nat_tests) in
+      rw q (lookup_at slots place id w h.1 at)
+
+  -- what stands at a place with an id is the value with that id
+  pub value_at : (slots : List (ℕ × Option V)) (place id : ℕ) (w : Option V) → IsStrictlyIncreasing (ids_of slots) → slice_get slots place ≡ Some (id, w)
+      → value_of id (present slots) ≡ w
+  value_at slots place id w up at = value_of-found id slots up ∙ ap option_flatten (lookup_at slots place id w (Rises-from_increasing _ up) at)
+
+  pub slot_value : (slots : List (ℕ × Option V)) (place : ℕ) (s : ℕ × Option V) → slice_get slots place ≡ Some s → slice_get (values_of slots) place ≡ Some s.1
+  slot_value [] place s at = absurd (is_none_not (sym at))
+  slot_value (t ∷ slots) zero s at = ap (λ s. Some s.1) (option_some_same at)
+  slot_value (t ∷ slots) (suc place) s at = slot_value slots place s at
+
+  pub slot_inside : (slots : List (ℕ × Option V)) (place : ℕ) (s : ℕ × Option V) → slice_get slots place ≡ Some s → place < length slots
+  slot_inside [] place s at = absurd (is_none_not (sym at))
+  slot_inside (t ∷ slots) zero s at = omega arith
+  slot_inside (t ∷ slots) (suc place) s at = let rest = slot_inside slots place s at in omega arith
+
+  pub empty_inside : (slots : List (ℕ × Option V)) (place : ℕ) (w : Option V) → slice_get (values_of slots) place ≡ Some w → place < length slots
+  empty_inside [] place w at = absurd (is_none_not (sym at))
+  empty_inside (s ∷ slots) zero w at = omega arith
+  empty_inside (s ∷ slots) (suc place) w at = let rest = empty_inside slots place w at in omega arith
+
+  value_inside : (slots : List (ℕ × Option V)) (place : ℕ) → place < length slots → (w : Option V) × (slice_get (values_of slots) place ≡ Some w)
+  value_inside [] place less = absurd (omega (arith, less))
+  value_inside (s ∷ slots) zero less = (s.1, refl)
+  value_inside (s ∷ slots) (suc place) less = value_inside slots place (omega (arith, less))
+
+  -- a place that was found, with a value or without
+  pub live_there : (slots : List (ℕ × Option V)) (place id : ℕ) (w r : Option V) (v : V) → slice_get slots place ≡ Some (id, w)
+      → slice_get (values_of slots) place ≡ Some r → r ≡ Some v → IsLiveAt id place slots
+  live_there slots place id w r v at read is = record {
+    value = v;
+    at = at ∙ ap (λ (w : Option V). Some (id, w)) (option_some_same (sym (slot_value slots place (id, w) at) ∙ read) ∙ is);
+  }
+
+  pub dead_there : (slots : List (ℕ × Option V)) (place id : ℕ) (w r : Option V) → IsStrictlyIncreasing (ids_of slots) → slice_get slots place ≡ Some (id, w)
+      → slice_get (values_of slots) place ≡ Some r → r ≡ None → value_of id (present slots) ≡ None
+  dead_there slots place id w r up at read is = value_at slots place id w up at ∙ option_some_same (sym (slot_value slots place (id, w) at) ∙ read) ∙ is
+
+  -- what an id's index says
+  pub slot_if : (r : Option ℕ) (id : ℕ) (slots : List (ℕ × Option V)) → r ≡ position (eqb id) (ids_of slots) → IfSome r (λ place. place < length slots)
+      → IfSome r (λ place. (w : Option V) × (slice_get slots place ≡ Some (id, w)))
+  slot_if None id slots is inside = inside
+  slot_if (Some place) id slots is inside = let got = value_inside slots place inside in (got.0, slot_found id place got.0 slots is got.1)
+
+  pub none_if : (r : Option ℕ) (id : ℕ) (slots : List (ℕ × Option V)) → IsStrictlyIncreasing (ids_of slots)
+      → is_some r ≡ is_some (lookup (eqb id) slots) → IfNone r (value_of id (present slots) ≡ None)
+  none_if None id slots up found = value_of-found id slots up ∙ ap option_flatten (none_at_lookup (lookup (eqb id) slots) found)
+  none_if (Some place) id slots up found = tt
+
+  pub with_value-below : (id : ℕ) (v : V) (es : List (ℕ × V)) → IsBelowAll id (map (λ e. e.0) es) → with_value id v es ≡ es
+  with_value-below id v [] h = refl
+  with_value-below id v (e ∷ es) h =
+      let ne : eqb e.0 id ≡ false = grind (arith, nat_tests) in
+      let rest = with_value-below id v es h.1 in
+      rw ne (ap (λ l. e ∷ l) rest)
+
+  written-first : (id : ℕ) (v w : V) (slots : List (ℕ × Option V)) → Rises (ids_of ((id, Some v) ∷ slots))
+      → present ((id, Some w) ∷ slots) ≡ with_value id w (present ((id, Some v) ∷ slots))
+  written-first id v w slots h =
+      let q : eqb id id ≡ true = grind (arith, nat_tests) in
+      rw q (ap (λ l. (id, w) ∷ l) (sym (with_value-below id w (present slots) (IsBelowAll-present id slots h.0))))
+
+  -- writing a place with a value changes the entry with that id alone
+  pub present-written : (slots : List (ℕ × Option V)) (place id : ℕ) (v w : V) → Rises (ids_of slots) → slice_get slots place ≡ Some (id, Some v)
+      → present (set_value_at slots place (Some w)) ≡ with_value id w (present slots)
+  present-written [] place id v w h at = absurd (search (rules, at))
+  present-written ((i, u) ∷ slots) zero id v w h at = by (i, u) (option_some_same at) h
+    where
+      by : (s : ℕ × Option V) → s ≡ (id, Some v) → Rises (ids_of (s ∷ slots)) → present ((s.0, Some w) ∷ slots) ≡ with_value id w (present (s ∷ slots))
+      by s e h = subst (λ s. Rises (ids_of (s ∷ slots)) → present ((s.0, Some w) ∷ slots) ≡ with_value id w (present (s ∷ slots))) (sym e)
+          (written-first id v w slots) h
+  present-written ((i, Some x) ∷ slots) (suc place) id v w h at =
+      let lt = below_later i id slots place (Some v) h.0 at in
+      let rest = present-written slots place id v w h.1 at in
+      let q : eqb i id ≡ false = grind (arith, nat_tests) in
+      rw q (ap (λ l. (i, x) ∷ l) rest)
+  present-written ((i, None) ∷ slots) (suc place) id v w h at = present-written slots place id v w h.1 at
+
+  set_value_at-twice : (slots : List (ℕ × Option V)) (place : ℕ) (a b : Option V)
+      → set_value_at (set_value_at slots place a) place b ≡ set_value_at slots place b
+  set_value_at-twice [] place a b = refl
+  set_value_at-twice (s ∷ slots) zero a b = refl
+  set_value_at-twice (s ∷ slots) (suc place) a b = ap (λ l. s ∷ l) (set_value_at-twice slots place a b)
+
+  written_value : (slots : List (ℕ × Option V)) (place : ℕ) (s : ℕ × Option V) (w : Option V) → slice_get slots place ≡ Some s
+      → slice_get (values_of (set_value_at slots place w)) place ≡ Some w
+  written_value [] place s w at = absurd (is_none_not (sym at))
+  written_value (t ∷ slots) zero s w at = refl
+  written_value (t ∷ slots) (suc place) s w at = written_value slots place s w at
+
+  -- one value fewer while a place is empty, and one more once it has one again
+  pub filled : (slots : List (ℕ × Option V)) (place : ℕ) (w : V) → slice_get (values_of slots) place ≡ Some None
+      → length (present (set_value_at slots place (Some w))) ≡ length (present slots) + 1
+  filled [] place w at = absurd (is_none_not (sym at))
+  filled ((i, u) ∷ slots) zero w at = by u (option_some_same at)
+    where
+      by : (u : Option V) → u ≡ None → length (present ((i, Some w) ∷ slots)) ≡ length (present ((i, u) ∷ slots)) + 1
+      by None e = omega arith
+      by (Some x) e = absurd (is_none_not e)
+  filled ((i, Some x) ∷ slots) (suc place) w at = let rest = filled slots place w at in omega arith
+  filled ((i, None) ∷ slots) (suc place) w at = filled slots place w at
+
+  -- ---- A value that is taken out of its place, and another that is put there
+
+  module _ (was taken now : Places V) (id place : ℕ) (live : IsLiveAt id place was.slots) (up : IsStrictlyIncreasing (ids_of was.slots))
+      (slots_taken : taken.slots ≡ set_value_at was.slots place None) (room_taken : taken.room ≡ was.room) where
+    -- the place is empty in between
+    pub is_empty : IsEmptyAt place taken.slots
+    is_empty = ap (λ l. slice_get (values_of l) place) slots_taken ∙ written_value was.slots place (id, Some live.value) None live.at
+
+    -- it was the value with the id
+    pub was_value : (v : V) → slice_get (values_of was.slots) place ≡ Some (Some v) → value_of id (entries was) ≡ Some v
+    was_value v read = value_at was.slots place id (Some live.value) up live.at
+        ∙ option_some_same (sym (slot_value was.slots place (id, Some live.value) live.at) ∙ read)
+
+    -- another one is put there
+    pub is_changed : (v : V) → now.slots ≡ set_value_at taken.slots place (Some v) → now.room ≡ taken.room → IsChangedAt id v was now
+    is_changed v put room =
+        let whole : now.slots ≡ set_value_at was.slots place (Some v) =
+        put ∙ ap (λ l. set_value_at l place (Some v)) slots_taken ∙ set_value_at-twice was.slots place None (Some v) in
+        record {
+          entries_are = ap present whole ∙ present-written was.slots place id live.value v (Rises-from_increasing _ up) live.at;
+          places = (ap ids_of whole ∙ ids_of-set_value_at was.slots place (Some v), room ∙ room_taken);
+        }
+
+    -- or the same again
+    pub is_back : (v : V) → slice_get (values_of was.slots) place ≡ Some (Some v) → now.slots ≡ set_value_at taken.slots place (Some v)
+        → now.slots ≡ was.slots
+    is_back v read put = put ∙ ap (λ l. set_value_at l place (Some v)) slots_taken ∙ set_value_at-twice was.slots place None (Some v)
+        ∙ set_value_at-same was.slots place (Some v) read
+
+  -- places with the same ids are below the same limits
+  pub below_same : (limit : ℕ) (was now : List (ℕ × Option V)) → ids_of now ≡ ids_of was → AreBelow limit was → AreBelow limit now
+  below_same limit was now same below = ap (list_all (λ x. ltb x limit)) same ∙ below
+
+  -- one change after others
+  pub places_on : (was more now : Places V) → KeepsPlaces was more → KeepsPlaces more now → KeepsPlaces was now
+  places_on was more now first next = (next.0 ∙ first.0, next.1 ∙ first.1)
+
+  -- ---- A copy, place by place
+
+  abbrev pub live : ℕ × V → ℕ × Option V
+  live e = (e.0, Some e.1)
+
+  present-live : (es : List (ℕ × V)) → present (map live es) ≡ es
+  present-live [] = refl
+  present-live (e ∷ es) = ap (λ l. e ∷ l) (present-live es)
+
+  -- those before a place are below the id there
+  before_below : (slots : List (ℕ × Option V)) (place id : ℕ) (w : Option V) → Rises (ids_of slots) → slice_get slots place ≡ Some (id, w)
+      → AreBelow id (map live (present (take place slots)))
+  before_below [] place id w h at = absurd (search (rules, at))
+  before_below (s ∷ slots) zero id w h at = refl
+  before_below ((i, Some x) ∷ slots) (suc place) id w h at =
+      let lt = below_later i id slots place w h.0 at in
+      let q : ltb i id ≡ true = grind (arith, nat_tests) in
+      rw q (before_below slots place id w h.1 at)
+  before_below ((i, None) ∷ slots) (suc place) id w h at = before_below slots place id w h.1 at
+
+  before_fewer : (slots : List (ℕ × Option V)) (place id : ℕ) (v : V) → slice_get slots place ≡ Some (id, Some v)
+      → length (present (take place slots)) < length (present slots)
+  before_fewer [] place id v at = absurd (search (rules, at))
+  before_fewer ((i, u) ∷ slots) zero id v at = by u (ap (λ s. s.1) (option_some_same at))
+    where
+      by : (u : Option V) → u ≡ Some v → 0 < length (present ((i, u) ∷ slots))
+      by (Some x) e = omega arith
+      by None e = absurd (is_none_not (sym e))
+  before_fewer ((i, Some x) ∷ slots) (suc place) id v at = let rest = before_fewer slots place id v at in omega arith
+  before_fewer ((i, None) ∷ slots) (suc place) id v at = before_fewer slots place id v at
+
+  more_live : (slots : List (ℕ × Option V)) (place id : ℕ) (v : V) → slice_get slots place ≡ Some (id, Some v)
+      → present (take (suc place) slots) ≡ present (take place slots) ++ (id, v) ∷ []
+  more_live [] place id v at = absurd (search (rules, at))
+  more_live ((i, u) ∷ slots) zero id v at = ap (λ s. present (s ∷ [])) (option_some_same at)
+  more_live ((i, Some x) ∷ slots) (suc place) id v at = ap (λ l. (i, x) ∷ l) (more_live slots place id v at)
+  more_live ((i, None) ∷ slots) (suc place) id v at = more_live slots place id v at
+
+  no_more_live : (slots : List (ℕ × Option V)) (place id : ℕ) → slice_get slots place ≡ Some (id, None)
+      → present (take (suc place) slots) ≡ present (take place slots)
+  no_more_live [] place id at = absurd (search (rules, at))
+  no_more_live ((i, u) ∷ slots) zero id at = ap (λ s. present (s ∷ [])) (option_some_same at)
+  no_more_live ((i, Some x) ∷ slots) (suc place) id at = ap (λ l. (i, x) ∷ l) (no_more_live slots place id at)
+  no_more_live ((i, None) ∷ slots) (suc place) id at = no_more_live slots place id at
+
+  live_push : (es : List (ℕ × V)) (id : ℕ) (v : V) → map live (es ++ (id, v) ∷ []) ≡ map live es ++ (id, Some v) ∷ []
+  live_push [] id v = refl
+  live_push (e ∷ es) id v = ap (λ l. live e ∷ l) (live_push es id v)
+
+  live_many : (es : List (ℕ × V)) → length (map live es) ≡ length es
+  live_many [] = refl
+  live_many (e ∷ es) = ap suc (live_many es)
+
+  -- the values of the places so far are in the copy, and there is room for the others
+  pub record AreCopied (was : Places V) (place : ℕ) (copy : Places V) : Type 0 where
+    pub slots_are : copy.slots ≡ map live (present (take place was.slots))
+    pub room : length (present was.slots) ≤ length copy.slots + copy.room
+
+  pub copied_none : (was copy : Places V) (more : ℕ) → copy.slots ≡ [] → more ≡ length (entries was) → more ≤ copy.room → AreCopied was 0 copy
+  copied_none was copy more none all room = record { slots_are = none; room = omega (arith, room, all, ap length none) }
+
+  module _ (was copy : Places V) (place id : ℕ) (up : IsStrictlyIncreasing (ids_of was.slots)) (so_far : AreCopied was place copy) where
+    pub copied_below : (w : Option V) → slice_get was.slots place ≡ Some (id, w) → AreBelow id copy.slots
+    copied_below w at = subst (AreBelow id) (sym so_far.slots_are) (before_below was.slots place id w (Rises-from_increasing _ up) at)
+
+    pub copied_room : (v : V) → slice_get was.slots place ≡ Some (id, Some v) → 0 < copy.room
+    copied_room v at =
+        let many = ap length so_far.slots_are ∙ live_many (present (take place was.slots)) in
+        omega (arith, before_fewer was.slots place id v at, so_far.room, many)
+
+    pub copied_more : (v : V) (more : Places V) → slice_get was.slots place ≡ Some (id, Some v) → more.slots ≡ copy.slots ++ (id, Some v) ∷ []
+        → copy.room ≤ more.room + 1 → AreCopied was (place + 1) more
+    copied_more v more at is room = record {
+      slots_are = rw add-one (is ∙ ap (λ l. l ++ (id, Some v) ∷ []) so_far.slots_are
+          ∙ sym (ap (map live) (more_live was.slots place id v at) ∙ live_push (present (take place was.slots)) id v));
+      room = let r = so_far.room in let long = ap length is ∙ length-append copy.slots ((id, Some v) ∷ []) in omega arith;
+    }
+
+    pub copied_empty : slice_get was.slots place ≡ Some (id, None) → AreCopied was (place + 1) copy
+    copied_empty at = record {
+      slots_are = rw add-one (so_far.slots_are ∙ sym (ap (map live) (no_more_live was.slots place id at)));
+      room = so_far.room;
+    }
+
+  live_below : (limit : ℕ) (slots : List (ℕ × Option V)) → AreBelow limit slots → AreBelow limit (map live (present slots))
+  live_below limit [] h = refl
+  live_below limit ((id, Some v) ∷ slots) h =
+      let parts = both_true {a = ltb id limit} {b = list_all (λ x. ltb x limit) (ids_of slots)} h in
+      rw parts.0 (live_below limit slots parts.1)
+  live_below limit ((id, None) ∷ slots) h = live_below limit slots (both_true {a = ltb id limit} {b = list_all (λ x. ltb x limit) (ids_of slots)} h).1
+
+  pub copied_entries : (was copy : Places V) (place : ℕ) → length was.slots ≤ place → AreCopied was place copy → entries copy ≡ entries was
+  copied_entries was copy place past h = ap present (h.slots_are ∙ ap (λ l. map live (present l)) (take_all place was.slots past))
+      ∙ present-live (present was.slots)
+
+  pub copied_limit : (was copy : Places V) (place : ℕ) → length was.slots ≤ place → AreCopied was place copy → (limit : ℕ) → AreBelow limit was.slots
+      → AreBelow limit copy.slots
+  copied_limit was copy place past h limit below = subst (AreBelow limit) (sym (h.slots_are ∙ ap (λ l. map live (present l)) (take_all place was.slots past)))
+      (live_below limit was.slots below)
 
   -- the ids of both are the same, and so are the values up to a place
   abbrev pub IsCopiedTo : ℕ → List (ℕ × Option V) → List (ℕ × Option V) → Type 0

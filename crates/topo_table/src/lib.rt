@@ -13,6 +13,8 @@
 //! ```
 #![tactic(auto)]
 
+mod hints;
 mod table;
 
-pub use table::Table;
+pub use hints::Hints;
+pub use table::{Table, TryCopy};

@@ -2,12 +2,23 @@
 
 ghost use Rattle.std.specs.Prelude.{◌≡◌, ◌+◌, ◌<◌, ◌≤◌, ◌++◌, ◌∷◌, [], ℕ, true};
 ghost use Rattle.std.specs.Prelude.{IfNone, IfOk, IfSome, None, OnOk, Some};
-ghost use Rattle.std.specs.Prelude.{is_some, length, option_copied, slice_get};
-ghost use Rattle.topo_table.specs.Places.{AreBelow, EntriesRise, entries, value_of, without_id};
+ghost use Rattle.std.specs.Prelude.{Option, is_some, length, option_copied, slice_get};
+ghost use Rattle.std.specs.List.Sorted.{IsStrictlyIncreasing};
+ghost use Rattle.std.specs.Map.{values_of};
+ghost use Rattle.indexmap.specs.IndexMap.{set_value_at};
+ghost use Rattle.topo_table.specs.Places.{AreBelow, EntriesRise, IsEmptyAt, IsLiveAt, entries};
+ghost use Rattle.topo_table.specs.Places.{ids_of, value_of, without_id};
 
 use indexmap::IndexMap;
 use std::alloc::{AllocError, Global};
 use std::marker::Model;
+
+/// A value that can be copied where there is memory for it.
+pub trait TryCopy {
+    /// An equal value, in memory of its own.
+    fn try_copy(&self, alloc: Global) -> Result<Self, AllocError>
+        ensures { IfOk result (λ copy. copy ≡ self.now) };
+}
 
 /// Values by ids, in rising order of the ids. A place whose value was taken out stays, empty, until
 /// half of them are; then they are closed up.
@@ -62,7 +73,8 @@ impl<V> Table<V> {
 
     /// How many places there are, the empty ones among them.
     pub fn places(&self) -> usize
-        ensures { result ≡ length self.now.slots }
+        ensures len { result ≡ length self.now.slots }
+        ensures rise { IsStrictlyIncreasing (ids_of self.now.slots) }
     {
         self.slots.len()
     }
@@ -100,6 +112,68 @@ impl<V> Table<V> {
         }
     }
 
+    /// The value with an id, which is looked for at a place first.
+    pub fn get_near(&self, hint: usize, id: u32) -> Option<&V>
+        ensures { option_copied result ≡ value_of id (entries self.now) }
+    {
+        match self.slots.get_index(hint) {
+            Some((key, value)) if *key == id => value.as_ref(),
+            _ => self.get(id),
+        }
+    }
+
+    /// The place of the value with an id, which is looked for at a place first.
+    pub fn place_of(&self, hint: usize, id: u32) -> Option<usize>
+        ensures there { IfSome result (λ place. IsLiveAt id place self.now.slots) }
+        ensures none { IfNone result (value_of id (entries self.now) ≡ None) }
+        ensures rise { IfSome result (λ _. IsStrictlyIncreasing (ids_of self.now.slots)) }
+    {
+        let place = self.slot_of(hint, id)?;
+        match &self.slots[place] {
+            Some(_) => Some(place),
+            None => None,
+        }
+    }
+
+    // The place with an id, whether or not it is empty.
+    fn slot_of(&self, hint: usize, id: u32) -> Option<usize>
+        ensures there { IfSome result (λ place. (value : Option V)
+            × (slice_get self.now.slots place ≡ Some (id, value))) }
+        ensures none { IfNone result (value_of id (entries self.now) ≡ None) }
+    {
+        match self.slots.get_index(hint) {
+            Some((key, _)) if *key == id => Some(hint),
+            _ => self.slots.get_index_of(&id),
+        }
+    }
+
+    /// Takes out the value at a place, which stays empty until another is put there.
+    pub fn take(&mut self, place: usize) -> V
+        requires { (id : ℕ) × IsLiveAt id place self.old.slots }
+        ensures value { slice_get (values_of self.old.slots) place ≡ Some (Some result) }
+        ensures slots { self.new.slots ≡ set_value_at self.old.slots place None }
+        ensures room { self.new.room ≡ self.old.room }
+    {
+        let value = self.slots[place].take().unwrap();
+        self.live -= 1;
+        value
+    }
+
+    /// Puts a value at a place that is empty.
+    pub fn put(&mut self, place: usize, value: V)
+    where
+        V: Drop,
+        requires { IsEmptyAt place self.old.slots }
+        ensures slots { self.new.slots ≡ set_value_at self.old.slots place (Some value) }
+        ensures room { self.new.room ≡ self.old.room }
+    {
+        // For the proof: what the type keeps.
+        self.slots.len();
+        let live = self.live + 1;
+        self.slots[place] = Some(value);
+        self.live = live;
+    }
+
     /// Puts a value behind the others, and answers its place. There is room for it, so it takes no
     /// memory.
     pub fn push(&mut self, id: u32, value: V) -> usize
@@ -134,6 +208,27 @@ impl<V> Table<V> {
             slots,
             live: self.live,
         })
+    }
+
+    /// A table with equal values and without empty places, in memory of its own.
+    pub fn try_copy(&self, alloc: Global) -> Result<Self, AllocError>
+    where
+        V: TryCopy + Drop,
+        ensures entries { IfOk result (λ copy. entries copy ≡ entries self.now) }
+        ensures below { IfOk result (λ copy. (limit : ℕ) → AreBelow limit self.now.slots
+            → AreBelow limit copy.slots) }
+    {
+        let mut copy = Table::new(alloc);
+        copy.reserve(self.len())?;
+        for place in 0..self.places() {
+            match self.at(place) {
+                Some((id, value)) => {
+                    copy.push(id, value.try_copy(alloc)?);
+                }
+                None => {}
+            }
+        }
+        Ok(copy)
     }
 
     /// Takes out the value with an id, if there is one. It takes no memory, and time that grows

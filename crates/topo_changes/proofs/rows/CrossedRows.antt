@@ -174,6 +174,18 @@ pub ok_more : {A E : Type 0} {P Q : Type 0} (r : Result A E) → (P → Q) → O
 ok_more (Ok x) more h = more h
 ok_more (Err e) more h = h
 
+pub on_err : {A E : Type 0} {P : Type 0} (r : Result A E) → P → OnErr r P
+on_err (Ok x) p = tt
+on_err (Err e) p = p
+
+pub on_ok : {A E : Type 0} {P : Type 0} (r : Result A E) → P → OnOk r P
+on_ok (Ok x) p = p
+on_ok (Err e) p = tt
+
+pub err_more : {A E : Type 0} {P Q : Type 0} (r : Result A E) → (P → Q) → OnErr r P → OnErr r Q
+err_more (Ok x) more h = h
+err_more (Err e) more h = more h
+
 pub when_ok : {A E : Type 0} {P : Type 0} (r : Result A E) → is_err r ≡ false → OnOk r P → P
 when_ok (Ok x) is h = h
 when_ok (Err e) is h = cc

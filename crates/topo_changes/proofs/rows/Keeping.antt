@@ -71,7 +71,7 @@ lt_next : (n : ℕ) → nat_lt n (n + 1) ≡ true
 lt_next n = grind (arith, nat_tests)
 
 -- one more place
-pub below_more : (n : ℕ) (v : Option Crossing) (slots : List (ℕ × Option Crossing)) → AreBelow n slots → AreBelow (n + 1) (slots ++ (n, v) ∷ [])
+pub below_more : {V : Type 0} (n : ℕ) (v : Option V) (slots : List (ℕ × Option V)) → AreBelow n slots → AreBelow (n + 1) (slots ++ (n, v) ∷ [])
 below_more n v [] h = ap (λ (t : Bool). t && true) (lt_next n)
 below_more n v (s ∷ slots) h =
     both (nat_lt s.0 (n + 1)) (list_all (λ x. nat_lt x (n + 1)) (ids_of (slots ++ (n, v) ∷ [])))
@@ -82,7 +82,8 @@ below_more n v (s ∷ slots) h =
 
 -- ---- What is at a place
 
-more_places : (slots : List (ℕ × Option Crossing)) (i : ℕ) (s : ℕ × Option Crossing) → slice_get slots i ≡ Some s → take (i + 1) slots ≡ take i slots ++ s ∷ []
+pub more_places : {V : Type 0} (slots : List (ℕ × Option V)) (i : ℕ) (s : ℕ × Option V) → slice_get slots i ≡ Some s
+    → take (i + 1) slots ≡ take i slots ++ s ∷ []
 more_places slots i s at = take_more slots i s (got_within slots i s at) ∙ ap (λ x. take i slots ++ x ∷ []) (get_or_from_slice_get slots i s s at)
 
 -- the rows of the places so far, and of one more

@@ -100,7 +100,7 @@ least_first (x ∷ xs) i within inside least first =
 -- ---- Paths that a crossing is taken out of
 
 -- an id is taken out of a list as a list of one is
-out_of_one : (x : ℕ) (ys : List ℕ) → filter (λ y. not (y == x)) ys ≡ filter (λ y. not (has_id (x ∷ []) y)) ys
+pub out_of_one : (x : ℕ) (ys : List ℕ) → filter (λ y. not (y == x)) ys ≡ filter (λ y. not (has_id (x ∷ []) y)) ys
 out_of_one x ys = filter_alike (λ y. not (y == x)) (λ y. not (has_id (x ∷ []) y)) ys (λ y h. ap not (eqb_symm y x ∙ sym (or_none (x == y)))) where
   or_none : (b : Bool) → (b || false) ≡ b
   or_none true = refl

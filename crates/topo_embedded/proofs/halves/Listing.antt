@@ -10,6 +10,9 @@ use Rattle.topo_rows.proofs.Begins.{back_get, begins_at}
 use Rattle.topo_rows.proofs.Rounds.{got_within}
 use Rattle.topo_embedded.specs.Making.{ArePathsOf, IsPathOf}
 
+pub paths_none : (edges : List EdgeRow) (begins halves : List ℕ) (paths : List (List ℕ)) → paths ≡ [] → ArePathsOf edges begins halves 0 paths
+paths_none edges begins halves paths none = record { as_many = ap length none; each = λ i row less got. absurd (omega (arith, less)) }
+
 pub paths_more : (edges : List EdgeRow) (begins halves : List ℕ) (paths more : List (List ℕ)) (k : ℕ) (row : EdgeRow) (path : List ℕ)
     → ArePathsOf edges begins halves k paths → slice_get edges k ≡ Some row
     → IsPathOf halves (slice_index begins k) (segment_count row) path → more ≡ paths ++ path ∷ [] → ArePathsOf edges begins halves (k + 1) more

@@ -1,8 +1,9 @@
 -- Edges and their paths as they are read.
-use Rattle.std.proofs.Common.{◌≡◌, ◌<◌, ◌≤◌, ap, arith, Bool, cond, false, length, List, [], refl, sym, true, ℕ, ◌∙◌}
-use Rattle.std.specs.Prelude.{◌==◌, is_some, slice_get, slice_index, slice_index_or, Some, sum_by}
+use Rattle.std.proofs.Common.{◌≡◌, ◌<◌, ◌≤◌, ap, arith, Bool, cond, eqb, false, length, List, [], not, refl, sym, true, ℕ, ◌∙◌}
+use Rattle.std.specs.Prelude.{◌&&◌, ◌==◌, is_some, nat_lt, slice_get, slice_index, slice_index_or, Some, sum_by}
 use Rattle.std.specs.List.{position_or_len}
 use Rattle.std.proofs.lemmas.Bool.{cases_lt}
+use Rattle.std.proofs.lemmas.Bool.Decides.{nat_tests}
 use Rattle.std.proofs.lemmas.List.{get_or_default, get_or_past}
 use Rattle.std.proofs.lemmas.List.Sums.{get_or-le-sum_by}
 use Rattle.std.proofs.lemmas.Option.{get_or_from_slice_get, slice_get-get_or}
@@ -11,11 +12,12 @@ use Rattle.topo_core.specs.declared.darts.Way.{Way}
 use Rattle.topo_core.specs.declared.darts.Way.TheVariants.{Forward, Back}
 use Rattle.topo_core.specs.declared.rows.EdgeRow.{EdgeRow}
 use Rattle.topo_core.specs.declared.rows.Rows.{Rows}
-use Rattle.topo_core.specs.Lawful.{IsWellFormed}
+use Rattle.topo_core.specs.Lawful.{IsWellFormed, has_good_paths}
 use Rattle.topo_core.specs.Picture.{darts, edge_at, edge_row, end_dart, rotation, segment_count}
 use Rattle.topo_core.specs.Systems.{has_dart}
+use Rattle.topo_core.proofs.numbering.Members.{right_true, test_of_each}
 use Rattle.topo_core.proofs.numbering.Standing.{good_rotation}
-use Rattle.topo_core.proofs.systems.SystemDarts.{edge_at_row, in_at, row_id, vertex_in}
+use Rattle.topo_core.proofs.systems.SystemDarts.{edge_at_row, in_at, row_id, row_in, some_of, vertex_in}
 use Rattle.topo_map.specs.Rotation.{Rotation}
 use Rattle.topo_rows.specs.Ids.{IsPlaceOf}
 use Rattle.topo_rows.proofs.RowDarts.{dart_there}
@@ -24,7 +26,7 @@ use Rattle.topo_rows.proofs.Verdicts.{darts_total}
 use Rattle.topo_embedded.specs.Halves.{RowsWithPaths, ShowsRows, by_way, half_in, path_of}
 use Rattle.topo_embedded.specs.Walking.{IsOnPath, end_seg, end_way}
 use Rattle.topo_embedded.proofs.halves.Apart.{halves_apart}
-use Rattle.topo_embedded.proofs.halves.Numbers.{StandsAt, stands_at}
+use Rattle.topo_embedded.proofs.halves.Numbers.{StandsAt, found_place, stands_at}
 
 -- the row of an edge at its place
 pub record EdgeRead (rows : Rows) (e place : ℕ) (row : EdgeRow) : Type 0 where
@@ -36,6 +38,38 @@ pub record EdgeRead (rows : Rows) (e place : ℕ) (row : EdgeRow) : Type 0 where
 pub edge_read : (rows : Rows) (e place : ℕ) (edges : List EdgeRow) → edges ≡ rows.edges → (p : IsPlaceOf edges (λ row. row.id) e place)
     → EdgeRead rows e place p.row
 edge_read rows e place edges same p = grind (arith, row_id)
+
+-- an edge that is there, at its place
+pub record EdgeThere (rows : Rows) (e : ℕ) : Type 0 where
+  pub row : EdgeRow
+  pub read : EdgeRead rows e (position_or_len (λ row. row.id == e) rows.edges) row
+
+pub edge_there : (rows : Rows) (e : ℕ) → is_some (edge_row rows e) ≡ true → EdgeThere rows e
+edge_there rows e there =
+    let pick = some_of (edge_row rows e) there in
+    record {
+      row = pick.0;
+      read = record { found = pick.1; at = found_place (λ row. row.id == e) rows.edges pick.0 pick.1; id = row_id rows e pick.0 pick.1; first = refl };
+    }
+
+-- the edge that is found is that row
+pub edge_found : (rows : Rows) (e place : ℕ) (row found : EdgeRow) → EdgeRead rows e place row → edge_row rows e ≡ Some found → found ≡ row
+edge_found rows e place row found at is = (let both : Some found ≡ Some row = sym is ∙ at.found in cc)
+
+-- its kind is known
+kind_of_tests : (a b k n : ℕ) (d : Bool) → (nat_lt a n && nat_lt b n && not (eqb a b) && nat_lt k 64 && d) ≡ true → k < 64
+kind_of_tests a b k n d h = grind (arith, nat_tests)
+
+pub kind_known : (rows : Rows) → has_good_paths rows ≡ true → (e : ℕ) (row : EdgeRow) → edge_row rows e ≡ Some row → row.kind < 64
+kind_known rows good e row there = grind (arith, test_of_each, right_true, kind_of_tests, row_in)
+
+-- the path of such an edge, as it is read at its place
+pub path_read : (p : RowsWithPaths) (r : Rotation) → ShowsRows p r → (e : ℕ) (there : EdgeThere p.rows e) (path : List ℕ) → path ≡ path_of p e
+    → path ≡ slice_index_or p.paths (position_or_len (λ row. row.id == e) p.rows.edges) path
+path_read p r s e there path is =
+    let place = position_or_len (λ (row : EdgeRow). row.id == e) p.rows.edges in
+    let inside = got_within p.rows.edges place there.row there.read.at in
+    is ∙ sym (get_or_default p.paths place path [] (omega (arith, s.as_many, inside)))
 
 pub row_read : (rows : Rows) (e place : ℕ) (edges : List EdgeRow) (row read : EdgeRow) → edges ≡ rows.edges → EdgeRead rows e place row
     → read ≡ slice_index_or edges place read → read ≡ row

@@ -1,16 +1,18 @@
 -- Lists of halves with room at their ends, and a half more in one of them.
-use Rattle.std.proofs.Common.{◌≡◌, ◌≢◌, ◌<◌, ◌+◌, ap, append-nil, append_assoc, arith, drop, get_or, inl, inr}
-use Rattle.std.proofs.Common.{length, length-append, List, [], ◌∷◌, ◌++◌, refl, set, suc, sym, take, ℕ, ◌∙◌}
+use Rattle.std.proofs.Common.{◌≡◌, ◌≢◌, ◌<◌, ◌+◌, ◌||◌, Bool, true, false, not, ap, append-nil, append_assoc, arith, drop, get_or, inl, inr}
+use Rattle.std.proofs.Common.{length, length-append, List, [], ◌∷◌, ◌++◌, refl, set, subst, suc, sym, take, ℕ, ◌∙◌}
 use Rattle.std.specs.Prelude.{◌==◌, cond, slice_index_or}
-use Rattle.std.proofs.lemmas.Bool.{cases_eq, cond-false, cond-true, eq-eqb, ne_eqb}
+use Rattle.std.proofs.lemmas.Bool.{cases_eq, cases_lt, cond-false, cond-true, eq-eqb, false≢true, ne_eqb}
 use Rattle.std.proofs.lemmas.Grind.{flat_map-append}
 use Rattle.std.proofs.lemmas.List.{ext_get_or, get_or-set_other, get_or-set_same, length-set, take_more}
 use Rattle.std.proofs.Math.Seq.{drop-append_seam, take-append_seam}
+use Rattle.topo_core.specs.Items.{has_id}
 use Rattle.topo_core.specs.Rotations.{twin}
 use Rattle.topo_perm.proofs.runs.Subdivisions.{Subdivision}
 use Rattle.topo_embedded.specs.declared.padding.Crossed.{Crossed}
 use Rattle.topo_embedded.specs.Inserting.{piece}
-use Rattle.topo_embedded.specs.Padding.{ArePadded, IsOn, pads, shifted}
+use Rattle.topo_embedded.specs.Padding.{ArePadded, IsOn, pads, edge_place, shifted}
+use Rattle.topo_table.specs.Places.{place_in}
 
 -- ---- A half put in
 
@@ -60,48 +62,103 @@ module _ (near beyond : ℕ) where
 
 -- ---- Room at the ends
 
-pub pads_more : (k : ℕ) (cs : List Crossed) (i : ℕ) (d : Crossed) → i < length cs
-    → pads k (take (i + 1) cs) ≡ pads k (take i cs) ++ cond ((get_or cs i d).place == k) (0 ∷ []) []
-pads_more k cs i d less =
-    ap (pads k) (take_more cs i d less) ∙ flat_map-append (λ (c : Crossed). cond (c.place == k) (0 ∷ []) []) (take i cs) (get_or cs i d ∷ [])
-    ∙ ap (λ (xs : List ℕ). pads k (take i cs) ++ xs) (append-nil (cond ((get_or cs i d).place == k) (0 ∷ []) []))
+-- an edge that is among others has a place among them
+pub placed_within : (ids : List ℕ) (e : ℕ) → has_id ids e ≡ true → place_in ids e < length ids
+placed_within [] e h = absurd (false≢true h)
+placed_within (x ∷ ids) e h = by_test (x == e) refl (placed_within ids e)
+  where
+    by_test : (t : Bool) → (x == e) ≡ t → (has_id ids e ≡ true → place_in ids e < length ids) → place_in (x ∷ ids) e < length (x ∷ ids)
+    by_test true is rest =
+        let at : place_in (x ∷ ids) e ≡ 0 = ap (λ (b : Bool). cond {A = ℕ} (not b) (1 + place_in ids e) 0) is in omega arith
+    by_test false is rest =
+        let at : place_in (x ∷ ids) e ≡ 1 + place_in ids e = ap (λ (b : Bool). cond {A = ℕ} (not b) (1 + place_in ids e) 0) is in
+        let less = rest (sym (ap (λ (b : Bool). b || has_id ids e) is) ∙ h) in omega arith
 
-pub pads_same : (k : ℕ) (cs : List Crossed) (i : ℕ) (d : Crossed) → i < length cs → k ≢ (get_or cs i d).place → pads k (take (i + 1) cs) ≡ pads k (take i cs)
-pads_same k cs i d less other = pads_more k cs i d less
-    ∙ ap (λ (xs : List ℕ). pads k (take i cs) ++ xs) (cond-false _ _ _ (ne_eqb (get_or cs i d).place k (λ e. other (sym e)))) ∙ append-nil (pads k (take i cs))
+pub pads_more : (ids : List ℕ) (k : ℕ) (cs : List Crossed) (i : ℕ) (d : Crossed) → i < length cs
+    → pads ids k (take (i + 1) cs) ≡ pads ids k (take i cs) ++ cond (edge_place ids (get_or cs i d) == k) (0 ∷ []) []
+pads_more ids k cs i d less =
+    ap (pads ids k) (take_more cs i d less) ∙ flat_map-append (λ (c : Crossed). cond (edge_place ids c == k) (0 ∷ []) []) (take i cs) (get_or cs i d ∷ [])
+    ∙ ap (λ (xs : List ℕ). pads ids k (take i cs) ++ xs) (append-nil (cond (edge_place ids (get_or cs i d) == k) (0 ∷ []) []))
 
-pub pads_here : (k : ℕ) (cs : List Crossed) (i : ℕ) (d : Crossed) → i < length cs → k ≡ (get_or cs i d).place
-    → pads k (take (i + 1) cs) ≡ pads k (take i cs) ++ 0 ∷ []
-pads_here k cs i d less here = pads_more k cs i d less
-    ∙ ap (λ (xs : List ℕ). pads k (take i cs) ++ xs) (cond-true _ _ _ (eq-eqb (get_or cs i d).place k (sym here)))
+pub pads_same : (ids : List ℕ) (k : ℕ) (cs : List Crossed) (i : ℕ) (d : Crossed) → i < length cs → k ≢ edge_place ids (get_or cs i d)
+    → pads ids k (take (i + 1) cs) ≡ pads ids k (take i cs)
+pads_same ids k cs i d less other = pads_more ids k cs i d less
+    ∙ ap (λ (xs : List ℕ). pads ids k (take i cs) ++ xs) (cond-false _ _ _ (ne_eqb (edge_place ids (get_or cs i d)) k (λ e. other (sym e))))
+    ∙ append-nil (pads ids k (take i cs))
+
+pub pads_here : (ids : List ℕ) (k : ℕ) (cs : List Crossed) (i : ℕ) (d : Crossed) → i < length cs → k ≡ edge_place ids (get_or cs i d)
+    → pads ids k (take (i + 1) cs) ≡ pads ids k (take i cs) ++ 0 ∷ []
+pads_here ids k cs i d less here = pads_more ids k cs i d less
+    ∙ ap (λ (xs : List ℕ). pads ids k (take i cs) ++ xs) (cond-true _ _ _ (eq-eqb (edge_place ids (get_or cs i d)) k (sym here)))
 
 -- one list is another, and in the others nothing shows
-pub one_changed : (f f' : List ℕ → List ℕ) (was now now' : List (List ℕ)) (cs cs' : List Crossed) (k : ℕ) (list : List ℕ) → ArePadded f was cs now
+pub one_changed : (ids : List ℕ) (f f' : List ℕ → List ℕ) (was now now' : List (List ℕ)) (cs cs' : List Crossed) (k : ℕ) (list : List ℕ)
+    → ArePadded ids f was cs now
     → k < length was → now' ≡ set now k list
-    → ((j : ℕ) → j < length was → j ≢ k → f' (slice_index_or was j []) ++ pads j cs' ≡ f (slice_index_or was j []) ++ pads j cs)
-    → list ≡ f' (slice_index_or was k []) ++ pads k cs'
-    → ((j : ℕ) → j < length was → 0 < length (pads j cs') → 0 < length (slice_index_or was j [])) → ArePadded f' was cs' now'
-one_changed f f' was now now' cs cs' k list p less is others here some = grind (arith, length-set, cases_eq, get_or-set_same, get_or-set_other)
+    → ((j : ℕ) → j < length was → j ≢ k → f' (slice_index_or was j []) ++ pads ids j cs' ≡ f (slice_index_or was j []) ++ pads ids j cs)
+    → list ≡ f' (slice_index_or was k []) ++ pads ids k cs'
+    → ((j : ℕ) → j < length was → 0 < length (pads ids j cs') → 0 < length (slice_index_or was j [])) → ArePadded ids f' was cs' now'
+one_changed ids f f' was now now' cs cs' k list p less is others here some = grind (arith, length-set, cases_eq, get_or-set_same, get_or-set_other)
 
 -- with room for one fewer there is no more room than before
-pub pads_fewer : (k : ℕ) (cs : List Crossed) (i : ℕ) (d : Crossed) → i < length cs → 0 < length (pads k (take i cs)) → 0 < length (pads k (take (i + 1) cs))
-pads_fewer k cs i d less more =
-    omega (arith, more, ap length (pads_more k cs i d less), length-append (pads k (take i cs)) (cond ((get_or cs i d).place == k) (0 ∷ []) []))
+pub pads_fewer : (ids : List ℕ) (k : ℕ) (cs : List Crossed) (i : ℕ) (d : Crossed) → i < length cs → 0 < length (pads ids k (take i cs))
+    → 0 < length (pads ids k (take (i + 1) cs))
+pads_fewer ids k cs i d less more =
+    omega (
+      arith,
+      more,
+      ap length (pads_more ids k cs i d less),
+      length-append (pads ids k (take i cs)) (cond (edge_place ids (get_or cs i d) == k)
+          (0 ∷ []) []),
+    )
 
-pub pad_less : (was now now' : List (List ℕ)) (cs : List Crossed) (i : ℕ) (c : Crossed) (list : List ℕ) → ArePadded (λ hs. hs) was (take (i + 1) cs) now
-    → i < length cs → c ≡ get_or cs i c → c.place < length was → now' ≡ set now c.place list
-    → ((xs : List ℕ) (x : ℕ) → 0 < length xs → get_or now c.place [] ≡ xs ++ x ∷ [] → list ≡ xs) → ArePadded (λ hs. hs) was (take i cs) now'
-pad_less was now now' cs i c list p less is placed set_is list_is =
-    one_changed (λ hs. hs) (λ hs. hs) was now now' (take (i + 1) cs) (take i cs) c.place list p placed set_is
-    (λ j lj ne. ap (λ (xs : List ℕ). slice_index_or was j [] ++ xs) (sym (pads_same j cs i c less (λ e. ne (e ∙ ap (λ (b : Crossed). b.place) (sym is))))))
-    (list_is (slice_index_or was c.place [] ++ pads c.place (take i cs)) 0 held
-    (p.each c.place placed ∙ ap (λ (xs : List ℕ). slice_index_or was c.place [] ++ xs) (pads_here c.place cs i c less (ap (λ (b : Crossed). b.place) is))
-    ∙ sym (append_assoc (slice_index_or was c.place []) (pads c.place (take i cs)) (0 ∷ []))))
-    (λ j lj more. p.some j lj (pads_fewer j cs i c less more))
+pub pad_less : (ids : List ℕ) (was now now' : List (List ℕ)) (cs : List Crossed) (i : ℕ) (c : Crossed) (list : List ℕ)
+    → ArePadded ids (λ hs. hs) was (take (i + 1) cs) now
+    → i < length cs → c ≡ get_or cs i c → edge_place ids c < length was → now' ≡ set now (edge_place ids c) list
+    → ((xs : List ℕ) (x : ℕ) → 0 < length xs → get_or now (edge_place ids c) [] ≡ xs ++ x ∷ [] → list ≡ xs) → ArePadded ids (λ hs. hs) was (take i cs) now'
+pad_less ids was now now' cs i c list p less is placed set_is list_is =
+    one_changed ids (λ hs. hs) (λ hs. hs) was now now' (take (i + 1) cs) (take i cs) (edge_place ids c) list p placed set_is
+    (λ j lj ne. ap (λ (xs : List ℕ). slice_index_or was j [] ++ xs) (sym (pads_same ids j cs i c less (λ e. ne (e
+    ∙ ap (λ (b : Crossed). edge_place ids b) (sym is))))))
+    (list_is (slice_index_or was (edge_place ids c) [] ++ pads ids (edge_place ids c) (take i cs)) 0 held
+    (p.each (edge_place ids c) placed ∙ ap (λ (xs : List ℕ). slice_index_or was (edge_place ids c) [] ++ xs) (pads_here ids
+    (edge_place ids c) cs i c less (ap (λ (b : Crossed). edge_place ids b) is))
+    ∙ sym (append_assoc (slice_index_or was (edge_place ids c) []) (pads ids (edge_place ids c) (take i cs)) (0 ∷ []))))
+    (λ j lj more. p.some j lj (pads_fewer ids j cs i c less more))
   where
-    held : 0 < length (slice_index_or was c.place [] ++ pads c.place (take i cs))
+    held : 0 < length (slice_index_or was (edge_place ids c) [] ++ pads ids (edge_place ids c) (take i cs))
     held = grind (arith, pads_here, length-append)
 
+-- no half more yet
+pub padded_none : (ids : List ℕ) (was : List (List ℕ)) (cs : List Crossed) → ArePadded ids (λ hs. hs) was (take 0 cs) was
+padded_none ids was cs = record {
+  as_many = refl;
+  each = λ k less. sym (append-nil (slice_index_or was k []));
+  some = λ k less more. absurd (omega (arith, more));
+}
+
+-- a half more at the end of one list
+pub pad_more : (ids : List ℕ) (was now now' : List (List ℕ)) (cs : List Crossed) (i : ℕ) (c : Crossed) → ArePadded ids (λ hs. hs) was (take i cs) now
+    → i < length cs → c ≡ get_or cs i c → edge_place ids c < length was
+    → now' ≡ set now (edge_place ids c) (get_or now (edge_place ids c) [] ++ 0 ∷ []) → 0 < length (get_or now (edge_place ids c) [])
+    → ArePadded ids (λ hs. hs) was (take (i + 1) cs) now'
+pad_more ids was now now' cs i c p less is placed set_is held =
+    let k = edge_place ids c in
+    let spot : k ≡ edge_place ids (get_or cs i c) = ap (λ (b : Crossed). edge_place ids b) is in
+    let here : get_or now k [] ≡ slice_index_or was k [] ++ pads ids k (take i cs) = p.each k placed in
+    let long = ap length here ∙ length-append (slice_index_or was k []) (pads ids k (take i cs)) in
+    one_changed ids (λ hs. hs) (λ hs. hs) was now now' (take i cs) (take (i + 1) cs) k (get_or now k [] ++ 0 ∷ []) p placed set_is
+    (λ j lj ne. ap (λ (xs : List ℕ). slice_index_or was j [] ++ xs) (pads_same ids j cs i c less (λ e. ne (e ∙ sym spot))))
+    (ap (λ (xs : List ℕ). xs ++ 0 ∷ []) here ∙ append_assoc (slice_index_or was k []) (pads ids k (take i cs)) (0 ∷ [])
+    ∙ ap (λ (xs : List ℕ). slice_index_or was k [] ++ xs) (sym (pads_here ids k cs i c less spot)))
+    (λ j lj more. elim (cases_eq j k) [
+      | inl same ↦ subst (λ (n : ℕ). 0 < length (slice_index_or was n [])) (sym same) (elim (cases_lt 0 (length (pads ids k (take i cs)))) [
+        | inl some ↦ p.some k placed some
+        | inr none ↦ (let lengths = long in omega (arith, held, lengths, none))
+      ])
+      | inr ne ↦ p.some j lj (subst (λ (xs : List ℕ). 0 < length xs) (pads_same ids j cs i c less (λ e. ne (e ∙ sym spot))) more)
+    ])
+
 -- with no room more the lists are the changed ones
-pub no_pads : (was now : List (List ℕ)) (cs : List Crossed) → ArePadded (λ hs. hs) was (take 0 cs) now → now ≡ was
-no_pads was now cs p = ext_get_or [] now was p.as_many (λ k less. p.each k (omega (arith, p.as_many, less)) ∙ append-nil (slice_index_or was k []))
+pub no_pads : (ids : List ℕ) (was now : List (List ℕ)) (cs : List Crossed) → ArePadded ids (λ hs. hs) was (take 0 cs) now → now ≡ was
+no_pads ids was now cs p = ext_get_or [] now was p.as_many (λ k less. p.each k (omega (arith, p.as_many, less)) ∙ append-nil (slice_index_or was k []))

@@ -19,7 +19,7 @@ use Rattle.topo_perm.proofs.runs.InsertionPaths.{AreAlong}
 use Rattle.topo_map.specs.Rotation.{IsEmbedding, Rotation, is_live, turning_of}
 use Rattle.topo_changes.proofs.inserting.InsertedLawful.{HasInsertionPath, has_insertion_path}
 use Rattle.topo_embedded.specs.declared.padding.Crossed.{Crossed}
-use Rattle.topo_embedded.specs.Crossing.{AreCrossedAt, AreChordsAdded, HasLabel, HaveLabel, HaveLabels, IsMarked, IsReady}
+use Rattle.topo_embedded.specs.Crossing.{AreCrossedAt, AreChordsAdded, HasLabel, HaveLabel, HaveLabels, IsMarked, IsReady, ids_of_edges}
 use Rattle.topo_embedded.specs.Crossing.{IsReadyFor, IsRouted, subdivisions_of, subdivided_half, crossed_darts, halves_of}
 use Rattle.topo_embedded.specs.Halves.{RowsWithPaths, ShowsRows, half_at}
 use Rattle.topo_embedded.specs.Inserting.{put_halves}
@@ -45,7 +45,7 @@ module _ (p : RowsWithPaths) (r : Rotation) (cs : List Crossed) (u v kind : ℕ)
   pub end_alive : is_live now end ≡ true
   end_alive = corner_alive p ready.formed r now slots ready.shows v route.end end ready.insertable.v_there ready.insertable.end ready.ends
 
-  pub ready_now : (paths : List (List ℕ)) → ArePadded (λ hs. hs) p.paths cs paths → IsReady p now cs paths
+  pub ready_now : (paths : List (List ℕ)) → ArePadded (ids_of_edges p.rows) (λ hs. hs) p.paths cs paths → IsReady p now cs paths
   ready_now paths pad = grind (arith, shows)
 
   pub routed_shows : IsEmbedding now → (after : Rotation) (cs' : List Crossed) → crossed_darts cs' ≡ crossed_darts cs → All (IsMarked p) cs' → (line : List ℕ)

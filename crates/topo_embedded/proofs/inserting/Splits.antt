@@ -1,7 +1,7 @@
 -- One crossed segment more is split.
 use Rattle.std.proofs.Common.{◌≡◌, ◌≢◌, ◌<◌, ◌+◌, ap, append-nil, append_assoc, arith, Bool, drop, false, get_or, length}
 use Rattle.std.proofs.Common.{length-set, List, [], ◌∷◌, ◌++◌, refl, set, subst, suc, sym, take, true, zero, ℕ, ◌∙◌}
-use Rattle.std.specs.Prelude.{◌&&◌, ◌==◌, map, slice_get, slice_index_or, Some}
+use Rattle.std.specs.Prelude.{◌&&◌, ◌||◌, ◌==◌, cond, find, is_some, map, slice_get, slice_index_or, Some}
 use Rattle.std.specs.List.{All, AllByRecursion, position_or_len}
 use Rattle.std.proofs.lemmas.Bool.{false≢true, cases_Bool}
 use Rattle.std.proofs.Math.Seq.{map-set_same}
@@ -13,11 +13,14 @@ use Rattle.topo_core.specs.Darts.{dart_twin}
 use Rattle.topo_core.specs.Edits.{IsSplit}
 use Rattle.topo_core.specs.Insertions.{CrossesOnce, same_segment}
 use Rattle.topo_core.specs.Lawful.{IsWellFormed}
-use Rattle.topo_core.specs.Picture.{darts, index_of}
+use Rattle.topo_core.specs.Items.{has_id}
+use Rattle.topo_core.specs.declared.rows.Rows.{Rows}
+use Rattle.topo_core.specs.Picture.{darts, edge_row, index_of}
 use Rattle.topo_core.specs.Pictures.{forward}
 use Rattle.topo_core.specs.Rotations.{twin}
 use Rattle.topo_core.specs.Systems.{has_dart}
 use Rattle.topo_core.proofs.numbering.Counting.{eqb_symm}
+use Rattle.topo_core.proofs.deleting.WithoutPlaces.{edge_of_dart}
 use Rattle.topo_core.proofs.numbering.Numbering.{twin_in}
 use Rattle.topo_perm.specs.Runs.{IsRun}
 use Rattle.topo_perm.proofs.runs.Subdivisions.{Subdivision, splits_of}
@@ -26,12 +29,13 @@ use Rattle.topo_perm.proofs.renumbering.RunNumbers.{kept_alive}
 use Rattle.topo_perm.proofs.renumbering.InsertionPathNumbers.{splits_add}
 use Rattle.topo_map.specs.Rotation.{AddsLabel, Grows, IsEmbedding, Rotation, edge_of, half_limit, is_live, turn, turning_of}
 use Rattle.topo_map.proofs.EditSteps.{live_half, split_step}
+use Rattle.topo_rows.proofs.Noting.{place_among}
 use Rattle.topo_rows.proofs.Rounds.{got_within}
 use Rattle.topo_embedded.specs.declared.padding.Crossed.{Crossed}
-use Rattle.topo_embedded.specs.Crossing.{AreCrossedAt, AreSplit, AreSplitFrom, HasLabel, HaveLabel, IsMarked, subdivisions_of, crossed_darts}
+use Rattle.topo_embedded.specs.Crossing.{AreCrossedAt, AreSplit, AreSplitFrom, HasLabel, HaveLabel, IsMarked, ids_of_edges, subdivisions_of, crossed_darts}
 use Rattle.topo_embedded.specs.Halves.{RowsWithPaths, ShowsRows, half_in}
 use Rattle.topo_embedded.specs.Inserting.{piece, put_halves}
-use Rattle.topo_embedded.specs.Padding.{AreOff, ArePadded, ArePlaced, IsOff, IsOn, pads}
+use Rattle.topo_embedded.specs.Padding.{AreOff, ArePadded, ArePlaced, IsOff, IsOn, IsPlaced, edge_place, pads}
 use Rattle.topo_embedded.proofs.halves.Apart.{twin_in_path}
 use Rattle.topo_embedded.proofs.inserting.Inserted.{got_map}
 use Rattle.topo_embedded.proofs.inserting.InsertedLabels.{split_labels}
@@ -54,11 +58,28 @@ alive_still before now js h whole run alive =
     (kept_alive half_limit (turning_of before) (turning_of now) (splits_of js) h (splits_add js) run (live_half before h whole alive)).alive
 
 -- with no room more the lists are the changed ones
-put_everywhere : (js : List Subdivision) (was now : List (List ℕ)) → ArePadded (put_halves js) was [] now → now ≡ map (put_halves js) was
-put_everywhere js was now p =
+put_everywhere : (ids : List ℕ) (js : List Subdivision) (was now : List (List ℕ)) → ArePadded ids (put_halves js) was [] now → now ≡ map (put_halves js) was
+put_everywhere ids js was now p =
     let long = length-map was (put_halves js) in
     ext_get_or [] now (map (put_halves js) was) (p.as_many ∙ sym long) (λ k less. p.each k (omega (arith, p.as_many, less))
     ∙ append-nil (put_halves js (slice_index_or was k [])) ∙ sym (got_map (put_halves js) (put_none js) was k))
+
+-- ---- Places of edges
+
+-- the place of a crossed edge among the ids of the edges
+pub edge_place_is : (rows : Rows) (c : Crossed) → edge_place (ids_of_edges rows) c ≡ position_or_len (λ row. row.id == c.dart.edge) rows.edges
+edge_place_is rows c = place_among (λ (row : EdgeRow). row.id) c.dart.edge rows.edges
+
+-- an edge that is there is among the ids
+pub edge_among : (rows : Rows) (e : ℕ) → is_some (edge_row rows e) ≡ true → has_id (ids_of_edges rows) e ≡ true
+edge_among rows e there = among rows.edges there where
+  among : (edges : List EdgeRow) → is_some (find (λ row. row.id == e) edges) ≡ true → has_id (map (λ row. row.id) edges) e ≡ true
+  among [] h = absurd (false≢true h)
+  among (row ∷ edges) h = by_test (row.id == e) h (among edges) where
+    by_test : (t : Bool) → is_some (cond t (Some row) (find (λ row. row.id == e) edges)) ≡ true
+        → (is_some (find (λ row. row.id == e) edges) ≡ true → has_id (map (λ row. row.id) edges) e ≡ true) → (t || has_id (map (λ row. row.id) edges) e) ≡ true
+    by_test true h rest = refl
+    by_test false h rest = rest h
 
 -- ---- Crossed darts
 
@@ -73,16 +94,24 @@ once_at (k ∷ cs) (suc n) c less once = once_at cs n c (omega arith) once.1
 
 module _ (p : RowsWithPaths) (good : IsWellFormed p.rows) (r : Rotation) (s : ShowsRows p r) where
   -- the list of a crossed edge is there
-  pub marked_placed : (c : Crossed) → IsMarked p c → c.place < length p.paths
+  pub marked_placed : (c : Crossed) → IsMarked p c → edge_place (ids_of_edges p.rows) c < length p.paths
   marked_placed c is =
       let st : StandsAt p.rows c.dart = stands_at p.rows good c.dart is.there in
       let inside = got_within p.rows.edges (position_or_len (λ (row : EdgeRow). row.id == c.dart.edge) p.rows.edges) st.row st.at in
-      omega (arith, s.as_many, inside, is.place)
+      let place = edge_place_is p.rows c in
+      omega (arith, s.as_many, inside, place)
 
-  pub all_placed_here : (cs : List Crossed) → All (IsMarked p) cs → (paths : List (List ℕ)) → length paths ≡ length p.paths → ArePlaced (length paths) cs
-  all_placed_here cs all paths long k d less = (let placed = marked_placed (slice_index_or cs k d) (all k d less) in omega (arith, placed, long))
+  pub marked_here : (c : Crossed) → IsMarked p c → IsPlaced (ids_of_edges p.rows) c
+  marked_here c is = edge_among p.rows c.dart.edge (edge_of_dart p.rows good c.dart is.there)
+
+  pub all_placed_here : (cs : List Crossed) → All (IsMarked p) cs → (ids : List ℕ) → ids ≡ ids_of_edges p.rows → ArePlaced ids cs
+  all_placed_here cs all ids same k d less =
+      subst (λ (ids : List ℕ). IsPlaced ids (slice_index_or cs k d)) (sym same) (marked_here (slice_index_or cs k d) (all k d less))
 
 module _ (p : RowsWithPaths) (good : IsWellFormed p.rows) (r : Rotation) (s : ShowsRows p r) (whole : IsEmbedding r) where
+  abbrev ids : List ℕ
+  ids = ids_of_edges p.rows
+
   abbrev Is : Dart → Type 0
   Is d = has_dart (darts p.rows) d ≡ true
 
@@ -108,7 +137,7 @@ module _ (p : RowsWithPaths) (good : IsWellFormed p.rows) (r : Rotation) (s : Sh
       (edit : IsSplit (turn now) (turn now') half_limit c.near x) (grows : Grows now now' x)
       (adds : AddsLabel (is_live now) (edge_of now) (edge_of now') x (edge_of now c.near)) where
     abbrev c' : Crossed
-    c' = record { dart = c.dart; place = c.place; near = c.near; beyond = x }
+    c' = record { dart = c.dart; hint = c.hint; near = c.near; beyond = x }
 
     abbrev js : List Subdivision
     js = subdivisions_of p.rows cs
@@ -145,57 +174,61 @@ module _ (p : RowsWithPaths) (good : IsWellFormed p.rows) (r : Rotation) (s : Sh
     }
 
     -- where the half is on its path
-    among : IsAmong c.near (put_halves js (slice_index_or p.paths c.place []))
+    among : IsAmong c.near (put_halves js (slice_index_or p.paths (edge_place ids c) []))
     among =
         let own = own_path p good r s c.dart is.there in
-        let there : IsAmong (half_in p c.dart) (put_halves js (slice_index_or p.paths c.place [])) =
-        subst (λ (k : ℕ). IsAmong (half_in p c.dart) (put_halves js (slice_index_or p.paths k []))) (sym is.place)
+        let there : IsAmong (half_in p c.dart) (put_halves js (slice_index_or p.paths (edge_place ids c) [])) =
+        subst (λ (k : ℕ). IsAmong (half_in p c.dart) (put_halves js (slice_index_or p.paths k []))) (sym (edge_place_is p.rows c))
         (still_among (half_in p c.dart) js _ (new_off c.dart is.there (crossed_darts cs) js sp.crossed) own
         (subst (λ (half : ℕ). AllByRecursion (λ j. IsOff j.near half) js) (sym (own_half p good r s c.dart is.there))
         (alone c.dart is.there (crossed_darts cs) js sp.crossed once))) in
-        subst (λ (near : ℕ). IsAmong near (put_halves js (slice_index_or p.paths c.place []))) (sym is.near) there
+        subst (λ (near : ℕ). IsAmong near (put_halves js (slice_index_or p.paths (edge_place ids c) []))) (sym is.near) there
 
     -- the other paths
-    elsewhere : (k : ℕ) → k < length p.paths → k ≢ c.place → put_halves (j ∷ js) (slice_index_or p.paths k []) ≡ put_halves js (slice_index_or p.paths k [])
+    elsewhere : (k : ℕ) → k < length p.paths → k ≢ edge_place ids c
+        → put_halves (j ∷ js) (slice_index_or p.paths k []) ≡ put_halves js (slice_index_or p.paths k [])
     elsewhere k less ne =
-        let off : AreOff (half_in p c.dart) (slice_index_or p.paths k []) = other_paths p good r s c.dart is.there k less (λ e. ne (e ∙ sym is.place)) in
+        let off : AreOff (half_in p c.dart) (slice_index_or p.paths k []) = other_paths p good r s c.dart is.there k less (λ e. ne (e
+        ∙ sym (edge_place_is p.rows c))) in
         pieces_stay j (put_halves js (slice_index_or p.paths k []))
         (subst (λ (near : ℕ). AreOff near (put_halves js (slice_index_or p.paths k []))) (sym is.near)
         (put_off (half_in p c.dart) js (slice_index_or p.paths k []) off (new_off c.dart is.there (crossed_darts cs) js sp.crossed)))
 
-    pub one_put : (all : List Crossed) (n : ℕ) (paths : List (List ℕ)) (list : List ℕ) → n < length all → c ≡ get_or all n c → c.place < length p.paths
-        → ArePadded (put_halves js) p.paths (take (n + 1) all) paths
-        → ((xs ys : List ℕ) (h last : ℕ) → get_or paths c.place [] ≡ xs ++ h ∷ (ys ++ last ∷ []) → AreOff c.near xs → IsOn c.near h
+    pub one_put : (all : List Crossed) (n : ℕ) (paths : List (List ℕ)) (list : List ℕ) → n < length all → c ≡ get_or all n c → edge_place ids c < length p.paths
+        → ArePadded ids (put_halves js) p.paths (take (n + 1) all) paths
+        → ((xs ys : List ℕ) (h last : ℕ) → get_or paths (edge_place ids c) [] ≡ xs ++ h ∷ (ys ++ last ∷ []) → AreOff c.near xs → IsOn c.near h
         → list ≡ xs ++ (piece (subdivision c.near x) h ++ ys))
-        → ArePadded (put_halves (j ∷ js)) p.paths (take n all) (set paths c.place list)
+        → ArePadded ids (put_halves (j ∷ js)) p.paths (take n all) (set paths (edge_place ids c) list)
     one_put all n paths list less at placed pad put =
-        let hs : List ℕ = slice_index_or p.paths c.place [] in
-        let rest : List ℕ = pads c.place (take n all) in
-        let here : get_or paths c.place [] ≡ among.before ++ among.half ∷ ((among.behind ++ rest) ++ 0 ∷ []) =
-        pad.each c.place placed ∙ ap (λ (xs : List ℕ). put_halves js hs ++ xs) (pads_here c.place all n c less (ap (λ (b : Crossed). b.place) at))
+        let hs : List ℕ = slice_index_or p.paths (edge_place ids c) [] in
+        let rest : List ℕ = pads ids (edge_place ids c) (take n all) in
+        let here : get_or paths (edge_place ids c) [] ≡ among.before ++ among.half ∷ ((among.behind ++ rest) ++ 0 ∷ []) =
+        pad.each (edge_place ids c) placed ∙ ap (λ (xs : List ℕ). put_halves js hs ++ xs) (pads_here ids (edge_place ids c) all n c less (ap (λ
+        (b : Crossed). edge_place ids b) at))
         ∙ ap (λ (xs : List ℕ). xs ++ (rest ++ 0 ∷ [])) among.is
         ∙ append_assoc among.before (among.half ∷ among.behind) (rest ++ 0 ∷ [])
         ∙ ap (λ (xs : List ℕ). among.before ++ among.half ∷ xs) (sym (append_assoc among.behind rest (0 ∷ []))) in
         let made : list ≡ among.before ++ (piece j among.half ++ (among.behind ++ rest)) =
         put among.before (among.behind ++ rest) among.half 0 here among.before_off among.on in
-        one_changed (put_halves js) (put_halves (j ∷ js)) p.paths paths (set paths c.place list) (take (n + 1) all) (take n all) c.place list pad placed refl
-        (λ k lk ne. ap (λ (xs : List ℕ). xs ++ pads k (take n all)) (elsewhere k lk ne)
+        one_changed ids (put_halves js) (put_halves (j ∷ js)) p.paths paths (set paths (edge_place ids c) list) (take (n + 1) all) (take n all)
+        (edge_place ids c) list pad placed refl
+        (λ k lk ne. ap (λ (xs : List ℕ). xs ++ pads ids k (take n all)) (elsewhere k lk ne)
         ∙ ap (λ (xs : List ℕ). put_halves js (slice_index_or p.paths k []) ++ xs)
-        (sym (pads_same k all n c less (λ e. ne (e ∙ ap (λ (b : Crossed). b.place) (sym at))))))
+        (sym (pads_same ids k all n c less (λ e. ne (e ∙ ap (λ (b : Crossed). edge_place ids b) (sym at))))))
         (made ∙ ap (λ (xs : List ℕ). among.before ++ xs) (sym (append_assoc (piece j among.half) among.behind rest))
         ∙ sym (append_assoc among.before (piece j among.half ++ among.behind) rest)
         ∙ ap (λ (xs : List ℕ). xs ++ rest) (sym (among_split j (put_halves js hs) among)))
-        (λ k lk more. pad.some k lk (pads_fewer k all n c less more))
+        (λ k lk more. pad.some k lk (pads_fewer ids k all n c less more))
 
   -- one step of the loop
   pub split_more : (was cs : List Crossed) (n : ℕ) (c : Crossed) (now now' : Rotation) (x : ℕ) (paths : List (List ℕ)) (list : List ℕ)
-      → CrossesOnce (crossed_darts was) → n < length cs → c ≡ get_or cs n c → c.place < length p.paths → AreSplitFrom p r now was cs (n + 1) paths
+      → CrossesOnce (crossed_darts was) → n < length cs → c ≡ get_or cs n c → edge_place ids c < length p.paths → AreSplitFrom p r now was cs (n + 1) paths
       → IsSplit (turn now) (turn now') half_limit c.near x → Grows now now' x → AddsLabel (is_live now) (edge_of now) (edge_of now') x (edge_of now c.near)
-      → ((xs ys : List ℕ) (h last : ℕ) → get_or paths c.place [] ≡ xs ++ h ∷ (ys ++ last ∷ []) → AreOff c.near xs → IsOn c.near h
+      → ((xs ys : List ℕ) (h last : ℕ) → get_or paths (edge_place ids c) [] ≡ xs ++ h ∷ (ys ++ last ∷ []) → AreOff c.near xs → IsOn c.near h
       → list ≡ xs ++ (piece (subdivision c.near x) h ++ ys))
-      → AreSplitFrom p r now' was (set cs n (record { dart = c.dart; place = c.place; near = c.near; beyond = x })) n (set paths c.place list)
+      → AreSplitFrom p r now' was (set cs n (record { dart = c.dart; hint = c.hint; near = c.near; beyond = x })) n (set paths (edge_place ids c) list)
   split_more was cs n c now now' x paths list once less at placed from edit grows adds put =
-      let new : Crossed = record { dart = c.dart; place = c.place; near = c.near; beyond = x } in
+      let new : Crossed = record { dart = c.dart; hint = c.hint; near = c.near; beyond = x } in
       let rest : List Crossed = drop (n + 1) cs in
       let next : n + 1 ≡ suc n = omega arith in
       let is : IsMarked p c = subst (IsMarked p) (sym at) (from.marked n c less) in
@@ -206,17 +239,18 @@ module _ (p : RowsWithPaths) (good : IsWellFormed p.rows) (r : Rotation) (s : Sh
       let dropped : drop n (set cs n new) ≡ new ∷ rest = drop-set cs n new less in
       let taken : take n (set cs n new) ≡ take n cs = take-set cs n new in
       let split : AreSplit p r now' (new ∷ rest) = one_split now now' x c rest from.split is once_here edit grows adds in
-      let put_now : ArePadded (put_halves (subdivisions_of p.rows (new ∷ rest))) p.paths (take n cs) (set paths c.place list) =
+      let put_now : ArePadded ids (put_halves (subdivisions_of p.rows (new ∷ rest))) p.paths (take n cs) (set paths (edge_place ids c) list) =
       one_put now now' x c rest from.split is once_here edit grows adds cs n paths list less at placed from.padded put in
       let long = length-set cs n new in
       record {
         within = omega (arith, less, long);
         darts = map-set_same (λ (b : Crossed). b.dart) cs n new c (ap (λ (b : Crossed). b.dart) at) ∙ from.darts;
-        marked = All-set (IsMarked p) cs n new (record { there = is.there; near = is.near; place = is.place }) from.marked;
+        marked = All-set (IsMarked p) cs n new (record { there = is.there; near = is.near }) from.marked;
         split = subst (AreSplit p r now') (sym dropped) split;
-        padded = subst (λ (xs : List Crossed). ArePadded (put_halves (subdivisions_of p.rows xs)) p.paths (take n (set cs n new)) (set paths c.place list))
+        padded = subst (λ (xs : List Crossed). ArePadded ids (put_halves (subdivisions_of p.rows xs)) p.paths (take n (set cs n new)) (set paths
+            (edge_place ids c) list))
             (sym dropped)
-            (subst (λ (xs : List Crossed). ArePadded (put_halves (subdivisions_of p.rows (new ∷ rest))) p.paths xs (set paths c.place list))
+            (subst (λ (xs : List Crossed). ArePadded ids (put_halves (subdivisions_of p.rows (new ∷ rest))) p.paths xs (set paths (edge_place ids c) list))
             (sym taken) put_now);
         room = (let less_room = grows.room_less in let so_far = from.room in omega (arith, less_room, so_far, long));
       }
@@ -227,7 +261,7 @@ module _ (p : RowsWithPaths) (good : IsWellFormed p.rows) (r : Rotation) (s : Sh
       (half_alive p good r s c.near (record { dart = c.dart; there = is.there; is = sym is.near }))
 
   -- before and behind the loop
-  pub split_none : (cs : List Crossed) (paths : List (List ℕ)) → All (IsMarked p) cs → ArePadded (λ hs. hs) p.paths cs paths
+  pub split_none : (cs : List Crossed) (paths : List (List ℕ)) → All (IsMarked p) cs → ArePadded ids (λ hs. hs) p.paths cs paths
       → AreSplitFrom p r r cs cs (length cs) paths
   split_none cs paths all pad =
       let none : drop (length cs) cs ≡ [] = drop_all (length cs) cs (omega arith) in
@@ -243,8 +277,8 @@ module _ (p : RowsWithPaths) (good : IsWellFormed p.rows) (r : Rotation) (s : Sh
           alive = tt;
           labels = λ k row at. subst (HaveLabel r row.id) (sym (got_map (put_halves []) refl p.paths k)) (path_labels k row at);
         });
-        padded = subst (λ (xs : List Crossed). ArePadded (put_halves (subdivisions_of p.rows xs)) p.paths (take (length cs) cs) paths) (sym none)
-            (subst (λ (xs : List Crossed). ArePadded (λ hs. hs) p.paths xs paths) (sym every) pad);
+        padded = subst (λ (xs : List Crossed). ArePadded ids (put_halves (subdivisions_of p.rows xs)) p.paths (take (length cs) cs) paths) (sym none)
+            (subst (λ (xs : List Crossed). ArePadded ids (λ hs. hs) p.paths xs paths) (sym every) pad);
         room = refl;
       }
     where
@@ -261,4 +295,6 @@ module _ (p : RowsWithPaths) (good : IsWellFormed p.rows) (r : Rotation) (s : Sh
 
   pub split_all : (now : Rotation) (was cs : List Crossed) (n : ℕ) (paths : List (List ℕ)) → n ≡ 0 → AreSplitFrom p r now was cs n paths → AreSplit p r now cs
       × (paths ≡ map (put_halves (subdivisions_of p.rows cs)) p.paths)
-  split_all now was cs n paths none from = grind (arith, put_everywhere)
+  split_all now was cs n paths none from =
+      let whole = subst (λ (k : ℕ). AreSplitFrom p r now was cs k paths) none from in
+      (whole.split, put_everywhere ids (subdivisions_of p.rows cs) p.paths paths whole.padded)

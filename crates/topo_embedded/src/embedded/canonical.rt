@@ -3,6 +3,7 @@
 ghost use Rattle.std.specs.Prelude.{◌≡◌, ◌+◌, ◌++◌, ◌<◌, ◌≤◌, ℕ, true, IfOk};
 ghost use Rattle.std.specs.Prelude.{None, OnOk, Some, flat_map, if◌then◌else◌};
 ghost use Rattle.std.specs.Prelude.{length, map, slice_index, slice_index_or};
+ghost use Rattle.topo_changes.specs.Keeping.{viewed_row};
 ghost use Rattle.topo_core.specs.declared.darts.Dart.{Dart};
 ghost use Rattle.topo_core.specs.Picture.{darts, points_of, rotation, start, start_place};
 ghost use Rattle.topo_core.specs.Systems.{has_dart};
@@ -10,16 +11,18 @@ ghost use Rattle.topo_embedded.specs.Canonical.{halves_of};
 ghost use Rattle.topo_embedded.specs.Halves.{IsHalf, half_in};
 ghost use Rattle.topo_map.specs.Rotation.{face_of, is_live};
 ghost use Rattle.topo_route.specs.Names.{HasFaces, canonical};
+ghost use Rattle.topo_table.specs.Places.{values_in};
 
 use super::Embedded;
 use crate::path::Path;
 use crate::walking::led;
 use std::alloc::{AllocError, Global};
+use topo_changes::EdgeView;
 use topo_core::darts::{Dart, Point, Way};
 use topo_core::ids::{CrossId, VertexId};
-use topo_core::rows::{EdgeRow, Rows};
+use topo_core::rows::Rows;
 use topo_map::{Embedding, Half};
-use topo_rows::by_id::{edge_place, place_of_edge};
+use topo_table::Table;
 
 /// Writes the two halves of each segment of a path behind those of a list.
 fn write_path(halves: &mut Vec<u32>, path: &Path) -> Result<(), AllocError>
@@ -34,11 +37,15 @@ fn write_path(halves: &mut Vec<u32>, path: &Path) -> Result<(), AllocError>
 }
 
 /// The same of each path in turn.
-fn write_paths(halves: &mut Vec<u32>, paths: &[Path]) -> Result<(), AllocError>
-    ensures { OnOk result (halves.new.items ≡ halves.old.items ++ flat_map halves_of paths.now) }
+fn write_paths(halves: &mut Vec<u32>, paths: &Table<Path>) -> Result<(), AllocError>
+    ensures { OnOk result
+        (halves.new.items ≡ halves.old.items ++ flat_map halves_of (values_in paths.now)) }
 {
-    for path in paths {
-        write_path(halves, path)?;
+    for place in 0..paths.places() {
+        match paths.at(place) {
+            Some((_, path)) => write_path(halves, path)?,
+            None => {}
+        }
     }
     Ok(())
 }
@@ -57,17 +64,17 @@ fn write_faces(faces: &mut [u32], segments: &Embedding, halves: &[u32])
 }
 
 /// The point at a place along an edge: its end `a`, the crossings of its path, its end `b`.
-fn point_on(row: &EdgeRow, place: usize) -> Point
-    requires { place ≤ length row.now.crossings + 1 }
-    ensures { result ≡ slice_index_or (points_of row.now) place (Point.Vertex 0) }
+fn point_on(edge: EdgeView<'_>, place: usize) -> Point
+    requires { place ≤ length edge.crossings.now + 1 }
+    ensures { result ≡ slice_index_or (points_of (viewed_row edge.entry)) place (Point.Vertex 0) }
 {
-    let path = row.crossings.as_slice();
+    let path = edge.crossings;
     if place == 0 {
-        Point::Vertex(VertexId::new(row.a))
+        Point::Vertex(VertexId::new(edge.a))
     } else if place <= path.len() {
         Point::Crossing(CrossId::new(path[place - 1]))
     } else {
-        Point::Vertex(VertexId::new(row.b))
+        Point::Vertex(VertexId::new(edge.b))
     }
 }
 
@@ -109,7 +116,7 @@ impl Embedded {
     {
         halves.clear();
         halves.reserve(self.parts.segments.limit())?;
-        write_paths(halves, self.parts.paths.as_slice())?;
+        write_paths(halves, &self.parts.paths)?;
         Ok(())
     }
 
@@ -130,9 +137,7 @@ impl Embedded {
         ensures { result ≡ (if has_dart (darts self.now.rows) dart then Some
             (half_in self.now dart) else None) }
     {
-        let edges = self.parts.rows.edges();
-        let place = edge_place(edges, &self.parts.index, dart.edge.number())?;
-        let path = &self.parts.paths.as_slice()[place];
+        let path = self.parts.path(dart.edge.number())?;
         let seg = dart.seg as usize;
         if seg < path.len() {
             Some(led(path.at(seg), dart.way))
@@ -148,8 +153,9 @@ impl Embedded {
             → result ≡ start self.now.rows d }
     {
         let dart = self.dart_of(half);
-        let edges = self.parts.rows.edges();
-        let place = place_of_edge(edges, &self.parts.index, dart.edge.number());
-        point_on(&edges[place], place_of_start(&dart))
+        match self.parts.edge(dart.edge.number()) {
+            Some(edge) => point_on(edge, place_of_start(&dart)),
+            None => unreachable!(),
+        }
     }
 }

@@ -1,17 +1,32 @@
-use Rattle.std.proofs.Common.{ap, arith, length, List, set, sym, ◌∙◌, ℕ}
-use Rattle.std.specs.Prelude.{map, slice_index}
-use Rattle.topo_core.specs.declared.rows.EdgeRow.{EdgeRow}
-use Rattle.topo_rows.proofs.Sorting.{rises_strictly}
-use Rattle.topo_changes.proofs.rows.Leaving.{path_left, place_named}
+use Rattle.std.proofs.Common.{arith, not, sym, ◌∙◌}
+use Rattle.std.specs.Prelude.{◌==◌, filter}
+use Rattle.topo_table.proofs.PlaceLemmas.{is_empty}
+use Rattle.topo_changes.specs.Keeping.{edges_of}
+use Rattle.topo_changes.proofs.rows.KeepingEdges.{no_edge_kept, repathed_out, repathed_there}
 use Rattle.topo_changes.proofs.deletion.leave_path.Goals as goal
 
-pub returns : goal.returns
-returns c =
-    ap (λ (list : List ℕ). set c.args.edges.now.items c.place_of_edge-place.result (record c.index_mut.result.now { crossings = list })) c.take_id.ensures
-    ∙ path_left c.args.edges.now.items c.place_of_edge-place.result c.args.x c.edge_across.result c.index_mut.result.now
-    (rises_strictly c.requires.edges_rise.0 _ c.requires.edges_rise.1)
-    (let same = ap length c.as_slice.ensures.value in let within = c.place_of_edge-place.ensures.within in omega arith)
-    (ap (λ (edges : List EdgeRow). slice_index (map (λ row. row.id) edges) c.place_of_edge-place.result) (sym c.as_slice.ensures.value)
-    ∙ place_named (λ (row : EdgeRow). row.id) c.as_slice.result.now c.edge_across.result c.place_of_edge-place.result c.place_of_edge-place.ensures)
-    c.index_mut.ensures.value
-    (λ row there differs. c.requires.crossed.elsewhere row there (λ same. differs (same ∙ sym c.edge_across.ensures)))
+pub take-body-requires : goal.take-body-requires
+take-body-requires c = (c.edge_across-other.result, c.in-Some.ensures.there)
+
+pub put-requires : goal.put-requires
+put-requires c = is_empty c.args.edges.now c.take-body.new.self c.take-body.new.self c.edge_across-other.result c.in-Some.place c.in-Some.ensures.there
+    c.in-Some.ensures.rise c.take-body.ensures.slots c.take-body.ensures.room
+
+pub unreachable-requires : goal.unreachable-requires
+unreachable-requires c = grind (arith, no_edge_kept)
+
+pub returns-clause-edges : goal.returns-clause-edges
+returns-clause-edges c =
+    (repathed_there c.args.edges.now c.take-body.new.self c.put.new.self c.edge_across-other.result c.in-Some.place c.in-Some.ensures.there
+    c.in-Some.ensures.rise
+    c.take-body.ensures.slots c.take-body.ensures.room c.take-body.result c.take-body.ensures.value (filter (λ y. not (y == c.args.x)))
+    c.take_id.new.list c.take_id.ensures c.put.ensures.slots c.put.ensures.room).edges
+    ∙ repathed_out c.args.x c.edge_across-other.result (edges_of c.args.edges.now)
+    (λ row there differs. c.requires.crossed.elsewhere row there (λ same. differs (same ∙ sym c.edge_across-other.ensures)))
+
+pub returns-clause-ids : goal.returns-clause-ids
+returns-clause-ids c =
+    (repathed_there c.args.edges.now c.take-body.new.self c.put.new.self c.edge_across-other.result c.in-Some.place c.in-Some.ensures.there
+    c.in-Some.ensures.rise
+    c.take-body.ensures.slots c.take-body.ensures.room c.take-body.result c.take-body.ensures.value (filter (λ y. not (y == c.args.x)))
+    c.take_id.new.list c.take_id.ensures c.put.ensures.slots c.put.ensures.room).places.0

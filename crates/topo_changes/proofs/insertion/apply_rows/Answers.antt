@@ -8,8 +8,7 @@ use Rattle.topo_core.specs.declared.rows.Rows.{Rows}
 use Rattle.topo_core.specs.Changes.{shown}
 use Rattle.topo_core.specs.Insertions.{IsInsertable}
 use Rattle.topo_core.specs.Lawful.{IsWellFormed}
-use Rattle.topo_changes.specs.Inserting.{AreOnPaths}
-use Rattle.topo_changes.specs.Keeping.{rows_of}
+use Rattle.topo_changes.specs.Keeping.{edges_of, rows_of}
 use Rattle.topo_changes.proofs.rows.Inserting.{crossings_old, darts_there, rotation_old, rows_made}
 use Rattle.topo_changes.proofs.rows.Keeping.{added_rows}
 use Rattle.topo_changes.proofs.insertion.apply_rows.Goals as goal
@@ -18,7 +17,7 @@ pub insert_lists-requires-clause-new : goal.insert_lists-requires-clause-new
 insert_lists-requires-clause-new c =
     let rows : Rows = record {
       rotations = c.rows.inside.rotations;
-      edges = c.rows.inside.edges;
+      edges = edges_of c.rows.inside.edges;
       crossings = rows_of c.rows.inside.crossings;
       next_edge = c.rows.inside.next_edge;
       next_crossing = c.rows.inside.next_crossing;
@@ -36,28 +35,27 @@ pub insert_lists-requires-clause-there : goal.insert_lists-requires-clause-there
 insert_lists-requires-clause-there c =
     let rows : Rows = record {
       rotations = c.rows.inside.rotations;
-      edges = c.rows.inside.edges;
+      edges = edges_of c.rows.inside.edges;
       crossings = rows_of c.rows.inside.crossings;
       next_edge = c.rows.inside.next_edge;
       next_crossing = c.rows.inside.next_crossing;
     } in
     let formed = subst IsWellFormed (sym c.rows.view_is) c.requires.formed in
     let insertable = subst (λ (rows : Rows). IsInsertable rows c.args.u c.args.v c.args.kind c.args.route.now) (sym c.rows.view_is) c.requires.insertable in
-    let edges : c.as_vec_mut-2.result.now.items ≡ rows.edges = search rules in
-    subst (λ xs. AreOnPaths xs c.args.route.now.crossed) (sym edges) (darts_there rows formed c.args.u c.args.v c.args.kind c.args.route.now insertable)
+    darts_there rows formed c.args.u c.args.v c.args.kind c.args.route.now insertable
 
 pub returns-clause-ok : goal.returns-clause-ok
 returns-clause-ok c =
     let rows : Rows = record {
       rotations = c.rows.inside.rotations;
-      edges = c.rows.inside.edges;
+      edges = edges_of c.rows.inside.edges;
       crossings = rows_of c.rows.inside.crossings;
       next_edge = c.rows.inside.next_edge;
       next_crossing = c.rows.inside.next_crossing;
     } in
     let with_rotations : List (List ℕ) → Rows = λ rs. record {
       rotations = rs;
-      edges = c.insert_lists.new.edges.items;
+      edges = edges_of c.insert_lists.new.edges;
       crossings = rows_of c.insert_lists.new.crossings;
       next_edge = rows.next_edge + 1;
       next_crossing = rows.next_crossing + length c.as_slice-2.result.now;

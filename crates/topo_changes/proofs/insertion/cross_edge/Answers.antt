@@ -1,21 +1,42 @@
-use Rattle.std.proofs.Common.{◌∙◌, ap, get_or, set, sym}
+use Rattle.std.proofs.Common.{List, Some, ap, refl, sym, ℕ, ◌∙◌}
+use Rattle.std.specs.Prelude.{map}
+use Rattle.indexmap.specs.IndexMap.{set_value_at}
+use Rattle.topo_table.specs.Places.{present}
+use Rattle.topo_table.proofs.PlaceLemmas.{is_back, is_changed, is_empty}
 use Rattle.topo_changes.specs.Inserting.{crossed_path}
-use Rattle.std.proofs.lemmas.Option.{get_or_from_slice_get}
-use Rattle.topo_core.specs.declared.rows.EdgeRow.{EdgeRow}
-use Rattle.topo_changes.proofs.rows.CrossedRows.{none_repathed, ok_more, repathed_at}
+use Rattle.topo_changes.specs.Keeping.{edge_of}
+use Rattle.topo_changes.proofs.rows.CrossedRows.{err_more, ok_more}
+use Rattle.topo_changes.proofs.rows.KeepingEdges.{repathed_nowhere, repathed_there}
 use Rattle.topo_changes.proofs.insertion.cross_edge.Goals as goal
 
+pub take-body-requires : goal.take-body-requires
+take-body-requires c = (c.args.e, c.in-Some.ensures.there)
+
+pub put-requires : goal.put-requires
+put-requires c = is_empty c.args.edges.now c.take-body.new.self c.take-body.new.self c.args.e c.in-Some.place c.in-Some.ensures.there c.in-Some.ensures.rise
+    c.take-body.ensures.slots c.take-body.ensures.room
+
 pub returns-in-Some-clause-ok : goal.returns-in-Some-clause-ok
-returns-in-Some-clause-ok c =
-    let edges = c.args.edges.now in
-    let at = c.in-Some.i in
-    let row = c.index-edges-i.result in
-    let place = c.in-Some.ensures in
-    ok_more c.cross_path.result
-    (λ ok. ap (λ path. set edges at (record (get_or edges at row) { crossings = path })) ok
-    ∙ repathed_at c.requires.0 c.args.e at (crossed_path c.args.first c.args.segment c.args.x) row edges c.requires.1 place.within
-    (ap (λ (r : EdgeRow). r.id) (get_or_from_slice_get edges at place.row row place.at) ∙ place.named))
-    c.cross_path.ensures.ok
+returns-in-Some-clause-ok c = ok_more c.cross_path-done.result
+    (λ ok. (repathed_there c.args.edges.now c.take-body.new.self c.put.new.self c.args.e c.in-Some.place c.in-Some.ensures.there c.in-Some.ensures.rise
+    c.take-body.ensures.slots c.take-body.ensures.room c.take-body.result c.take-body.ensures.value (crossed_path c.args.first c.args.segment c.args.x)
+    c.cross_path-done.new.path ok c.put.ensures.slots c.put.ensures.room).edges) c.cross_path-done.ensures.ok
+
+pub returns-in-Some-clause-err : goal.returns-in-Some-clause-err
+returns-in-Some-clause-err c = err_more c.cross_path-done.result
+    (λ same. ap (λ slots. map edge_of (present slots)) (is_back c.args.edges.now c.take-body.new.self c.put.new.self c.args.e c.in-Some.place
+    c.in-Some.ensures.there c.in-Some.ensures.rise c.take-body.ensures.slots c.take-body.ensures.room c.take-body.result c.take-body.ensures.value
+    (c.put.ensures.slots
+    ∙ ap (λ (path : List ℕ). set_value_at c.take-body.new.self.slots c.in-Some.place (Some (record c.take-body.result { crossings = path }))) same)))
+    c.cross_path-done.ensures.err
+
+pub returns-in-Some-clause-places : goal.returns-in-Some-clause-places
+returns-in-Some-clause-places c =
+    (is_changed c.args.edges.now c.take-body.new.self c.put.new.self c.args.e c.in-Some.place c.in-Some.ensures.there c.in-Some.ensures.rise
+    c.take-body.ensures.slots c.take-body.ensures.room _ c.put.ensures.slots c.put.ensures.room).places
 
 pub returns-in-None-clause-ok : goal.returns-in-None-clause-ok
-returns-in-None-clause-ok c = sym (none_repathed c.args.e (crossed_path c.args.first c.args.segment c.args.x) c.args.edges.now c.in-None.ensures)
+returns-in-None-clause-ok c = repathed_nowhere c.args.edges.now c.args.e (crossed_path c.args.first c.args.segment c.args.x) c.in-None.ensures.none
+
+pub returns-in-None-clause-places : goal.returns-in-None-clause-places
+returns-in-None-clause-places c = (refl, refl)

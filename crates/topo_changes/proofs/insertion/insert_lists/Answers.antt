@@ -1,20 +1,47 @@
-use Rattle.std.proofs.Common.{◌≡◌, ◌∙◌, length, rules, subst, sym}
-use Rattle.std.specs.Vec.{vec_len}
-use Rattle.std.proofs.lemmas.List.{take_at}
+use Rattle.std.proofs.Common.{◌≡◌, ◌∙◌, ◌++◌, ◌∷◌, [], ap, arith, List, map, subst, sym, true}
+use Rattle.topo_core.specs.declared.darts.Dart.{Dart}
+use Rattle.topo_core.specs.declared.rows.EdgeRow.{EdgeRow}
 use Rattle.topo_core.specs.Items.{IsIn}
-use Rattle.topo_changes.specs.Inserting.{EdgesRise}
-use Rattle.topo_changes.proofs.rows.CrossedRows.{crossed_rise}
+use Rattle.topo_table.specs.Places.{ids_of, present}
+use Rattle.topo_table.proofs.PlaceLemmas.{below_same}
+use Rattle.topo_changes.specs.Inserting.{crossed_by, paths_below}
+use Rattle.topo_changes.specs.Keeping.{edge_of, edges_of}
+use Rattle.topo_changes.proofs.rows.CrossedRows.{on_err}
 use Rattle.topo_changes.proofs.insertion.insert_lists.Goals as goal
+
+pub cross-requires-clause-below : goal.cross-requires-clause-below
+cross-requires-clause-below c = subst (λ (es : List EdgeRow). paths_below c.args.first es ≡ true)
+    (sym (ap (λ slots. map edge_of (present slots)) c.reserve.ensures.same)) c.requires.below
 
 pub cross-requires-clause-there : goal.cross-requires-clause-there
 cross-requires-clause-there c = λ d row h k same.
-    let edges : c.deref_mut.result.now ≡ c.args.edges.now.items = search rules in
-    c.requires.there d row (subst (IsIn d) c.as_slice-darts.ensures h) (subst (IsIn row) edges k) same
+    c.requires.there d row (subst (IsIn d) c.as_slice-darts.ensures h)
+    (subst (IsIn row) (ap (λ slots. map edge_of (present slots)) c.reserve.ensures.same) k) same
 
-pub uncross-requires-clause-rise : goal.uncross-requires-clause-rise
-uncross-requires-clause-rise c =
-    let edges : c.deref_mut.result.now ≡ c.args.edges.now.items = c.deref_mut.ensures.value ∙ c.reserve.ensures.items in
-    let long : length c.cross.new.edges ≡ vec_len c.reserve.new.self = c.cross.auto.edges ∙ c.deref_mut.ensures.len in
-    let back : c.deref_mut-then-is_err.result.now ≡ c.cross.new.edges = c.deref_mut-then-is_err.ensures.value ∙ take_at c.cross.new.edges _ _ long in
-    subst EdgesRise (sym (back ∙ c.in_ok-cross.ensures.ok))
-    (crossed_rise c.args.first c.as_slice-darts.result.now c.deref_mut.result.now (subst EdgesRise (sym edges) c.requires.rise))
+pub put_edge-requires-clause-room : goal.put_edge-requires-clause-room
+put_edge-requires-clause-room c = let room = c.cross.ensures.places.1 in let some = c.in_ok-reserve.ensures.ok in omega (arith, room, some)
+
+pub put_edge-requires-clause-below : goal.put_edge-requires-clause-below
+put_edge-requires-clause-below c = below_same c.args.row.id c.args.edges.now.slots c.cross.new.edges.slots
+    (c.cross.ensures.places.0 ∙ ap ids_of c.reserve.ensures.same) c.requires.edges_below
+
+pub returns-then-is_err-clause-edges_stay : goal.returns-then-is_err-clause-edges_stay
+returns-then-is_err-clause-edges_stay c =
+    let same = ap (λ slots. map edge_of (present slots)) c.reserve.ensures.same in
+    c.uncross.ensures.edges (edges_of c.reserve.new.self) (subst (λ (es : List EdgeRow). paths_below c.args.first es ≡ true) (sym same) c.requires.below)
+    c.in_ok-cross.ensures.ok ∙ same
+
+pub returns-then-is_err-clause-edge_ids_stay : goal.returns-then-is_err-clause-edge_ids_stay
+returns-then-is_err-clause-edge_ids_stay c = c.uncross.ensures.places.0 ∙ c.cross.ensures.places.0 ∙ ap ids_of c.reserve.ensures.same
+
+pub returns-in_err-cross-clause-edges_stay : goal.returns-in_err-cross-clause-edges_stay
+returns-in_err-cross-clause-edges_stay c = on_err c.from_residual-in_err-cross.result
+    (c.in_err-cross.ensures.err ∙ ap (λ slots. map edge_of (present slots)) c.reserve.ensures.same)
+
+pub returns-in_err-cross-clause-edge_ids_stay : goal.returns-in_err-cross-clause-edge_ids_stay
+returns-in_err-cross-clause-edge_ids_stay c = on_err c.from_residual-in_err-cross.result (c.cross.ensures.places.0 ∙ ap ids_of c.reserve.ensures.same)
+
+pub returns-clause-edges : goal.returns-clause-edges
+returns-clause-edges c = c.put_edge.ensures.edges ∙ ap (λ (es : List EdgeRow). es ++ c.args.row ∷ []) (c.in_ok-cross.ensures.ok
+    ∙ ap (λ (ds : List Dart). map (crossed_by c.args.first ds) (edges_of c.reserve.new.self)) c.as_slice-darts.ensures
+    ∙ ap (λ slots. map (crossed_by c.args.first c.args.route.now.crossed) (map edge_of (present slots))) c.reserve.ensures.same)

@@ -1,19 +1,29 @@
-use Rattle.std.proofs.Common.{◌∙◌, ap, get_or, set, sym}
+use Rattle.std.proofs.Common.{refl}
 use Rattle.std.specs.Prelude.{filter, nat_lt}
-use Rattle.std.proofs.lemmas.Option.{get_or_from_slice_get}
-use Rattle.topo_core.specs.declared.rows.EdgeRow.{EdgeRow}
-use Rattle.topo_changes.proofs.rows.CrossedRows.{none_repathed, repathed_at}
+use Rattle.topo_table.proofs.PlaceLemmas.{is_changed, is_empty}
+use Rattle.topo_changes.proofs.rows.KeepingEdges.{repathed_nowhere, repathed_there}
 use Rattle.topo_changes.proofs.insertion.uncross_edge.Goals as goal
 
-pub returns-in-Some : goal.returns-in-Some
-returns-in-Some c =
-    let edges = c.args.edges.now in
-    let at = c.in-Some.i in
-    let row = c.index-edges-i.result in
-    let place = c.in-Some.ensures in
-    ap (λ path. set edges at (record (get_or edges at row) { crossings = path })) c.keep_below.ensures
-    ∙ repathed_at c.requires.0 c.args.e at (filter (λ x. nat_lt x c.args.first)) row edges c.requires.1 place.within
-    (ap (λ (r : EdgeRow). r.id) (get_or_from_slice_get edges at place.row row place.at) ∙ place.named)
+pub take-body-requires : goal.take-body-requires
+take-body-requires c = (c.args.e, c.in-Some.ensures.there)
 
-pub returns-in-None : goal.returns-in-None
-returns-in-None c = sym (none_repathed c.args.e (filter (λ x. nat_lt x c.args.first)) c.args.edges.now c.in-None.ensures)
+pub put-requires : goal.put-requires
+put-requires c = is_empty c.args.edges.now c.take-body.new.self c.take-body.new.self c.args.e c.in-Some.place c.in-Some.ensures.there c.in-Some.ensures.rise
+    c.take-body.ensures.slots c.take-body.ensures.room
+
+pub returns-in-Some-clause-edges : goal.returns-in-Some-clause-edges
+returns-in-Some-clause-edges c =
+    (repathed_there c.args.edges.now c.take-body.new.self c.put.new.self c.args.e c.in-Some.place c.in-Some.ensures.there c.in-Some.ensures.rise
+    c.take-body.ensures.slots c.take-body.ensures.room c.take-body.result c.take-body.ensures.value (filter (λ x. nat_lt x c.args.first))
+    c.keep_below.new.list c.keep_below.ensures c.put.ensures.slots c.put.ensures.room).edges
+
+pub returns-in-Some-clause-places : goal.returns-in-Some-clause-places
+returns-in-Some-clause-places c =
+    (is_changed c.args.edges.now c.take-body.new.self c.put.new.self c.args.e c.in-Some.place c.in-Some.ensures.there c.in-Some.ensures.rise
+    c.take-body.ensures.slots c.take-body.ensures.room _ c.put.ensures.slots c.put.ensures.room).places
+
+pub returns-in-None-clause-edges : goal.returns-in-None-clause-edges
+returns-in-None-clause-edges c = repathed_nowhere c.args.edges.now c.args.e (filter (λ x. nat_lt x c.args.first)) c.in-None.ensures.none
+
+pub returns-in-None-clause-places : goal.returns-in-None-clause-places
+returns-in-None-clause-places c = (refl, refl)

@@ -1,7 +1,13 @@
-use Rattle.std.proofs.Common.{arith, subst, sym, ◌∙◌}
+use Rattle.std.proofs.Common.{ap, arith, List, map, subst, sym, true, ◌≡◌, ◌∙◌}
+use Rattle.topo_core.specs.declared.rows.EdgeRow.{EdgeRow}
+use Rattle.std.specs.List.{list_all}
+use Rattle.topo_core.specs.Items.{rises_below}
+use Rattle.topo_core.proofs.numbering.Members.{left_true}
+use Rattle.topo_table.specs.Places.{values_in}
+use Rattle.topo_embedded.specs.Paths.{AreForEdges}
 use Rattle.topo_core.specs.declared.rows.Rows.{Rows}
 use Rattle.topo_core.specs.Cycles.{IsPermutationList}
-use Rattle.topo_core.specs.Lawful.{IsWellFormed}
+use Rattle.topo_core.specs.Lawful.{IsWellFormed, has_good_path}
 use Rattle.topo_core.proofs.numbering.Numbering.{turn_permutes}
 use Rattle.topo_rows.proofs.Verdicts.{images_total}
 use Rattle.topo_embedded.specs.Halves.{ShowsRows}
@@ -16,13 +22,24 @@ from_turns-requires-clause-permutation c =
 pub from_turns-requires-clause-two_each : goal.from_turns-requires-clause-two_each
 from_turns-requires-clause-two_each c = grind (arith, images_total, labels_length)
 
+pub paths_of-requires-clause-rise : goal.paths_of-requires-clause-rise
+paths_of-requires-clause-rise c = subst (λ (es : List EdgeRow). rises_below c.args.rows.next_edge (map (λ row. row.id) es) ≡ true)
+    (sym c.as_slice-edges.ensures)
+    (left_true _ (list_all (has_good_path c.args.rows) c.args.rows.edges) c.requires.well_formed.paths)
+
 pub invariant_of-result : goal.invariant_of-result
-invariant_of-result c = subst (λ (rows : Rows). IsWellFormed rows × ShowsRows (record { rows = rows; paths = c.in_ok-paths.paths }) c.in_ok-segments.segments)
+invariant_of-result c =
+    let paths = c.in_ok-paths.paths in
+    subst (λ (rows : Rows). IsWellFormed rows × ShowsRows (record { rows = rows; paths = values_in paths }) c.in_ok-segments.segments × AreForEdges rows paths)
     (sym c.in_ok-rows.ensures) (
       c.requires.well_formed,
-      made_from c.args.rows c.requires.well_formed c.as_slice-edges.result.now c.as_slice-images.result.now c.as_slice.result.now c.as_slice-2.result.now
-          c.in_ok-segments.halves.items c.as_slice-3.result.now c.in_ok-paths.paths c.in_ok-segments.segments
+      made_from c.args.rows c.requires.well_formed c.as_slice-edges.result.now c.as_slice-images.result.now c.as_slice.result.now c.as_slice-begins.result.now
+          c.in_ok-segments.halves.items c.as_slice-2.result.now (values_in paths) c.in_ok-segments.segments
           c.as_slice-edges.ensures (c.as_slice-images.ensures.value ∙ c.requires.turns.images) (c.as_slice.ensures.value ∙ c.in_ok-labels.ensures)
-          (c.as_slice-2.ensures.value ∙ c.requires.turns.edge_begins) c.as_slice-3.ensures.value
-          c.in_ok-segments.ensures.made c.in_ok-segments.ensures.labels c.in_ok-paths.ensures,
+          (c.as_slice-begins.ensures.value ∙ c.requires.turns.edge_begins) c.as_slice-2.ensures.value
+          c.in_ok-segments.ensures.made c.in_ok-segments.ensures.labels c.in_ok-paths.ensures.paths,
+      record {
+        ids = c.in_ok-paths.ensures.ids ∙ ap (λ (es : List EdgeRow). map (λ row. row.id) es) c.as_slice-edges.ensures;
+        below = c.in_ok-paths.ensures.below;
+      },
     )

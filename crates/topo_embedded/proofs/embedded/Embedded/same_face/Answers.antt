@@ -3,6 +3,7 @@ use Rattle.std.specs.Prelude.{◌↔◌, IsTrue}
 use Rattle.topo_core.specs.declared.darts.Dart.{Dart}
 use Rattle.topo_core.specs.Picture.{darts, system}
 use Rattle.topo_core.specs.Systems.{SameFace, has_dart}
+use Rattle.topo_table.specs.Places.{values_in}
 use Rattle.topo_embedded.specs.Halves.{RowsWithPaths, half_in}
 use Rattle.topo_embedded.proofs.halves.Numbers.{half_alive}
 use Rattle.topo_embedded.proofs.halves.SameFaces.{same_faces}
@@ -16,7 +17,7 @@ same_face-requires-clause-live_other c = grind (arith, half_alive)
 
 pub returns : goal.returns
 returns c =
-    let p : RowsWithPaths = record { rows = c.self.inside.parts.rows; paths = c.self.inside.parts.paths } in
+    let p : RowsWithPaths = record { rows = c.self.inside.parts.rows; paths = values_in c.self.inside.parts.paths } in
     let r = c.self.inside.parts.segments in
     subst (λ (q : RowsWithPaths). (x y : Dart) → has_dart (darts q.rows) x ≡ true → has_dart (darts q.rows) y ≡ true → half_in q x ≡ c.args.half
     → half_in q y ≡ c.args.other → IsTrue c.same_face.result ↔ SameFace (system q.rows) x y) c.self.view_is

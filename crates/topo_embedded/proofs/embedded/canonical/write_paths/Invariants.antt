@@ -1,7 +1,9 @@
-use Rattle.std.proofs.Common.{◌≡◌, ◌++◌, take}
+use Rattle.std.proofs.Common.{◌≡◌, ◌++◌, map, take}
 use Rattle.std.specs.Prelude.{flat_map}
+use Rattle.topo_table.specs.Places.{present}
 use Rattle.topo_embedded.specs.Canonical.{halves_of}
 use Rattle.topo_embedded.proofs.embedded.canonical.write_paths.Given as goal
 
-abbrev pub invariant-loop-path : goal.invariant-loop-path
-invariant-loop-path l = l.halves.items ≡ l.initial.halves.items ++ flat_map halves_of (take l.path-index l.paths)
+-- the halves of the paths at the places so far
+abbrev pub invariant-loop-place : goal.invariant-loop-place
+invariant-loop-place l = l.halves.items ≡ l.fn.halves.items ++ flat_map halves_of (map (λ e. e.1) (present (take l.place l.paths.slots)))

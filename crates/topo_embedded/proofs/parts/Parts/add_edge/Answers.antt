@@ -1,44 +1,67 @@
-use Rattle.std.proofs.Common.{arith, ◌≡◌, ◌++◌, ◌∷◌, [], Bool, List, ap, drop, length, subst, sym, take, ℕ, ◌∙◌}
-use Rattle.std.specs.Prelude.{if◌then◌else◌, is_ok}
-use Rattle.std.specs.Vec.{vec_len}
-use Rattle.std.proofs.lemmas.List.{take_at}
+use Rattle.std.proofs.Common.{arith, refl, ◌≡◌, ◌++◌, ◌∷◌, [], List, ap, subst, sym, ℕ, ◌∙◌}
+use Rattle.topo_core.specs.declared.rows.Rows.{Rows}
 use Rattle.topo_core.specs.Changes.{shown}
 use Rattle.topo_changes.proofs.rows.CrossedRows.{when_err, when_ok}
-use Rattle.topo_embedded.specs.Halves.{RowsWithPaths}
+use Rattle.topo_table.specs.Places.{AreBelow, ids_in, values_in}
+use Rattle.topo_embedded.specs.Crossing.{ids_of_edges}
+use Rattle.topo_embedded.specs.Halves.{RowsWithPaths, ShowsRows}
 use Rattle.topo_embedded.specs.Padding.{ArePadded}
+use Rattle.topo_embedded.specs.Paths.{AreForEdges}
 use Rattle.topo_embedded.proofs.growing.Grown.{kept_shows}
+use Rattle.topo_embedded.proofs.halves.KeptPaths.{ids_shown, kept_ids, one_more_kept, values_pushed}
 use Rattle.topo_embedded.proofs.inserting.Routed.{end_alive, inserted_parts, ready_now, start_alive}
 use Rattle.topo_embedded.proofs.inserting.Splits.{all_placed_here}
 use Rattle.topo_embedded.proofs.parts.Parts.add_edge.Goals as goal
 
 pub make_room-requires-clause-placed : goal.make_room-requires-clause-placed
 make_room-requires-clause-placed g c =
-    let paths : g.p.paths ≡ c.as_vec_mut-paths.result.now.items = ap (λ (q : RowsWithPaths). q.paths) c.requires.0 ∙ sym c.as_vec_mut-paths.ensures.items in
     let ready = c.requires.1.0 in
-    all_placed_here g.p ready.formed c.args.self.now.segments ready.shows c.args.crossed.now ready.marked c.as_vec_mut-paths.result.now.items
-    (ap (λ (ps : List (List ℕ)). length ps) (sym paths))
+    all_placed_here g.p ready.formed c.args.self.now.segments ready.shows c.args.crossed.now ready.marked (ids_in c.args.self.now.paths)
+    (c.requires.1.1.0.ids ∙ ap (λ (q : RowsWithPaths). ids_of_edges q.rows) (sym c.requires.0))
 
 pub unpad-requires : goal.unpad-requires
 unpad-requires g c =
-    let paths : g.p.paths ≡ c.as_vec_mut-paths.result.now.items = ap (λ (q : RowsWithPaths). q.paths) c.requires.0 ∙ sym c.as_vec_mut-paths.ensures.items in
     let ready = c.requires.1.0 in
-    let long : length c.deref_mut.result.now ≡ length g.p.paths = ap (λ (ps : List (List ℕ)). length ps) c.deref_mut.ensures.value
-    ∙ c.in_ok-line.ensures.padded.as_many ∙ ap (λ (ps : List (List ℕ)). length ps) (sym paths) in
-    all_placed_here g.p ready.formed c.args.self.now.segments ready.shows c.args.crossed.now ready.marked c.deref_mut.result.now long
+    all_placed_here g.p ready.formed c.args.self.now.segments ready.shows c.args.crossed.now ready.marked (ids_in c.make_room.new.paths)
+    (c.make_room.ensures.ids ∙ c.requires.1.1.0.ids ∙ ap (λ (q : RowsWithPaths). ids_of_edges q.rows) (sym c.requires.0))
+
+pub returns-then-is_err-clause-err_paths : goal.returns-then-is_err-clause-err_paths
+returns-then-is_err-clause-err_paths g c = c.unpad.ensures.paths (values_in c.args.self.now.paths)
+    (subst (λ (ids : List ℕ). ArePadded ids (λ hs. hs) (values_in c.args.self.now.paths) c.args.crossed.now (values_in c.make_room.new.paths))
+    (sym c.make_room.ensures.ids) c.in_ok-line.ensures.padded)
 
 pub returns-then-is_err-clause-shows : goal.returns-then-is_err-clause-shows
-returns-then-is_err-clause-shows g c = grind (arith, when_err, take_at, kept_shows)
+returns-then-is_err-clause-shows g c =
+    let rows = when_err c.apply_rows.result (sym c.if-is_err.ensures.value) c.apply_rows.ensures.err in
+    let back = c.unpad.ensures.paths (values_in c.args.self.now.paths)
+    (subst (λ (ids : List ℕ). ArePadded ids (λ hs. hs) (values_in c.args.self.now.paths) c.args.crossed.now (values_in c.make_room.new.paths))
+    (sym c.make_room.ensures.ids) c.in_ok-line.ensures.padded) in
+    let seen : (let q : RowsWithPaths = record { rows = c.apply_rows.new.rows; paths = values_in c.unpad.new.paths } in q ≡ g.p) =
+    ap (λ (rs : Rows). (let q : RowsWithPaths = record { rows = rs; paths = values_in c.unpad.new.paths } in q)) rows
+    ∙ ap (λ (ps : List (List ℕ)). (let q : RowsWithPaths = record { rows = c.args.self.now.rows; paths = ps } in q)) back
+    ∙ sym c.requires.0 in
+    subst (λ (q : RowsWithPaths). ShowsRows q c.make_room.new.segments) (sym seen)
+    (kept_shows g.p c.args.self.now.segments c.make_room.new.segments c.make_room.ensures.slots c.requires.1.0.shows)
+
+pub returns-then-is_err-clause-kept : goal.returns-then-is_err-clause-kept
+returns-then-is_err-clause-kept g c =
+    subst (λ (rows : Rows). AreForEdges rows c.unpad.new.paths)
+    (sym (when_err c.apply_rows.result (sym c.if-is_err.ensures.value) c.apply_rows.ensures.err))
+    (kept_ids c.args.self.now.rows c.args.self.now.paths c.unpad.new.paths (c.unpad.ensures.same.0 ∙ c.make_room.ensures.ids)
+    (c.unpad.ensures.same.1.0 ∙ c.make_room.ensures.places) c.requires.1.1.0)
 
 pub add_route-requires : goal.add_route-requires
 add_route-requires g c =
-    let paths : g.p.paths ≡ c.as_vec_mut-paths.result.now.items = ap (λ (q : RowsWithPaths). q.paths) c.requires.0 ∙ sym c.as_vec_mut-paths.ensures.items in
     let ready = c.requires.1.0 in
     let slots = c.make_room.ensures.slots in
-    let padded : ArePadded (λ hs. hs) g.p.paths c.args.crossed.now c.deref_mut-2.result.now =
-    subst (λ (ps : List (List ℕ)). ArePadded (λ hs. hs) g.p.paths c.args.crossed.now ps) (sym c.deref_mut-2.ensures.value)
-    (subst (λ (ps : List (List ℕ)). ArePadded (λ hs. hs) ps c.args.crossed.now c.make_room.new.paths.items) (sym paths) c.in_ok-line.ensures.padded) in (
+    let ids = c.requires.1.1.0.ids ∙ ap (λ (q : RowsWithPaths). ids_of_edges q.rows) (sym c.requires.0) in
+    let padded : ArePadded (ids_of_edges g.p.rows) (λ hs. hs) g.p.paths c.args.crossed.now (values_in c.make_room.new.paths) =
+    subst (λ (ps : List (List ℕ)). ArePadded (ids_of_edges g.p.rows) (λ hs. hs) ps c.args.crossed.now (values_in c.make_room.new.paths))
+    (ap (λ (q : RowsWithPaths). q.paths) (sym c.requires.0))
+    (subst (λ (ids : List ℕ). ArePadded ids (λ hs. hs) (values_in c.args.self.now.paths) c.args.crossed.now (values_in c.make_room.new.paths)) ids
+    c.in_ok-line.ensures.padded) in (
       ready_now g.p c.args.self.now.segments c.args.crossed.now c.args.ends.0 c.args.ends.1 c.args.kind c.args.route.now c.args.corners.0 c.args.corners.1 ready
-          c.make_room.new.segments slots c.deref_mut-2.result.now padded,
+          c.make_room.new.segments slots (values_in c.make_room.new.paths) padded,
       (
         c.in_ok-line.ensures.room,
         (
@@ -47,11 +70,19 @@ add_route-requires g c =
           (
             end_alive g.p c.args.self.now.segments c.args.crossed.now c.args.ends.0 c.args.ends.1 c.args.kind c.args.route.now c.args.corners.0 c.args.corners.1
                 ready c.make_room.new.segments slots,
-            c.in_ok-line.ensures.line,
+            (c.in_ok-line.ensures.line, c.make_room.ensures.ids ∙ ids),
           ),
         ),
       ),
     )
+
+pub push-requires-clause-room : goal.push-requires-clause-room
+push-requires-clause-room g c = let room = c.add_route.ensures.same.1.1 in let some = c.in_ok-line.ensures.path_room in omega (arith, room, some)
+
+pub push-requires-clause-last : goal.push-requires-clause-last
+push-requires-clause-last g c = subst (λ (n : ℕ). AreBelow n c.add_route.new.paths.slots) (sym c.next_edge-edge.ensures)
+    (kept_ids c.args.self.now.rows c.args.self.now.paths c.add_route.new.paths (c.add_route.ensures.same.0 ∙ c.make_room.ensures.ids)
+    (c.add_route.ensures.same.1.0 ∙ c.make_room.ensures.places) c.requires.1.1.0).below
 
 pub returns-clause-shows : goal.returns-clause-shows
 returns-clause-shows g c =
@@ -59,14 +90,20 @@ returns-clause-shows g c =
     let rows : c.apply_rows.new.rows ≡ shown g.p.rows c.args.ends.0 c.args.ends.1 c.args.kind c.args.route.now =
     when_ok c.apply_rows.result (sym c.if-is_err.ensures.value) c.apply_rows.ensures.ok
     ∙ ap (λ (q : RowsWithPaths). shown q.rows c.args.ends.0 c.args.ends.1 c.args.kind c.args.route.now) (sym c.requires.0) in
-    let long : length c.add_route.new.paths ≡ vec_len c.make_room.new.paths = c.add_route.auto.paths ∙ c.deref_mut-2.ensures.len in
-    let items : List (List ℕ) =
-    take (vec_len c.make_room.new.paths) (c.add_route.new.paths ++ drop (length c.add_route.new.paths) c.make_room.new.paths.items) in
     inserted_parts g.p c.args.self.now.segments c.make_room.new.segments c.add_route.new.segments c.args.crossed.now c.add_route.new.crossed c.args.ends.0
     c.args.ends.1 c.args.kind c.args.route.now c.args.corners.0 c.args.corners.1 c.next_edge-edge.result ready
     c.make_room.ensures.slots c.laws.ensures c.add_route.ensures.darts c.add_route.ensures.marked c.add_route.new.line c.apply_rows.new.rows
-    c.add_route.new.paths c.push.new.self.items
+    (values_in c.add_route.new.paths) (values_in c.push.new.self)
     (c.next_edge-edge.ensures ∙ ap (λ (q : RowsWithPaths). q.rows.next_edge) (sym c.requires.0)) c.add_route.ensures.routed rows c.add_route.ensures.paths
-    (c.push.ensures.items ∙ ap (λ (b : Bool). if b then (items ++ c.add_route.new.line ∷ []) else items) (ap is_ok c.unwrap.ensures)
-    ∙ ap (λ (ps : List (List ℕ)). ps ++ c.add_route.new.line ∷ [])
-    (take_at c.add_route.new.paths (drop (length c.add_route.new.paths) c.make_room.new.paths.items) _ long))
+    (values_pushed c.add_route.new.paths c.push.new.self c.next_edge-edge.result c.add_route.new.line c.push.ensures.entries)
+
+pub returns-clause-kept : goal.returns-clause-kept
+returns-clause-kept g c =
+    let rows = c.args.self.now.rows in
+    subst (λ (after : Rows). AreForEdges after c.push.new.self)
+    (sym (when_ok c.apply_rows.result (sym c.if-is_err.ensures.value) c.apply_rows.ensures.ok))
+    (one_more_kept rows (shown rows c.args.ends.0 c.args.ends.1 c.args.kind c.args.route.now) c.add_route.new.paths c.push.new.self c.add_route.new.line
+    c.next_edge-edge.result c.next_edge-edge.ensures
+    (kept_ids rows c.args.self.now.paths c.add_route.new.paths (c.add_route.ensures.same.0 ∙ c.make_room.ensures.ids)
+    (c.add_route.ensures.same.1.0 ∙ c.make_room.ensures.places) c.requires.1.1.0)
+    (ids_shown rows c.args.ends.0 c.args.ends.1 c.args.kind c.args.route.now) refl c.push.ensures.slots c.push.ensures.entries)

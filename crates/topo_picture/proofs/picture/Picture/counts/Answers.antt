@@ -12,7 +12,7 @@ counted-requires c = (
     picture = subst (IsPicture c.self.inside.limits) (sym c.rows-rows.ensures) c.self.invariant;
     vertices_are = ap length c.rotations.ensures;
     crossings_are = c.crossing_count.ensures;
-    edges_are = ap length c.edges.ensures;
+    edges_are = c.edge_count.ensures;
   },
 )
 
@@ -22,5 +22,5 @@ returns c = rw (← c.self.view_is, ← c.rows-rows.ensures) (c.counted.ensures 
   picture = subst (IsPicture c.self.inside.limits) (sym c.rows-rows.ensures) c.self.invariant;
   vertices_are = ap length c.rotations.ensures;
   crossings_are = c.crossing_count.ensures;
-  edges_are = ap length c.edges.ensures;
+  edges_are = c.edge_count.ensures;
 }))

@@ -1,0 +1,6 @@
+use Rattle.topo_changes.proofs.rows.KeepingEdges.{AreEdgesNoted}
+use Rattle.topo_changes.proofs.kept.edge_table.Given as goal
+
+-- the edges so far, with their ids, and room for the others
+abbrev pub invariant-loop-row : goal.invariant-loop-row
+invariant-loop-row l = AreEdgesNoted l.rows l.row-index l.table

@@ -1,0 +1,255 @@
+-- Edges in a table: what is found by an id, a path that changes, and what more of them and fewer of them come to.
+use Rattle.std.proofs.Common.{◌≡◌, ◌≢◌, ℕ, ◌+◌, ◌<◌, ◌≤◌, Bool, true, false, cond, not, List, [], ◌∷◌, ◌++◌, length, take, get_or}
+use Rattle.std.proofs.Common.{refl, sym, ap, subst, ◌∙◌, arith, inl, inr, Option, Some, None}
+use Rattle.std.specs.Prelude.{◌==◌, filter, find, is_some, map, nat_lt, slice_get}
+use Rattle.std.specs.List.{list_all}
+use Rattle.std.specs.List.Sorted.{IsStrictlyIncreasing}
+use Rattle.std.specs.Map.{values_of}
+use Rattle.std.specs.Option.{option_map}
+use Rattle.std.proofs.lemmas.Bool.{eq-eqb, eqb-true, false≢true}
+use Rattle.std.proofs.lemmas.Grind.{flat_map-append}
+use Rattle.std.proofs.lemmas.List.{append-nil, get_or-map, length-map, map-append, take_all, take_more}
+use Rattle.indexmap.specs.IndexMap.{set_value_at}
+use Rattle.topo_core.specs.declared.rows.EdgeRow.{EdgeRow}
+use Rattle.topo_core.specs.declared.rows.Rows.{Rows}
+use Rattle.topo_core.specs.Picture.{edge_row}
+use Rattle.topo_core.specs.Changes.{uncrossed_row}
+use Rattle.topo_core.specs.Items.{has_id, IsIn, rises_below}
+use Rattle.topo_table.specs.Places.{AreBelow, EntriesRise, IsLiveAt, KeepsPlaces, Places, entries}
+use Rattle.topo_table.specs.Places.{entry_at, ids_in, ids_of, present, value_of, with_value, without_id}
+use Rattle.topo_table.proofs.PlaceLemmas.{EntriesRise-present, IsBelowAll, Rises, Rises-from_increasing, is_changed, present-push}
+use Rattle.topo_table.proofs.PlaceLemmas.{value_of-below, was_value, with_value-below}
+use Rattle.topo_changes.specs.declared.kept.EdgeBody.{EdgeBody}
+use Rattle.topo_changes.specs.Inserting.{repathed}
+use Rattle.topo_changes.specs.Keeping.{edge_of, edges_of}
+use Rattle.topo_changes.proofs.rows.CrossedRows.{none_repathed, repathed_other}
+use Rattle.topo_changes.proofs.rows.Keeping.{all_below, below_more, more_places, rises_before}
+use Rattle.topo_changes.proofs.rows.Leaving.{out_of_one, unchanged}
+
+-- ---- What is found
+
+-- the row of the edge that an id finds
+pub edge_kept : (id : ℕ) (es : List (ℕ × EdgeBody)) → find (λ row. row.id == id) (map edge_of es) ≡ option_map (λ b. edge_of (id, b)) (value_of id es)
+edge_kept id [] = refl
+edge_kept id (e ∷ es) = by_test (e.0 == id) refl (edge_kept id es) where
+  by_test : (t : Bool) → (e.0 == id) ≡ t → find (λ row. row.id == id) (map edge_of es) ≡ option_map (λ b. edge_of (id, b)) (value_of id es)
+      → cond t (Some (edge_of e)) (find (λ row. row.id == id) (map edge_of es))
+      ≡ option_map (λ b. edge_of (id, b)) (option_map (λ e. e.1) (cond t (Some e) (find (λ e. e.0 == id) es)))
+  by_test true is rest = ap (λ (n : ℕ). Some (edge_of (n, e.1))) (eqb-true e.0 id is)
+  by_test false is rest = rest
+
+-- an edge that is there has a value
+pub no_edge_kept : (table : Places EdgeBody) (e : ℕ) → value_of e (entries table) ≡ None → is_some (find (λ row. row.id == e) (edges_of table)) ≡ true → ⊥
+no_edge_kept table e none there = false≢true (sym (ap is_some (edge_kept e (entries table) ∙ ap (option_map (λ b. edge_of (e, b))) none)) ∙ there)
+
+-- the row of an edge that is found
+pub taken_row : (table : Places EdgeBody) (rows : Rows) (e : ℕ) (b : EdgeBody) (row : EdgeRow) → edges_of table ≡ rows.edges
+    → value_of e (entries table) ≡ Some b → row ≡ edge_of (e, b) → edge_row rows e ≡ Some row
+taken_row table rows e b row same at is =
+    ap (λ (es : List EdgeRow). find (λ row. row.id == e) es) (sym same) ∙ edge_kept e (entries table) ∙ ap (option_map (λ b. edge_of (e, b))) at
+    ∙ ap Some (sym is)
+
+-- ---- A path that changes
+
+some_same : {X : Type 0} {x y : X} → Some x ≡ Some y → x ≡ y
+some_same h = cc
+
+-- an edge with its path changed
+abbrev with_path : EdgeBody → (List ℕ → List ℕ) → EdgeBody
+with_path body change = record body { crossings = change body.crossings }
+
+-- another path for one id
+repathed_entries : (e : ℕ) (body : EdgeBody) (change : List ℕ → List ℕ) (es : List (ℕ × EdgeBody)) → Rises (map (λ e. e.0) es) → value_of e es ≡ Some body
+    → map edge_of (with_value e (record body { crossings = change body.crossings }) es) ≡ map (repathed e change) (map edge_of es)
+repathed_entries e body change [] up at = refl
+repathed_entries e body change (x ∷ es) up at = by_test (x.0 == e) refl (repathed_entries e body change es up.1) where
+  by_test : (t : Bool) → (x.0 == e) ≡ t → (value_of e es ≡ Some body
+      → map edge_of (with_value e (with_path body change) es) ≡ map (repathed e change) (map edge_of es))
+      → map edge_of (with_value e (with_path body change) (x ∷ es)) ≡ map (repathed e change) (map edge_of (x ∷ es))
+  by_test true is rest =
+      let same : x.0 ≡ e = eqb-true x.0 e is in
+      let here : x.1 ≡ body = some_same (sym (ap (λ (t : Bool). option_map (λ (y : ℕ × EdgeBody). y.1) (cond t (Some x) (find (λ y. y.0 == e) es))) is) ∙ at) in
+      let below : IsBelowAll e (map (λ y. y.0) es) = subst (λ (i : ℕ). IsBelowAll i (map (λ y. y.0) es)) same up.0 in
+      let none : find (λ row. row.id == e) (map edge_of es) ≡ None = edge_kept e es ∙ ap (option_map (λ b. edge_of (e, b))) (value_of-below e es below) in
+      let first : edge_of (e, with_path body change) ≡ repathed e change (edge_of x) =
+      ap (λ (b : EdgeBody). edge_of (e, record b { crossings = change b.crossings })) (sym here)
+      ∙ ap (λ (n : ℕ). edge_of (n, record x.1 { crossings = change x.1.crossings })) (sym same)
+      ∙ ap (λ (t : Bool). record (edge_of x) { crossings = cond t (change x.1.crossings) x.1.crossings }) (sym is) in
+      ap (λ (t : Bool). edge_of (cond {A = ℕ × EdgeBody} t (e, with_path body change) x) ∷ map edge_of (with_value e (with_path body change) es)) is
+      ∙ ap (λ (ys : List (ℕ × EdgeBody)). edge_of (e, with_path body change) ∷ map edge_of ys) (with_value-below e (with_path body change) es below)
+      ∙ ap (λ (row : EdgeRow). row ∷ map edge_of es) first
+      ∙ ap (λ (rows : List EdgeRow). repathed e change (edge_of x) ∷ rows) (sym (none_repathed e change (map edge_of es) none))
+  by_test false is rest =
+      let there : value_of e es ≡ Some body =
+      sym (ap (λ (t : Bool). option_map (λ (y : ℕ × EdgeBody). y.1) (cond t (Some x) (find (λ y. y.0 == e) es))) is) ∙ at in
+      let other : x.0 ≢ e = (λ same. false≢true (sym is ∙ eq-eqb x.0 e same)) in
+      ap (λ (t : Bool). edge_of (cond {A = ℕ × EdgeBody} t (e, with_path body change) x) ∷ map edge_of (with_value e (with_path body change) es)) is
+      ∙ ap (λ (rows : List EdgeRow). edge_of x ∷ rows) (rest there)
+      ∙ ap (λ (row : EdgeRow). row ∷ map (repathed e change) (map edge_of es)) (sym (repathed_other e change (edge_of x) other))
+
+-- the rows with one path changed, and the places as they were
+pub record AreRepathed (was now : Places EdgeBody) (e : ℕ) (change : List ℕ → List ℕ) : Type 0 where
+  pub edges : edges_of now ≡ map (repathed e change) (edges_of was)
+  pub places : KeepsPlaces was now
+
+-- an edge is taken out of its place, and put back with another path
+pub repathed_there : (was taken now : Places EdgeBody) (e place : ℕ) (live : IsLiveAt e place was.slots) → IsStrictlyIncreasing (ids_of was.slots)
+    → taken.slots ≡ set_value_at was.slots place None → taken.room ≡ was.room → (b : EdgeBody) → slice_get (values_of was.slots) place ≡ Some (Some b)
+    → (change : List ℕ → List ℕ) (path : List ℕ) → path ≡ change b.crossings
+    → now.slots ≡ set_value_at taken.slots place (Some (record b { crossings = path })) → now.room ≡ taken.room → AreRepathed was now e change
+repathed_there was taken now e place live up slots room b read change path is put put_room =
+    let at = was_value was taken now e place live up slots room b read in
+    let put_in = put ∙ ap (λ (xs : List ℕ). set_value_at taken.slots place (Some (record b { crossings = xs }))) is in
+    let done = is_changed was taken now e place live up slots room (record b { crossings = change b.crossings }) put_in put_room in
+    record {
+      edges = ap (map edge_of) done.entries_are
+          ∙ repathed_entries e b change (entries was) (Rises-from_increasing _ (EntriesRise-present was.slots up)) at;
+      places = done.places;
+    }
+
+-- where there is no such edge nothing changes
+pub repathed_nowhere : (table : Places EdgeBody) (e : ℕ) (change : List ℕ → List ℕ) → value_of e (entries table) ≡ None
+    → edges_of table ≡ map (repathed e change) (edges_of table)
+repathed_nowhere table e change none =
+    sym (none_repathed e change (edges_of table) (edge_kept e (entries table) ∙ ap (option_map (λ b. edge_of (e, b))) none))
+
+-- a crossing that stands on one path alone is out of all of them
+pub repathed_out : (x other : ℕ) (edges : List EdgeRow) → ((row : EdgeRow) → IsIn row edges → row.id ≢ other → has_id row.crossings x ≡ false)
+    → map (repathed other (filter (λ y. not (y == x)))) edges ≡ map (uncrossed_row (x ∷ [])) edges
+repathed_out x other [] elsewhere = refl
+repathed_out x other (row ∷ edges) elsewhere =
+    ap (λ (r : EdgeRow). r ∷ map (repathed other (filter (λ y. not (y == x)))) edges) (by_test (row.id == other) refl)
+    ∙ ap (λ (rows : List EdgeRow). uncrossed_row (x ∷ []) row ∷ rows) (repathed_out x other edges (λ r h. elsewhere r (inr h))) where
+      by_test : (t : Bool) → (row.id == other) ≡ t → repathed other (filter (λ y. not (y == x))) row ≡ uncrossed_row (x ∷ []) row
+      by_test true is =
+          ap (λ (t : Bool). record row { crossings = cond t (filter (λ y. not (y == x)) row.crossings) row.crossings }) is
+          ∙ ap (λ (path : List ℕ). record row { crossings = path }) (out_of_one x row.crossings)
+      by_test false is =
+          let differs : row.id ≢ other = (λ same. false≢true (sym is ∙ eq-eqb row.id other same)) in
+          repathed_other other (filter (λ y. not (y == x))) row differs ∙ sym (unchanged x row (elsewhere row (inl refl) differs))
+
+-- ---- More of them
+
+pub edges_of_more : (es fs : List (ℕ × EdgeBody)) → map edge_of (es ++ fs) ≡ map edge_of es ++ map edge_of fs
+edges_of_more [] fs = refl
+edges_of_more (e ∷ es) fs = ap (λ rows. edge_of e ∷ rows) (edges_of_more es fs)
+
+-- one more behind the others
+pub edge_put : (was now : Places EdgeBody) (id : ℕ) (b : EdgeBody) → entries now ≡ entries was ++ (id, b) ∷ []
+    → edges_of now ≡ edges_of was ++ edge_of (id, b) ∷ []
+edge_put was now id b is = ap (map edge_of) is ∙ edges_of_more (entries was) ((id, b) ∷ [])
+
+-- the rows of the places so far, and of one more
+pub one_more_edge : (slots : List (ℕ × Option EdgeBody)) (i id : ℕ) (b : EdgeBody) (row : EdgeRow) (rows more : List EdgeRow)
+    → slice_get slots i ≡ Some (id, Some b) → rows ≡ map edge_of (present (take i slots)) → row ≡ edge_of (id, b) → more ≡ rows ++ row ∷ []
+    → more ≡ map edge_of (present (take (i + 1) slots))
+one_more_edge slots i id b row rows more at is made now =
+    now ∙ ap (λ (r : EdgeRow). rows ++ r ∷ []) made ∙ ap (λ rows. rows ++ edge_of (id, b) ∷ []) is
+    ∙ sym (ap (λ ss. map edge_of (present ss)) (more_places slots i (id, Some b) at) ∙ ap (map edge_of) (present-push id b (take i slots))
+    ∙ edges_of_more (present (take i slots)) ((id, b) ∷ []))
+
+-- and of an empty one
+pub no_more_edge : (slots : List (ℕ × Option EdgeBody)) (i id : ℕ) (rows : List EdgeRow) → slice_get slots i ≡ Some (id, None)
+    → rows ≡ map edge_of (present (take i slots)) → rows ≡ map edge_of (present (take (i + 1) slots))
+no_more_edge slots i id rows at is =
+    is ∙ ap (map edge_of)
+    (sym (ap present (more_places slots i (id, None) at) ∙ flat_map-append entry_at (take i slots) ((id, None) ∷ []) ∙ append-nil (present (take i slots))))
+
+-- ---- Fewer of them
+
+-- the rows that are left
+pub edges_of_left : (p : ℕ → Bool) (es : List (ℕ × EdgeBody)) → map edge_of (filter (λ e. p e.0) es) ≡ filter (λ row. p row.id) (map edge_of es)
+edges_of_left p [] = refl
+edges_of_left p (e ∷ es) = by_test (p e.0) (edges_of_left p es) where
+  by_test : (t : Bool) → map edge_of (filter (λ e. p e.0) es) ≡ filter (λ row. p row.id) (map edge_of es)
+      → map edge_of (cond t (e ∷ filter (λ e. p e.0) es) (filter (λ e. p e.0) es))
+      ≡ cond t (edge_of e ∷ filter (λ row. p row.id) (map edge_of es)) (filter (λ row. p row.id) (map edge_of es))
+  by_test true rest = ap (λ rows. edge_of e ∷ rows) rest
+  by_test false rest = rest
+
+-- without an edge
+pub edges_without : (was now : Places EdgeBody) (e : ℕ) → entries now ≡ without_id e (entries was)
+    → edges_of now ≡ filter (λ row. not (row.id == e)) (edges_of was)
+edges_without was now e is = ap (map edge_of) is ∙ edges_of_left (λ id. not (id == e)) (entries was)
+
+-- ---- A table made of rows
+
+-- values for the first i rows are in it, under their ids, and more fit
+pub record AreIdsNoted {V : Type 0} (rows : List EdgeRow) (i : ℕ) (table : Places V) : Type 0 where
+  pub places : ids_of table.slots ≡ take i (map (λ row. row.id) rows)
+  pub ids : ids_in table ≡ take i (map (λ row. row.id) rows)
+  pub room : length rows ≤ i + table.room
+
+module _ {V : Type 0} (rows : List EdgeRow) (limit : ℕ) (rise : rises_below limit (map (λ row. row.id) rows) ≡ true) where
+  pub ids_none : (table : Places V) → table.slots ≡ [] → length rows ≤ table.room → AreIdsNoted rows 0 table
+  ids_none table none room = record {
+    places = ap ids_of none;
+    ids = ap (λ ss. map (λ e. e.0) (present ss)) none;
+    room = omega (arith, room);
+  }
+
+  -- the ids in it are below the next one
+  pub ids_below : (i : ℕ) (d : EdgeRow) (table : Places V) → i < length rows → AreIdsNoted rows i table → AreBelow (get_or rows i d).id table.slots
+  ids_below i d table inside h =
+      let many = length-map rows (λ (row : EdgeRow). row.id) in
+      ap (list_all (λ x. nat_lt x (get_or rows i d).id)) h.places
+      ∙ ap (λ n. list_all (λ x. nat_lt x n) (take i (map (λ row. row.id) rows))) (sym (get_or-map (λ (row : EdgeRow). row.id) rows i d 0 inside))
+      ∙ all_below (get_or (map (λ row. row.id) rows) i 0) (take i (map (λ row. row.id) rows))
+      (rises_before limit (map (λ row. row.id) rows) i (omega arith) rise)
+
+  -- one more
+  pub ids_more : (i : ℕ) (d : EdgeRow) (table more : Places V) (v : V) → i < length rows → AreIdsNoted rows i table
+      → more.slots ≡ table.slots ++ ((get_or rows i d).id, Some v) ∷ [] → table.room ≤ more.room + 1 → AreIdsNoted rows (i + 1) more
+  ids_more i d table more v inside h is room =
+      let id = (get_or rows i d).id in
+      let many = length-map rows (λ (row : EdgeRow). row.id) in
+      let next : take i (map (λ row. row.id) rows) ++ id ∷ [] ≡ take (i + 1) (map (λ row. row.id) rows) =
+      sym (take_more (map (λ row. row.id) rows) i 0 (omega arith)
+      ∙ ap (λ n. take i (map (λ row. row.id) rows) ++ n ∷ []) (get_or-map (λ (row : EdgeRow). row.id) rows i d 0 inside)) in
+      record {
+        places = ap ids_of is ∙ map-append (λ (s : ℕ × Option V). s.0) table.slots ((id, Some v) ∷ []) ∙ ap (λ ns. ns ++ id ∷ []) h.places ∙ next;
+        ids = ap (λ ss. map (λ e. e.0) (present ss)) is ∙ ap (map (λ e. e.0)) (present-push id v table.slots)
+            ∙ map-append (λ (e : ℕ × V). e.0) (entries table) ((id, v) ∷ []) ∙ ap (λ ns. ns ++ id ∷ []) h.ids ∙ next;
+        room = let r = h.room in omega arith;
+      }
+
+  -- all of them
+  pub ids_all : (i : ℕ) (table : Places V) → length rows ≤ i → AreIdsNoted rows i table
+      → AreBelow limit table.slots × (ids_in table ≡ map (λ row. row.id) rows)
+  ids_all i table past h =
+      let many = length-map rows (λ (row : EdgeRow). row.id) in
+      let all : take i (map (λ row. row.id) rows) ≡ map (λ row. row.id) rows = take_all i (map (λ row. row.id) rows) (omega arith) in
+      (ap (list_all (λ x. nat_lt x limit)) (h.places ∙ all) ∙ all_below limit (map (λ row. row.id) rows) rise, h.ids ∙ all)
+
+-- the first i rows are in it, and more fit
+pub record AreEdgesNoted (rows : List EdgeRow) (i : ℕ) (table : Places EdgeBody) : Type 0 where
+  pub rows_are : edges_of table ≡ take i rows
+  pub noted : AreIdsNoted rows i table
+
+module _ (rows : List EdgeRow) (limit : ℕ) (rise : rises_below limit (map (λ row. row.id) rows) ≡ true) where
+  -- one more
+  pub edges_more : (i : ℕ) (d : EdgeRow) (table more : Places EdgeBody) (path : List ℕ) → i < length rows → AreEdgesNoted rows i table
+      → path ≡ (get_or rows i d).crossings
+      → more.slots ≡ table.slots
+      ++ ((get_or rows i d).id, Some (record { a = (get_or rows i d).a; b = (get_or rows i d).b; kind = (get_or rows i d).kind; crossings = path }))
+      ∷ [] → table.room ≤ more.room + 1 → AreEdgesNoted rows (i + 1) more
+  edges_more i d table more path inside h copied is room =
+      let row = get_or rows i d in
+      let body : EdgeBody = record { a = row.a; b = row.b; kind = row.kind; crossings = path } in
+      let same : edge_of (row.id, body) ≡ row = ap (λ (xs : List ℕ). record row { crossings = xs }) copied in
+      record {
+        rows_are = ap (λ ss. map edge_of (present ss)) is ∙ ap (map edge_of) (present-push row.id body table.slots)
+            ∙ edges_of_more (entries table) ((row.id, body) ∷ [])
+            ∙ ap (λ (r : EdgeRow). edges_of table ++ r ∷ []) same
+            ∙ ap (λ rs. rs ++ row ∷ []) h.rows_are ∙ sym (take_more rows i d inside);
+        noted = ids_more rows limit rise i d table more body inside h.noted is room;
+      }
+
+  -- one more, as it is read
+  pub edges_more_read : (i : ℕ) (row : EdgeRow) (table more : Places EdgeBody) (path : List ℕ) → i < length rows → AreEdgesNoted rows i table
+      → row ≡ get_or rows i row → path ≡ row.crossings
+      → more.slots ≡ table.slots ++ (row.id, Some (record { a = row.a; b = row.b; kind = row.kind; crossings = path })) ∷ []
+      → table.room ≤ more.room + 1 → AreEdgesNoted rows (i + 1) more
+  edges_more_read i row table more path inside h read copied is room =
+      edges_more i row table more path inside h (copied ∙ ap (λ (r : EdgeRow). r.crossings) read)
+      (subst (λ (r : EdgeRow). more.slots ≡ table.slots ++ (r.id, Some (record { a = r.a; b = r.b; kind = r.kind; crossings = path })) ∷ []) read is) room
