@@ -106,7 +106,7 @@ module _ (price : Pricing) (limits : Limits) where
       kept before region lawful is entries way.0 q next (All-tail (spare before region) entry entries all) way.3
 
 -- as many items at the front are the same ones
-front : (xs ys more rest : List Entry) → xs ++ more ≡ ys ++ rest → length more ≡ length rest → xs ≡ ys
+pub front : (xs ys more rest : List Entry) → xs ++ more ≡ ys ++ rest → length more ≡ length rest → xs ≡ ys
 front [] [] more rest same long = refl
 front [] (y ∷ ys) more rest same long = absurd (omega (arith, ap length same, length-append ys rest, long))
 front (x ∷ xs) [] more rest same long = absurd (omega (arith, ap length same, length-append xs more, long))

@@ -38,3 +38,5 @@ pub use book::Book;
 pub use next::Next;
 pub use replaying::{ReplayFault, replay};
 pub use route_source::RouteSource;
+pub use sparing::is_accepted;
+pub use steps::apply_entry;

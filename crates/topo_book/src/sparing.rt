@@ -40,7 +40,7 @@ fn spares(before: &Picture, region: &Region, entry: &Entry) -> bool
 }
 
 /// Whether a reply is no refusal.
-fn is_accepted(reply: &Reply) -> bool
+pub fn is_accepted(reply: &Reply) -> bool
     ensures { result ≡ is_accepted reply.now }
 {
     !matches!(reply, Reply::Refused(_))

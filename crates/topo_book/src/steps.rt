@@ -169,7 +169,7 @@ pub(crate) fn decide<F: PriceFn>(
 /// Carries out in place what the reply of an entry says: an insertion along the route that it
 /// holds, with no search. A refusal changes nothing. Whatever fails, fails before the picture
 /// changes.
-pub(crate) fn apply_entry<F: PriceFn>(
+pub fn apply_entry<F: PriceFn>(
     alloc: Global,
     picture: &mut Picture,
     tariff: &Tariff<F>,

@@ -1,5 +1,6 @@
 pub mod FoundRoutes
 pub mod Matching
+pub mod Missed
 pub mod Numbers
 pub mod Refusals
 pub mod Versions

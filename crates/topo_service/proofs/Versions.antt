@@ -7,7 +7,11 @@ use Rattle.std.proofs.lemmas.List.{append-nil}
 use Rattle.std.proofs.lemmas.List.Elements.{filter-append}
 use Rattle.topo_core.specs.declared.rows.Rows.{Rows}
 use Rattle.topo_core.specs.declared.limits.Limits.{Limits}
+use Rattle.topo_core.specs.declared.calls.Call.{Call}
+use Rattle.topo_core.specs.declared.calls.Call.TheVariants.{Grow, Insert, Delete}
 use Rattle.topo_core.specs.declared.calls.Entry.{Entry}
+use Rattle.topo_core.specs.declared.calls.Reply.{Reply}
+use Rattle.topo_core.specs.declared.calls.Reply.TheVariants.{Grown, Inserted as Put, Deleted, Refused}
 use Rattle.topo_core.specs.Routes.{Pricing}
 use Rattle.topo_core.specs.Steps.{Step}
 use Rattle.topo_core.specs.History.{IsPrefix, IsVersion, Replays, is_accepted, versions}
@@ -41,6 +45,19 @@ pub versions_on : (es : List Entry) (e : Entry) → is_accepted e.reply ≡ true
 versions_on es e on = versions_go_on es e ∙ by_test on where
   by_test : is_accepted e.reply ≡ true → (if is_accepted e.reply then versions es ++ e ∷ [] else versions es) ≡ versions es ++ e ∷ []
   by_test on = rw on refl
+
+-- a reply that refuses a call leaves the picture, so it is the one due there
+pub refused_due : (price : Pricing) (limits : Limits) (p q : Rows) (call : Call) (reply : Reply) → is_accepted reply ≡ false
+    → Step price limits p call reply q → Step price limits q call reply q
+refused_due price limits p q (Grow u position kind) (Refused why) off step =
+    subst (λ (r : Rows). Step price limits r (Grow u position kind) (Refused why) q) (sym step.1) step
+refused_due price limits p q (Insert u v kind) (Refused why) off step =
+    subst (λ (r : Rows). Step price limits r (Insert u v kind) (Refused why) q) (sym step.1) step
+refused_due price limits p q (Delete e) (Refused why) off step =
+    subst (λ (r : Rows). Step price limits r (Delete e) (Refused why) q) (sym step.1) step
+refused_due price limits p q call (Grown vertex edge) off step = cc
+refused_due price limits p q call (Put made) off step = cc
+refused_due price limits p q call (Deleted edge) off step = cc
 
 -- what begins the versions begins them with one entry more
 pub begins_on : (seen es : List Entry) (e : Entry) → IsPrefix seen (versions es) → IsPrefix seen (versions (es ++ e ∷ []))

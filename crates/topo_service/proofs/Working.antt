@@ -1,5 +1,5 @@
 -- What is done of a list of commands.
-use Rattle.std.proofs.Common.{◌≡◌, ◌≢◌, ◌-◌, ◌==◌, Bool, true, false, List, [], length, refl, ap, sym, ◌∙◌, subst, arith, length-append}
+use Rattle.std.proofs.Common.{ℕ, zero, suc, ◌+◌, ◌<◌, ◌∷◌, ◌++◌, slice_index_or, ◌≡◌, ◌≢◌, ◌-◌, ◌==◌, Bool, true, false, List, [], length, refl, ap, sym, ◌∙◌, subst, arith, length-append}
 use Rattle.std.proofs.lemmas.Bool.Decides.{nat_tests}
 use Rattle.topo_core.specs.declared.calls.Command.{Command}
 use Rattle.topo_service.specs.declared.workers.WorkerEnd.{WorkerEnd}
@@ -21,3 +21,16 @@ ended old new list e h is =
     by_test false less =
         let apart : h.count ≢ length list = grind (arith, nat_tests, less) in
         rw less (omega (arith, h.within, apart), h.made)
+
+-- how each list ended, once it is told of one more
+pub one_told : (ends : List WorkerEnd) (end : WorkerEnd) (due : ℕ → WorkerEnd) (n : ℕ) → length ends ≡ n
+    → ((k : ℕ) (d : WorkerEnd) → k < n → slice_index_or ends k d ≡ due k) → end ≡ due n
+    → (j : ℕ) (e : WorkerEnd) → j < n + 1 → slice_index_or (ends ++ end ∷ []) j e ≡ due j
+one_told [] end due n long old last zero e lt = let none : n ≡ 0 = omega (arith, long) in last ∙ ap due none
+one_told [] end due n long old last (suc j) e lt = absurd (omega (arith, lt, long))
+one_told (x ∷ xs) end due n long old last zero e lt = let some : 0 < n = omega (arith, long) in old zero e some
+one_told (x ∷ xs) end due zero long old last (suc j) e lt = absurd (omega (arith, lt))
+one_told (x ∷ xs) end due (suc n) long old last (suc j) e lt =
+    let same : length xs ≡ n = omega (arith, long) in
+    let less : j < n + 1 = omega (arith, lt) in
+    one_told xs end (λ k. due (suc k)) n same (λ k d below. let up : suc k < suc n = omega (arith, below) in old (suc k) d up) last j e less

@@ -152,6 +152,8 @@ pub(crate) fn gather<
             reader: _reader,
             prefix,
             work: _work,
+            own: _own,
+            inbox: _inbox,
             lookahead: _,
             of: _,
         } = pass;

@@ -146,28 +146,51 @@ impl<F: PriceFn, K: ServiceBrand<F>> FoundRoute<F, K> {
             (IsPlanRefusal (prices_named F.may_return K.closure)
             version.picture.rows ends.0 ends.1) }
     {
-        let SeenRoute { first, region } = first_on(
-            alloc,
-            version.picture(),
-            tariff,
-            ends.0,
-            ends.1,
-            work,
-        )?;
-        Ok(FoundRoute {
+        let seen = first_on(alloc, version.picture(), tariff, ends.0, ends.1, work)?;
+        Ok(FoundRoute::of(version, ends, seen))
+    }
+
+    /// A route that a search has found on a version, with what it has seen.
+    pub(crate) fn of(version: Version<F, K>, ends: (u32, u32), seen: SeenRoute) -> FoundRoute<F, K>
+        requires first { IsFirst (prices_named F.may_return K.closure)
+            version.picture.rows ends.0 ends.1 seen.first.route seen.first.price }
+        requires region { IfSome seen.region (IsHeldBy (prices_named F.may_return K.closure)
+            version.picture.rows ends.0 ends.1 seen.first.route seen.first.price) }
+        ensures u { result.u ≡ ends.0 }
+        ensures v { result.v ≡ ends.1 }
+        ensures entries { result.entries ≡ version.entries }
+    {
+        let SeenRoute { first, region } = seen;
+        FoundRoute {
             u: ends.0,
             v: ends.1,
             first,
             region,
             version,
-        })
+        }
+    }
+
+    /// The version that it was found on.
+    pub(crate) fn into_version(self) -> Version<F, K>
+        ensures { result.entries ≡ self.entries }
+    {
+        let FoundRoute {
+            u: _,
+            v: _,
+            first,
+            region,
+            version,
+        } = self;
+        drop(first);
+        drop(region);
+        version
     }
 }
 
 /// The first of the cheapest routes on a picture, or the first reason why there is none. What the
 /// search writes on is made where there is none yet, and kept.
 #[tactic(auto, using(crate::proofs::Refusals::ends_refused))]
-fn first_on<A: PriceFn>(
+pub(crate) fn first_on<A: PriceFn>(
     alloc: Global,
     picture: &Picture,
     tariff: &Tariff<A>,

@@ -32,6 +32,7 @@ mod checks;
 pub mod close;
 pub mod faults;
 pub mod found;
+mod inbox;
 pub mod locked_state;
 mod lookahead;
 pub mod pass;

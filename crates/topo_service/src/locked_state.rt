@@ -1,6 +1,6 @@
 //! What lies under the lock.
 
-ghost use Rattle.std.specs.Prelude.{◌≡◌, ◌≢◌, ◌+◌, ◌<◌, ◌^◌, ◌∷◌, ◌++◌, [], length, is_ok};
+ghost use Rattle.std.specs.Prelude.{◌≡◌, ◌≢◌, ◌+◌, ◌<◌, ◌^◌, ◌∷◌, ◌++◌, [], length, is_ok, is_some};
 ghost use Rattle.std.specs.Prelude.{if◌then◌else◌, IfOk, IfSome, OnOk, OnErr, Some, true};
 ghost use Rattle.topo_core.specs.History.{IsVersion, Replays, is_accepted, versions};
 ghost use Rattle.topo_core.specs.Routes.{IsFirst};
@@ -124,12 +124,15 @@ fn answer_ready<F: PriceFn, K: ServiceBrand<F>, W: VersionWriter<F, K>, R: Wait>
     prefix: &mut LogPrefix<F, K>,
     writer: &mut W,
     next: &Next,
+    is_asked: bool,
 ) -> Result<ReplyPair, AllocError>
     requires room { length prefix.old + 1 < 2 ^ 64 }
     requires whole { W.published writer.old ≡ Some prefix.old }
     requires follows { IfSome next.now.picture (λ picture. IsVersionFrom
         (prices_named F.may_return K.closure) K.start (prefix.old ++ next.now.entry ∷ []) picture) }
-    ensures reply { IfOk result (λ pair. pair.reply ≡ next.now.entry.reply) }
+    ensures reply { IfOk result (λ pair. pair.receipt ≡ next.now.entry.reply) }
+    ensures answer { IfOk result (λ pair. is_some pair.answer ≡ is_asked) }
+    ensures told { IfOk result (λ pair. IfSome pair.answer (λ r. r ≡ next.now.entry.reply)) }
     ensures prefix { OnOk result
         (prefix.new ≡ (if is_accepted next.now.entry.reply then prefix.old ++ next.now.entry
         ∷ [] else prefix.old)) }
@@ -137,7 +140,7 @@ fn answer_ready<F: PriceFn, K: ServiceBrand<F>, W: VersionWriter<F, K>, R: Wait>
     ensures err { OnErr result
         ((prefix.new ≡ prefix.old) × (W.published writer.new ≡ W.published writer.old)) }
 {
-    let pair = ReplyPair::of(alloc, &next.entry().reply)?;
+    let pair = ReplyPair::of(alloc, &next.entry().reply, is_asked)?;
     show::<F, K, W, R>(rt, log_length, prefix, writer, next)?;
     Ok(pair)
 }
@@ -213,6 +216,7 @@ impl<F: PriceFn, K: ServiceBrand<F>, W: VersionWriter<F, K>> LockedState<F, K, W
         caller: u32,
         call: Call,
         source: RouteSource<FoundRoute<F, K>>,
+        is_asked: bool,
     ) -> Result<ReplyPair, AllocError>
         requires { 0 < mine.old.parts }
         ensures parts { mine.new.parts ≡ mine.old.parts }
@@ -220,10 +224,12 @@ impl<F: PriceFn, K: ServiceBrand<F>, W: VersionWriter<F, K>> LockedState<F, K, W
             ≡ (if is_ok result then mine.old.amount + 1 else mine.old.amount) }
         ensures same_book { IsSameBook self.old self.new }
         ensures entered { IfOk result
-            (λ pair. self.new.history ≡ self.old.history ++ entry_of caller call pair.reply ∷ []) }
+            (λ pair. self.new.history ≡ self.old.history ++ entry_of caller call pair.receipt ∷ []) }
         ensures step { IfOk result (λ pair. Step (prices_named F.may_return K.closure)
-            K.start.limits self.old.picture.rows call pair.reply self.new.picture.rows) }
-        ensures no_memory { IfOk result (λ pair. pair.reply ≢ Refused Memory) }
+            K.start.limits self.old.picture.rows call pair.receipt self.new.picture.rows) }
+        ensures no_memory { IfOk result (λ pair. pair.receipt ≢ Refused Memory) }
+        ensures answer { IfOk result (λ pair. is_some pair.answer ≡ is_asked) }
+        ensures told { IfOk result (λ pair. IfSome pair.answer (λ r. r ≡ pair.receipt)) }
         ensures unchanged { OnErr result (IsUnchanged self.old self.new) }
     {
         let known = self.known(call, source);
@@ -238,6 +244,7 @@ impl<F: PriceFn, K: ServiceBrand<F>, W: VersionWriter<F, K>> LockedState<F, K, W
             &mut self.prefix,
             &mut self.writer,
             &next,
+            is_asked,
         )?;
         self.book.commit(next);
         self.calls.add(mine, 1);

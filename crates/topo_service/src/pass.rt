@@ -10,6 +10,7 @@ ghost use Rattle.topo_versions.specs.Versions.{AreLegal, IsVersionFrom};
 ghost use Rattle.topo_service.specs.Faults.{HasVertices, IsEndsRefusal, IsPlanFault, IsPlanRefusal};
 
 use crate::faults::PassFault;
+use crate::inbox::Inbox;
 use crate::lookahead::Lookahead;
 use std::alloc::Global;
 use std::marker::{Model, PhantomData};
@@ -42,6 +43,11 @@ pub struct PassOver<F: PriceFn, K: ServiceBrand<F>, G: VersionReader<F, K>> {
     pub(crate) prefix: LogPrefix<F, K>,
     // What its searches write on, once there was one.
     pub(crate) work: Option<Workspace>,
+    // A version of its own, on which its planned commands look for their routes, once there was
+    // one.
+    pub(crate) own: Option<Version<F, K>>,
+    // What was accepted since that version.
+    pub(crate) inbox: Inbox<F, K>,
     // Whether its planned insertions look for their routes ahead.
     pub(crate) lookahead: Lookahead,
     pub(crate) of: PhantomData<F>,
@@ -181,6 +187,41 @@ impl<F: PriceFn, K: ServiceBrand<F>, G: VersionReader<F, K>> PassOver<F, K, G> {
         // For the proof: what the type keeps.
         version.picture();
         Ok(version)
+    }
+
+    /// The pass's own version, brought up to what its last call has seen; none where there is none,
+    /// or that cannot be done.
+    fn take_up_to_date(&mut self, alloc: Global, tariff: &Tariff<F>) -> Option<Version<F, K>>
+        requires named { K.closure ≡ Some tariff.now }
+        ensures same { self.new ≡ self.old }
+    {
+        let version = self.own.take()?;
+        let own = self.inbox.bring_up_to_date(alloc, tariff, version)?;
+        self.inbox.restart(own.prefix());
+        Some(own)
+    }
+
+    /// A version of the pass's own, whose picture nobody else holds: the one that it had, brought up
+    /// to what its last call has seen, and else a copy of the version of now.
+    #[tactic(auto, using(crate::proofs::Missed::begins_itself))]
+    pub(crate) fn take_own(
+        &mut self,
+        alloc: Global,
+        tariff: &Tariff<F>,
+    ) -> Result<Version<F, K>, PassFault>
+        requires named { K.closure ≡ Some tariff.now }
+        ensures number { self.new.number ≡ self.old.number }
+        ensures receipts { self.new.receipts ≡ self.old.receipts }
+        ensures later { IsPrefix self.old.seen self.new.seen }
+    {
+        if let Some(own) = self.take_up_to_date(alloc, tariff) {
+            return Ok(own);
+        }
+        let Ok(own) = self.view()?.copy(alloc) else {
+            return Err(PassFault::Refused(Refusal::Memory));
+        };
+        self.inbox.restart(own.prefix());
+        Ok(own)
     }
 
     /// The first cheapest route from `u` to `v` at these prices on the version of now, with its

@@ -1,19 +1,20 @@
 //! The locked service.
 
 ghost use Rattle.std.specs.Prelude.{◌≡◌, ◌≢◌, ◌+◌, ◌<◌, ◌≤◌, ◌++◌, ◌∷◌, []};
-ghost use Rattle.std.specs.Prelude.{true, false, IfOk, IsErr, OnErr, Some};
+ghost use Rattle.std.specs.Prelude.{true, false, IfOk, IsErr, OnErr, Some, is_some};
 ghost use Rattle.topo_core.specs.History.{IsPrefix, is_accepted};
 ghost use Rattle.topo_core.specs.declared.calls.Call.TheVariants.{Grow, Insert, Delete};
 ghost use Rattle.topo_core.specs.declared.calls.Refusal.TheVariants.{Memory};
 ghost use Rattle.topo_core.specs.declared.calls.Reply.TheVariants.{Refused};
 ghost use Rattle.topo_versions.specs.Names.{prices_named};
 ghost use Rattle.topo_versions.specs.Versions.{AreLegal};
-ghost use Rattle.topo_service.specs.Answers.{HasSeenOwn, IsDueAfter};
+ghost use Rattle.topo_service.specs.Answers.{HasSeenOwn, IsAnswered, IsDueAfter};
 ghost use Rattle.topo_service.specs.Passes.{receipt_of};
 ghost use Rattle.topo_service.specs.declared.service.TheConstants.{MAX_PASSES};
 
 use crate::faults::ServiceFault;
 use crate::found::FoundRoute;
+use crate::inbox::Inbox;
 use crate::locked_state::LockedState;
 use crate::lookahead::Lookahead;
 use crate::pass::{PassOver, Receipt};
@@ -106,6 +107,8 @@ impl<F: PriceFn, K: ServiceBrand<F>, W: VersionWriter<F, K>> ServiceOver<F, K, W
             reader,
             prefix: self.nothing.share(),
             work: None,
+            own: None,
+            inbox: Inbox::new(self.alloc, &self.nothing),
             lookahead: Lookahead::new(),
             of: PhantomData,
         })
@@ -248,7 +251,7 @@ impl<F: PriceFn, K: ServiceBrand<F>, W: VersionWriter<F, K>> ServiceOver<F, K, W
         self.call(rt, pass, growth, RouteSource::Search)
     }
 
-    /// One call under the lock. The place of its receipt is taken first.
+    /// One call under the lock, and its reply.
     pub(crate) fn call<'a, G: VersionReader<F, K>, R: Wait>(
         &'a self,
         rt: &R,
@@ -268,6 +271,30 @@ impl<F: PriceFn, K: ServiceBrand<F>, W: VersionWriter<F, K>> ServiceOver<F, K, W
         ensures no_memory { IfOk result (λ reply. reply ≢ Refused Memory) }
         ensures unchanged { OnErr result (pass.new ≡ pass.old) }
     {
+        match self.enter(rt, pass, call, source, true)? {
+            Some(reply) => Ok(reply),
+            None => unreachable!(),
+        }
+    }
+
+    /// One call under the lock, of which the pass keeps the receipt. Its place is taken first. The
+    /// reply is copied once more only if it is asked for.
+    pub(crate) fn enter<'a, G: VersionReader<F, K>, R: Wait>(
+        &'a self,
+        rt: &R,
+        pass: &mut PassOver<F, K, G>,
+        call: Call,
+        source: RouteSource<'a, FoundRoute<F, K>>,
+        is_asked: bool,
+    ) -> Result<Option<Reply>, AllocError>
+        ensures number { pass.new.number ≡ pass.old.number }
+        ensures asked { IfOk result (λ reply. is_some reply ≡ is_asked) }
+        ensures answered { IfOk result (IsAnswered (prices_named F.may_return K.closure)
+            K.start pass.old pass.new call) }
+        ensures later { IsPrefix pass.old.seen pass.new.seen }
+        ensures legal { AreLegal (prices_named F.may_return K.closure) K.start pass.new.seen }
+        ensures unchanged { OnErr result (pass.new ≡ pass.old) }
+    {
         // For the proof: what the type keeps.
         pass.seen();
         pass.receipts.reserve(1)?;
@@ -277,14 +304,16 @@ impl<F: PriceFn, K: ServiceBrand<F>, W: VersionWriter<F, K>> ServiceOver<F, K, W
         if !pass.prefix.is_prefix_of(state.prefix()) {
             wait_forever(rt);
         }
-        let made = state.call(rt, self.alloc, &mut pass.share, pass.number, call, source);
-        let ReplyPair { reply, receipt } = made?;
+        let share = &mut pass.share;
+        let made = state.call(rt, self.alloc, share, pass.number, call, source, is_asked);
+        let ReplyPair { receipt, answer } = made?;
         pass.lookahead.note(is_found, state.was_known());
         pass.receipts.push_reserved(Receipt {
             call,
             reply: receipt,
         });
         pass.prefix = state.prefix().share();
-        Ok(reply)
+        pass.inbox.learn(self.alloc, state.history(), &pass.prefix);
+        Ok(answer)
     }
 }

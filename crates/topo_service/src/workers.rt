@@ -1,14 +1,16 @@
 //! Lists of commands, each with a pass in a thread of its own.
 
 ghost use Rattle.std.specs.Prelude.{◌≡◌, ◌<◌, ◌≤◌, ◌-◌, ◌++◌, ◌∷◌, ℕ, [], length};
-ghost use Rattle.std.specs.Prelude.{map, IfOk, OnErr, slice_index_or, vec_capacity};
+ghost use Rattle.std.specs.Prelude.{map, IfOk, OnErr, OnOk, slice_index_or, vec_capacity};
 ghost use Rattle.topo_core.specs.History.{IsPrefix, call_of};
 ghost use Rattle.topo_core.specs.declared.calls.Call.TheVariants.{Insert};
+ghost use Rattle.topo_service.specs.Answers.{HasReceiptOf};
 ghost use Rattle.topo_service.specs.Commands.{HasEnded, HasMade, commands, end_by, receipts_of};
-ghost use Rattle.topo_service.specs.Passes.{PassState, receipt_of};
+ghost use Rattle.topo_service.specs.Passes.{PassState};
 ghost use Rattle.topo_versions.specs.Names.{prices_named};
 ghost use Rattle.topo_versions.specs.Versions.{AreLegal};
 
+use crate::found::{FoundRoute, first_on};
 use crate::pass::PassOver;
 use crate::service::ServiceOver;
 use std::alloc::{AllocError, Global};
@@ -16,7 +18,7 @@ use std::sync::Wait;
 use std::thread;
 use std::thread::Threads;
 use topo_book::RouteSource;
-use topo_core::calls::{Command, Reply};
+use topo_core::calls::{Call, Command};
 use topo_price::tariff::PriceFn;
 use topo_versions::{ServiceBrand, VersionReader, VersionWriter};
 
@@ -36,8 +38,32 @@ pub enum WorkerEnd {
     OutOfMemory(usize),
 }
 
-/// Inserts an edge whose route is looked for on a view first, without the lock. If that finds none,
-/// it is an insertion.
+/// One call, of which the pass keeps the receipt. Nobody asks for its reply.
+fn enter<
+    'a,
+    F: PriceFn,
+    K: ServiceBrand<F>,
+    W: VersionWriter<F, K>,
+    G: VersionReader<F, K>,
+    R: Wait,
+>(
+    rt: &R,
+    service: &'a ServiceOver<F, K, W>,
+    pass: &mut PassOver<F, K, G>,
+    call: Call,
+    source: RouteSource<'a, FoundRoute<F, K>>,
+) -> Result<(), AllocError>
+    ensures number { pass.new.number ≡ pass.old.number }
+    ensures receipt { OnOk result (HasReceiptOf pass.old pass.new call) }
+    ensures later { IsPrefix pass.old.seen pass.new.seen }
+    ensures unchanged { OnErr result (pass.new.receipts ≡ pass.old.receipts) }
+{
+    let _none = service.enter(rt, pass, call, source, false)?;
+    Ok(())
+}
+
+/// Inserts an edge whose route is looked for first on the pass's own version, without the lock. If
+/// that finds none, it is an insertion.
 fn insert_ahead<
     F: PriceFn,
     K: ServiceBrand<F>,
@@ -52,17 +78,27 @@ fn insert_ahead<
     u: u32,
     v: u32,
     kind: u32,
-) -> Result<Reply, AllocError>
+) -> Result<(), AllocError>
     ensures number { pass.new.number ≡ pass.old.number }
-    ensures receipt { IfOk result
-        (λ reply. pass.new.receipts ≡ pass.old.receipts
-        ++ receipt_of (Insert u v kind) reply ∷ []) }
+    ensures receipt { OnOk result (HasReceiptOf pass.old pass.new (Insert u v kind)) }
     ensures later { IsPrefix pass.old.seen pass.new.seen }
     ensures unchanged { OnErr result (pass.new.receipts ≡ pass.old.receipts) }
 {
-    match pass.find(alloc, service.tariff(), u, v) {
-        Ok(found) => service.insert_found(rt, pass, kind, &found),
-        Err(_) => service.insert(rt, pass, u, v, kind),
+    let insertion = Call::Insert { u, v, kind };
+    let Ok(own) = pass.take_own(alloc, service.tariff()) else {
+        return enter(rt, service, pass, insertion, RouteSource::Search);
+    };
+    match first_on(alloc, own.picture(), service.tariff(), u, v, &mut pass.work) {
+        Ok(seen) => {
+            let found = FoundRoute::of(own, (u, v), seen);
+            let made = enter(rt, service, pass, insertion, RouteSource::Found(&found));
+            pass.own = Some(found.into_version());
+            made
+        }
+        Err(_) => {
+            pass.own = Some(own);
+            enter(rt, service, pass, insertion, RouteSource::Search)
+        }
     }
 }
 
@@ -80,21 +116,25 @@ fn carry_out<
     service: &ServiceOver<F, K, W>,
     pass: &mut PassOver<F, K, G>,
     command: Command,
-) -> Result<Reply, AllocError>
+) -> Result<(), AllocError>
     ensures number { pass.new.number ≡ pass.old.number }
-    ensures receipt { IfOk result
-        (λ reply. pass.new.receipts ≡ pass.old.receipts
-        ++ receipt_of (call_of command) reply ∷ []) }
+    ensures receipt { OnOk result (HasReceiptOf pass.old pass.new (call_of command)) }
     ensures later { IsPrefix pass.old.seen pass.new.seen }
     ensures unchanged { OnErr result (pass.new.receipts ≡ pass.old.receipts) }
 {
     match command {
-        Command::Plain(call) => service.call(rt, pass, call, RouteSource::Search),
+        Command::Plain(call) => enter(rt, service, pass, call, RouteSource::Search),
         Command::Planned { u, v, kind } => {
             if pass.looks_ahead() {
                 return insert_ahead(rt, alloc, service, pass, u, v, kind);
             }
-            service.insert(rt, pass, u, v, kind)
+            enter(
+                rt,
+                service,
+                pass,
+                Call::Insert { u, v, kind },
+                RouteSource::Search,
+            )
         }
     }
 }
@@ -122,9 +162,9 @@ fn work<
         gate.before(worker, index);
         let made = carry_out(rt, alloc, service, pass, *command);
         gate.after(worker, index);
-        let Ok(_reply) = made else {
+        if made.is_err() {
             return;
-        };
+        }
     }
 }
 
@@ -188,15 +228,20 @@ fn receipt_counts<F: PriceFn, K: ServiceBrand<F>, G: VersionReader<F, K>>(
     Ok(counts)
 }
 
-/// How the work on a list of this length ended, by the receipts before and after.
-fn end_of(before: usize, after: usize, commands: usize) -> WorkerEnd
-    requires { before ≤ after }
-    ensures { result ≡ end_by (after - before) commands }
+/// How the work of a pass on a list ended, by how many receipts it had before.
+fn end_of<F: PriceFn, K: ServiceBrand<F>, G: VersionReader<F, K>>(
+    before: usize,
+    pass: &PassOver<F, K, G>,
+    list: &[Command],
+) -> WorkerEnd
+    requires { before ≤ receipts_of pass.now }
+    ensures { result ≡ end_by (receipts_of pass.now - before) (length list.now) }
 {
-    if after - before == commands {
+    let made = pass.receipts().len() - before;
+    if made == list.len() {
         WorkerEnd::Done
     } else {
-        WorkerEnd::OutOfMemory(after - before)
+        WorkerEnd::OutOfMemory(made)
     }
 }
 
@@ -220,7 +265,7 @@ fn tell_ends<F: PriceFn, K: ServiceBrand<F>, G: VersionReader<F, K>>(
         (length (slice_index_or (map commands lists.now) i [])) }
 {
     for i in 0..passes.len() {
-        ends.push_reserved(end_of(before[i], passes[i].receipts().len(), lists[i].len()));
+        ends.push_reserved(end_of(before[i], &passes[i], lists[i].as_slice()));
     }
 }
 

@@ -7,7 +7,7 @@ ghost use Rattle.topo_versions.specs.Versions.{IsVersionFrom};
 
 use crate::brand::ServiceBrand;
 use crate::log_prefix::LogPrefix;
-use std::alloc::AllocError;
+use std::alloc::{AllocError, Global};
 use std::marker::{Model, PhantomData};
 use std::sync::Arc;
 use topo_picture::Picture;
@@ -72,6 +72,32 @@ impl<F: PriceFn, K: ServiceBrand<F>> Version<F, K> {
             prefix: self.prefix.share(),
             of: PhantomData,
         })
+    }
+
+    /// An equal version, over a copy of the picture that nobody else holds.
+    pub fn copy(&self, alloc: Global) -> Result<Version<F, K>, AllocError>
+        ensures { IfOk result (λ v. v ≡ self.now) }
+    {
+        Ok(Version {
+            picture: Arc::new(alloc, self.picture.copy(alloc)?)?,
+            prefix: self.prefix.share(),
+            of: PhantomData,
+        })
+    }
+
+    /// Its share of the picture. The version ends.
+    pub fn into_picture(self) -> Arc<Picture>
+        ensures picture { arc_value result ≡ self.picture }
+        ensures version { IsVersionFrom (prices_named F.may_return K.closure)
+            K.start self.entries self.picture }
+    {
+        let Version {
+            picture,
+            prefix,
+            of: _,
+        } = self;
+        drop(prefix);
+        picture
     }
 
     /// How many accepted entries lead to its picture.

@@ -1,0 +1,55 @@
+use Rattle.std.proofs.Common.{◌≡◌, ◌++◌, ◌∷◌, [], length, ap, sym, subst, ◌∙◌, arith, length-append, List}
+use Rattle.topo_core.specs.declared.calls.Entry.{Entry}
+use Rattle.topo_core.specs.History.{IsPrefix, IsVersion, versions}
+use Rattle.topo_versions.specs.Names.{prices_named}
+use Rattle.topo_service.specs.Passes.{entry_of, receipt_of}
+use Rattle.topo_service.proofs.Versions.{begins_length, begins_on, refused_due, versions_on}
+use Rattle.topo_service.proofs.service.ServiceOver.enter.Goals as goal
+
+pub returns-clause-later : goal.returns-clause-later
+returns-clause-later g c =
+    let old = c.deref_mut-state.result.now.history in
+    let e = entry_of c.pass.inside.number c.args.call c.in_ok-receipt.field-0.receipt in
+    let seen = c.args.pass.now.seen in
+    let before : IsPrefix seen (versions old) =
+    rw (← c.prefix.ensures.now, ← ap (λ p. p.seen) c.pass.view_is) (c.is_prefix_of.ensures.prefix c.if-not-is_prefix_of.false) in
+    let after : c.share.result ≡ versions (old ++ e ∷ []) = c.share.ensures.same ∙ c.prefix-2.ensures.now ∙ ap versions c.in_ok-receipt.ensures.entered in
+    subst (λ (l : List Entry). IsPrefix seen l) (sym after) (begins_on seen old e before)
+
+pub returns-clause-answered : goal.returns-clause-answered
+returns-clause-answered g c =
+    let told = c.in_ok-receipt.field-0.receipt in
+    let old = c.deref_mut-state.result.now.history in
+    let n = c.pass.inside.number in
+    let price = prices_named g.F.PriceFn.may_return g.K.ServiceBrand.closure in
+    let start = g.K.ServiceBrand.start in
+    let own : entry_of n c.args.call told ≡ entry_of c.args.pass.now.number c.args.call told = ap (λ p. entry_of p.number c.args.call told) c.pass.view_is in
+    let before : IsPrefix c.args.pass.now.seen (versions old) =
+    rw (← c.prefix.ensures.now, ← ap (λ p. p.seen) c.pass.view_is) (c.is_prefix_of.ensures.prefix c.if-not-is_prefix_of.false) in
+    let after = c.share.ensures.same ∙ c.prefix-2.ensures.now ∙ ap versions c.in_ok-receipt.ensures.entered in
+    let receipts = c.push_reserved.ensures.items ∙ ap (λ rs. rs ++ receipt_of c.args.call told ∷ []) (c.reserve.ensures.items ∙ ap (λ p. p.receipts) c.pass.view_is) in
+    record {
+      reply = told;
+      told = c.in_ok-receipt.ensures.told;
+      receipt = receipts;
+      accepted = λ on.
+          let list = after ∙ versions_on old (entry_of n c.args.call told) on ∙ ap (λ (x : Entry). versions old ++ x ∷ []) own in
+          record {
+            more = omega (
+              arith,
+              begins_length c.args.pass.now.seen (versions old) before,
+              ap length list,
+              length-append (versions old) (entry_of c.args.pass.now.number c.args.call told ∷ []),
+            );
+            before = versions old;
+            last = list;
+          };
+      refused = λ off. record {
+        picture = c.call-made.new.self.picture.rows;
+        replayed = subst (λ (es : List Entry). IsVersion price start.limits start.rows es c.call-made.new.self.picture.rows) (sym c.share.ensures.same)
+            c.prefix-2.ensures.replayed;
+        step = refused_due price start.limits c.deref_mut-state.result.now.picture.rows c.call-made.new.self.picture.rows c.args.call told off
+            c.in_ok-receipt.ensures.step;
+      };
+      no_memory = c.in_ok-receipt.ensures.no_memory;
+    }
