@@ -1,0 +1,38 @@
+//! Calls of a service as values, and passes in pairs.
+
+ghost use Rattle.std.specs.Prelude.{◌≡◌, ◌++◌, ◌∷◌, [], IfOk, OnErr};
+ghost use Rattle.topo_service.specs.Passes.{receipt_of};
+
+use std::alloc::AllocError;
+use std::sync::Wait;
+use topo_core::calls::{Call, Reply};
+use topo_price::tariff::PriceFn;
+use topo_service::{Pass, Service};
+use topo_versions::ServiceBrand;
+
+/// Makes a call of a service with a pass. Out of memory may stand in place of any answer, and then
+/// the pass is as it was.
+pub fn make<F: PriceFn + Drop, K: ServiceBrand<F>, R: Wait>(
+    rt: &R,
+    service: &Service<F, K>,
+    pass: &mut Pass<F, K>,
+    call: Call,
+) -> Result<Reply, AllocError>
+    ensures number { pass.new.number ≡ pass.old.number }
+    ensures receipt { IfOk result
+        (λ reply. pass.new.receipts ≡ pass.old.receipts ++ receipt_of call reply ∷ []) }
+    ensures unchanged { OnErr result (pass.new ≡ pass.old) }
+{
+    match call {
+        Call::Grow { u, position, kind } => service.grow(rt, pass, u, position, kind),
+        Call::Insert { u, v, kind } => service.insert(rt, pass, u, v, kind),
+        Call::Delete { edge } => service.delete(rt, pass, edge),
+    }
+}
+
+/// The first two of a list, if there are as many.
+pub fn first_two<T>(items: &mut [T]) -> Option<(&mut T, &mut T)> {
+    let (first, rest) = items.split_first_mut()?;
+    let (second, _) = rest.split_first_mut()?;
+    Some((first, second))
+}
