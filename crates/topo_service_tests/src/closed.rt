@@ -1,12 +1,13 @@
 //! Searches where each way is closed: they say that there is no route, and not that memory ran out.
 
-use crate::harness::{Story, bipyramid, is_told, run_at};
+use crate::harness::{Story, is_told, run_at};
 use std::alloc::Global;
 use std::sync::Wait;
 use std::test::Fail;
-use topo_price::table::PriceTable;
 use topo_price::tariff::PriceFn;
 use topo_service::{Pass, Service, WorkerEnd};
+use topo_test_support::pictures::{BIPYRAMID, picture_of};
+use topo_test_support::prices::table_of;
 use topo_versions::ServiceBrand;
 
 /// A search for a plan, one for a found route, and an insertion between the apexes.
@@ -14,10 +15,6 @@ use topo_versions::ServiceBrand;
 struct Closed;
 
 impl Story for Closed {
-    fn pass_count(&self) -> usize {
-        1
-    }
-
     fn tell<F: PriceFn + Drop, K: ServiceBrand<F>, R: Wait>(
         &self,
         rt: &R,
@@ -40,14 +37,11 @@ impl Story for Closed {
 
 #[test]
 fn no_route_is_not_out_of_memory(rt: HostRuntime) -> Result<(), Fail> {
-    let alloc = rt.alloc();
-    let closed = PriceTable::new([None; 64]).expect(&rt, "a table");
-    let start = bipyramid(&rt, alloc)?;
-    let told = run_at(&rt, alloc, &closed, start, &Closed)?;
+    let start = picture_of(rt.alloc(), &BIPYRAMID)?;
+    let told = run_at(&rt, &table_of(None, &[])?, start, 1, &Closed);
     is_told(
         &rt,
-        told.as_str(),
+        told,
         "Some(Refused(NoRoute)) Some(Refused(NoRoute)) Refused(NoRoute); 1 calls, replayed: true",
-    );
-    Ok(())
+    )
 }

@@ -1,7 +1,6 @@
 //! Many workers, with calls that meet one another.
 
-use crate::harness::{Still, Story, Work, bipyramid, even_prices, is_told, run_work_at};
-use crate::views::view_of;
+use crate::harness::{Still, Story, TestRuntime, Work, is_told, run_work_at};
 use std::alloc::{AllocError, Global};
 use std::process::Abort;
 use std::sync::Wait;
@@ -11,17 +10,19 @@ use std::thread;
 use std::thread::Threads;
 use topo_core::calls::{Call, Command};
 use topo_core::limits::Limits;
-use topo_core::rows::Rows;
 use topo_picture::Picture;
 use topo_price::tariff::PriceFn;
 use topo_service::{Pass, Service, WorkerEnd};
+use topo_service_test_support::calls::make;
+use topo_test_support::calls::{delete, grow, insert, planned};
+use topo_test_support::lawful::is_loaded_again;
+use topo_test_support::pictures::{BIPYRAMID, picture_of};
+use topo_test_support::prices::table_of;
 use topo_versions::{ServiceBrand, Version};
 
-/// So many workers, whether all came to their ends, and whether at least so many calls were
-/// accepted.
+/// Whether all workers came to their ends, and whether at least so many calls were accepted.
 #[derive(Drop)]
 struct Workers {
-    number: usize,
     accepted: u64,
 }
 
@@ -31,7 +32,7 @@ fn accepted_by<F: PriceFn + Drop, K: ServiceBrand<F>>(
 ) -> Result<u64, Fail> {
     match passes.first_mut() {
         Some(pass) => {
-            let view = view_of(pass)?;
+            let view = pass.view()?;
             let number = view.number();
             drop(view);
             Ok(number)
@@ -41,10 +42,6 @@ fn accepted_by<F: PriceFn + Drop, K: ServiceBrand<F>>(
 }
 
 impl Story for Workers {
-    fn pass_count(&self) -> usize {
-        self.number
-    }
-
     fn tell<F: PriceFn + Drop, K: ServiceBrand<F>, R: Wait>(
         &self,
         _rt: &R,
@@ -63,30 +60,22 @@ impl Story for Workers {
 fn four_lists(alloc: Global) -> Result<Vec<Vec<Command>>, AllocError> {
     let mut lists = Vec::new(alloc);
     for i in 0..4 {
-        let planned = Command::Planned {
-            u: 3,
-            v: 4,
-            kind: 0,
-        };
-        lists.push(vec![in alloc; planned, Command::Plain(Call::Delete { edge: i })]?)?;
+        lists.push(vec![in alloc; planned(3, 4), Command::Plain(delete(i))]?)?;
     }
     Ok(lists)
 }
 
-/// Four workers, all of whose calls are accepted.
-const FOUR: Workers = Workers {
-    number: 4,
-    accepted: 8,
-};
-
 /// The text of a run of four workers with these lists.
-fn told_of_four<R: Threads + Wait + Abort + AllocGlobal + Sync>(
-    rt: &R,
-    lists: &[Vec<Command>],
-) -> Result<String, Fail> {
-    let start = bipyramid(rt, rt.alloc())?;
+fn told_of_four<R: TestRuntime>(rt: &R, lists: &[Vec<Command>]) -> Result<String, Fail> {
+    let start = picture_of(rt.alloc(), &BIPYRAMID)?;
     let work = Work::Lists(lists, &Still);
-    run_work_at(rt, rt.alloc(), &even_prices(rt), start, work, &FOUR)
+    run_work_at(
+        rt,
+        &table_of(Some(1), &[])?,
+        start,
+        work,
+        &Workers { accepted: 8 },
+    )
 }
 
 #[test]
@@ -96,10 +85,9 @@ fn four_workers_plan_between_the_apexes(rt: HostRuntime) -> Result<(), Fail> {
     drop(lists);
     is_told(
         &rt,
-        told?.as_str(),
+        told,
         "4 ended, all done: true, accepted: true; 8 calls, replayed: true",
-    );
-    Ok(())
+    )
 }
 
 /// A number that looks like any other.
@@ -114,16 +102,10 @@ fn stir(x: u32) -> u32 {
 fn command_of(place: u32, x: u32) -> Command {
     let (u, v) = (x % 202, (x / 256) % 202);
     match (x >> 20) % 64 {
-        0 => Command::Planned { u, v, kind: 0 },
-        1..=15 => Command::Plain(Call::Insert { u, v, kind: 0 }),
-        16 => Command::Plain(Call::Grow {
-            u,
-            position: 0,
-            kind: 0,
-        }),
-        _ => Command::Plain(Call::Delete {
-            edge: (201 + place / 4).saturating_sub((x / 64) % 400),
-        }),
+        0 => planned(u, v),
+        1..=15 => Command::Plain(insert(u, v)),
+        16 => Command::Plain(grow(u)),
+        _ => Command::Plain(delete((201 + place / 4).saturating_sub((x / 64) % 400))),
     }
 }
 
@@ -171,40 +153,9 @@ fn count_where(counter: &AtomicU32, is_so: bool) {
     }
 }
 
-/// Whether a picture shows these rows.
-fn shows(alloc: Global, picture: &Picture, rows: &Rows) -> bool {
-    match picture.rows(alloc) {
-        Ok(now) => {
-            let same = now.equals(rows);
-            drop(now);
-            same
-        }
-        Err(_) => false,
-    }
-}
-
-/// Whether rows are loaded, and given back.
-fn are_lawful(alloc: Global, limits: Limits, rows: &Rows) -> bool {
-    match Picture::load(alloc, limits, rows) {
-        Ok(again) => {
-            let same = shows(alloc, &again, rows);
-            drop(again);
-            same
-        }
-        Err(_) => false,
-    }
-}
-
 /// Whether a picture is lawful.
 fn is_lawful(alloc: Global, picture: &Picture) -> bool {
-    match picture.rows(alloc) {
-        Ok(rows) => {
-            let lawful = are_lawful(alloc, picture.limits(), &rows);
-            drop(rows);
-            lawful
-        }
-        Err(_) => false,
-    }
+    matches!(is_loaded_again(alloc, picture), Ok(true))
 }
 
 /// Looks at a version, and answers its number.
@@ -244,11 +195,7 @@ fn is_made<F: PriceFn + Drop, K: ServiceBrand<F>, R: Wait>(
     pass: &mut Pass<F, K>,
     call: Call,
 ) -> bool {
-    let answer = match call {
-        Call::Insert { u, v, kind } => service.insert(rt, pass, u, v, kind),
-        Call::Delete { edge } => service.delete(rt, pass, edge),
-        Call::Grow { u, position, kind } => service.grow(rt, pass, u, position, kind),
-    };
+    let answer = make(rt, service, pass, call);
     let is_made = answer.is_ok();
     drop(answer);
     is_made
@@ -316,20 +263,17 @@ pub(crate) fn work_all<
     );
 }
 
-/// Sixteen workers, some of whose calls are accepted.
-const SIXTEEN: Workers = Workers {
-    number: 16,
-    accepted: 1_000,
-};
-
 /// The text of a run of sixteen workers who are watched.
-fn told_of_sixteen<R: Threads + Wait + Abort + AllocGlobal + Sync>(
-    rt: &R,
-    watch: &Watch,
-) -> Result<String, Fail> {
+fn told_of_sixteen<R: TestRuntime>(rt: &R, watch: &Watch) -> Result<String, Fail> {
     let start = tree(rt, rt.alloc())?;
-    let work = Work::<Still>::Crowd(watch);
-    run_work_at(rt, rt.alloc(), &even_prices(rt), start, work, &SIXTEEN)
+    let work = Work::<Still>::Crowd(16, watch);
+    run_work_at(
+        rt,
+        &table_of(Some(1), &[])?,
+        start,
+        work,
+        &Workers { accepted: 1_000 },
+    )
 }
 
 /// Sixteen workers took all views, and nothing was amiss.
@@ -343,12 +287,12 @@ fn is_well(rt: &impl Abort, watch: &Watch) {
 #[test]
 fn sixteen_workers_make_thousands_of_calls(rt: HostRuntime) -> Result<(), Fail> {
     let watch = Watch::new();
-    let told = told_of_sixteen(&rt, &watch)?;
+    let told = told_of_sixteen(&rt, &watch);
     is_told(
         &rt,
-        told.as_str(),
+        told,
         "0 ended, all done: true, accepted: true; 32000 calls, replayed: true",
-    );
+    )?;
     is_well(&rt, &watch);
     Ok(())
 }

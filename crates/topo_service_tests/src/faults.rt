@@ -6,21 +6,12 @@ use std::process::Abort;
 use std::test::Fail;
 use topo_core::calls::Refusal;
 use topo_service::{EndFault, PassFault, ServiceFault};
-
-/// The fault as an error of any kind.
-fn pass_on<E: Error>(fault: E) -> anyhow::Result<()> {
-    Err(fault)?
-}
+use topo_test_support::errors::text_of_error;
 
 /// A fault that `?` has made an error of any kind is printed as this text.
 fn check_error<E: Error>(rt: &impl Abort, alloc: Global, fault: E, text: &str) -> Result<(), Fail> {
-    match pass_on(fault) {
-        Ok(()) => assert!(rt; false, "no error"),
-        Err(error) => {
-            let printed = format!(in alloc; "{error}")?;
-            assert!(rt; printed.as_str() == text, "{printed}");
-        }
-    }
+    let printed = text_of_error(alloc, fault)?;
+    assert!(rt; printed.as_str() == text, "{printed}");
     Ok(())
 }
 

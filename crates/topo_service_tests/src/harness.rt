@@ -13,9 +13,7 @@ use std::test::Fail;
 use std::thread::Threads;
 use topo_book::{Book, replay};
 use topo_core::calls::Command;
-use topo_core::limits::Limits;
-use topo_core::listed::Listed;
-use topo_core::rows::{EdgeRow, Facts, Rows};
+use topo_core::rows::Facts;
 use topo_picture::Picture;
 use topo_price::table::PriceTable;
 use topo_price::tariff::{PriceFn, Tariff};
@@ -23,11 +21,13 @@ use topo_service::close::CloseFault;
 use topo_service::{EndFault, FreshService, Gate, Pass, Service, WorkerEnd, run_workers};
 use topo_versions::{ServiceBrand, StoreReader};
 
+/// What a test hands on to what it calls.
+pub(crate) trait TestRuntime: Threads + Wait + Abort + AllocGlobal + Sync {}
+
+impl<R: Threads + Wait + Abort + AllocGlobal + Sync> TestRuntime for R {}
+
 /// What is done with a service.
 pub(crate) trait Story {
-    /// How many passes it asks for.
-    fn pass_count(&self) -> usize;
-
     /// Uses the service by its passes, of which there are fewer than asked for where the service
     /// gave no more, and says what it saw. It gets how the workers' lists ended. The passes that it
     /// leaves are those that the service is closed with.
@@ -51,36 +51,38 @@ impl Gate for Still {
     fn after(&self, _worker: usize, _index: usize) {}
 }
 
-/// What the passes do before the story begins.
+/// How many passes are asked for, and what they do before the story begins.
 #[derive(Drop)]
 pub(crate) enum Work<'a, T> {
-    /// Each carries out the list at its place, with the gate's calls round each command. Where
-    /// there is no list, no pass is used.
+    /// So many do nothing.
+    Nothing(usize),
+    /// One for each list carries it out, with the gate's calls round each command.
     Lists(&'a [Vec<Command>], &'a T),
-    /// Each makes calls of its own, and looks at versions meanwhile.
-    Crowd(&'a Watch),
+    /// So many make calls of their own, and look at versions meanwhile.
+    Crowd(usize, &'a Watch),
 }
 
 /// The text is the one that is due.
-pub(crate) fn is_told(rt: &impl Abort, told: &str, due: &str) {
-    assert_eq!(rt; told, due);
+pub(crate) fn is_told(rt: &impl Abort, told: Result<String, Fail>, due: &str) -> Result<(), Fail> {
+    let told = told?;
+    assert_eq!(rt; told.as_str(), due);
+    Ok(())
 }
 
-/// The text of the story, and how the service ended, at the prices of a table.
-pub(crate) fn run_at<S: Story, R: Threads + Wait + Sync>(
+/// The text of the story with so many passes, and how the service ended, at the prices of a table.
+pub(crate) fn run_at<S: Story, R: TestRuntime>(
     rt: &R,
-    alloc: Global,
     table: &PriceTable,
     start: Picture,
+    passes: usize,
     story: &S,
 ) -> Result<String, Fail> {
-    run_work_at(rt, alloc, table, start, Work::Lists(&[], &Still), story)
+    run_work_at(rt, table, start, Work::<Still>::Nothing(passes), story)
 }
 
 /// The same, where the passes have work to do before the story begins.
-pub(crate) fn run_work_at<S: Story, T: Gate, R: Threads + Wait + Sync>(
+pub(crate) fn run_work_at<S: Story, T: Gate, R: TestRuntime>(
     rt: &R,
-    alloc: Global,
     table: &PriceTable,
     start: Picture,
     work: Work<T>,
@@ -88,7 +90,6 @@ pub(crate) fn run_work_at<S: Story, T: Gate, R: Threads + Wait + Sync>(
 ) -> Result<String, Fail> {
     run_work(
         rt,
-        alloc,
         |facts: &Facts| table.price(facts.kind),
         start,
         work,
@@ -96,32 +97,33 @@ pub(crate) fn run_work_at<S: Story, T: Gate, R: Threads + Wait + Sync>(
     )
 }
 
-/// The text of the story, and how the service ended.
-pub(crate) fn run<F: PriceFn + Drop + Send + Sync, S: Story, R: Threads + Wait + Sync>(
+/// The text of the story with so many passes, and how the service ended.
+pub(crate) fn run<F: PriceFn + Drop + Send + Sync, S: Story, R: TestRuntime>(
     rt: &R,
-    alloc: Global,
     ask: F,
     start: Picture,
+    passes: usize,
     story: &S,
 ) -> Result<String, Fail>
     requires callable { F.is_callable ask }
     requires promise { IsPromise (F.may_return ask) }
 {
-    run_work(rt, alloc, ask, start, Work::Lists(&[], &Still), story)
+    run_work(rt, ask, start, Work::<Still>::Nothing(passes), story)
 }
 
 /// The same, where the passes have work to do before the story begins.
-pub(crate) fn run_work<
-    F: PriceFn + Drop + Send + Sync,
-    S: Story,
-    T: Gate,
-    R: Threads + Wait + Sync,
->(rt: &R, alloc: Global, ask: F, start: Picture, work: Work<T>, story: &S) -> Result<String, Fail>
+pub(crate) fn run_work<F: PriceFn + Drop + Send + Sync, S: Story, T: Gate, R: TestRuntime>(
+    rt: &R,
+    ask: F,
+    start: Picture,
+    work: Work<T>,
+    story: &S,
+) -> Result<String, Fail>
     requires callable { F.is_callable ask }
     requires promise { IsPromise (F.may_return ask) }
 {
-    let tariff = Arc::new(alloc, Tariff::new(ask))?;
-    named::<F, Brand, S, T, R>(rt, alloc, FreshService::new(), start, tariff, work, story)
+    let tariff = Arc::new(rt.alloc(), Tariff::new(ask))?;
+    named::<F, Brand, S, T, R>(rt, FreshService::new(), start, tariff, work, story)
 }
 
 /// The same, over the service that K names.
@@ -130,10 +132,9 @@ fn named<
     K: ServiceBrand<F> + Send + Sync,
     S: Story,
     T: Gate,
-    R: Threads + Wait + Sync,
+    R: TestRuntime,
 >(
     rt: &R,
-    alloc: Global,
     fresh: FreshService,
     start: Picture,
     tariff: Arc<Tariff<F>>,
@@ -146,8 +147,8 @@ fn named<
     requires start { start ≡ K.start }
     requires prices { K.closure ≡ Some (arc_value tariff) }
 {
-    let service = Service::<F, K>::new(alloc, fresh, start, tariff)?;
-    tell_and_close(rt, alloc, service, work, story)
+    let service = Service::<F, K>::new(rt.alloc(), fresh, start, tariff)?;
+    tell_and_close(rt, rt.alloc(), service, work, story)
 }
 
 /// The text of the story of a service, and how it ended. The service and its passes are owned here
@@ -207,9 +208,18 @@ fn tell<
     work: Work<T>,
     story: &S,
 ) -> Result<String, Fail> {
-    give_out(service, passes, story.pass_count())?;
+    give_out(service, passes, pass_count(&work))?;
     let ends = carry_out(rt, alloc, &*service, passes.as_mut_slice(), work)?;
     story.tell(rt, alloc, &*service, passes, ends.as_slice())
+}
+
+/// How many passes are asked for.
+fn pass_count<T>(work: &Work<T>) -> usize {
+    match work {
+        Work::Nothing(count) => *count,
+        Work::Lists(lists, _) => lists.len(),
+        Work::Crowd(count, _) => *count,
+    }
 }
 
 /// Gives out so many passes, or as many as there are.
@@ -275,11 +285,11 @@ fn carry_out<
     work: Work<T>,
 ) -> Result<Vec<WorkerEnd>, Fail> {
     match work {
-        Work::Crowd(watch) => {
+        Work::Nothing(_) => Ok(Vec::new(alloc)),
+        Work::Crowd(_, watch) => {
             work_all(rt, alloc, service, passes, watch);
             Ok(Vec::new(alloc))
         }
-        Work::Lists([], _) => Ok(Vec::new(alloc)),
         Work::Lists(lists, gate) => {
             if passes.len() != lists.len() {
                 return Err("a pass for each list".into());
@@ -287,95 +297,4 @@ fn carry_out<
             Ok(run_workers(rt, alloc, service, passes, lists, gate)?)
         }
     }
-}
-
-/// The seed within these limits.
-pub(crate) fn seed(rt: &impl Abort, alloc: Global) -> Result<Picture, AllocError> {
-    let limits = Limits::new(65_536, 65_536, 1_048_576).expect(rt, "the greatest limits");
-    Picture::seed(alloc, limits)
-}
-
-/// The edges round each vertex of the bipyramid.
-const ROTATIONS: &[&[u32]] = &[
-    &[0, 3, 2, 6],
-    &[0, 7, 1, 4],
-    &[1, 8, 2, 5],
-    &[3, 4, 5],
-    &[6, 8, 7],
-];
-
-/// The ends and the kind of each edge of the bipyramid.
-const EDGES: &[(u32, u32, u32)] = &[
-    (0, 1, 1),
-    (1, 2, 2),
-    (2, 0, 3),
-    (3, 0, 0),
-    (3, 1, 0),
-    (3, 2, 0),
-    (4, 0, 0),
-    (4, 1, 0),
-    (4, 2, 0),
-];
-
-fn rotations(alloc: Global) -> Result<Listed<Listed<u32>>, AllocError> {
-    let mut rotations = Vec::new(alloc);
-    for around in ROTATIONS {
-        rotations.push(Listed::from_vec(Vec::from_slice(alloc, *around)?))?;
-    }
-    Ok(Listed::from_vec(rotations))
-}
-
-fn edges(alloc: Global) -> Result<Listed<EdgeRow>, AllocError> {
-    let mut edges = Vec::new(alloc);
-    for (id, (a, b, kind)) in (0..9u32).zip(EDGES) {
-        edges.push(EdgeRow {
-            id,
-            a: *a,
-            b: *b,
-            kind: *kind,
-            crossings: Listed::new(alloc),
-        })?;
-    }
-    Ok(Listed::from_vec(edges))
-}
-
-fn bipyramid_rows(alloc: Global) -> Result<Rows, AllocError> {
-    let rotations = rotations(alloc)?;
-    Ok(Rows {
-        rotations,
-        edges: edges(alloc)?,
-        crossings: Listed::new(alloc),
-        next_edge: 9,
-        next_crossing: 0,
-    })
-}
-
-/// A triangle between two apexes, 3 and 4; the edges of the triangle are of kinds 1, 2 and 3.
-pub(crate) fn bipyramid(rt: &impl Abort, alloc: Global) -> Result<Picture, AllocError> {
-    let rows = bipyramid_rows(alloc)?;
-    load(rt, alloc, &rows)
-}
-
-/// The picture with these rows, within the greatest limits.
-pub(crate) fn load(rt: &impl Abort, alloc: Global, rows: &Rows) -> Result<Picture, AllocError> {
-    let limits = Limits::new(65_536, 65_536, 1_048_576).expect(rt, "the greatest limits");
-    match Picture::load(alloc, limits, rows) {
-        Ok(picture) => Ok(picture),
-        Err(_) => Err(AllocError),
-    }
-}
-
-/// Prices at which each edge costs 1.
-pub(crate) fn even_prices(rt: &impl Abort) -> PriceTable {
-    PriceTable::new([Some(1); 64]).expect(rt, "a table")
-}
-
-/// Prices at which the edges of the triangle cost 5, 2 and 9, so that the cheapest way from one
-/// apex to the other crosses edge 1.
-pub(crate) fn uneven_prices(rt: &impl Abort) -> PriceTable {
-    let mut prices = [Some(1); 64];
-    prices[1] = Some(5);
-    prices[2] = Some(2);
-    prices[3] = Some(9);
-    PriceTable::new(prices).expect(rt, "a table")
 }

@@ -1,17 +1,19 @@
 //! Sixteen workers who are inside their gates at one time, and the numbers that a gate is called
 //! with.
 
-use crate::harness::{Story, Work, even_prices, is_told, run_work_at, seed};
+use crate::harness::{Story, TestRuntime, Work, is_told, run_work_at};
 use std::alloc::{AllocError, Global};
-use std::process::Abort;
 use std::sync::Wait;
 use std::sync::atomic::{AtomicBool, AtomicUsize, Ordering};
 use std::test::Fail;
 use std::thread;
-use std::thread::Threads;
-use topo_core::calls::{Call, Command};
+use topo_core::calls::Command;
+use topo_picture::Picture;
 use topo_price::tariff::PriceFn;
 use topo_service::{Gate, Pass, Service, WorkerEnd};
+use topo_test_support::calls::insert;
+use topo_test_support::pictures::greatest_limits;
+use topo_test_support::prices::table_of;
 use topo_versions::ServiceBrand;
 
 /// How often a worker looks for the others at most.
@@ -95,15 +97,11 @@ impl Gate for Counted {
     }
 }
 
-/// So many lists, of which it is told how many were carried out.
+/// How many lists were carried out.
 #[derive(Drop)]
-struct Lists(usize);
+struct Lists;
 
 impl Story for Lists {
-    fn pass_count(&self) -> usize {
-        self.0
-    }
-
     fn tell<F: PriceFn + Drop, K: ServiceBrand<F>, R: Wait>(
         &self,
         _rt: &R,
@@ -119,34 +117,22 @@ impl Story for Lists {
 
 /// So many lists of so many insertions.
 fn lists_of(alloc: Global, lists: usize, commands: usize) -> Result<Vec<Vec<Command>>, AllocError> {
-    let insertion = Command::Plain(Call::Insert {
-        u: 0,
-        v: 1,
-        kind: 0,
-    });
     let mut made = Vec::new(alloc);
     for _ in 0..lists {
-        made.push(vec![in alloc; insertion; commands]?)?;
+        made.push(vec![in alloc; Command::Plain(insert(0, 1)); commands]?)?;
     }
     Ok(made)
 }
 
 /// The text of a run of these lists.
-fn told_of<T: Gate, R: Threads + Wait + Abort + AllocGlobal + Sync>(
+fn told_of<T: Gate, R: TestRuntime>(
     rt: &R,
     lists: &[Vec<Command>],
     gate: &T,
 ) -> Result<String, Fail> {
-    let start = seed(rt, rt.alloc())?;
+    let start = Picture::seed(rt.alloc(), greatest_limits())?;
     let work = Work::Lists(lists, gate);
-    run_work_at(
-        rt,
-        rt.alloc(),
-        &even_prices(rt),
-        start,
-        work,
-        &Lists(lists.len()),
-    )
+    run_work_at(rt, &table_of(Some(1), &[])?, start, work, &Lists)
 }
 
 #[test]
@@ -155,7 +141,7 @@ fn sixteen_workers_are_inside_at_one_time(rt: HostRuntime) -> Result<(), Fail> {
     let gate = Meeting::new();
     let told = told_of(&rt, lists.as_slice(), &gate);
     drop(lists);
-    is_told(&rt, told?.as_str(), "16 done; 16 calls, replayed: true");
+    is_told(&rt, told, "16 done; 16 calls, replayed: true")?;
     assert!(rt; !gate.late.load(Ordering::SeqCst));
     Ok(())
 }
@@ -166,7 +152,7 @@ fn a_gate_is_called_before_and_after_each_command(rt: HostRuntime) -> Result<(),
     let gate = Counted::new();
     let told = told_of(&rt, lists.as_slice(), &gate);
     drop(lists);
-    is_told(&rt, told?.as_str(), "2 done; 6 calls, replayed: true");
+    is_told(&rt, told, "2 done; 6 calls, replayed: true")?;
     assert!(rt; !gate.is_amiss.load(Ordering::SeqCst));
     for calls in &gate.calls {
         assert_eq!(rt; calls.load(Ordering::SeqCst), 6);

@@ -1,15 +1,16 @@
 //! A list of seventy thousand commands, all of which are accepted.
 
-use crate::harness::{Still, Story, Work, even_prices, is_told, run_work_at, seed};
-use crate::views::view_of;
+use crate::harness::{Still, Story, TestRuntime, Work, is_told, run_work_at};
 use std::alloc::{AllocError, Global};
-use std::process::Abort;
 use std::sync::Wait;
 use std::test::Fail;
-use std::thread::Threads;
-use topo_core::calls::{Call, Command};
+use topo_core::calls::Command;
+use topo_picture::Picture;
 use topo_price::tariff::PriceFn;
 use topo_service::{Pass, Service, WorkerEnd};
+use topo_test_support::calls::{delete, insert};
+use topo_test_support::pictures::greatest_limits;
+use topo_test_support::prices::table_of;
 use topo_versions::ServiceBrand;
 
 /// How many edges are put in and taken out again, one after the other: more calls than there are
@@ -20,12 +21,8 @@ const PAIRS: u32 = 35_000;
 fn long_list(alloc: Global) -> Result<Vec<Command>, AllocError> {
     let mut list = Vec::new(alloc);
     for edge in 1..=PAIRS {
-        list.push(Command::Plain(Call::Insert {
-            u: 0,
-            v: 1,
-            kind: 0,
-        }))?;
-        list.push(Command::Plain(Call::Delete { edge }))?;
+        list.push(Command::Plain(insert(0, 1)))?;
+        list.push(Command::Plain(delete(edge)))?;
     }
     Ok(list)
 }
@@ -48,7 +45,7 @@ fn last_seen<F: PriceFn + Drop, K: ServiceBrand<F>>(
     service: &Service<F, K>,
     pass: &mut Pass<F, K>,
 ) -> Result<(u64, bool), Fail> {
-    let view = view_of(pass)?;
+    let view = pass.view()?;
     let number = view.number();
     drop(view);
     let found = pass.find(alloc, service.tariff(), 0, 1);
@@ -58,10 +55,6 @@ fn last_seen<F: PriceFn + Drop, K: ServiceBrand<F>>(
 }
 
 impl Story for Ended {
-    fn pass_count(&self) -> usize {
-        1
-    }
-
     fn tell<F: PriceFn + Drop, K: ServiceBrand<F>, R: Wait>(
         &self,
         _rt: &R,
@@ -80,13 +73,10 @@ impl Story for Ended {
 }
 
 /// The text of a run of the list.
-fn told_of<R: Threads + Wait + Abort + AllocGlobal + Sync>(
-    rt: &R,
-    lists: &[Vec<Command>],
-) -> Result<String, Fail> {
-    let start = seed(rt, rt.alloc())?;
+fn told_of<R: TestRuntime>(rt: &R, lists: &[Vec<Command>]) -> Result<String, Fail> {
+    let start = Picture::seed(rt.alloc(), greatest_limits())?;
     let work = Work::Lists(lists, &Still);
-    run_work_at(rt, rt.alloc(), &even_prices(rt), start, work, &Ended)
+    run_work_at(rt, &table_of(Some(1), &[])?, start, work, &Ended)
 }
 
 #[test]
@@ -96,8 +86,7 @@ fn a_list_may_have_more_calls_than_there_are_edge_ids(rt: HostRuntime) -> Result
     drop(lists);
     is_told(
         &rt,
-        told?.as_str(),
+        told,
         "[Done] 70000 receipts, version 70000, found: true; 70000 calls, replayed: true",
-    );
-    Ok(())
+    )
 }

@@ -1,58 +1,25 @@
 //! Insertions with plans that nobody searched for, and with plans of another picture.
 
-use crate::harness::{Story, bipyramid, is_told, run_at, uneven_prices};
-use crate::views::{plan_of, view_of};
+use crate::harness::{Story, TestRuntime, is_told, run_at};
+use crate::views::plan_of;
 use std::alloc::{AllocError, Global};
 use std::process::Abort;
 use std::sync::Wait;
 use std::test::Fail;
-use std::thread::Threads;
 use topo_core::calls::Reply;
 use topo_core::darts::{Dart, Way};
-use topo_core::ids::EdgeId;
-use topo_core::listed::Listed;
-use topo_core::routes::Route;
 use topo_core::rows::Rows;
 use topo_price::tariff::PriceFn;
 use topo_route::plan::Plan;
 use topo_service::{Pass, Service, WorkerEnd};
+use topo_test_support::pictures::{BIPYRAMID, picture_of};
+use topo_test_support::plans::{LEAST_HEIGHTS, dart, invented};
+use topo_test_support::prices::{FIVE_TWO_NINE, table_of};
 use topo_versions::ServiceBrand;
-
-/// The least heights from the apexes' faces to apex 4, where the edges of the triangle cost 5, 2
-/// and 9.
-const LEAST: [u64; 18] = [0, 3, 0, 2, 0, 3, 3, 3, 3, 2, 2, 3, 0, 0, 0, 0, 0, 0];
 
 /// The dart that the first route crosses.
 fn first() -> Dart {
-    Dart {
-        edge: EdgeId::new(1),
-        seg: 0,
-        way: Way::Back,
-    }
-}
-
-/// A dart of an edge that is not there.
-fn nowhere() -> Dart {
-    Dart {
-        edge: EdgeId::new(99),
-        seg: 0,
-        way: Way::Forward,
-    }
-}
-
-/// A plan with the ends and the price of the first route.
-fn invented(alloc: Global, crossed: Dart, heights: &[u64]) -> Result<Plan, AllocError> {
-    let heights = Vec::from_slice(alloc, heights)?;
-    let crossed = Vec::from_slice(alloc, &[crossed])?;
-    Ok(Plan {
-        route: Route {
-            start: 2,
-            crossed: Listed::from_vec(crossed),
-            end: 2,
-        },
-        price: 2,
-        heights: Listed::from_vec(heights),
-    })
+    dart(1, 0, Way::Back)
 }
 
 /// An insertion between the apexes, with the plan if there is one.
@@ -73,7 +40,7 @@ fn rows_of<F: PriceFn + Drop, K: ServiceBrand<F>>(
     alloc: Global,
     pass: &mut Pass<F, K>,
 ) -> Result<Rows, Fail> {
-    let view = view_of(pass)?;
+    let view = pass.view()?;
     let rows = view.picture().rows(alloc);
     drop(view);
     Ok(rows?)
@@ -98,10 +65,6 @@ struct Joined<'a> {
 }
 
 impl Story for Joined<'_> {
-    fn pass_count(&self) -> usize {
-        1
-    }
-
     fn tell<F: PriceFn + Drop, K: ServiceBrand<F>, R: Wait>(
         &self,
         rt: &R,
@@ -154,10 +117,6 @@ fn told_late<F: PriceFn + Drop, K: ServiceBrand<F>, R: Wait>(
 }
 
 impl Story for Late {
-    fn pass_count(&self) -> usize {
-        1
-    }
-
     fn tell<F: PriceFn + Drop, K: ServiceBrand<F>, R: Wait>(
         &self,
         rt: &R,
@@ -178,28 +137,21 @@ impl Story for Late {
 }
 
 /// What the story says of a service that begins with the bipyramid.
-fn told<S: Story, R: Threads + Wait + Abort + AllocGlobal + Sync>(
-    rt: &R,
-    story: &S,
-) -> Result<String, Fail> {
-    let start = bipyramid(rt, rt.alloc())?;
-    run_at(rt, rt.alloc(), &uneven_prices(rt), start, story)
+fn told<S: Story, R: TestRuntime>(rt: &R, story: &S) -> Result<String, Fail> {
+    let start = picture_of(rt.alloc(), &BIPYRAMID)?;
+    run_at(rt, &table_of(Some(1), FIVE_TWO_NINE)?, start, 1, story)
 }
 
-/// What is said of an insertion with such a plan.
-fn told_of<R: Threads + Wait + Abort + AllocGlobal + Sync>(
-    rt: &R,
-    crossed: Dart,
-    heights: &[u64],
-) -> Result<String, Fail> {
-    let plan = invented(rt.alloc(), crossed, heights)?;
+/// What is said of an insertion with a plan that has the ends and the price of the first route.
+fn told_of<R: TestRuntime>(rt: &R, crossed: Dart, heights: &[u64]) -> Result<String, Fail> {
+    let plan = invented(rt.alloc(), 2, crossed, 2, 2, heights)?;
     let told = told(rt, &Joined { plan: Some(&plan) });
     drop(plan);
     told
 }
 
 /// The text of an insertion with such a plan is the one that is due.
-fn is_told_of<R: Threads + Wait + Abort + AllocGlobal + Sync>(
+fn is_told_of<R: TestRuntime>(
     rt: &R,
     crossed: Dart,
     heights: &[u64],
@@ -211,12 +163,9 @@ fn is_told_of<R: Threads + Wait + Abort + AllocGlobal + Sync>(
 }
 
 /// The same of the least heights, with each of them raised in turn.
-fn is_told_of_raised<R: Threads + Wait + Abort + AllocGlobal + Sync>(
-    rt: &R,
-    due: &str,
-) -> Result<(), Fail> {
-    for at in 0..LEAST.len() {
-        let mut heights = LEAST;
+fn is_told_of_raised<R: TestRuntime>(rt: &R, due: &str) -> Result<(), Fail> {
+    for at in 0..LEAST_HEIGHTS.len() {
+        let mut heights = LEAST_HEIGHTS;
         heights[at] = heights[at].wrapping_add(1);
         is_told_of(rt, first(), &heights, due)?;
     }
@@ -224,16 +173,14 @@ fn is_told_of_raised<R: Threads + Wait + Abort + AllocGlobal + Sync>(
 }
 
 /// The same of all invented plans.
-fn is_told_of_all<R: Threads + Wait + Abort + AllocGlobal + Sync>(
-    rt: &R,
-    due: &str,
-) -> Result<(), Fail> {
+fn is_told_of_all<R: TestRuntime>(rt: &R, due: &str) -> Result<(), Fail> {
     is_told_of_raised(rt, due)?;
-    let all: [&[u64]; 3] = [&LEAST, &[u64::MAX; 18], &[0; 18]];
+    let all: [&[u64]; 3] = [&LEAST_HEIGHTS, &[u64::MAX; 18], &[0; 18]];
     for heights in all {
         is_told_of(rt, first(), heights, due)?;
     }
-    is_told_of(rt, nowhere(), &LEAST, due)
+    let nowhere = dart(99, 0, Way::Forward);
+    is_told_of(rt, nowhere, &LEAST_HEIGHTS, due)
 }
 
 /// A text begins and ends so.
@@ -254,16 +201,6 @@ fn an_invented_plan_changes_no_answer(rt: HostRuntime) -> Result<(), Fail> {
     is_told_of_all(&rt, due.as_str())
 }
 
-/// The text of a late insertion by a plan is the one that is due.
-fn is_told_late<R: Threads + Wait + Abort + AllocGlobal + Sync>(
-    rt: &R,
-    due: &str,
-) -> Result<(), Fail> {
-    let told = told(rt, &Late { planned: true })?;
-    is_told(rt, told.as_str(), due);
-    Ok(())
-}
-
 #[test]
 fn a_plan_of_another_picture_changes_no_answer(rt: HostRuntime) -> Result<(), Fail> {
     let due = told(&rt, &Late { planned: false })?;
@@ -273,5 +210,6 @@ fn a_plan_of_another_picture_changes_no_answer(rt: HostRuntime) -> Result<(), Fa
         "Inserted(Inserted { id: EdgeId(10), ",
         "; 3 calls, replayed: true",
     );
-    is_told_late(&rt, due.as_str())
+    let late = told(&rt, &Late { planned: true });
+    is_told(&rt, late, due.as_str())
 }

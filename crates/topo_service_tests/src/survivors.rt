@@ -1,22 +1,22 @@
 //! Routes that were found before other calls changed the picture.
 
-use crate::harness::{Still, Story, Work, even_prices, load, run, run_work};
+use crate::harness::{Still, Story, TestRuntime, Work, run, run_work};
 use std::alloc::{AllocError, Global};
-use std::process::Abort;
 use std::sync::Wait;
 use std::sync::atomic::{AtomicU64, Ordering};
 use std::test::Fail;
-use std::thread::Threads;
-use topo_core::calls::{Call, Command, Reply};
-use topo_core::listed::Listed;
-use topo_core::rows::{EdgeRow, Facts, Rows};
-use topo_picture::Picture;
+use topo_core::calls::{Call, Command};
+use topo_core::rows::Facts;
 use topo_price::tariff::PriceFn;
 use topo_service::{FoundRoute, Pass, Service, WorkerEnd};
+use topo_service_test_support::calls::{first_two, make};
+use topo_test_support::calls::{delete, grow, insert, planned};
+use topo_test_support::grids::Grid;
+use topo_test_support::prices::table_of;
 use topo_versions::ServiceBrand;
 
-/// So many vertices has a row of the grid, and so many rows it has.
-const WIDTH: u8 = 8;
+/// The grid of the tests.
+const GRID: Grid = Grid { width: 8 };
 
 /// The route is looked for between these: from the vertex in row 1 and column 1 to the one in row 3
 /// and column 2. It crosses one edge, the one below the face to the right of and below its start.
@@ -29,100 +29,17 @@ const FIRST_NEW: u32 = 112;
 
 /// The edge from a vertex of the grid to the one on its right.
 fn right_of(row: u8, column: u8) -> u32 {
-    row as u32 * 7 + column as u32
+    GRID.right_of(row, column)
 }
 
 /// The edge from a vertex of the grid to the one below it.
 fn below(row: u8, column: u8) -> u32 {
-    56 + row as u32 * 8 + column as u32
+    GRID.below(row, column)
 }
 
 /// The vertex in a row and a column.
 fn at(row: u8, column: u8) -> u32 {
-    row as u32 * 8 + column as u32
-}
-
-/// The edges round a vertex of the grid, clockwise from the one with the least id.
-fn around(alloc: Global, row: u8, column: u8) -> Result<Listed<u32>, AllocError> {
-    let mut edges = Vec::with_capacity(alloc, 4)?;
-    if column > 0 {
-        edges.push(right_of(row, column - 1))?;
-        if row > 0 {
-            edges.push(below(row - 1, column))?;
-        }
-    }
-    if column < WIDTH - 1 {
-        edges.push(right_of(row, column))?;
-    }
-    if row < WIDTH - 1 {
-        edges.push(below(row, column))?;
-    }
-    if column == 0 && row > 0 {
-        edges.push(below(row - 1, column))?;
-    }
-    Ok(Listed::from_vec(edges))
-}
-
-/// An edge of the grid.
-fn edge(alloc: Global, id: u32, a: u32, b: u32) -> EdgeRow {
-    EdgeRow {
-        id,
-        a,
-        b,
-        kind: 0,
-        crossings: Listed::new(alloc),
-    }
-}
-
-/// The edges of the grid.
-fn edges(alloc: Global) -> Result<Listed<EdgeRow>, AllocError> {
-    let mut edges = Vec::new(alloc);
-    for row in 0..WIDTH {
-        for column in 0..WIDTH - 1 {
-            edges.push(edge(
-                alloc,
-                right_of(row, column),
-                at(row, column),
-                at(row, column + 1),
-            ))?;
-        }
-    }
-    for row in 0..WIDTH - 1 {
-        for column in 0..WIDTH {
-            edges.push(edge(
-                alloc,
-                below(row, column),
-                at(row, column),
-                at(row + 1, column),
-            ))?;
-        }
-    }
-    Ok(Listed::from_vec(edges))
-}
-
-/// The rotations of the grid.
-fn rotations(alloc: Global) -> Result<Listed<Listed<u32>>, AllocError> {
-    let mut rotations = Vec::new(alloc);
-    for row in 0..WIDTH {
-        for column in 0..WIDTH {
-            rotations.push(around(alloc, row, column)?)?;
-        }
-    }
-    Ok(Listed::from_vec(rotations))
-}
-
-/// The grid, in which each edge is of kind 0.
-fn grid(rt: &impl Abort, alloc: Global) -> Result<Picture, AllocError> {
-    let rotations = rotations(alloc)?;
-    let edges = edges(alloc)?;
-    let rows = Rows {
-        rotations,
-        edges,
-        crossings: Listed::new(alloc),
-        next_edge: FIRST_NEW,
-        next_crossing: 0,
-    };
-    load(rt, alloc, &rows)
+    GRID.at(row, column)
 }
 
 /// A route that one pass found, an insertion along it after calls of another pass, and how many
@@ -131,20 +48,6 @@ fn grid(rt: &impl Abort, alloc: Global) -> Result<Picture, AllocError> {
 struct Late<'a> {
     asked: &'a AtomicU64,
     between: &'a [Call],
-}
-
-/// Makes a call, whatever is answered.
-fn make<F: PriceFn + Drop, K: ServiceBrand<F>, R: Wait>(
-    rt: &R,
-    service: &Service<F, K>,
-    pass: &mut Pass<F, K>,
-    call: Call,
-) -> Result<Reply, AllocError> {
-    match call {
-        Call::Grow { u, position, kind } => service.grow(rt, pass, u, position, kind),
-        Call::Insert { u, v, kind } => service.insert(rt, pass, u, v, kind),
-        Call::Delete { edge } => service.delete(rt, pass, edge),
-    }
 }
 
 impl Late<'_> {
@@ -170,10 +73,6 @@ impl Late<'_> {
 }
 
 impl Story for Late<'_> {
-    fn pass_count(&self) -> usize {
-        2
-    }
-
     fn tell<F: PriceFn + Drop, K: ServiceBrand<F>, R: Wait>(
         &self,
         rt: &R,
@@ -182,10 +81,7 @@ impl Story for Late<'_> {
         passes: &mut Vec<Pass<F, K>>,
         _ends: &[WorkerEnd],
     ) -> Result<String, Fail> {
-        let Some((early, rest)) = passes.as_mut_slice().split_first_mut() else {
-            return Err("two passes".into());
-        };
-        let Some((late, _)) = rest.split_first_mut() else {
+        let Some((early, late)) = first_two(passes.as_mut_slice()) else {
             return Err("two passes".into());
         };
         let Ok(found) = late.find(alloc, service.tariff(), FROM, TO) else {
@@ -198,13 +94,10 @@ impl Story for Late<'_> {
 }
 
 /// What an insertion along a route tells that was found before these calls.
-fn told_after<R: Threads + Wait + Abort + AllocGlobal + Sync>(
-    rt: &R,
-    between: &[Call],
-) -> Result<String, Fail> {
+fn told_after<R: TestRuntime>(rt: &R, between: &[Call]) -> Result<String, Fail> {
     let asked = AtomicU64::new(0);
-    let table = even_prices(rt);
-    let start = grid(rt, rt.alloc())?;
+    let table = table_of(Some(1), &[])?;
+    let start = GRID.picture(rt.alloc())?;
     let ask = |facts: &Facts| {
         let _ = asked.fetch_add(1, Ordering::SeqCst);
         table.price(facts.kind)
@@ -213,35 +106,12 @@ fn told_after<R: Threads + Wait + Abort + AllocGlobal + Sync>(
         asked: &asked,
         between,
     };
-    run(rt, rt.alloc(), ask, start, &story)
-}
-
-/// An insertion.
-const fn insert(u: u32, v: u32) -> Call {
-    Call::Insert { u, v, kind: 0 }
-}
-
-/// A growth.
-const fn grow(u: u32) -> Call {
-    Call::Grow {
-        u,
-        position: 0,
-        kind: 0,
-    }
-}
-
-/// A deletion.
-const fn delete(edge: u32) -> Call {
-    Call::Delete { edge }
+    run(rt, ask, start, 2, &story)
 }
 
 /// Each row says what is called between, whether the route is then taken with no price asked, and
 /// how many calls there are in all.
-fn are_told<R: Threads + Wait + Abort + AllocGlobal + Sync>(
-    rt: &R,
-    rows: &[&[Call]],
-    is_known: bool,
-) -> Result<(), Fail> {
+fn are_told<R: TestRuntime>(rt: &R, rows: &[&[Call]], is_known: bool) -> Result<(), Fail> {
     for between in rows {
         let told = told_after(rt, between)?;
         let calls = between.len() + 1;
@@ -298,10 +168,6 @@ struct Prices<'a> {
 }
 
 impl Story for Prices<'_> {
-    fn pass_count(&self) -> usize {
-        1
-    }
-
     fn tell<F: PriceFn + Drop, K: ServiceBrand<F>, R: Wait>(
         &self,
         _rt: &R,
@@ -316,19 +182,16 @@ impl Story for Prices<'_> {
 }
 
 /// What one worker's list tells.
-fn told_of_list<R: Threads + Wait + Abort + AllocGlobal + Sync>(
-    rt: &R,
-    lists: &[Vec<Command>],
-) -> Result<String, Fail> {
+fn told_of_list<R: TestRuntime>(rt: &R, lists: &[Vec<Command>]) -> Result<String, Fail> {
     let asked = AtomicU64::new(0);
-    let table = even_prices(rt);
-    let start = grid(rt, rt.alloc())?;
+    let table = table_of(Some(1), &[])?;
+    let start = GRID.picture(rt.alloc())?;
     let ask = |facts: &Facts| {
         let _ = asked.fetch_add(1, Ordering::SeqCst);
         table.price(facts.kind)
     };
     let work = Work::Lists(lists, &Still);
-    run_work(rt, rt.alloc(), ask, start, work, &Prices { asked: &asked })
+    run_work(rt, ask, start, work, &Prices { asked: &asked })
 }
 
 /// One list with an insertion between each two ends, of which some have the greater number first,
@@ -344,7 +207,7 @@ fn list_of(alloc: Global, is_planned: bool) -> Result<Vec<Vec<Command>>, AllocEr
     let mut list = Vec::new(alloc);
     for (u, v) in ends {
         list.push(if is_planned {
-            Command::Planned { u, v, kind: 0 }
+            planned(u, v)
         } else {
             Command::Plain(insert(u, v))
         })?;
@@ -353,10 +216,7 @@ fn list_of(alloc: Global, is_planned: bool) -> Result<Vec<Vec<Command>>, AllocEr
 }
 
 /// What one list tells whose insertions are planned, or not.
-fn told_of_insertions<R: Threads + Wait + Abort + AllocGlobal + Sync>(
-    rt: &R,
-    is_planned: bool,
-) -> Result<String, Fail> {
+fn told_of_insertions<R: TestRuntime>(rt: &R, is_planned: bool) -> Result<String, Fail> {
     let lists = list_of(rt.alloc(), is_planned)?;
     let told = told_of_list(rt, lists.as_slice());
     drop(lists);

@@ -1,32 +1,23 @@
 //! Views on one thread, passes that are missing, and plans.
 
-ghost use Rattle.std.specs.Prelude.{◌<◌, IsTrue, length};
-
-use crate::harness::{Story, bipyramid, even_prices, is_told, run, run_at, seed, uneven_prices};
+use crate::harness::{Story, TestRuntime, is_told, run, run_at};
 use std::alloc::{AllocError, Global};
-use std::process::Abort;
 use std::sync::Wait;
 use std::sync::atomic::{AtomicU64, Ordering};
 use std::test::Fail;
-use std::thread::Threads;
 use topo_core::calls::Reply;
 use topo_core::rows::Facts;
 use topo_dual::Frozen;
+use topo_picture::Picture;
 use topo_price::tariff::PriceFn;
 use topo_route::check::check;
 use topo_route::plan::Plan;
 use topo_service::{FoundRoute, Pass, PassFault, Service, WorkerEnd};
+use topo_service_test_support::calls::first_two;
+use topo_test_support::pictures::{BIPYRAMID, greatest_limits, picture_of};
+use topo_test_support::plans::are_ends;
+use topo_test_support::prices::{FIVE_TWO_NINE, table_of};
 use topo_versions::{ServiceBrand, Version};
-
-/// The version of now.
-pub(crate) fn view_of<F: PriceFn + Drop, K: ServiceBrand<F>>(
-    pass: &mut Pass<F, K>,
-) -> Result<Version<F, K>, Fail> {
-    match pass.view() {
-        Ok(version) => Ok(version),
-        Err(_) => Err("no view".into()),
-    }
-}
 
 /// How many edges the picture of a version has.
 pub(crate) fn edges_of<F: PriceFn + Drop, K: ServiceBrand<F>>(version: &Version<F, K>) -> u32 {
@@ -42,7 +33,7 @@ fn keep<F: PriceFn + Drop, K: ServiceBrand<F>>(
     pass: &mut Pass<F, K>,
     views: &mut Vec<Version<F, K>>,
 ) -> Result<(), Fail> {
-    views.push(view_of(pass)?)?;
+    views.push(pass.view()?)?;
     Ok(())
 }
 
@@ -101,10 +92,7 @@ fn take_turns<F: PriceFn + Drop, K: ServiceBrand<F>, R: Wait>(
     passes: &mut [Pass<F, K>],
     views: &mut Vec<Version<F, K>>,
 ) -> Result<(u64, u64, Reply), Fail> {
-    let Some((a, rest)) = passes.split_first_mut() else {
-        return Err("two passes".into());
-    };
-    let Some((b, _)) = rest.split_first_mut() else {
+    let Some((a, b)) = first_two(passes) else {
         return Err("two passes".into());
     };
     let seen = take_first_turns(rt, service, a, b, views)?;
@@ -143,10 +131,6 @@ fn receipts_of<F: PriceFn + Drop, K: ServiceBrand<F>>(
 }
 
 impl Story for Turns {
-    fn pass_count(&self) -> usize {
-        2
-    }
-
     fn tell<F: PriceFn + Drop, K: ServiceBrand<F>, R: Wait>(
         &self,
         rt: &R,
@@ -190,22 +174,24 @@ fn text_of_turns<F: PriceFn + Drop, K: ServiceBrand<F>>(
     Ok(format!(in alloc; "{numbers:?} {seen} {told} {refused:?} {receipts:?}")?)
 }
 
-/// The text of the story of a service that begins with the seed is what is due. Each edge costs 1.
-fn is_told_of_seed<S: Story, R: Threads + Wait + Abort + AllocGlobal + Sync>(
+/// The text of the story with so many passes of a service that begins with the seed is what is due.
+/// Each edge costs 1.
+fn is_told_of_seed<S: Story, R: TestRuntime>(
     rt: &R,
+    passes: usize,
     story: &S,
     due: &str,
 ) -> Result<(), Fail> {
-    let start = seed(rt, rt.alloc())?;
-    let told = run_at(rt, rt.alloc(), &even_prices(rt), start, story)?;
-    is_told(rt, told.as_str(), due);
-    Ok(())
+    let start = Picture::seed(rt.alloc(), greatest_limits())?;
+    let told = run_at(rt, &table_of(Some(1), &[])?, start, passes, story);
+    is_told(rt, told, due)
 }
 
 #[test]
 fn views_follow_the_calls(rt: HostRuntime) -> Result<(), Fail> {
     is_told_of_seed(
         &rt,
+        2,
         &Turns,
         "[(0, 1), (1, 2), (2, 3), (2, 3), (3, 4)] 1 2 Refused(SameEnds) [2, 3]; 5 calls, replayed: true",
     )
@@ -216,10 +202,6 @@ fn views_follow_the_calls(rt: HostRuntime) -> Result<(), Fail> {
 struct SharePool;
 
 impl Story for SharePool {
-    fn pass_count(&self) -> usize {
-        20
-    }
-
     fn tell<F: PriceFn + Drop, K: ServiceBrand<F>, R: Wait>(
         &self,
         _rt: &R,
@@ -236,7 +218,7 @@ impl Story for SharePool {
 
 #[test]
 fn the_seventeenth_pass_is_refused_and_missing_ones_are_told(rt: HostRuntime) -> Result<(), Fail> {
-    is_told_of_seed(&rt, &SharePool, "16; 43 PassMissing(0), 1 passes")
+    is_told_of_seed(&rt, 20, &SharePool, "16; 43 PassMissing(0), 1 passes")
 }
 
 /// No pass at all.
@@ -244,10 +226,6 @@ fn the_seventeenth_pass_is_refused_and_missing_ones_are_told(rt: HostRuntime) ->
 struct Nobody;
 
 impl Story for Nobody {
-    fn pass_count(&self) -> usize {
-        0
-    }
-
     fn tell<F: PriceFn + Drop, K: ServiceBrand<F>, R: Wait>(
         &self,
         _rt: &R,
@@ -262,7 +240,7 @@ impl Story for Nobody {
 
 #[test]
 fn a_service_without_passes_ends_with_an_empty_history(rt: HostRuntime) -> Result<(), Fail> {
-    is_told_of_seed(&rt, &Nobody, "0 passes; 0 calls, replayed: true")
+    is_told_of_seed(&rt, 0, &Nobody, "0 passes; 0 calls, replayed: true")
 }
 
 /// A plan that is still good, and one that another call made stale.
@@ -294,7 +272,7 @@ impl Plans<'_> {
         service: &Service<F, K>,
         plan: &Plan,
     ) -> Result<(u64, bool), Fail> {
-        if !has_apexes(frozen) {
+        if !are_ends(frozen, 3, 4) {
             return Err("two apexes".into());
         }
         let before = self.asked.load(Ordering::SeqCst);
@@ -373,18 +351,10 @@ fn frozen_of<F: PriceFn + Drop, K: ServiceBrand<F>>(
     alloc: Global,
     pass: &mut Pass<F, K>,
 ) -> Result<Frozen, Fail> {
-    let view = view_of(pass)?;
+    let view = pass.view()?;
     let frozen = view.picture().freeze(alloc);
     drop(view);
     Ok(frozen?)
-}
-
-/// Whether the apexes are vertices of the picture.
-fn has_apexes(frozen: &Frozen) -> bool
-    ensures u_there { IsTrue result → 3 < length frozen.now.rows.rotations }
-    ensures v_there { IsTrue result → 4 < length frozen.now.rows.rotations }
-{
-    frozen.vertex_count() > 4
 }
 
 /// A plan between the apexes.
@@ -423,10 +393,6 @@ fn insert_late<F: PriceFn + Drop, K: ServiceBrand<F>, R: Wait>(
 }
 
 impl Story for Plans<'_> {
-    fn pass_count(&self) -> usize {
-        2
-    }
-
     fn tell<F: PriceFn + Drop, K: ServiceBrand<F>, R: Wait>(
         &self,
         rt: &R,
@@ -435,10 +401,7 @@ impl Story for Plans<'_> {
         passes: &mut Vec<Pass<F, K>>,
         _ends: &[WorkerEnd],
     ) -> Result<String, Fail> {
-        let Some((a, rest)) = passes.as_mut_slice().split_first_mut() else {
-            return Err("two passes".into());
-        };
-        let Some((b, _)) = rest.split_first_mut() else {
+        let Some((a, b)) = first_two(passes.as_mut_slice()) else {
             return Err("two passes".into());
         };
         let plan = plan_of(alloc, service, a)?;
@@ -450,18 +413,18 @@ impl Story for Plans<'_> {
 
 /// The text of the story of a service that begins with the bipyramid. The prices that are asked for
 /// are counted.
-fn told_counted<S: Story, R: Threads + Wait + Abort + AllocGlobal + Sync>(
+fn told_counted<S: Story, R: TestRuntime>(
     rt: &R,
     asked: &AtomicU64,
     story: &S,
 ) -> Result<String, Fail> {
-    let start = bipyramid(rt, rt.alloc())?;
-    let table = uneven_prices(rt);
+    let start = picture_of(rt.alloc(), &BIPYRAMID)?;
+    let table = table_of(Some(1), FIVE_TWO_NINE)?;
     let ask = |facts: &Facts| {
         let _ = asked.fetch_add(1, Ordering::SeqCst);
         table.price(facts.kind)
     };
-    run(rt, rt.alloc(), ask, start, story)
+    run(rt, ask, start, 2, story)
 }
 
 #[test]
@@ -469,14 +432,13 @@ fn a_good_plan_spares_the_search_and_a_stale_one_does_not_harm(
     rt: HostRuntime,
 ) -> Result<(), Fail> {
     let asked = AtomicU64::new(0);
-    let told = told_counted(&rt, &asked, &Plans { asked: &asked })?;
+    let told = told_counted(&rt, &asked, &Plans { asked: &asked });
     is_told(
         &rt,
-        told.as_str(),
+        told,
         "true true Inserted(Inserted { id: EdgeId(9), route: Route { start: 2, crossed: Listed { items: [Dart { edge: EdgeId(1), seg: 0, way: Back }] }, end: 2 }, price: 2 }) \
          Inserted(Inserted { id: EdgeId(10), route: Route { start: 2, crossed: Listed { items: [] }, end: 2 }, price: 0 }); 4 calls, replayed: true",
-    );
-    Ok(())
+    )
 }
 
 /// A found route that is still of the newest version, and one that other calls came after. Its
@@ -592,10 +554,6 @@ impl Finds<'_> {
 }
 
 impl Story for Finds<'_> {
-    fn pass_count(&self) -> usize {
-        2
-    }
-
     fn tell<F: PriceFn + Drop, K: ServiceBrand<F>, R: Wait>(
         &self,
         rt: &R,
@@ -604,10 +562,7 @@ impl Story for Finds<'_> {
         passes: &mut Vec<Pass<F, K>>,
         _ends: &[WorkerEnd],
     ) -> Result<String, Fail> {
-        let Some((a, rest)) = passes.as_mut_slice().split_first_mut() else {
-            return Err("two passes".into());
-        };
-        let Some((b, _)) = rest.split_first_mut() else {
+        let Some((a, b)) = first_two(passes.as_mut_slice()) else {
             return Err("two passes".into());
         };
         let found = found_of(alloc, service, a)?;
@@ -622,13 +577,12 @@ fn a_found_route_is_taken_as_it_is_and_a_late_one_does_not_harm(
     rt: HostRuntime,
 ) -> Result<(), Fail> {
     let asked = AtomicU64::new(0);
-    let told = told_counted(&rt, &asked, &Finds { asked: &asked })?;
+    let told = told_counted(&rt, &asked, &Finds { asked: &asked });
     is_told(
         &rt,
-        told.as_str(),
+        told,
         "(3, 4) 2 [Some(Refused(SameEnds)), Some(Refused(NoVertex))]; \
          0 Inserted(Inserted { id: EdgeId(9), route: Route { start: 2, crossed: Listed { items: [Dart { edge: EdgeId(1), seg: 0, way: Back }] }, end: 2 }, price: 2 }); \
          0 Inserted(Inserted { id: EdgeId(10), route: Route { start: 2, crossed: Listed { items: [] }, end: 2 }, price: 0 }); 4 calls, replayed: true",
-    );
-    Ok(())
+    )
 }
