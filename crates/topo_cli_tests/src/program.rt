@@ -1,9 +1,10 @@
 //! What the program does with the words of a command line: its status, and which bytes go where.
 
-use crate::failing::{CROSSED, REPLAYED, REPORT, SCRIPT, SIZE};
+use crate::commands::{CROSSED, REPLAYED, REPORT, SCRIPT, SIZE};
 use crate::serving::{ANSWERS, SESSION};
 use crate::streams::{BreakingReader, EndlessReader, FailingWriter, FullWriter, SlowWriter};
 use std::alloc::Global;
+use std::io::{Read, Write};
 use std::process::Abort;
 use std::sync::Wait;
 use std::test::Fail;
@@ -119,58 +120,45 @@ fn words_that_are_refused(rt: HostRuntime) -> Result<(), Fail> {
     Ok(())
 }
 
-#[test]
-fn broken_readers(rt: HostRuntime) -> Result<(), Fail> {
-    let alloc = rt.alloc();
-    for turns in 0..SCRIPT.len() + 1 {
-        let mut reader = BreakingReader::new(SCRIPT.as_bytes(), turns);
-        let mut out: Vec<u8> = Vec::new(alloc);
-        let mut err: Vec<u8> = Vec::new(alloc);
-        let outcome = perform(
-            &rt,
-            alloc,
-            &["planar", "run"],
-            &mut reader,
-            &mut out,
-            &mut err,
-        );
-        assert!(rt; outcome == ends(1));
-        assert!(rt; out.is_empty());
-        assert!(rt; err.as_slice() == "planar: 55 ReadFault\n".as_bytes());
-    }
-    let mut endless = EndlessReader { given: 0 };
-    let mut out: Vec<u8> = Vec::new(alloc);
-    let mut err: Vec<u8> = Vec::new(alloc);
-    let outcome = perform(
-        &rt,
-        alloc,
-        &["planar", "run"],
-        &mut endless,
-        &mut out,
-        &mut err,
-    );
-    assert!(rt; outcome == ends(1));
+/// The command `run` on this reader, with these writers.
+fn run<R: Threads + Wait + AllocGlobal + Sync, I: Read, O: Write, E: Write>(
+    rt: &R,
+    reader: &mut I,
+    out: &mut O,
+    err: &mut E,
+) -> Outcome {
+    perform(rt, rt.alloc(), &["planar", "run"], reader, out, err)
+}
+
+/// A run on this reader ends with status 1, writes nothing, and tells this fault.
+fn check_reader<R: Threads + Wait + Abort + AllocGlobal + Sync, I: Read>(
+    rt: &R,
+    reader: &mut I,
+    told: &str,
+) {
+    let mut out: Vec<u8> = Vec::new(rt.alloc());
+    let mut err: Vec<u8> = Vec::new(rt.alloc());
+    assert!(rt; run(rt, reader, &mut out, &mut err) == ends(1));
     assert!(rt; out.is_empty());
-    assert!(rt; err.as_slice() == "planar: 51 TooLong\n".as_bytes());
-    Ok(())
+    assert!(rt; err.as_slice() == told.as_bytes());
 }
 
 #[test]
-fn broken_writers(rt: HostRuntime) -> Result<(), Fail> {
+fn broken_readers(rt: HostRuntime) {
+    for turns in 0..=SCRIPT.len() {
+        let mut reader = BreakingReader::new(SCRIPT.as_bytes(), turns);
+        check_reader(&rt, &mut reader, "planar: 55 ReadFault\n");
+    }
+    check_reader(&rt, &mut EndlessReader { given: 0 }, "planar: 51 TooLong\n");
+}
+
+#[test]
+fn broken_writers(rt: HostRuntime) {
     let alloc = rt.alloc();
-    let words = ["planar", "run"];
     for room in [0, 1, 100] {
         let mut out = FailingWriter::new(alloc, room);
         let mut err = SlowWriter::new(alloc);
-        let outcome = perform(
-            &rt,
-            alloc,
-            &words,
-            &mut SCRIPT.as_bytes(),
-            &mut out,
-            &mut err,
-        );
-        assert!(rt; outcome == ends(1));
+        assert!(rt; run(&rt, &mut SCRIPT.as_bytes(), &mut out, &mut err) == ends(1));
         assert!(rt; out.kept.as_slice() == &REPORT.as_bytes()[..room]);
         assert!(rt; err.kept.as_slice() == "planar: 56 WriteFault\n".as_bytes());
         assert_eq!(rt; err.passed_on, err.kept.len());
@@ -180,27 +168,10 @@ fn broken_writers(rt: HostRuntime) -> Result<(), Fail> {
         is_told: false,
     };
     let mut err = FailingWriter::new(alloc, 10);
-    let outcome = perform(
-        &rt,
-        alloc,
-        &words,
-        &mut SCRIPT.as_bytes(),
-        &mut FullWriter,
-        &mut err,
-    );
-    assert!(rt; outcome == untold);
+    assert!(rt; run(&rt, &mut SCRIPT.as_bytes(), &mut FullWriter, &mut err) == untold);
     assert!(rt; err.kept.as_slice() == "planar: 56".as_bytes());
     let mut out = SlowWriter::new(alloc);
-    let outcome = perform(
-        &rt,
-        alloc,
-        &words,
-        &mut SCRIPT.as_bytes(),
-        &mut out,
-        &mut FullWriter,
-    );
-    assert!(rt; outcome == ends(0));
+    assert!(rt; run(&rt, &mut SCRIPT.as_bytes(), &mut out, &mut FullWriter) == ends(0));
     assert!(rt; out.kept.as_slice() == REPORT.as_bytes());
     assert_eq!(rt; out.passed_on, REPORT.len());
-    Ok(())
 }

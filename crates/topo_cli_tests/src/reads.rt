@@ -1,14 +1,12 @@
 //! In how many calls of a reader the commands read a large text: a reader that gives what there is
 //! room for is asked for some kilobytes at a time.
 
-use crate::failing::{CROSSED, REPLAYED, REPORT, SCRIPT, SIZE};
+use crate::commands::{COMMANDS, carry_out, feeds, padded};
 use std::alloc::Global;
 use std::io;
 use std::io::Read;
 use std::process::Abort;
 use std::test::Fail;
-use topo_check::{check_io, replay_io};
-use topo_run::{OpenGate, run_io};
 use topo_serve::serve_io;
 
 /// So many bytes the texts have with the spaces behind them.
@@ -51,45 +49,16 @@ fn is_read_in_few(rt: &impl Abort, reader: &CountingReader, len: usize) {
     );
 }
 
-/// A text with spaces after it.
-fn padded(alloc: Global, text: &str) -> Result<Vec<u8>, Fail> {
-    let mut bytes = Vec::from_slice(alloc, text.as_bytes())?;
-    for _ in 0..LENGTH.saturating_sub(text.len()) {
-        bytes.push(b' ')?;
+#[test]
+fn large_texts_are_read_in_few_calls(rt: HostRuntime) -> Result<(), Fail> {
+    for (verb, read, due) in COMMANDS {
+        let text = padded(rt.alloc(), read, LENGTH)?;
+        let mut reader = CountingReader::new(text.as_slice());
+        let mut written: Vec<u8> = Vec::new(rt.alloc());
+        assert!(rt; carry_out(&rt, rt.alloc(), *verb, &mut reader, &mut written) == Ok(()));
+        assert!(rt; written.as_slice() == due.as_bytes());
+        is_read_in_few(&rt, &reader, LENGTH);
     }
-    Ok(bytes)
-}
-
-#[test]
-fn a_large_script_is_read_in_few_calls(rt: HostRuntime) -> Result<(), Fail> {
-    let text = padded(rt.alloc(), SCRIPT)?;
-    let mut reader = CountingReader::new(text.as_slice());
-    let mut written: Vec<u8> = Vec::new(rt.alloc());
-    assert!(rt; run_io(&rt, rt.alloc(), &mut reader, &mut written, &OpenGate) == Ok(()));
-    assert!(rt; written.as_slice() == REPORT.as_bytes());
-    is_read_in_few(&rt, &reader, LENGTH);
-    Ok(())
-}
-
-#[test]
-fn a_large_report_is_read_in_few_calls(rt: HostRuntime) -> Result<(), Fail> {
-    let text = padded(rt.alloc(), REPORT)?;
-    let mut reader = CountingReader::new(text.as_slice());
-    let mut written: Vec<u8> = Vec::new(rt.alloc());
-    assert!(rt; replay_io(rt.alloc(), &mut reader, &mut written) == Ok(()));
-    assert!(rt; written.as_slice() == REPLAYED.as_bytes());
-    is_read_in_few(&rt, &reader, LENGTH);
-    Ok(())
-}
-
-#[test]
-fn a_large_picture_is_read_in_few_calls(rt: HostRuntime) -> Result<(), Fail> {
-    let text = padded(rt.alloc(), CROSSED)?;
-    let mut reader = CountingReader::new(text.as_slice());
-    let mut written: Vec<u8> = Vec::new(rt.alloc());
-    assert!(rt; check_io(rt.alloc(), &mut reader, &mut written) == Ok(()));
-    assert!(rt; written.as_slice() == SIZE.as_bytes());
-    is_read_in_few(&rt, &reader, LENGTH);
     Ok(())
 }
 
@@ -101,11 +70,6 @@ fn session(alloc: Global) -> Result<String, Fail> {
         text.push_str("\"counts\"\n")?;
     }
     Ok(text)
-}
-
-/// How many line feeds there are.
-fn feeds(bytes: &[u8]) -> usize {
-    bytes.iter().filter(|byte| **byte == b'\n').count()
 }
 
 #[test]

@@ -1,7 +1,7 @@
 //! The command `serve` on readers and writers that are slow or break, and on lines that are no
 //! text, are too long, or have no line feed.
 
-use crate::failing::SCRIPT;
+use crate::commands::{SCRIPT, feeds, padded};
 use crate::streams::{BreakingReader, FailingWriter, FullWriter, SlowReader, SlowWriter};
 use std::alloc::Global;
 use std::process::Abort;
@@ -35,11 +35,6 @@ pub(crate) const ANSWERS: &str = "\
 ";
 
 const OPENED: &str = "{\"crossings\":0,\"edges\":1,\"faces\":1,\"segments\":1,\"vertices\":2}\n";
-
-/// How many line feeds there are.
-fn feeds(bytes: &[u8]) -> usize {
-    bytes.iter().filter(|byte| **byte == b'\n').count()
-}
 
 /// The first lines of the answers, so many of them.
 fn first_answers(alloc: Global, count: usize) -> Result<String, Fail> {
@@ -130,11 +125,9 @@ fn first_lines_that_open_nothing(rt: HostRuntime) -> Result<(), Fail> {
 }
 
 /// A session with a request behind so many spaces, and another.
-fn padded(alloc: Global, spaces: usize) -> Result<Vec<u8>, Fail> {
-    let mut bytes = Vec::from_slice(alloc, b"{\"version\":1}\n")?;
-    for _ in 0..spaces {
-        bytes.push(b' ')?;
-    }
+fn session_behind(alloc: Global, spaces: usize) -> Result<Vec<u8>, Fail> {
+    let opening = "{\"version\":1}\n";
+    let mut bytes = padded(alloc, opening, spaces.saturating_add(opening.len()))?;
     bytes.extend_from_slice(b"\"counts\"\n\"counts\"\n")?;
     Ok(bytes)
 }
@@ -142,10 +135,10 @@ fn padded(alloc: Global, spaces: usize) -> Result<Vec<u8>, Fail> {
 #[test]
 fn long_lines(rt: HostRuntime) -> Result<(), Fail> {
     let alloc = rt.alloc();
-    let longest = padded(alloc, LONGEST - 8)?;
+    let longest = session_behind(alloc, LONGEST - 8)?;
     let answers = format!(in alloc; "{OPENED}{OPENED}{OPENED}")?;
     check_session(&rt, alloc, longest.as_slice(), answers.as_str())?;
-    let too_long = padded(alloc, LONGEST - 7)?;
+    let too_long = session_behind(alloc, LONGEST - 7)?;
     let answers = format!(in alloc; "{OPENED}{{\"fault\":[51,\"TooLong\"]}}\n{OPENED}")?;
     check_session(&rt, alloc, too_long.as_slice(), answers.as_str())
 }
