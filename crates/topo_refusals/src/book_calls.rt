@@ -6,13 +6,14 @@ use crate::prepared_calls::enter_ready;
 use crate::printed::{book_state, compare, copied, picture_state};
 use crate::retry::{compare_picture, tell};
 use anyhow::Result;
-use std::alloc::{AllocError, Global};
+use std::alloc::AllocError;
 use std::sync::Arc;
 use topo_book::Book;
 use topo_core::calls::{Call, Reply};
 use topo_picture::Picture;
 use topo_price::tariff::{PriceFn, Tariff};
 use topo_route::plan::Plan;
+use topo_test_support::books;
 
 /// Who makes the calls.
 pub(crate) const CALLER: u32 = 3;
@@ -99,15 +100,6 @@ pub(crate) fn compare_book<R: Print + Eprint + AllocGlobal, F: PriceFn>(
     Ok(())
 }
 
-/// Makes a call.
-fn made<F: PriceFn>(alloc: Global, book: &mut Book<F>, call: Call) -> Result<Reply, AllocError> {
-    match call {
-        Call::Grow { u, position, kind } => book.grow(alloc, CALLER, u, position, kind),
-        Call::Insert { u, v, kind } => book.insert(alloc, CALLER, u, v, kind),
-        Call::Delete { edge } => book.delete(alloc, CALLER, edge),
-    }
-}
-
 /// What the call of a book is named.
 fn name_of(call: Call) -> &'static str {
     match call {
@@ -130,11 +122,11 @@ fn make<R: Print + Eprint + AllocGlobal, F: PriceFn>(
     call: Call,
     before: &str,
 ) -> Result<()> {
-    let reply = match made(rt.alloc(), book, call) {
+    let reply = match books::make(rt.alloc(), book, CALLER, call) {
         Ok(reply) => reply,
         Err(_) => {
             compare_book(rt, name_of(call), before, book)?;
-            made(rt.alloc(), book, call)?
+            books::make(rt.alloc(), book, CALLER, call)?
         }
     };
     let told = print_reply(rt, call, &reply);

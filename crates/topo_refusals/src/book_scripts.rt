@@ -5,7 +5,6 @@ ghost use Rattle.topo_price.specs.Prices.{IsPromise};
 use crate::book_calls::{Step, book_of, print_new, shared, take};
 use crate::book_replays::replay_from;
 use crate::picture_reads::planned;
-use crate::prices::table_of;
 use anyhow::Result;
 use std::sync::Arc;
 use topo_book::Book;
@@ -14,17 +13,18 @@ use topo_core::rows::Facts;
 use topo_picture::Picture;
 use topo_price::tariff::{PriceFn, Tariff};
 use topo_route::plan::Plan;
+use topo_test_support::prices::{Entries, FIVE_TWO_NINE, table_of};
 
-/// Prices of the kinds 0 to 3, the ends of a planned edge, and the calls.
+/// Prices of kinds other than 1, the ends of a planned edge, and the calls.
 pub(crate) struct BookScript {
-    prices: [u32; 4],
+    prices: Entries,
     ends: (u32, u32),
     steps: &'static [Step],
 }
 
 /// From apex to apex: each way to insert, with a plan that passes the check and one that does not.
 pub(crate) const APEXES: BookScript = BookScript {
-    prices: [1, 5, 2, 9],
+    prices: FIVE_TWO_NINE,
     ends: (3, 4),
     steps: &[
         Step::Made(Call::Insert {
@@ -60,7 +60,7 @@ pub(crate) const APEXES: BookScript = BookScript {
 
 /// Out across the base of the triangle and back in; the edge across the base is a cut.
 pub(crate) const BASE: BookScript = BookScript {
-    prices: [1, 9, 1, 1],
+    prices: &[(1, Some(9))],
     ends: (4, 5),
     steps: &[
         Step::Ready(Call::Insert {
@@ -85,7 +85,7 @@ pub(crate) const BASE: BookScript = BookScript {
 
 /// The third chord crosses an edge of the ring. The plan is refused once a vertex has grown.
 pub(crate) const CHORDS: BookScript = BookScript {
-    prices: [1; 4],
+    prices: &[],
     ends: (2, 5),
     steps: &[
         Step::Made(Call::Insert {
@@ -168,6 +168,6 @@ pub(crate) fn run_book_script<R: Print + Eprint + AllocGlobal>(
     story: &BookScript,
     start: &Picture,
 ) -> Result<()> {
-    let table = table_of(story.prices)?;
+    let table = table_of(Some(1), story.prices)?;
     tell_with(rt, story, start, |facts: &Facts| table.price(facts.kind))
 }

@@ -17,11 +17,9 @@ mod book_replays;
 mod book_scripts;
 mod embeddings;
 mod found_routes;
-mod named_pictures;
 mod picture_changes;
 mod picture_reads;
 mod prepared_calls;
-mod prices;
 mod printed;
 mod retry;
 mod service_calls;
@@ -31,11 +29,11 @@ mod worker_lists;
 
 use book_scripts::{APEXES, BASE, BookScript, CHORDS, run_book_script};
 use embeddings::embed;
-use named_pictures::{BARRIER, BIPYRAMID, HEXAGON, Named};
 use picture_changes::{Changes, change};
 use picture_reads::{loaded, read};
 use services::serve;
 use topo_picture::Picture;
+use topo_test_support::pictures::{BARRIER, BIPYRAMID, HEXAGON, Named};
 
 /// The calls on a picture.
 fn call<R: Print + Eprint + AllocGlobal>(

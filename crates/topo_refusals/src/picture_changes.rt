@@ -5,8 +5,7 @@ ghost use Rattle.topo_core.specs.Routes.{IsSimpleRoute};
 ghost use Rattle.topo_core.specs.Steps.{insert_refusal};
 ghost use Rattle.topo_price.specs.Prices.{IsPromise};
 
-use crate::picture_reads::{are_ends, frozen_of, planned};
-use crate::prices::table_of;
+use crate::picture_reads::{frozen_of, planned};
 use crate::printed::{copied, picture_state};
 use crate::retry::compare_picture;
 use anyhow::{Result, bail};
@@ -18,6 +17,8 @@ use topo_picture::Picture;
 use topo_price::tariff::{PriceFn, Tariff};
 use topo_route::check::check;
 use topo_route::plan::Plan;
+use topo_test_support::plans::are_ends;
+use topo_test_support::prices::{FIVE_TWO_NINE, table_of};
 
 /// What a growth answers.
 fn grown<R: Print + Eprint + AllocGlobal>(
@@ -220,8 +221,8 @@ pub(crate) fn change<R: Print + Eprint + AllocGlobal>(
     start: &Picture,
 ) -> Result<()> {
     let table = match changes {
-        Changes::OfBipyramid => table_of([1, 5, 2, 9])?,
-        Changes::OfBarrier => table_of([1, 9, 1, 1])?,
+        Changes::OfBipyramid => table_of(Some(1), FIVE_TWO_NINE)?,
+        Changes::OfBarrier => table_of(Some(1), &[(1, Some(9))])?,
     };
     change_with(rt, changes, start, |facts: &Facts| table.price(facts.kind))
 }

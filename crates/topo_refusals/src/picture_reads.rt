@@ -1,9 +1,8 @@
 //! Calls that only read: a picture is loaded, copied, given back as rows, frozen, numbered, and
 //! searched for a route.
 
-ghost use Rattle.std.specs.Prelude.{◌≡◌, ◌≢◌, ◌<◌, IfOk, IsTrue, length};
+ghost use Rattle.std.specs.Prelude.{◌≡◌, ◌≢◌, ◌<◌, IfOk, length};
 
-use crate::named_pictures::{Named, rows_of};
 use crate::printed::{compare, picture_state, rows_state};
 use crate::retry::{again, reading, tell};
 use anyhow::{Result, bail};
@@ -17,15 +16,8 @@ use topo_route::face_graph::FaceGraph;
 use topo_route::plan::Plan;
 use topo_route::search::search;
 use topo_rows::LoadFault;
-
-/// The greatest limits.
-fn greatest_limits() -> Limits {
-    Limits {
-        vertices: 65_536,
-        edges: 65_536,
-        crossings: 1_048_576,
-    }
-}
+use topo_test_support::pictures::{Named, greatest_limits, rows_of};
+use topo_test_support::plans::are_ends;
 
 /// Compares rows with what they were before a call that is out of memory.
 fn compare_rows<R: Print + Eprint + AllocGlobal>(
@@ -168,16 +160,6 @@ pub(crate) fn read<R: Print + Eprint + AllocGlobal>(rt: &R, picture: &Picture) -
     give_rows(rt, picture, before.as_str())?;
     freeze(rt, picture, before.as_str())?;
     number(rt, picture, before.as_str())
-}
-
-/// Whether both are vertices, and different ones.
-pub(crate) fn are_ends(frozen: &Frozen, u: u32, v: u32) -> bool
-    ensures u_there { IsTrue result → u < length frozen.now.rows.rotations }
-    ensures v_there { IsTrue result → v < length frozen.now.rows.rotations }
-    ensures apart { IsTrue result → u ≢ v }
-{
-    let vertices = frozen.vertex_count();
-    u < vertices && v < vertices && u != v
 }
 
 /// The frozen picture.

@@ -3,7 +3,7 @@
 use crate::found_routes::insert_by_search;
 use crate::printed::picture_state;
 use crate::service_views::{
-    CALLER, LOOKER, PLANNER, ServiceView, compare_planning, compare_service, look, show, view_of,
+    CALLER, LOOKER, PLANNER, ServiceView, compare_planning, compare_service, look, show,
 };
 use crate::worker_lists::{Watch, work};
 use anyhow::{Result, bail};
@@ -14,6 +14,7 @@ use topo_core::calls::{Call, Refusal, Reply};
 use topo_price::tariff::PriceFn;
 use topo_route::plan::Plan;
 use topo_service::{Pass, PassFault, Service};
+use topo_service_test_support::calls;
 use topo_versions::{ServiceBrand, Version};
 
 /// The ends of the edges that are put in: the apexes.
@@ -62,12 +63,10 @@ fn made<F: PriceFn + Drop, K: ServiceBrand<F>, R: Wait>(
     plan: Option<&Plan>,
 ) -> Result<Reply, AllocError> {
     match (call, plan) {
-        (Call::Grow { u, position, kind }, _) => service.grow(rt, pass, u, position, kind),
-        (Call::Insert { u, v, kind }, None) => service.insert(rt, pass, u, v, kind),
         (Call::Insert { u, v, kind }, Some(plan)) => {
             service.insert_planned(rt, pass, u, v, kind, plan)
         }
-        (Call::Delete { edge }, _) => service.delete(rt, pass, edge),
+        _ => calls::make(rt, service, pass, call),
     }
 }
 
@@ -258,7 +257,7 @@ pub(crate) fn make_service_calls<
     let Some(looker) = passes.get_mut(LOOKER) else {
         bail!("no pass");
     };
-    let kept = view_of(looker)?;
+    let kept = looker.view()?;
     let told = make_all(rt, service, passes, watch);
     let shown = show_kept(rt, told, &kept);
     drop(kept);

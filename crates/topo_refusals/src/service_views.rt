@@ -9,16 +9,6 @@ use topo_price::tariff::PriceFn;
 use topo_service::{Pass, Receipt};
 use topo_versions::{ServiceBrand, Version};
 
-/// The version of now, for which no memory is taken.
-pub(crate) fn view_of<F: PriceFn + Drop, K: ServiceBrand<F>>(
-    pass: &mut Pass<F, K>,
-) -> Result<Version<F, K>> {
-    match pass.view() {
-        Ok(version) => Ok(version),
-        Err(fault) => bail!("no view: {fault:?}"),
-    }
-}
-
 /// Writes how many receipts a pass has, and the last of them.
 fn write_receipts(text: &mut String, number: u32, receipts: &[Receipt]) -> Result<(), AllocError> {
     let many = receipts.len();
@@ -94,7 +84,7 @@ fn text_now<F: PriceFn + Drop, K: ServiceBrand<F>, R: Eprint + AllocGlobal>(
     let Some((looker, others)) = passes.split_first_mut() else {
         bail!("no pass");
     };
-    let version = view_of(looker)?;
+    let version = looker.view()?;
     let text = version_text(rt, &*others, &version);
     drop(version);
     text

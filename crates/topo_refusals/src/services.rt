@@ -6,9 +6,7 @@ ghost use Rattle.topo_price.specs.Prices.{IsPromise};
 
 use crate::book_calls::shared;
 use crate::book_replays::replay_from;
-use crate::named_pictures::BIPYRAMID;
 use crate::picture_reads::loaded;
-use crate::prices::table_of;
 use crate::printed::{book_state, copied, picture_state};
 use crate::retry::{compare_picture, tell};
 use crate::service_calls::make_service_calls;
@@ -23,6 +21,8 @@ use topo_picture::Picture;
 use topo_price::tariff::{PriceFn, Tariff};
 use topo_service::close::CloseFault;
 use topo_service::{FreshService, Pass, Service};
+use topo_test_support::pictures::BIPYRAMID;
+use topo_test_support::prices::{FIVE_TWO_NINE, table_of};
 use topo_versions::{ServiceBrand, StoreReader};
 
 /// One pass looks at versions, one makes the calls, and one plans.
@@ -30,7 +30,7 @@ const PASSES: usize = 3;
 
 /// A service that begins with the bipyramid.
 pub(crate) fn serve<R: Threads + Wait + Print + Eprint + AllocGlobal + Sync>(rt: &R) -> Result<()> {
-    let table = table_of([1, 5, 2, 9])?;
+    let table = table_of(Some(1), FIVE_TWO_NINE)?;
     let start = loaded(rt, &BIPYRAMID)?;
     let watch = Watch::new();
     let ask = |facts: &Facts| {
