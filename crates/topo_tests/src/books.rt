@@ -2,10 +2,8 @@
 
 ghost use Rattle.topo_price.specs.Prices.{IsPromise};
 
-use crate::picture_calls::made;
 use std::alloc::{AllocError, Global};
 use std::process::Abort;
-use std::sync::Arc;
 use std::test::Fail;
 use topo_book::{Book, Next, ReplayFault, replay};
 use topo_core::calls::{Call, Entry, Refusal, Reply};
@@ -15,20 +13,13 @@ use topo_core::rows::Facts;
 use topo_picture::Picture;
 use topo_price::table::PriceTable;
 use topo_price::tariff::{PriceFn, Tariff};
+use topo_test_support::books::{book_of, make};
+use topo_test_support::calls::grow;
+use topo_test_support::prices::table_of;
 
 /// The seed, with room for three vertices and three edges.
 fn seed(alloc: Global) -> Result<Picture, AllocError> {
     Picture::seed(alloc, Limits::new(3, 3, 0).unwrap())
-}
-
-/// A book that begins with the seed.
-fn seed_book<F: PriceFn + Drop>(alloc: Global, ask: F) -> Result<Book<F>, AllocError>
-    requires callable { F.is_callable ask }
-    requires promise { IsPromise (F.may_return ask) }
-{
-    let tariff = Arc::new(alloc, Tariff::new(ask))?;
-    let start = seed(alloc)?;
-    Book::new(alloc, start, tariff)
 }
 
 /// How many vertices its start, its picture and the replay of its history have.
@@ -107,7 +98,7 @@ const TOLD: &str =
 /// Makes the calls.
 fn make_all<F: PriceFn>(alloc: Global, book: &mut Book<F>) -> Result<(), AllocError> {
     for (caller, call) in CALLS {
-        made(alloc, book, *caller, *call)?;
+        make(alloc, book, *caller, *call)?;
     }
     Ok(())
 }
@@ -154,7 +145,7 @@ fn enters_calls_from_seed<F: PriceFn + Drop>(
     requires callable { F.is_callable ask }
     requires promise { IsPromise (F.may_return ask) }
 {
-    let mut book = seed_book(alloc, ask)?;
+    let mut book = book_of(alloc, seed(alloc)?, ask)?;
     let told = enters_calls(rt, alloc, &mut book);
     drop(book);
     told
@@ -162,7 +153,7 @@ fn enters_calls_from_seed<F: PriceFn + Drop>(
 
 #[test]
 fn answers_are_entered_in_order_and_replayed(rt: HostRuntime) -> Result<(), Fail> {
-    let table = PriceTable::new([Some(1); 64]).expect(&rt, "a table");
+    let table = table_of(Some(1), &[])?;
     enters_calls_from_seed(&rt, rt.alloc(), |facts: &Facts| table.price(facts.kind))?;
     Ok(())
 }
@@ -176,12 +167,7 @@ fn next_text(alloc: Global, next: &Next, entries: usize) -> Result<String, Alloc
 /// Makes a growth in the corner of vertex 0 ready, and enters it. The text says what it is made
 /// ready as, and how many entries the book has before it is entered.
 fn enter<F: PriceFn>(alloc: Global, book: &mut Book<F>, caller: u32) -> Result<String, AllocError> {
-    let grow = Call::Grow {
-        u: 0,
-        position: 0,
-        kind: 0,
-    };
-    let next = book.prepare(alloc, caller, grow)?;
+    let next = book.prepare(alloc, caller, grow(0))?;
     let told = next_text(alloc, &next, book.history().len());
     book.commit(next);
     told
@@ -230,7 +216,7 @@ fn enters_both_from_seed<F: PriceFn + Drop>(
     requires callable { F.is_callable ask }
     requires promise { IsPromise (F.may_return ask) }
 {
-    let mut book = seed_book(alloc, ask)?;
+    let mut book = book_of(alloc, seed(alloc)?, ask)?;
     let told = enters_both(rt, alloc, &mut book);
     drop(book);
     told
@@ -238,7 +224,7 @@ fn enters_both_from_seed<F: PriceFn + Drop>(
 
 #[test]
 fn calls_are_prepared_and_committed(rt: HostRuntime) -> Result<(), Fail> {
-    let table = PriceTable::new([Some(1); 64]).expect(&rt, "a table");
+    let table = table_of(Some(1), &[])?;
     enters_both_from_seed(&rt, rt.alloc(), |facts: &Facts| table.price(facts.kind))?;
     Ok(())
 }
@@ -280,11 +266,7 @@ fn replay_from_seed<F: PriceFn + Drop>(
 fn growth(reply: Reply) -> Entry {
     Entry {
         caller: 0,
-        call: Call::Grow {
-            u: 0,
-            position: 0,
-            kind: 0,
-        },
+        call: grow(0),
         reply,
     }
 }
@@ -338,7 +320,7 @@ fn said(
 
 #[test]
 fn the_first_wrong_reply_is_named(rt: HostRuntime) -> Result<(), Fail> {
-    let table = PriceTable::new([Some(1); 64]).expect(&rt, "a table");
+    let table = table_of(Some(1), &[])?;
     for (replies, due) in LISTS {
         assert!(rt; said(rt.alloc(), &table, *replies)? == *due);
     }

@@ -4,22 +4,23 @@ ghost use Rattle.topo_price.specs.Prices.{IsPromise};
 
 use crate::first_routes::{are_ends, is_planned};
 use crate::generated::{Numbers, next_call, next_ids};
-use crate::picture_calls::{book_of, made};
-use crate::pictures::SEED;
-use crate::searches::table_of;
 use std::alloc::{AllocError, Global};
 use std::process::Abort;
 use std::test::Fail;
 use topo_book::Book;
 use topo_core::calls::Call;
+use topo_core::limits::Limits;
 use topo_core::rows::Facts;
 use topo_picture::{Frozen, Picture};
 use topo_price::tariff::{PriceFn, Tariff};
 use topo_route::search::first_route;
 use topo_route::workspace::Workspace;
+use topo_test_support::books::{book_of, make};
+use topo_test_support::pictures::{SEED, picture_within};
+use topo_test_support::prices::{Entries, table_of};
 
 /// The price of all kinds but some, and of those.
-type Prices = (Option<u32>, &'static [(usize, Option<u32>)]);
+type Prices = (Option<u32>, Entries);
 
 /// Prices with many ties, with few, and with edges that are closed.
 const PRICES: &[Prices] = &[
@@ -112,7 +113,7 @@ fn are_agreed_on(
     work: &mut Workspace,
 ) -> Result<(), Fail> {
     for (rest, entries) in PRICES {
-        let table = table_of(rt, *rest, entries);
+        let table = table_of(*rest, *entries)?;
         let ask = |facts: &Facts| table.price(facts.kind);
         are_agreed_at(rt, alloc, picture, frozen, ask, numbers, work)?;
     }
@@ -156,7 +157,7 @@ fn go_on<F: PriceFn>(
     let vertices = book.picture().counts().vertices;
     let (edges, _crossings) = next_ids(alloc, book.picture())?;
     let call = call_to(numbers, vertices, edges, hubs);
-    let reply = made(alloc, book, 0, call)?;
+    let reply = make(alloc, book, 0, call)?;
     drop(reply);
     Ok(())
 }
@@ -189,7 +190,8 @@ fn run_from_seed<F: PriceFn + Drop>(
     requires callable { F.is_callable ask }
     requires promise { IsPromise (F.may_return ask) }
 {
-    let mut book = book_of(alloc, SEED, (40, 1_000, 2_000), ask)?;
+    let start = picture_within(alloc, &SEED, Limits::new(40, 1_000, 2_000)?)?;
+    let mut book = book_of(alloc, start, ask)?;
     let told = run(rt, alloc, &mut book, of, work);
     drop(book);
     told
@@ -198,7 +200,7 @@ fn run_from_seed<F: PriceFn + Drop>(
 /// All runs in which most new edges end at so many vertices.
 fn run_all(rt: &impl Abort, alloc: Global, hubs: u32, work: &mut Workspace) -> Result<(), Fail> {
     for state in 0..RUNS {
-        let table = table_of(rt, Some(1), &[(1, Some(5)), (2, Some(2)), (3, None)]);
+        let table = table_of(Some(1), &[(1, Some(5)), (2, Some(2)), (3, None)])?;
         let ask = |facts: &Facts| table.price(facts.kind);
         run_from_seed(rt, alloc, (state, hubs), ask, work)?;
     }

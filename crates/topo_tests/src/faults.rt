@@ -13,6 +13,7 @@ use topo_price::table::PriceFault;
 use topo_route::plan::PlanFault;
 use topo_rows::LoadFault;
 use topo_settings::RunFault;
+use topo_test_support::errors::text_of_error;
 
 /// A text begins with a number and a space.
 fn begins(alloc: Global, text: &str, number: u32) -> Result<bool, Fail> {
@@ -20,41 +21,26 @@ fn begins(alloc: Global, text: &str, number: u32) -> Result<bool, Fail> {
     Ok(text.starts_with(front.as_str()))
 }
 
-/// What was printed is this text, which begins with a number.
-fn check_text(
-    rt: &impl Abort,
-    alloc: Global,
-    printed: &str,
-    text: &str,
-    number: u32,
-) -> Result<(), Fail> {
-    assert!(rt; printed == text, "{printed}");
-    assert!(rt; begins(alloc, text, number)?, "{printed}");
-    Ok(())
-}
-
-/// The fault as an error of any kind.
-fn pass_on<E: Error>(fault: E) -> anyhow::Result<()> {
-    Err(fault)?
-}
-
 /// A fault that `?` has made an error of any kind is printed as this text.
 fn check_error<E: Error>(rt: &impl Abort, alloc: Global, fault: E, text: &str) -> Result<(), Fail> {
-    match pass_on(fault) {
-        Ok(()) => assert!(rt; false, "no error"),
-        Err(error) => {
-            let printed = format!(in alloc; "{error}")?;
-            assert!(rt; printed.as_str() == text, "{printed}");
-        }
-    }
+    let printed = text_of_error(alloc, fault)?;
+    assert!(rt; printed.as_str() == text, "{printed}");
     Ok(())
 }
 
-/// A fault is printed as this text, which begins with its number.
-fn check_fault(rt: &impl Abort, alloc: Global, fault: &RunFault, text: &str) -> Result<(), Fail> {
+/// A fault is printed as this text, which begins with its number, and so is the error of any kind
+/// that `?` makes of it.
+fn check_fault<E: Error + Copy>(
+    rt: &impl Abort,
+    alloc: Global,
+    fault: E,
+    number: u32,
+    text: &str,
+) -> Result<(), Fail> {
     let printed = format!(in alloc; "{fault}")?;
-    check_text(rt, alloc, printed.as_str(), text, fault.number())?;
-    check_error(rt, alloc, *fault, text)
+    assert!(rt; printed.as_str() == text, "{printed}");
+    assert!(rt; begins(alloc, text, number)?, "{printed}");
+    check_error(rt, alloc, fault, text)
 }
 
 /// The faults of commands that name no path, as they are printed.
@@ -88,7 +74,7 @@ const FAULTS: &[(RunFault, &str)] = &[
 #[test]
 fn faults_of_commands(rt: HostRuntime) -> Result<(), Fail> {
     for (fault, text) in FAULTS {
-        check_fault(&rt, rt.alloc(), fault, text)?;
+        check_fault(&rt, rt.alloc(), *fault, fault.number(), text)?;
         let wanted = if text.ends_with("Memory") { 3 } else { 1 };
         assert!(rt; fault.status() == wanted);
     }
@@ -99,7 +85,7 @@ fn faults_of_commands(rt: HostRuntime) -> Result<(), Fail> {
 fn check_path(rt: &impl Abort, alloc: Global, fault: ScriptFault, text: &str) -> Result<(), Fail> {
     check_error(rt, alloc, fault, text)?;
     let fault = RunFault::Script(fault);
-    check_fault(rt, alloc, &fault, text)?;
+    check_fault(rt, alloc, fault, fault.number(), text)?;
     assert!(rt; fault.status() == 1);
     Ok(())
 }
@@ -131,9 +117,7 @@ const REPLAY_FAULTS: &[(ReplayFault, &str)] = &[
 #[test]
 fn faults_of_replays(rt: HostRuntime) -> Result<(), Fail> {
     for (fault, text) in REPLAY_FAULTS {
-        let printed = format!(in rt.alloc(); "{fault}")?;
-        check_text(&rt, rt.alloc(), printed.as_str(), text, fault.number())?;
-        check_error(&rt, rt.alloc(), *fault, text)?;
+        check_fault(&rt, rt.alloc(), *fault, fault.number(), text)?;
     }
     Ok(())
 }
@@ -152,9 +136,7 @@ const PLAN_FAULTS: &[(PlanFault, &str)] = &[
 #[test]
 fn faults_of_plans(rt: HostRuntime) -> Result<(), Fail> {
     for (fault, text) in PLAN_FAULTS {
-        let printed = format!(in rt.alloc(); "{fault}")?;
-        check_text(&rt, rt.alloc(), printed.as_str(), text, fault.number())?;
-        check_error(&rt, rt.alloc(), *fault, text)?;
+        check_fault(&rt, rt.alloc(), *fault, fault.number(), text)?;
     }
     Ok(())
 }
@@ -175,9 +157,7 @@ const REFUSALS: &[(Refusal, &str)] = &[
 #[test]
 fn refusals_are_errors(rt: HostRuntime) -> Result<(), Fail> {
     for (why, text) in REFUSALS {
-        let printed = format!(in rt.alloc(); "{why}")?;
-        check_text(&rt, rt.alloc(), printed.as_str(), text, why.number())?;
-        check_error(&rt, rt.alloc(), *why, text)?;
+        check_fault(&rt, rt.alloc(), *why, why.number(), text)?;
     }
     Ok(())
 }

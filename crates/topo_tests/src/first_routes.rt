@@ -3,10 +3,7 @@
 ghost use Rattle.std.specs.Prelude.{◌≢◌, ◌<◌, IsTrue, length};
 ghost use Rattle.topo_price.specs.Prices.{IsPromise};
 
-use crate::pictures::{BARRIER, BIPYRAMID, JOINED, PARALLEL, SEED, picture_of};
-use crate::searches::{
-    APEXES, Answer, FIVE_TWO_NINE, Question, ROUTES, are_ends as are_ends_of, dart, table_of,
-};
+use crate::searches::{APEXES, Answer, Question, ROUTES, is_answer};
 use std::alloc::{AllocError, Global};
 use std::process::Abort;
 use std::sync::atomic::{AtomicU32, Ordering};
@@ -18,6 +15,9 @@ use topo_price::tariff::{PriceFn, Tariff};
 use topo_route::plan::{Plan, PricedRoute};
 use topo_route::search::{first_route, search};
 use topo_route::workspace::Workspace;
+use topo_test_support::pictures::{BARRIER, BIPYRAMID, JOINED, PARALLEL, SEED, picture_of};
+use topo_test_support::plans::are_ends as are_ends_of;
+use topo_test_support::prices::{CLOSED, FIVE_TWO_NINE, table_of};
 
 /// Whether both are vertices, and different ones.
 pub(crate) fn are_ends(picture: &Picture, u: u32, v: u32) -> bool
@@ -59,19 +59,6 @@ fn route_at(
     routed(rt, alloc, picture, ask, ends, work)
 }
 
-/// Whether a route is that of the answer, and its price.
-pub(crate) fn is_route(found: &PricedRoute, answer: &Answer) -> bool {
-    let crossed = found.route.crossed.as_slice();
-    found.route.start == answer.start
-        && found.route.end == answer.end
-        && found.price == answer.price
-        && crossed.len() == answer.crossed.len()
-        && crossed
-            .iter()
-            .zip(answer.crossed)
-            .all(|(had, (edge, seg, way))| *had == dart(*edge, *seg, *way))
-}
-
 /// The first route on a picture is the answer.
 fn is_found(
     rt: &impl Abort,
@@ -81,9 +68,13 @@ fn is_found(
     answer: &Answer,
     work: &mut Workspace,
 ) -> Result<(), Fail> {
-    let table = table_of(rt, question.rest, question.entries);
-    let found = route_at(rt, alloc, picture, &table, question.ends, work)?.ok_or("a route")?;
-    assert!(rt; is_route(&found, answer), "{:?}: {found:?}", question.ends);
+    let (_, rest, entries, ends) = *question;
+    let table = table_of(rest, entries)?;
+    let found = route_at(rt, alloc, picture, &table, ends, work)?.ok_or("a route")?;
+    assert!(rt;
+        is_answer(&found.route, found.price, answer),
+        "{ends:?}: {found:?}"
+    );
     drop(found);
     Ok(())
 }
@@ -96,7 +87,7 @@ fn is_answered(
     answer: &Answer,
     work: &mut Workspace,
 ) -> Result<(), Fail> {
-    let picture = picture_of(alloc, question.picture)?;
+    let picture = picture_of(alloc, question.0)?;
     let told = is_found(rt, alloc, &picture, question, answer, work);
     drop(picture);
     told
@@ -137,8 +128,8 @@ fn has_route(
 
 #[test]
 fn no_first_route_where_the_triangle_is_closed(rt: HostRuntime) -> Result<(), Fail> {
-    let picture = picture_of(rt.alloc(), BIPYRAMID)?;
-    let table = table_of(&rt, Some(1), &[(1, None), (2, None), (3, None)]);
+    let picture = picture_of(rt.alloc(), &BIPYRAMID)?;
+    let table = table_of(Some(1), CLOSED)?;
     let is_found = has_route(&rt, rt.alloc(), &picture, &table, APEXES);
     drop(picture);
     assert!(rt; !is_found?);
@@ -153,7 +144,7 @@ fn grow_two(rt: &impl Abort, alloc: Global, picture: &mut Picture) {
 
 /// The picture of four parallel edges, after the growths.
 fn grown(rt: &impl Abort, alloc: Global) -> Result<Picture, Fail> {
-    let mut picture = picture_of(alloc, PARALLEL)?;
+    let mut picture = picture_of(alloc, &PARALLEL)?;
     grow_two(rt, alloc, &mut picture);
     Ok(picture)
 }
@@ -276,54 +267,14 @@ fn agrees<F: PriceFn + Drop>(
 
 /// Searches in a row: on larger and smaller pictures, with a route and without.
 const IN_A_ROW: &[Question] = &[
-    Question {
-        picture: BIPYRAMID,
-        rest: Some(1),
-        entries: FIVE_TWO_NINE,
-        ends: APEXES,
-    },
-    Question {
-        picture: SEED,
-        rest: Some(1),
-        entries: &[],
-        ends: (1, 0),
-    },
-    Question {
-        picture: JOINED,
-        rest: Some(3),
-        entries: FIVE_TWO_NINE,
-        ends: (4, 3),
-    },
-    Question {
-        picture: BIPYRAMID,
-        rest: Some(1),
-        entries: &[(1, None), (2, None), (3, None)],
-        ends: APEXES,
-    },
-    Question {
-        picture: BARRIER,
-        rest: Some(9),
-        entries: &[(0, Some(1))],
-        ends: (4, 5),
-    },
-    Question {
-        picture: PARALLEL,
-        rest: Some(1000),
-        entries: &[],
-        ends: (0, 1),
-    },
-    Question {
-        picture: JOINED,
-        rest: None,
-        entries: &[(0, Some(7))],
-        ends: APEXES,
-    },
-    Question {
-        picture: BIPYRAMID,
-        rest: Some(4),
-        entries: &[],
-        ends: (4, 3),
-    },
+    (&BIPYRAMID, Some(1), FIVE_TWO_NINE, APEXES),
+    (&SEED, Some(1), &[], (1, 0)),
+    (&JOINED, Some(3), FIVE_TWO_NINE, (4, 3)),
+    (&BIPYRAMID, Some(1), CLOSED, APEXES),
+    (&BARRIER, Some(9), &[(0, Some(1))], (4, 5)),
+    (&PARALLEL, Some(1000), &[], (0, 1)),
+    (&JOINED, None, &[(0, Some(7))], APEXES),
+    (&BIPYRAMID, Some(4), &[], (4, 3)),
 ];
 
 /// Both searches of a question agree.
@@ -333,12 +284,13 @@ fn is_agreed(
     question: &Question,
     work: &mut Workspace,
 ) -> Result<(), Fail> {
-    let picture = picture_of(alloc, question.picture)?;
-    let table = table_of(rt, question.rest, question.entries);
+    let (named, rest, entries, ends) = *question;
+    let table = table_of(rest, entries)?;
+    let picture = picture_of(alloc, named)?;
     let ask = |facts: &Facts| table.price(facts.kind);
-    let same = agrees(rt, alloc, &picture, ask, question.ends, work);
+    let same = agrees(rt, alloc, &picture, ask, ends, work);
     drop(picture);
-    assert!(rt; same?, "{:?}", question.ends);
+    assert!(rt; same?, "{ends:?}");
     Ok(())
 }
 

@@ -2,22 +2,24 @@
 
 ghost use Rattle.topo_price.specs.Prices.{IsPromise};
 
-use crate::picture_calls::{book_of, made};
-use crate::picture_rows::{falls_apart, is_loaded_again, shows};
-use crate::pictures::SEED;
-use crate::searches::table_of;
+use crate::picture_rows::falls_apart;
 use std::alloc::{AllocError, Global};
 use std::process::Abort;
 use std::test::Fail;
 use topo_book::{Book, replay};
 use topo_check::replay_io;
 use topo_core::calls::{Call, Entry, Refusal, Reply};
+use topo_core::limits::Limits;
 use topo_core::listed::Listed;
 use topo_core::rows::{Facts, Rows};
 use topo_forms::{LimitRows, Report};
 use topo_picture::Picture;
 use topo_price::tariff::PriceFn;
 use topo_script::report;
+use topo_test_support::books::{book_of, make};
+use topo_test_support::lawful::{is_loaded_again, shows};
+use topo_test_support::pictures::{SEED, picture_within};
+use topo_test_support::prices::table_of;
 
 /// The prices of kinds 0 to 3, which are those that the calls have.
 const PRICES: [Option<u32>; 4] = [Some(1), Some(5), Some(2), None];
@@ -148,7 +150,7 @@ fn go_on_from<F: PriceFn>(
 ) -> Result<(), Fail> {
     let vertices = book.picture().counts().vertices;
     let call = next_call(numbers, vertices, before.next_edge);
-    let reply = made(alloc, book, 0, call)?;
+    let reply = make(alloc, book, 0, call)?;
     let told = is_right(rt, alloc, book.picture(), call, &reply, before);
     drop(reply);
     told
@@ -326,7 +328,8 @@ fn run_from_seed<F: PriceFn + Drop>(
     requires callable { F.is_callable ask }
     requires promise { IsPromise (F.may_return ask) }
 {
-    let mut book = book_of(alloc, SEED, (40, 1_000, 2_000), ask)?;
+    let start = picture_within(alloc, &SEED, Limits::new(40, 1_000, 2_000)?)?;
+    let mut book = book_of(alloc, start, ask)?;
     let told = run(rt, alloc, &mut book, state, calls);
     drop(book);
     told
@@ -335,7 +338,7 @@ fn run_from_seed<F: PriceFn + Drop>(
 #[test]
 fn a_run_of_generated_calls(rt: HostRuntime) -> Result<(), Fail> {
     let entries = [(1, PRICES[1]), (2, PRICES[2]), (3, PRICES[3])];
-    let table = table_of(&rt, PRICES[0], &entries);
+    let table = table_of(PRICES[0], &entries)?;
     run_from_seed(
         &rt,
         rt.alloc(),

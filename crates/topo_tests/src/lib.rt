@@ -16,6 +16,8 @@ mod faults;
 #[cfg(test)]
 mod first_routes;
 #[cfg(test)]
+mod full_pictures;
+#[cfg(test)]
 mod generated;
 #[cfg(test)]
 mod long_routes;
@@ -24,11 +26,7 @@ mod numbered;
 #[cfg(test)]
 mod permutations;
 #[cfg(test)]
-mod picture_calls;
-#[cfg(test)]
 mod picture_rows;
-#[cfg(test)]
-mod pictures;
 #[cfg(test)]
 mod plans;
 #[cfg(test)]

@@ -1,7 +1,6 @@
 //! Plans with routes that cross one edge again and again, round a large face.
 
-use crate::pictures::{SEED, picture_of};
-use crate::searches::{dart, judged_at, table_of};
+use crate::searches::judged_at;
 use std::alloc::{AllocError, Global};
 use std::process::Abort;
 use std::test::Fail;
@@ -11,6 +10,9 @@ use topo_core::routes::Route;
 use topo_dual::Frozen;
 use topo_picture::Picture;
 use topo_route::plan::{Plan, PlanFault};
+use topo_test_support::pictures::{SEED, picture_of};
+use topo_test_support::plans::dart;
+use topo_test_support::prices::table_of;
 
 /// How many leaves the star has. Its one face has two darts for each.
 const LEAVES: usize = 30_000;
@@ -28,7 +30,7 @@ fn grown(alloc: Global, picture: &mut Picture) -> Result<Frozen, Fail> {
 
 /// A star. Vertex 0 is its center.
 fn star(alloc: Global) -> Result<Frozen, Fail> {
-    let mut picture = picture_of(alloc, SEED)?;
+    let mut picture = picture_of(alloc, &SEED)?;
     let star = grown(alloc, &mut picture);
     drop(picture);
     star
@@ -60,8 +62,8 @@ fn judged(
     alloc: Global,
     star: &Frozen,
     price: u64,
-) -> Result<Result<(), PlanFault>, AllocError> {
-    let table = table_of(rt, Some(1), &[]);
+) -> Result<Result<(), PlanFault>, Fail> {
+    let table = table_of(Some(1), &[])?;
     let plan = crossing_again(alloc, price)?;
     let said = judged_at(rt, star, &table, (1, 2), &plan);
     drop(plan);
@@ -69,7 +71,7 @@ fn judged(
 }
 
 /// The check says so of two prices.
-fn are_judged(rt: &impl Abort, alloc: Global, star: &Frozen) -> Result<(), AllocError> {
+fn are_judged(rt: &impl Abort, alloc: Global, star: &Frozen) -> Result<(), Fail> {
     assert!(rt; judged(rt, alloc, star, CROSSED)? == Err(PlanFault::NotLeast));
     assert!(rt; judged(rt, alloc, star, CROSSED - 1)? == Err(PlanFault::NotARoute));
     Ok(())
@@ -80,5 +82,5 @@ fn a_long_route_is_checked_in_little_time(rt: HostRuntime) -> Result<(), Fail> {
     let star = star(rt.alloc())?;
     let told = are_judged(&rt, rt.alloc(), &star);
     drop(star);
-    Ok(told?)
+    told
 }

@@ -1,7 +1,5 @@
 //! Pictures whose darts are numbered in lists that served for another picture before.
 
-use crate::pictures::{BIPYRAMID, JOINED, PARALLEL, picture_of};
-use crate::searches::dart;
 use std::alloc::AllocError;
 use std::process::Abort;
 use std::test::Fail;
@@ -11,6 +9,8 @@ use topo_dual::NumberLists;
 use topo_picture::Picture;
 use topo_route::dual::{Dual, has_number};
 use topo_route::face_graph::FaceGraph;
+use topo_test_support::pictures::{BIPYRAMID, JOINED, Named, PARALLEL, picture_of};
+use topo_test_support::plans::dart;
 
 /// How many darts a picture has, the number of a dart, where the last dart starts, and which comes
 /// next along its face.
@@ -29,14 +29,14 @@ fn seen(picture: &Picture, lists: &mut NumberLists, dart: Dart) -> Result<Seen, 
     Ok((darts, numbered.index(dart), Some(tail), Some(next)))
 }
 
-/// What the picture of a text answers.
+/// What a named picture answers.
 fn seen_of(
     rt: &impl AllocGlobal,
     lists: &mut NumberLists,
-    text: &str,
+    named: &Named,
     dart: Dart,
 ) -> Result<Seen, Fail> {
-    let picture = picture_of(rt.alloc(), text)?;
+    let picture = picture_of(rt.alloc(), named)?;
     let seen = seen(&picture, lists, dart);
     drop(picture);
     Ok(seen?)
@@ -46,36 +46,36 @@ fn seen_of(
 /// which comes next along its face.
 type Due = (u32, Option<u32>, u32, u32);
 
-/// What the picture of a text answers is what is due.
+/// What a named picture answers is what is due.
 fn is_seen<R: Abort + AllocGlobal>(
     rt: &R,
     lists: &mut NumberLists,
-    text: &str,
+    named: &Named,
     seg: u32,
     due: &Due,
 ) -> Result<(), Fail> {
     let (darts, index, vertex, next) = *due;
-    let seen = seen_of(rt, lists, text, dart(1, seg, Way::Back))?;
+    let seen = seen_of(rt, lists, named, dart(1, seg, Way::Back))?;
     let start = Point::Vertex(VertexId::new(vertex));
     assert!(rt; seen == (darts, index, Some(start), Some(next)), "{seen:?}");
     Ok(())
 }
 
 /// Pictures, which segment of edge 1 is asked for, and what is due.
-const PICTURES: &[(&str, u32, Due)] = &[
+const PICTURES: &[(&Named, u32, Due)] = &[
     // the last dart goes from vertex 2 to vertex 4, and the one after it to vertex 1
-    (BIPYRAMID, 0, (18, Some(3), 2, 14)),
+    (&BIPYRAMID, 0, (18, Some(3), 2, 14)),
     // edge 1 has one segment alone; the last dart goes from vertex 1 to vertex 0, and back along
     // edge 0
-    (PARALLEL, 1, (8, None, 1, 0)),
+    (&PARALLEL, 1, (8, None, 1, 0)),
     // the last dart goes from vertex 4 to the crossing, and the one after it to vertex 2
-    (JOINED, 1, (24, Some(5), 4, 4)),
+    (&JOINED, 1, (24, Some(5), 4, 4)),
 ];
 
 /// One picture after another.
 fn are_seen<R: Abort + AllocGlobal>(rt: &R, lists: &mut NumberLists) -> Result<(), Fail> {
-    for (text, seg, due) in PICTURES {
-        is_seen(rt, lists, text, *seg, due)?;
+    for (named, seg, due) in PICTURES {
+        is_seen(rt, lists, *named, *seg, due)?;
     }
     Ok(())
 }

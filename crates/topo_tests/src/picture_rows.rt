@@ -1,5 +1,5 @@
-//! What is seen of rows without knowing the routes: whether a picture can be loaded again, and
-//! whether it falls apart without an edge, found by loading what is left.
+//! What is seen of rows without knowing the routes: whether a picture falls apart without an edge,
+//! found by loading what is left.
 
 use std::alloc::{AllocError, Global};
 use std::test::Fail;
@@ -8,30 +8,6 @@ use topo_core::listed::Listed;
 use topo_core::rows::{CrossRow, EdgeRow, Rows};
 use topo_picture::Picture;
 use topo_rows::LoadFault;
-
-/// Whether a picture shows these rows.
-pub(crate) fn shows(alloc: Global, picture: &Picture, rows: &Rows) -> Result<bool, AllocError> {
-    let now = picture.rows(alloc)?;
-    let same = now.equals(rows);
-    drop(now);
-    Ok(same)
-}
-
-/// Whether rows are loaded under limits and given back.
-fn are_given_back(alloc: Global, limits: Limits, rows: &Rows) -> Result<bool, Fail> {
-    let again = Picture::load(alloc, limits, rows)?;
-    let same = shows(alloc, &again, rows);
-    drop(again);
-    Ok(same?)
-}
-
-/// Whether a picture's rows are loaded under its limits and given back.
-pub(crate) fn is_loaded_again(alloc: Global, picture: &Picture) -> Result<bool, Fail> {
-    let rows = picture.rows(alloc)?;
-    let same = are_given_back(alloc, picture.limits(), &rows);
-    drop(rows);
-    same
-}
 
 /// The ids of a list that are not among the others.
 fn kept(alloc: Global, ids: &[u32], gone: &[u32]) -> Result<Listed<u32>, AllocError> {

@@ -1,11 +1,7 @@
 //! Insertions by plans that are handed in.
 
-ghost use Rattle.std.specs.Prelude.{◌≢◌, ◌<◌, IsTrue, length};
 ghost use Rattle.topo_price.specs.Prices.{IsPromise};
 
-use crate::picture_calls::book_of;
-use crate::pictures::{BIPYRAMID, WIDE};
-use crate::searches::{FIVE_TWO_NINE, LEAST, dart, invented, table_of};
 use std::alloc::{AllocError, Global};
 use std::process::Abort;
 use std::sync::atomic::{AtomicU32, Ordering};
@@ -14,18 +10,21 @@ use topo_book::Book;
 use topo_core::calls::Reply;
 use topo_core::darts::Way;
 use topo_core::rows::Facts;
-use topo_dual::Frozen;
 use topo_price::table::PriceTable;
 use topo_price::tariff::PriceFn;
 use topo_route::check::check;
 use topo_route::plan::Plan;
+use topo_test_support::books::book_of;
+use topo_test_support::pictures::{BIPYRAMID, picture_of};
+use topo_test_support::plans::{LEAST_HEIGHTS, are_ends, dart, invented};
+use topo_test_support::prices::{FIVE_TWO_NINE, table_of};
 
 /// The plan of the search between the apexes at prices 5, 2 and 9, and three that nobody searched
 /// for.
 const PLANS: &[((u32, u32, Way, u32, u64), &[u64])] = &[
-    ((2, 1, Way::Back, 2, 2), &LEAST),
-    ((1, 0, Way::Back, 0, 5), &LEAST),
-    ((1, 0, Way::Back, 0, 4), &LEAST),
+    ((2, 1, Way::Back, 2, 2), &LEAST_HEIGHTS),
+    ((1, 0, Way::Back, 0, 5), &LEAST_HEIGHTS),
+    ((1, 0, Way::Back, 0, 4), &LEAST_HEIGHTS),
     (
         (1, 0, Way::Back, 0, 5),
         &[3, 0, 2, 0, 3, 3, 3, 3, 2, 2, 3, 0, 0, 0, 0, 0, 0],
@@ -85,7 +84,7 @@ fn takes_first_from_start<F: PriceFn + Drop>(
     requires callable { F.is_callable ask }
     requires promise { IsPromise (F.may_return ask) }
 {
-    let mut book = book_of(alloc, BIPYRAMID, WIDE, ask)?;
+    let mut book = book_of(alloc, picture_of(alloc, &BIPYRAMID)?, ask)?;
     let told = takes_first(rt, alloc, &mut book, plan);
     drop(book);
     told
@@ -107,19 +106,11 @@ fn takes_first_by(
 
 #[test]
 fn any_plan_gives_the_first_route(rt: HostRuntime) -> Result<(), Fail> {
-    let table = table_of(&rt, Some(1), FIVE_TWO_NINE);
+    let table = table_of(Some(1), FIVE_TWO_NINE)?;
     for (route, heights) in PLANS {
         takes_first_by(&rt, rt.alloc(), &table, route, *heights)?;
     }
     Ok(())
-}
-
-/// Whether the apexes are vertices of the picture.
-fn has_apexes(frozen: &Frozen) -> bool
-    ensures u_there { IsTrue result → 3 < length frozen.now.rows.rotations }
-    ensures v_there { IsTrue result → 4 < length frozen.now.rows.rotations }
-{
-    frozen.vertex_count() > 4
 }
 
 /// Whether a plan passes the check on the picture of a book.
@@ -130,7 +121,7 @@ fn passes<F: PriceFn>(
     plan: &Plan,
 ) -> Result<bool, AllocError> {
     let frozen = book.picture().freeze(alloc)?;
-    assert!(rt; has_apexes(&frozen));
+    assert!(rt; are_ends(&frozen, 3, 4));
     let passed = check(&frozen, book.tariff(), 3, 4, plan).is_ok();
     drop(frozen);
     Ok(passed)
@@ -186,7 +177,7 @@ fn counted_from_start<F: PriceFn + Drop>(
     requires callable { F.is_callable ask }
     requires promise { IsPromise (F.may_return ask) }
 {
-    let mut book = book_of(alloc, BIPYRAMID, WIDE, ask)?;
+    let mut book = book_of(alloc, picture_of(alloc, &BIPYRAMID)?, ask)?;
     let counted = counted(rt, alloc, asked, &mut book, plan);
     drop(book);
     counted
@@ -209,8 +200,8 @@ fn counted_at(
 
 #[test]
 fn a_plan_that_passes_spares_the_search(rt: HostRuntime) -> Result<(), Fail> {
-    let table = table_of(&rt, Some(1), FIVE_TWO_NINE);
-    let plan = plan_of(rt.alloc(), &(2, 1, Way::Back, 2, 2), &LEAST)?;
+    let table = table_of(Some(1), FIVE_TWO_NINE)?;
+    let plan = plan_of(rt.alloc(), &(2, 1, Way::Back, 2, 2), &LEAST_HEIGHTS)?;
     let counted = counted_at(&rt, rt.alloc(), &table, &plan);
     drop(plan);
     let (checked, inserted) = counted?;

@@ -1,10 +1,13 @@
 //! Texts of other layouts than the writer's, which are read all the same.
 
-use crate::pictures::JOINED;
 use std::alloc::Global;
 use std::test::Fail;
 use topo_forms::{read_report, read_rows};
 use topo_script::{picture_text, report};
+
+/// The bipyramid with an edge from apex to apex, as it is written.
+const JOINED: &str =
+    r#"{"crossings":[{"crossed":1,"id":0,"newcomer":9,"sign":"rtl"}],"edges":[{"a":0,"b":1,"crossings":[],"id":0,"kind":1},{"a":1,"b":2,"crossings":[0],"id":1,"kind":2},{"a":2,"b":0,"crossings":[],"id":2,"kind":3},{"a":3,"b":0,"crossings":[],"id":3,"kind":0},{"a":3,"b":1,"crossings":[],"id":4,"kind":0},{"a":3,"b":2,"crossings":[],"id":5,"kind":0},{"a":4,"b":0,"crossings":[],"id":6,"kind":0},{"a":4,"b":1,"crossings":[],"id":7,"kind":0},{"a":4,"b":2,"crossings":[],"id":8,"kind":0},{"a":3,"b":4,"crossings":[0],"id":9,"kind":0}],"next_crossing":1,"next_edge":10,"rotations":[[0,3,2,6],[0,7,1,4],[1,8,2,5],[3,4,9,5],[6,8,9,7]]}"#;
 
 /// `JOINED` with the keys in other orders, blanks between its tokens, an escape in a key and a key
 /// that comes twice.

@@ -2,9 +2,8 @@
 
 ghost use Rattle.topo_price.specs.Prices.{IsPromise};
 
-use crate::first_routes::{are_ends, is_route};
-use crate::pictures::picture_of;
-use crate::searches::{Answer, Question, ROUTES, table_of};
+use crate::first_routes::are_ends;
+use crate::searches::{Answer, Question, ROUTES, is_answer};
 use std::alloc::{AllocError, Global};
 use std::process::Abort;
 use std::test::Fail;
@@ -17,6 +16,8 @@ use topo_route::plan::SeenRoute;
 use topo_route::region::Region;
 use topo_route::search::first_route_seen;
 use topo_route::workspace::Workspace;
+use topo_test_support::pictures::picture_of;
+use topo_test_support::prices::table_of;
 
 /// The first route with the prices of a closure, and what the search has seen.
 fn seen<F: PriceFn + Drop>(
@@ -76,20 +77,15 @@ fn is_seen(
     answer: &Answer,
     work: &mut Workspace,
 ) -> Result<(), Fail> {
-    let table = table_of(rt, question.rest, question.entries);
-    let found = seen_at(rt, alloc, picture, &table, question.ends, work)?.ok_or("a route")?;
+    let (_, rest, entries, ends) = *question;
+    let table = table_of(rest, entries)?;
+    let found = seen_at(rt, alloc, picture, &table, ends, work)?.ok_or("a route")?;
+    let first = &found.first;
     assert!(rt;
-        is_route(&found.first, answer),
-        "{:?}: {:?}",
-        question.ends,
-        found.first
+        is_answer(&first.route, first.price, answer),
+        "{ends:?}: {first:?}"
     );
-    assert!(rt;
-        has_region(&found, question.ends),
-        "{:?}: {:?}",
-        question.ends,
-        found.first
-    );
+    assert!(rt; has_region(&found, ends), "{ends:?}: {first:?}");
     drop(found);
     Ok(())
 }
@@ -102,7 +98,7 @@ fn is_seen_on(
     answer: &Answer,
     work: &mut Workspace,
 ) -> Result<(), Fail> {
-    let picture = picture_of(alloc, question.picture)?;
+    let picture = picture_of(alloc, question.0)?;
     let told = is_seen(rt, alloc, &picture, question, answer, work);
     drop(picture);
     told

@@ -4,9 +4,6 @@
 ghost use Rattle.topo_price.specs.Prices.{IsPromise};
 
 use crate::generated::{Numbers, next_call, next_ids};
-use crate::picture_calls::made;
-use crate::picture_rows::shows;
-use crate::searches::table_of;
 use std::alloc::{AllocError, Global};
 use std::process::Abort;
 use std::sync::Arc;
@@ -17,6 +14,9 @@ use topo_core::limits::Limits;
 use topo_core::rows::{Facts, Rows};
 use topo_picture::Picture;
 use topo_price::tariff::{PriceFn, Tariff};
+use topo_test_support::books;
+use topo_test_support::lawful::shows;
+use topo_test_support::prices::table_of;
 
 /// A version that a reader holds, with the rows that it showed when it was taken.
 #[derive(Drop)]
@@ -74,7 +74,7 @@ fn enter<F: PriceFn>(
 
 /// Makes a call in place. The answer is the reply as text.
 fn make<F: PriceFn>(alloc: Global, book: &mut Book<F>, call: Call) -> Result<String, AllocError> {
-    let reply = made(alloc, book, 0, call)?;
+    let reply = books::make(alloc, book, 0, call)?;
     let told = format!(in alloc; "{reply:?}");
     drop(reply);
     told
@@ -316,7 +316,7 @@ fn run_from_seed<F: PriceFn + Drop>(
 
 #[test]
 fn versions_stay_as_they_were(rt: HostRuntime) -> Result<(), Fail> {
-    let table = table_of(&rt, Some(1), &[(1, Some(5)), (2, Some(2)), (3, None)]);
+    let table = table_of(Some(1), &[(1, Some(5)), (2, Some(2)), (3, None)])?;
     for most in [0, 1, 10, 100] {
         run_from_seed(
             &rt,

@@ -1,16 +1,14 @@
 //! Searches on loaded pictures, and plans that are checked.
 
-ghost use Rattle.std.specs.Prelude.{◌≢◌, ◌<◌, IsTrue, length};
+ghost use Rattle.std.specs.Prelude.{◌<◌};
 ghost use Rattle.topo_price.specs.Prices.{IsPromise};
 
-use crate::pictures::{BARRIER, BIPYRAMID, JOINED, PARALLEL, picture_of};
 use std::alloc::{AllocError, Global};
 use std::process::Abort;
 use std::sync::atomic::{AtomicU32, Ordering};
 use std::test::Fail;
-use topo_core::darts::{Dart, Point, Way};
-use topo_core::ids::{CrossId, EdgeId, VertexId};
-use topo_core::listed::Listed;
+use topo_core::darts::{Point, Way};
+use topo_core::ids::{CrossId, VertexId};
 use topo_core::routes::Route;
 use topo_core::rows::Facts;
 use topo_picture::{Frozen, Picture};
@@ -21,16 +19,9 @@ use topo_route::dual::{Dual, has_number};
 use topo_route::face_graph::FaceGraph;
 use topo_route::plan::{Plan, PlanFault};
 use topo_route::search::search;
-
-/// Whether both are vertices, and different ones.
-pub(crate) fn are_ends(frozen: &Frozen, u: u32, v: u32) -> bool
-    ensures u_there { IsTrue result → u < length frozen.now.rows.rotations }
-    ensures v_there { IsTrue result → v < length frozen.now.rows.rotations }
-    ensures apart { IsTrue result → u ≢ v }
-{
-    let vertices = frozen.vertex_count();
-    u < vertices && v < vertices && u != v
-}
+use topo_test_support::pictures::{BARRIER, BIPYRAMID, JOINED, Named, PARALLEL, picture_of};
+use topo_test_support::plans::{LEAST_HEIGHTS, are_ends, dart, invented};
+use topo_test_support::prices::{CLOSED, Entries, FIVE_TWO_NINE, SECOND_CLOSED, table_of};
 
 /// The plan of a search with the prices of a closure, if there is a route.
 fn planned<F: PriceFn + Drop>(
@@ -113,171 +104,69 @@ fn prices_of<F: PriceFn + Drop>(rt: &impl Abort, frozen: &Frozen, ask: F) -> [Op
     ]
 }
 
-/// A table of prices with these entries for kinds, and one price for all other kinds.
-pub(crate) fn table_of(
-    rt: &impl Abort,
-    rest: Option<u32>,
-    entries: &[(usize, Option<u32>)],
-) -> PriceTable {
-    let mut prices = [rest; 64];
-    for (kind, price) in entries {
-        assert!(rt; *kind < 64);
-        prices[*kind] = *price;
-    }
-    PriceTable::new(prices).expect(rt, "prices from 1 to 1000")
-}
-
-/// The frozen picture of a text.
-fn frozen_of(alloc: Global, text: &str) -> Result<Frozen, Fail> {
-    let picture = picture_of(alloc, text)?;
+/// A named picture, frozen.
+fn frozen_of(alloc: Global, named: &Named) -> Result<Frozen, Fail> {
+    let picture = picture_of(alloc, named)?;
     let frozen = picture.freeze(alloc);
     drop(picture);
     Ok(frozen?)
 }
 
-pub(crate) fn dart(edge: u32, seg: u32, way: Way) -> Dart {
-    Dart {
-        edge: EdgeId::new(edge),
-        seg,
-        way,
-    }
-}
+/// A picture, the price of all kinds but some, the prices of those, and the ends of a route.
+pub(crate) type Question = (&'static Named, Option<u32>, Entries, (u32, u32));
 
-/// A picture with prices of kinds, and from where to where.
-#[derive(Drop)]
-pub(crate) struct Question {
-    pub picture: &'static str,
-    pub rest: Option<u32>,
-    pub entries: &'static [(usize, Option<u32>)],
-    pub ends: (u32, u32),
-}
+/// A route with its price: a start, the crossed darts, an end, and the price.
+pub(crate) type Answer = (u32, &'static [(u32, u32, Way)], u32, u64);
 
-/// A route with its price: a start, the crossed darts, an end.
-#[derive(Drop)]
-pub(crate) struct Answer {
-    pub start: u32,
-    pub crossed: &'static [(u32, u32, Way)],
-    pub end: u32,
-    pub price: u64,
-}
-
-/// Prices 5, 2 and 9 for the edges of the triangle.
-pub(crate) const FIVE_TWO_NINE: &[(usize, Option<u32>)] = &[
-    (1, Some(5)),
-    (2, Some(2)),
-    (3, Some(9)),
-];
-
-/// The same, but the second edge is dear, or must not be crossed.
-const SECOND_DEAR: &[(usize, Option<u32>)] = &[(1, Some(5)), (2, Some(1000)), (3, Some(9))];
-
-pub(crate) const SECOND_CLOSED: &[(usize, Option<u32>)] = &[(1, Some(5)), (2, None), (3, Some(9))];
+/// The prices of `FIVE_TWO_NINE`, but the second edge is dear.
+const SECOND_DEAR: Entries = &[(1, Some(5)), (2, Some(1000)), (3, Some(9))];
 
 pub(crate) const APEXES: (u32, u32) = (3, 4);
 
 pub(crate) const ROUTES: &[(Question, Answer)] = &[
     // the cheapest edge of the triangle, from the corner before edge 5
     (
-        Question {
-            picture: BIPYRAMID,
-            rest: Some(1),
-            entries: FIVE_TWO_NINE,
-            ends: APEXES,
-        },
-        Answer {
-            start: 2,
-            crossed: &[(1, 0, Way::Back)],
-            end: 2,
-            price: 2,
-        },
+        (&BIPYRAMID, Some(1), FIVE_TWO_NINE, APEXES),
+        (2, &[(1, 0, Way::Back)], 2, 2),
     ),
     // all three edges cost 4: the first corner decides
     (
-        Question {
-            picture: BIPYRAMID,
-            rest: Some(4),
-            entries: &[],
-            ends: APEXES,
-        },
-        Answer {
-            start: 0,
-            crossed: &[(2, 0, Way::Back)],
-            end: 1,
-            price: 4,
-        },
+        (&BIPYRAMID, Some(4), &[], APEXES),
+        (0, &[(2, 0, Way::Back)], 1, 4),
     ),
     // out of the triangle across its cheap base and back in across it
     (
-        Question {
-            picture: BARRIER,
-            rest: Some(9),
-            entries: &[(0, Some(1))],
-            ends: (4, 5),
-        },
-        Answer {
-            start: 0,
-            crossed: &[(0, 0, Way::Forward), (0, 1, Way::Back)],
-            end: 0,
-            price: 2,
-        },
+        (&BARRIER, Some(9), &[(0, Some(1))], (4, 5)),
+        (0, &[(0, 0, Way::Forward), (0, 1, Way::Back)], 0, 2),
     ),
     // a detour past the dear edge
     (
-        Question {
-            picture: BIPYRAMID,
-            rest: Some(1),
-            entries: SECOND_DEAR,
-            ends: APEXES,
-        },
-        Answer {
-            start: 1,
-            crossed: &[(0, 0, Way::Back)],
-            end: 0,
-            price: 5,
-        },
+        (&BIPYRAMID, Some(1), SECOND_DEAR, APEXES),
+        (1, &[(0, 0, Way::Back)], 0, 5),
     ),
     // the same where it must not be crossed
     (
-        Question {
-            picture: BIPYRAMID,
-            rest: Some(1),
-            entries: SECOND_CLOSED,
-            ends: APEXES,
-        },
-        Answer {
-            start: 1,
-            crossed: &[(0, 0, Way::Back)],
-            end: 0,
-            price: 5,
-        },
+        (&BIPYRAMID, Some(1), SECOND_CLOSED, APEXES),
+        (1, &[(0, 0, Way::Back)], 0, 5),
     ),
     // all edges at the greatest price: straight across the edge between the two parts
     (
-        Question {
-            picture: BARRIER,
-            rest: Some(1000),
-            entries: &[],
-            ends: (4, 5),
-        },
-        Answer {
-            start: 0,
-            crossed: &[(3, 0, Way::Back)],
-            end: 0,
-            price: 1000,
-        },
+        (&BARRIER, Some(1000), &[], (4, 5)),
+        (0, &[(3, 0, Way::Back)], 0, 1000),
     ),
 ];
 
-/// Whether a plan has this route and this price.
-fn is_answer(plan: &Plan, answer: &Answer) -> bool {
-    let crossed = plan.route.crossed.as_slice();
-    plan.route.start == answer.start
-        && plan.route.end == answer.end
-        && plan.price == answer.price
-        && crossed.len() == answer.crossed.len()
-        && crossed
+/// Whether a route with its price is the answer.
+pub(crate) fn is_answer(route: &Route, price: u64, answer: &Answer) -> bool {
+    let (start, crossed, end, due) = *answer;
+    let had = route.crossed.as_slice();
+    route.start == start
+        && route.end == end
+        && price == due
+        && had.len() == crossed.len()
+        && had
             .iter()
-            .zip(answer.crossed)
+            .zip(crossed)
             .all(|(had, (edge, seg, way))| *had == dart(*edge, *seg, *way))
 }
 
@@ -290,7 +179,10 @@ fn is_judged(
     plan: &Plan,
     answer: &Answer,
 ) {
-    assert!(rt; is_answer(plan, answer), "{ends:?}: {plan:?}");
+    assert!(rt;
+        is_answer(&plan.route, plan.price, answer),
+        "{ends:?}: {plan:?}"
+    );
     let says = judged_at(rt, frozen, table, ends, plan);
     assert!(rt; says == Ok(()), "{ends:?}");
 }
@@ -303,9 +195,10 @@ fn is_found(
     question: &Question,
     answer: &Answer,
 ) -> Result<(), Fail> {
-    let table = table_of(rt, question.rest, question.entries);
-    let plan = plan_at(rt, alloc, frozen, &table, question.ends)?;
-    is_judged(rt, frozen, &table, question.ends, &plan, answer);
+    let (_, rest, entries, ends) = *question;
+    let table = table_of(rest, entries)?;
+    let plan = plan_at(rt, alloc, frozen, &table, ends)?;
+    is_judged(rt, frozen, &table, ends, &plan, answer);
     drop(plan);
     Ok(())
 }
@@ -317,7 +210,7 @@ fn is_answered(
     question: &Question,
     answer: &Answer,
 ) -> Result<(), Fail> {
-    let frozen = frozen_of(alloc, question.picture)?;
+    let frozen = frozen_of(alloc, question.0)?;
     let told = is_found(rt, alloc, &frozen, question, answer);
     drop(frozen);
     told
@@ -335,11 +228,8 @@ fn searches_find_the_first_of_the_least_routes(rt: HostRuntime) -> Result<(), Fa
 const FAR: [u64; 18] = [0, 5, 0, 6, 0, 6, 6, 5, 5, 6, 6, 6, 0, 0, 0, 0, 0, 0];
 
 /// Prices, and the least height of each dart of the bipyramid.
-const HEIGHTS: &[(&[(usize, Option<u32>)], [u64; 18])] = &[
-    (
-        FIVE_TWO_NINE,
-        [0, 3, 0, 2, 0, 3, 3, 3, 3, 2, 2, 3, 0, 0, 0, 0, 0, 0],
-    ),
+const HEIGHTS: &[(Entries, [u64; 18])] = &[
+    (FIVE_TWO_NINE, LEAST_HEIGHTS),
     (SECOND_DEAR, FAR),
     (SECOND_CLOSED, FAR),
 ];
@@ -349,10 +239,10 @@ fn has_heights(
     rt: &impl Abort,
     alloc: Global,
     frozen: &Frozen,
-    entries: &[(usize, Option<u32>)],
+    entries: Entries,
     heights: &[u64],
 ) -> Result<(), Fail> {
-    let table = table_of(rt, Some(1), entries);
+    let table = table_of(Some(1), entries)?;
     let plan = plan_at(rt, alloc, frozen, &table, APEXES)?;
     assert!(rt; plan.heights.as_slice() == heights);
     drop(plan);
@@ -369,7 +259,7 @@ fn have_heights(rt: &impl Abort, alloc: Global, frozen: &Frozen) -> Result<(), F
 
 #[test]
 fn a_search_gives_the_least_height_of_each_dart(rt: HostRuntime) -> Result<(), Fail> {
-    let frozen = frozen_of(rt.alloc(), BIPYRAMID)?;
+    let frozen = frozen_of(rt.alloc(), &BIPYRAMID)?;
     let told = have_heights(&rt, rt.alloc(), &frozen);
     drop(frozen);
     told
@@ -397,8 +287,8 @@ fn has_route(
 
 #[test]
 fn no_route_where_the_triangle_is_closed(rt: HostRuntime) -> Result<(), Fail> {
-    let frozen = frozen_of(rt.alloc(), BIPYRAMID)?;
-    let table = table_of(&rt, Some(1), &[(1, None), (2, None), (3, None)]);
+    let frozen = frozen_of(rt.alloc(), &BIPYRAMID)?;
+    let table = table_of(Some(1), CLOSED)?;
     let is_found = has_route(&rt, rt.alloc(), &frozen, &table, APEXES);
     drop(frozen);
     assert!(rt; !is_found?);
@@ -423,57 +313,26 @@ fn frozen_after(
 
 /// The picture of four parallel edges, after the growths.
 fn grown(rt: &impl Abort, alloc: Global) -> Result<Frozen, Fail> {
-    let mut picture = picture_of(alloc, PARALLEL)?;
+    let mut picture = picture_of(alloc, &PARALLEL)?;
     let frozen = frozen_after(rt, alloc, &mut picture);
     drop(picture);
     Ok(frozen?)
 }
 
 /// Between the grown vertices, at the greatest price.
-const ACROSS_TWO: Answer = Answer {
-    start: 0,
-    crossed: &[(0, 0, Way::Forward), (1, 0, Way::Forward)],
-    end: 0,
-    price: 2000,
-};
+const ACROSS_TWO: Answer = (0, &[(0, 0, Way::Forward), (1, 0, Way::Forward)], 0, 2000);
 
 #[test]
 fn a_search_after_growths(rt: HostRuntime) -> Result<(), Fail> {
     let frozen = grown(&rt, rt.alloc())?;
-    let table = table_of(&rt, Some(1000), &[]);
+    let table = table_of(Some(1000), &[])?;
     let plan = plan_at(&rt, rt.alloc(), &frozen, &table, (2, 3));
     drop(frozen);
     let plan = plan?;
-    assert!(rt; is_answer(&plan, &ACROSS_TWO), "{plan:?}");
+    assert!(rt; is_answer(&plan.route, plan.price, &ACROSS_TWO), "{plan:?}");
     drop(plan);
     Ok(())
 }
-
-/// A plan that nobody searched for.
-pub(crate) fn invented(
-    alloc: Global,
-    start: u32,
-    crossed: Dart,
-    end: u32,
-    price: u64,
-    heights: &[u64],
-) -> Result<Plan, AllocError> {
-    let heights = Vec::from_slice(alloc, heights)?;
-    let mut darts = Vec::new(alloc);
-    darts.push(crossed)?;
-    Ok(Plan {
-        route: Route {
-            start,
-            crossed: Listed::from_vec(darts),
-            end,
-        },
-        price,
-        heights: Listed::from_vec(heights),
-    })
-}
-
-/// The heights of the least plan at prices 5, 2 and 9.
-pub(crate) const LEAST: [u64; 18] = [0, 3, 0, 2, 0, 3, 3, 3, 3, 2, 2, 3, 0, 0, 0, 0, 0, 0];
 
 /// The heights where all edges of the triangle cost 4.
 const EVEN: [u64; 18] = [0, 4, 0, 4, 0, 4, 4, 4, 4, 4, 4, 4, 0, 0, 0, 0, 0, 0];
@@ -481,29 +340,34 @@ const EVEN: [u64; 18] = [0, 4, 0, 4, 0, 4, 4, 4, 4, 4, 4, 4, 0, 0, 0, 0, 0, 0];
 /// Prices, a route as (start, crossed edge and direction, end, price), heights, and what the check
 /// says.
 type Judgement = (
-    &'static [(usize, Option<u32>)],
+    Entries,
     (u32, u32, Way, u32, u64),
     &'static [u64],
     Result<(), PlanFault>,
 );
 
-const FOURS: &[(usize, Option<u32>)] = &[(0, Some(4)), (1, Some(4)), (2, Some(4)), (3, Some(4))];
+const FOURS: Entries = &[(0, Some(4)), (1, Some(4)), (2, Some(4)), (3, Some(4))];
 
 const JUDGEMENTS: &[Judgement] = &[
     // the plan of the search
-    (FIVE_TWO_NINE, (2, 1, Way::Back, 2, 2), &LEAST, Ok(())),
+    (
+        FIVE_TWO_NINE,
+        (2, 1, Way::Back, 2, 2),
+        &LEAST_HEIGHTS,
+        Ok(()),
+    ),
     // edge 0 costs 5, but the least height at the start is 2
     (
         FIVE_TWO_NINE,
         (1, 0, Way::Back, 0, 5),
-        &LEAST,
+        &LEAST_HEIGHTS,
         Err(PlanFault::NotLeast),
     ),
     // it does not cost 4
     (
         FIVE_TWO_NINE,
         (1, 0, Way::Back, 0, 4),
-        &LEAST,
+        &LEAST_HEIGHTS,
         Err(PlanFault::NotARoute),
     ),
     // one height is missing
@@ -538,7 +402,7 @@ const JUDGEMENTS: &[Judgement] = &[
     (
         FIVE_TWO_NINE,
         (2, 99, Way::Forward, 2, 2),
-        &LEAST,
+        &LEAST_HEIGHTS,
         Err(PlanFault::NotARoute),
     ),
 ];
@@ -549,10 +413,10 @@ fn is_said(
     alloc: Global,
     frozen: &Frozen,
     judgement: &Judgement,
-) -> Result<(), AllocError> {
+) -> Result<(), Fail> {
     let (entries, route, heights, due) = judgement;
     let (start, edge, way, end, price) = *route;
-    let table = table_of(rt, Some(1), *entries);
+    let table = table_of(Some(1), *entries)?;
     let plan = invented(alloc, start, dart(edge, 0, way), end, price, *heights)?;
     let said = judged_at(rt, frozen, &table, APEXES, &plan);
     drop(plan);
@@ -561,7 +425,7 @@ fn is_said(
 }
 
 /// The check of each plan says what is due.
-fn are_said(rt: &impl Abort, alloc: Global, frozen: &Frozen) -> Result<(), AllocError> {
+fn are_said(rt: &impl Abort, alloc: Global, frozen: &Frozen) -> Result<(), Fail> {
     for judgement in JUDGEMENTS {
         is_said(rt, alloc, frozen, judgement)?;
     }
@@ -570,10 +434,10 @@ fn are_said(rt: &impl Abort, alloc: Global, frozen: &Frozen) -> Result<(), Alloc
 
 #[test]
 fn plans_fail_the_first_test(rt: HostRuntime) -> Result<(), Fail> {
-    let frozen = frozen_of(rt.alloc(), BIPYRAMID)?;
+    let frozen = frozen_of(rt.alloc(), &BIPYRAMID)?;
     let told = are_said(&rt, rt.alloc(), &frozen);
     drop(frozen);
-    Ok(told?)
+    told
 }
 
 /// The check of the least plan, with the height at a place raised by 1, finds an uneven face.
@@ -586,7 +450,7 @@ fn is_uneven(
 ) -> Result<(), AllocError>
     requires { place < 18 }
 {
-    let mut heights = LEAST;
+    let mut heights = LEAST_HEIGHTS;
     heights[place] = heights[place].wrapping_add(1);
     let plan = invented(alloc, 2, dart(1, 0, Way::Back), 2, 2, &heights)?;
     let said = judged_at(rt, frozen, table, APEXES, &plan);
@@ -596,8 +460,8 @@ fn is_uneven(
 }
 
 /// The same at each place.
-fn are_uneven(rt: &impl Abort, alloc: Global, frozen: &Frozen) -> Result<(), AllocError> {
-    let table = table_of(rt, Some(1), FIVE_TWO_NINE);
+fn are_uneven(rt: &impl Abort, alloc: Global, frozen: &Frozen) -> Result<(), Fail> {
+    let table = table_of(Some(1), FIVE_TWO_NINE)?;
     for place in 0..18 {
         is_uneven(rt, alloc, frozen, &table, place)?;
     }
@@ -606,10 +470,10 @@ fn are_uneven(rt: &impl Abort, alloc: Global, frozen: &Frozen) -> Result<(), All
 
 #[test]
 fn one_height_raised_is_uneven(rt: HostRuntime) -> Result<(), Fail> {
-    let frozen = frozen_of(rt.alloc(), BIPYRAMID)?;
+    let frozen = frozen_of(rt.alloc(), &BIPYRAMID)?;
     let told = are_uneven(&rt, rt.alloc(), &frozen);
     drop(frozen);
-    Ok(told?)
+    told
 }
 
 /// How often a search between the apexes asks for a price. There is a route.
@@ -632,8 +496,8 @@ fn asked_for(
 
 #[test]
 fn each_edge_is_asked_for_once(rt: HostRuntime) -> Result<(), Fail> {
-    let frozen = frozen_of(rt.alloc(), BIPYRAMID)?;
-    let table = table_of(&rt, Some(1), FIVE_TWO_NINE);
+    let frozen = frozen_of(rt.alloc(), &BIPYRAMID)?;
+    let table = table_of(Some(1), FIVE_TWO_NINE)?;
     let asked = asked_for(&rt, rt.alloc(), &frozen, &table);
     drop(frozen);
     assert!(rt; asked? == 9);
@@ -642,8 +506,8 @@ fn each_edge_is_asked_for_once(rt: HostRuntime) -> Result<(), Fail> {
 
 #[test]
 fn edges_of_a_frozen_picture_have_the_prices_of_their_kinds(rt: HostRuntime) -> Result<(), Fail> {
-    let frozen = frozen_of(rt.alloc(), BIPYRAMID)?;
-    let table = table_of(&rt, Some(1), FIVE_TWO_NINE);
+    let frozen = frozen_of(rt.alloc(), &BIPYRAMID)?;
+    let table = table_of(Some(1), FIVE_TWO_NINE)?;
     let ask = |facts: &Facts| table.price(facts.kind);
     let prices = prices_of(&rt, &frozen, ask);
     drop(frozen);
@@ -715,7 +579,7 @@ fn answers(rt: &impl Abort, frozen: &Frozen) {
 
 #[test]
 fn a_frozen_picture_answers(rt: HostRuntime) -> Result<(), Fail> {
-    let frozen = frozen_of(rt.alloc(), JOINED)?;
+    let frozen = frozen_of(rt.alloc(), &JOINED)?;
     answers(&rt, &frozen);
     drop(frozen);
     Ok(())

@@ -5,119 +5,18 @@ ghost use Rattle.topo_price.specs.Prices.{IsPromise};
 
 use std::alloc::{AllocError, Global};
 use std::process::Abort;
-use std::sync::Arc;
 use std::sync::atomic::{AtomicU32, Ordering};
 use std::test::Fail;
 use topo_book::Book;
 use topo_core::calls::Reply;
-use topo_core::limits::Limits;
-use topo_core::listed::Listed;
-use topo_core::rows::{EdgeRow, Facts, Rows};
-use topo_picture::Picture;
-use topo_price::tariff::{PriceFn, Tariff};
+use topo_core::rows::Facts;
+use topo_price::tariff::PriceFn;
+use topo_test_support::books::{book_of, make};
+use topo_test_support::calls::insert;
+use topo_test_support::grids::Grid;
 
-/// So many vertices has a row of the grid, and so many rows it has.
-const WIDTH: u8 = 24;
-
-/// So many edges a grid of this width has.
-const EDGES: u32 = 1_104;
-
-/// The edge from a vertex of the grid to the one on its right.
-fn right_of(row: u8, column: u8) -> u32 {
-    row as u32 * 23 + column as u32
-}
-
-/// The edge from a vertex of the grid to the one below it.
-fn below(row: u8, column: u8) -> u32 {
-    552 + row as u32 * 24 + column as u32
-}
-
-/// The vertex in a row and a column.
-fn at(row: u8, column: u8) -> u32 {
-    row as u32 * 24 + column as u32
-}
-
-/// The edges round a vertex of the grid, clockwise from the one with the least id.
-fn around(alloc: Global, row: u8, column: u8) -> Result<Listed<u32>, AllocError> {
-    let mut edges = Vec::with_capacity(alloc, 4)?;
-    if column > 0 {
-        edges.push(right_of(row, column - 1))?;
-        if row > 0 {
-            edges.push(below(row - 1, column))?;
-        }
-    }
-    if column < WIDTH - 1 {
-        edges.push(right_of(row, column))?;
-    }
-    if row < WIDTH - 1 {
-        edges.push(below(row, column))?;
-    }
-    if column == 0 && row > 0 {
-        edges.push(below(row - 1, column))?;
-    }
-    Ok(Listed::from_vec(edges))
-}
-
-/// The rotations of the grid.
-fn rotations(alloc: Global) -> Result<Listed<Listed<u32>>, AllocError> {
-    let mut rotations = Vec::new(alloc);
-    for row in 0..WIDTH {
-        for column in 0..WIDTH {
-            rotations.push(around(alloc, row, column)?)?;
-        }
-    }
-    Ok(Listed::from_vec(rotations))
-}
-
-/// An edge of the grid.
-fn edge(alloc: Global, id: u32, a: u32, b: u32) -> EdgeRow {
-    EdgeRow {
-        id,
-        a,
-        b,
-        kind: 0,
-        crossings: Listed::new(alloc),
-    }
-}
-
-/// The edges along its rows, and then those along its columns.
-fn edges(alloc: Global) -> Result<Listed<EdgeRow>, AllocError> {
-    let mut edges = Vec::new(alloc);
-    for row in 0..WIDTH {
-        for column in 0..WIDTH - 1 {
-            let id = right_of(row, column);
-            edges.push(edge(alloc, id, at(row, column), at(row, column + 1)))?;
-        }
-    }
-    for row in 0..WIDTH - 1 {
-        for column in 0..WIDTH {
-            let id = below(row, column);
-            edges.push(edge(alloc, id, at(row, column), at(row + 1, column)))?;
-        }
-    }
-    Ok(Listed::from_vec(edges))
-}
-
-/// The grid.
-fn grid(alloc: Global) -> Result<Rows, AllocError> {
-    let rotations = rotations(alloc)?;
-    Ok(Rows {
-        rotations,
-        edges: edges(alloc)?,
-        crossings: Listed::new(alloc),
-        next_edge: EDGES,
-        next_crossing: 0,
-    })
-}
-
-/// The picture of the grid.
-fn picture(rt: &impl Abort, alloc: Global) -> Result<Picture, Fail> {
-    let limits = Limits::new(65_536, 65_536, 1_048_576).expect(rt, "the greatest limits");
-    let rows = grid(alloc)?;
-    let picture = Picture::load(alloc, limits, &rows);
-    drop(rows);
-    Ok(picture?)
-}
+/// The grid, of 1,104 edges.
+const GRID: Grid = Grid { width: 24 };
 
 /// An insertion: its ends by row and column, how many edges it crosses, and how many prices it asks
 /// for at most. On a grid as wide as this one a search over the whole picture asks for more than
@@ -169,7 +68,8 @@ fn asks_at_most<F: PriceFn>(
 ) -> Result<(), AllocError> {
     let (from, to) = (insertion.from, insertion.to);
     asked.store(0, Ordering::SeqCst);
-    let reply = book.insert(alloc, 0, at(from.0, from.1), at(to.0, to.1), 0)?;
+    let (u, v) = (GRID.at(from.0, from.1), GRID.at(to.0, to.1));
+    let reply = make(alloc, book, 0, insert(u, v))?;
     let crossed = crossed_by(&reply);
     drop(reply);
     assert!(rt; crossed == Some(insertion.crossed), "{crossed:?} crossed");
@@ -204,8 +104,7 @@ fn ask_at_most_at<F: PriceFn + Drop>(
     requires callable { F.is_callable ask }
     requires promise { IsPromise (F.may_return ask) }
 {
-    let tariff = Arc::new(alloc, Tariff::new(ask))?;
-    let mut book = Book::new(alloc, picture(rt, alloc)?, tariff)?;
+    let mut book = book_of(alloc, GRID.picture(alloc)?, ask)?;
     let told = ask_at_most(rt, alloc, &mut book, asked);
     drop(book);
     Ok(told?)
