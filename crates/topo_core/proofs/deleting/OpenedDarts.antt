@@ -68,14 +68,13 @@ module _ (rows : Rows) (paths : has_good_paths rows ≡ true) (crossings : has_g
   pub rest_joined_numbers : (c d : Dart) → IsLeft c → Joined (turn rest) dart_twin c d → Joined f twin (index_of rows c) (index_of rows d)
   rest_joined_numbers c d c_left joined = record {
     moves = joined.moves;
-    leads = (along_carried (index_of rows) IsLeft (turn rest) dart_twin f twin rest_turn_carried rest_twin_carried joined.moves c c_left).1
-        ∙ ap (index_of rows) joined.leads;
+    leads = (along_carried rest_turn_carried rest_twin_carried joined.moves c c_left).1 ∙ ap (index_of rows) joined.leads;
   }
 
   -- and numbers only as their darts are
   pub rest_joined_darts : (c d : Dart) → IsLeft c → IsLeft d → Joined f twin (index_of rows c) (index_of rows d) → Joined (turn rest) dart_twin c d
   rest_joined_darts c d c_left d_left joined =
-      let led = along_carried (index_of rows) IsLeft (turn rest) dart_twin f twin rest_turn_carried rest_twin_carried joined.moves c c_left in
+      let led = along_carried rest_turn_carried rest_twin_carried joined.moves c c_left in
       grind (arith, index_apart)
 
   -- the darts that are left

@@ -26,14 +26,13 @@ after_carried h P f g c (suc k) x p =
     let rest = after_carried h P f g c k x p in grind arith
 
 -- moves by two such maps
-pub along_carried : {X Y : Type 0} (h : X → Y) (P : X → Type 0) (f other : X → X) (g twin : Y → Y) → Carries h P f g → Carries h P other twin
-    → (moves : List Move) (x : X) → P x
-    → P (along f other moves x) × (along g twin moves (h x) ≡ h (along f other moves x))
-along_carried h P f other g twin c d [] x p = (p, refl)
-along_carried h P f other g twin c d (Turn ∷ moves) x p =
-    let rest = along_carried h P f other g twin c d moves x p in grind arith
-along_carried h P f other g twin c d (Cross ∷ moves) x p =
-    let rest = along_carried h P f other g twin c d moves x p in grind arith
+pub along_carried : {X Y : Type 0} {h : X → Y} {P : X → Type 0} {f other : X → X} {g twin : Y → Y} → Carries h P f g → Carries h P other twin
+    → (moves : List Move) (x : X) → P x → P (along f other moves x) × (along g twin moves (h x) ≡ h (along f other moves x))
+along_carried c d [] x p = (p, refl)
+along_carried c d (Turn ∷ moves) x p =
+    let rest = along_carried c d moves x p in grind arith
+along_carried c d (Cross ∷ moves) x p =
+    let rest = along_carried c d moves x p in grind arith
 
 module _ (rows : Rows) (paths : has_good_paths rows ≡ true) (crossings : has_good_crossings rows ≡ true) (rotations : has_good_rotations rows ≡ true) where
   abbrev IsHere : Dart → Type 0
@@ -84,15 +83,14 @@ module _ (rows : Rows) (paths : has_good_paths rows ≡ true) (crossings : has_g
   pub joined_numbers : (c d : Dart) → IsHere c → Joined (turn (system rows)) dart_twin c d → Joined (map_of images) twin (index_of rows c) (index_of rows d)
   joined_numbers c d c_in joined = record {
     moves = joined.moves;
-    leads = (along_carried (index_of rows) IsHere (turn (system rows)) dart_twin (map_of images) twin turn_carried twin_carried joined.moves c c_in).1
-        ∙ ap (index_of rows) joined.leads;
+    leads = (along_carried turn_carried twin_carried joined.moves c c_in).1 ∙ ap (index_of rows) joined.leads;
   }
 
   -- and numbers only as their darts are
   pub joined_darts : (c d : Dart) → IsHere c → IsHere d → Joined (map_of images) twin (index_of rows c) (index_of rows d)
       → Joined (turn (system rows)) dart_twin c d
   joined_darts c d c_in d_in joined =
-      let led = along_carried (index_of rows) IsHere (turn (system rows)) dart_twin (map_of images) twin turn_carried twin_carried joined.moves c c_in in
+      let led = along_carried turn_carried twin_carried joined.moves c c_in in
       grind (arith, index_apart)
 
   -- darts have one face on their left as their numbers do
