@@ -58,14 +58,13 @@ away : (live live' : ℕ → Bool) (n x a : ℕ) → AddsBelow live live' n x �
 away live live' n x a k t = grind (arith, false≢true)
 
 -- with a dart for each half of the new segment
-old_by : {live : ℕ → Bool} (live' : ℕ → Bool) (g l l' : ℕ → ℕ) {x r q a : ℕ} → AreKept live l l' → live r ≡ true → live q ≡ true → SameCycle (face_next g) x r
-    → SameCycle (face_next g) (twin x) q → l' x ≡ l r → l' (twin x) ≡ l q
-    → Comes live x a → HasOld live g l l' a
-old_by live' g l l' {r} kept tr tq sr sq er eq (IsNew e) =
+old_by : {live : ℕ → Bool} {g l l' : ℕ → ℕ} {x r q a : ℕ} → AreKept live l l' → live r ≡ true → live q ≡ true → SameCycle (face_next g) x r
+    → SameCycle (face_next g) (twin x) q → l' x ≡ l r → l' (twin x) ≡ l q → Comes live x a → HasOld live g l l' a
+old_by {g} {l'} {r} kept tr tq sr sq er eq (IsNew e) =
     record { old = r; was = tr; in_face = subst (λ (v : ℕ). SameCycle (face_next g) v r) (sym e) sr; label = ap l' e ∙ er }
-old_by live' g l l' {q} kept tr tq sr sq er eq (IsNewTwin e) =
+old_by {g} {l'} {q} kept tr tq sr sq er eq (IsNewTwin e) =
     record { old = q; was = tq; in_face = subst (λ (v : ℕ). SameCycle (face_next g) v q) (sym e) sq; label = ap l' e ∙ eq }
-old_by live' g l l' {a} kept tr tq sr sq er eq (WasLive t) = record { old = a; was = t; in_face = SameCycle-refl (face_next g) a; label = kept a t }
+old_by {g} {a} kept tr tq sr sq er eq (WasLive t) = record { old = a; was = t; in_face = SameCycle-refl (face_next g) a; label = kept a t }
 
 -- ---- Hang
 
@@ -81,7 +80,7 @@ hang_labels live live' f g l l' n c x adds tc k labels kept here there =
     let pa = away live live' n x a adds t in
     let pb = away live live' n x b adds s in
     unhung_faces f g c (hung f g n c x k) (adds.below a t) pa.not_self pa.not_twin pb.not_self pb.not_twin)
-    (λ a t. old_by live' g l l' kept tc tc sides.1 twin_c here there (comes live live' n x a adds t))
+    (λ a t. old_by kept tc tc sides.1 twin_c here there (comes live live' n x a adds t))
 
 -- ---- Split and smooth
 
@@ -97,7 +96,7 @@ split_labels live live' f g l l' n h x adds th tt' k labels kept here there =
     labelled live' g l' perm adds.below_after labels
     (λ a b t s. split_keeps_faces f g n h x a b k (away live live' n x a adds t))
     (λ a b t s. smooth_keeps_faces g f n x a b (smoothed_back f g n h x k) (away live live' n x a adds t) (away live live' n x b adds s))
-    (λ a t. old_by live' g l l' kept th tt' x_h sides.1 here there (comes live live' n x a adds t))
+    (λ a t. old_by kept th tt' x_h sides.1 here there (comes live live' n x a adds t))
 
 pub smooth_labels : SmoothLabels
 smooth_labels live live' f g l l' n x takes k labels kept =

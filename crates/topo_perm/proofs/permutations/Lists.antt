@@ -20,9 +20,9 @@ pub cycles_of-swap_together : (xs ys : List ℕ) {i j : ℕ} → IsPermutationLi
 cycles_of-swap_together xs ys {i} {j} h li lj ne e same met =
     ap (λ n. cycle_count (map_of ys) n) same ∙ exchange_splits h li lj ne (exchange_from_swap xs ys i j li lj e) met
 
-pub cycles_of-swap_apart : (xs ys : List ℕ) (i j : ℕ) → IsPermutationList xs → i < length xs → j < length xs → i ≢ j → ys ≡ swap xs i j → length ys ≡ length xs
-    → (SameCycle (map_of xs) i j → ⊥) → cycles_of ys + 1 ≡ cycles_of xs
-cycles_of-swap_apart xs ys i j h li lj ne e same apart =
+pub cycles_of-swap_apart : (xs ys : List ℕ) {i j : ℕ} → IsPermutationList xs → i < length xs → j < length xs → i ≢ j → ys ≡ swap xs i j
+    → length ys ≡ length xs → (SameCycle (map_of xs) i j → ⊥) → cycles_of ys + 1 ≡ cycles_of xs
+cycles_of-swap_apart xs ys {i} {j} h li lj ne e same apart =
     ap (λ n. cycle_count (map_of ys) n + 1) same ∙ sym (exchange_joins h li lj ne (exchange_from_swap xs ys i j li lj e) apart)
 
 pub after_more : (f : ℕ → ℕ) (k a : ℕ) → after f (k + 1) a ≡ f (after f k a)

@@ -79,6 +79,7 @@ visited {n} {seen} seen' {order} order' {found} found' {dart} s ld j v =
 pub record Searched (f : ℕ → ℕ) (n : ℕ) (old : List Bool) (start begin : ℕ) (seen : List Bool) (order : List ℕ) (found done : ℕ) : Type 0 where
   pub state : Found f n old start begin seen order found
   pub started : mark seen start ≡ true
+  pub since : begin ≤ done
   pub behind : done ≤ found
   pub each : (j : ℕ) → begin ≤ j → j < done → (mark seen (f (slice_index order j)) ≡ true) × (mark seen (twin (slice_index order j)) ≡ true)
 
@@ -92,32 +93,33 @@ pub search_start : (f : ℕ → ℕ) (n : ℕ) {old s1 : List Bool} {start begin
 search_start f n {old} {s1} {start} {begin} order {o1} {f1} l ls lo e v =
     let a : Visited f n old start begin old s1 order o1 begin f1 start =
     visited s1 o1 f1 (found_none f n old start begin order ls lo e) l (Joined-refl f twin start) v in
-    record { state = a.state; started = a.here; behind = a.more; each = λ j low lj. absurd (omega arith) }
+    record { state = a.state; started = a.here; since = omega arith; behind = a.more; each = λ j low lj. absurd (omega arith) }
 
 pub first_visit : {f : ℕ → ℕ} {n : ℕ} {old : List Bool} {start begin : ℕ} {seen : List Bool} (seen' : List Bool) {order : List ℕ} (order' : List ℕ) {found : ℕ}
-    (found' : ℕ) {done : ℕ} → IsPermutation f n → Searched f n old start begin seen order found done → begin ≤ done → done < found
+    (found' : ℕ) {done : ℕ} → IsPermutation f n → Searched f n old start begin seen order found done → done < found
     → IsVisit seen seen' order order' found found' (f (slice_index order done))
     → Visited f n old start begin seen seen' order order' found found' (f (slice_index order done))
-first_visit {f} {n} {old} {start} {begin} {seen} seen' {order} order' {found} found' {done} h s lo l v =
+first_visit {f} {n} {old} {start} {begin} {seen} seen' {order} order' {found} found' {done} h s l v =
     let d : ℕ = slice_index order done in
-    visited seen' order' found' s.state (h.within d (s.state.within done lo l))
-    (Joined-turned f twin start d (s.state.reached done lo l)) v
+    visited seen' order' found' s.state (h.within d (s.state.within done s.since l))
+    (Joined-turned f twin start d (s.state.reached done s.since l)) v
 
 pub two_visits : {f : ℕ → ℕ} {n : ℕ} {old : List Bool} {start begin : ℕ} {seen : List Bool} (s1 : List Bool) {s2 : List Bool} {order : List ℕ} (o1 : List ℕ)
     {o2 : List ℕ} {found : ℕ} (f1 : ℕ) {f2 : ℕ} {done : ℕ} → IsPermutation f n → n % 2 ≡ 0 → start < n → Searched f n old start begin seen order found done
-    → begin ≤ done → done < found → IsVisit seen s1 order o1 found f1 (f (slice_index order done)) → IsVisit s1 s2 o1 o2 f1 f2 (twin (slice_index order done))
+    → done < found → IsVisit seen s1 order o1 found f1 (f (slice_index order done)) → IsVisit s1 s2 o1 o2 f1 f2 (twin (slice_index order done))
     → Searched f n old start begin s2 o2 f2 (done + 1)
-two_visits {f} {n} {old} {start} {begin} {seen} s1 {s2} {order} o1 {o2} {found} f1 {f2} {done} h even ls s lo l v w =
+two_visits {f} {n} {old} {start} {begin} {seen} s1 {s2} {order} o1 {o2} {found} f1 {f2} {done} h even ls s l v w =
     let d : ℕ = slice_index order done in
-    let ld : d < n = s.state.within done lo l in
-    let a : Visited f n old start begin seen s1 order o1 found f1 (f d) = first_visit s1 o1 f1 h s lo l v in
+    let ld : d < n = s.state.within done s.since l in
+    let a : Visited f n old start begin seen s1 order o1 found f1 (f d) = first_visit s1 o1 f1 h s l v in
     let b : Visited f n old start begin s1 s2 o1 o2 f1 f2 (twin d) =
-    visited s2 o2 f2 a.state (twin-within n d even ld) (Joined-crossed f twin start d (s.state.reached done lo l)) w in
+    visited s2 o2 f2 a.state (twin-within n d even ld) (Joined-crossed f twin start d (s.state.reached done s.since l)) w in
     let both : (x : ℕ) → x < n → mark seen x ≡ true → mark s2 x ≡ true = λ x lx e. b.kept x lx (a.kept x lx e) in
     let same : (j : ℕ) → j < found → slice_index o2 j ≡ slice_index order j = λ j lj. b.order_kept j (omega (arith, a.more)) ∙ a.order_kept j lj in
     record {
       state = b.state;
       started = both start ls s.started;
+      since = omega (arith, s.since);
       behind = omega (arith, a.more, b.more);
       each = λ j low lj. elim (cases_eq j done) [
         | inl e ↦ grind arith

@@ -262,7 +262,8 @@ module _ {g : ℕ → ℕ} {n : ℕ} {f : ℕ → ℕ} {m : ℕ} {name : ℕ →
 
   second_subdivisions : AreSubdivisionsAt second ks js
   second_subdivisions = made_subdivisions second nu ks js
-      (new_numbers first second bottom middle (splits_of ks) (splits_of js) even (splits_add ks) subdivisions_run splits_are_alike (λ a at. refl))
+      (new_numbers first second (splits_of ks) (splits_of js) (record { even = even; each = splits_add ks; run = subdivisions_run }) splits_are_alike
+      (λ a at. refl))
       on (every (λ k. second (twin k.near) ≡ twin (nu k.dart)) ks far_back)
 
   other_ends : AllByRecursion (λ k. name (twin k.dart) ≡ twin k.beyond) ks
@@ -320,5 +321,6 @@ module _ {g : ℕ → ℕ} {n : ℕ} {f : ℕ → ℕ} {m : ℕ} {name : ℕ →
     subdivisions = at_subdivisions second third subdivided n ks js third_same
         (every (λ k. IsAlive subdivided n k.beyond × IsAlive subdivided n (twin k.beyond) × IsAlive subdivided n (twin k.near)) ks
         (λ k h. ((alive_beyond k h).0, (alive_beyond k h).1, alive_back k h))) second_subdivisions;
-    new_chords = new_numbers second third middle top (chords_of ls) (chords_of is) even (chords_add ls) chords_are chords_are_alike (λ a at. refl);
+    new_chords = new_numbers second third (chords_of ls) (chords_of is) (record { even = even; each = chords_add ls; run = chords_are }) chords_are_alike
+        (λ a at. refl);
   }

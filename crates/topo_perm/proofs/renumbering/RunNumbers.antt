@@ -86,20 +86,28 @@ AreNumbered h [] ds = Unit {0}
 AreNumbered h (e ∷ es) [] = ⊥
 AreNumbered h (e ∷ es) (d ∷ ds) = (h (segment_of e) ≡ segment_of d) × (h (twin (segment_of e)) ≡ twin (segment_of d)) × AreNumbered h es ds
 
+-- a run in which each edit adds a segment
+pub record IsAddingRun (n : ℕ) (s : Turning) (es : List Edit) (t : Turning) : Type 0 where
+  pub even : n % 2 ≡ 0
+  pub each : AllByRecursion IsAdding es
+  pub run : IsRun n s es t
+
 -- also under any numbers k that are the same on what is live
-pub new_numbers : (h k : ℕ → ℕ) {n : ℕ} (s t : Turning) (es ds : List Edit) → n % 2 ≡ 0 → AllByRecursion IsAdding es → IsRun n s es t → AreAlike h es ds
+pub new_numbers : (h k : ℕ → ℕ) {n : ℕ} {s t : Turning} (es ds : List Edit) → IsAddingRun n s es t → AreAlike h es ds
     → ((a : ℕ) → IsAlive t.live n a → k a ≡ numbers_after h es ds a) → AreNumbered k es ds
-new_numbers h k s t [] ds even i r like same = tt
-new_numbers h k s t (e ∷ es) [] even i r like same = absurd like
-new_numbers h k {n} s t (e ∷ es) (d ∷ ds) even i r like same =
+new_numbers h k [] ds r like same = tt
+new_numbers h k (e ∷ es) [] r like same = absurd like
+new_numbers h k {n} {t} (e ∷ es) (d ∷ ds) r like same =
     let x : ℕ = segment_of e in
     let y : ℕ = segment_of d in
+    let was : Turning = r.run.0 in
+    let adds : IsAdding e = r.each.0 in
     let before : ℕ → ℕ = numbers_after h es ds in
-    let come : Comes n r.0 x t = added_by n r.0 t e i.0 r.2 in (
-      same x (record { within = come.within; alive = come.adds.here }) ∙ stepped_by before e y x i.0 ∙ extended-here before x y,
-      same (twin x) (record { within = twin-within n x even come.within; alive = come.adds.here_twin }) ∙ stepped_by before e y (twin x) i.0
+    let come : Comes n was x t = added_by n was t e adds r.run.2 in (
+      same x (record { within = come.within; alive = come.adds.here }) ∙ stepped_by before e y x adds ∙ extended-here before x y,
+      same (twin x) (record { within = twin-within n x r.even come.within; alive = come.adds.here_twin }) ∙ stepped_by before e y (twin x) adds
           ∙ extended-there before x y,
-      new_numbers h k s r.0 es ds even i.1 r.1 like.0 (λ a at.
-          same a (still_alive r.0.live t.live n x a come.adds at) ∙ stepped_by before e y a i.0
-          ∙ extended-old before r.0.live t.live n x y a come.adds at.alive),
+      new_numbers h k es ds (record { even = r.even; each = r.each.1; run = r.run.1 }) like.0 (λ a at.
+          same a (still_alive was.live t.live n x a come.adds at) ∙ stepped_by before e y a adds
+          ∙ extended-old before was.live t.live n x y a come.adds at.alive),
     )

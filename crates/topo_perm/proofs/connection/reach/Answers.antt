@@ -37,7 +37,7 @@ visit-found-requires-in-loop-done-clause-room c fresh =
     let l : c.loop-done.done < c.loop-done.found = omega (arith, s.behind, c.if-done-found.false) in
     omega (
       arith,
-      count_room n _ _ _ s.state.count (c.requires.permutation.within _ (s.state.within c.loop-done.done (omega arith) l)) fresh,
+      count_room n _ _ _ s.state.count (c.requires.permutation.within _ (s.state.within c.loop-done.done s.since l)) fresh,
       s.state.order_length,
     )
 
@@ -49,7 +49,7 @@ visit-found-requires-in-loop-done-2-clause-room c fresh =
     c.loop-done.invariant in
     let l : c.loop-done.done < c.loop-done.found = omega (arith, s.behind, c.if-done-found.false) in
     let v = first_visit c.visit-found-in-loop-done.new.seen c.visit-found-in-loop-done.new.order c.visit-found-in-loop-done.result c.requires.permutation s
-    (omega arith) l c.visit-found-in-loop-done.ensures in
+    l c.visit-found-in-loop-done.ensures in
     omega (arith, count_room n _ _ _ v.state.count c.other_dart-other.ensures.within fresh, v.state.order_length)
 
 pub loop-done-preserved : goal.loop-done-preserved
@@ -62,7 +62,7 @@ loop-done-preserved c =
     two_visits c.visit-found-in-loop-done.new.seen
     c.visit-found-in-loop-done.new.order
     c.visit-found-in-loop-done.result
-    c.requires.permutation c.requires.even c.requires.within s (omega arith) l c.visit-found-in-loop-done.ensures
+    c.requires.permutation c.requires.even c.requires.within s l c.visit-found-in-loop-done.ensures
     (subst (λ d. IsVisit c.visit-found-in-loop-done.new.seen c.visit-found-in-loop-done-2.new.seen c.visit-found-in-loop-done.new.order
     c.visit-found-in-loop-done-2.new.order c.visit-found-in-loop-done.result c.visit-found-in-loop-done-2.result d)
     c.other_dart-other.ensures.other c.visit-found-in-loop-done-2.ensures)
