@@ -101,7 +101,7 @@ module _ (price : Pricing) (limits : Limits) where
       → ReplaysLawfully price limits p entries q → IsKept before q region
   kept before region lawful is [] p q so_far all way = subst (λ (r : Rows). IsKept before r region) (sym way.0) so_far
   kept before region lawful is (entry ∷ entries) p q so_far all way =
-      let next = spared price limits before p way.0 region entry.call entry.reply lawful way.1.lawful is so_far way.2
+      let next : IsKept before way.0 region = spared price limits entry.call entry.reply lawful way.1.lawful is so_far way.2
       (All-head (spare before region) entry entries all) in
       kept before region lawful is entries way.0 q next (All-tail (spare before region) entry entries all) way.3
 

@@ -158,10 +158,10 @@ module _ (price : Pricing) (g : Named) (lawful : Lawful g.rows) (has : IsNamed g
         }
 
 -- the first route survives where all that a search from both ends has settled is still there
-pub met_survives : (price : Pricing) (g : Named) (new : Rows) (m : Renaming) (u v : ℕ) (heights distances : List ℕ) (level least : ℕ) (r : Route)
+pub met_survives : {price : Pricing} {g : Named} {new : Rows} {m : Renaming} {u v : ℕ} {heights distances : List ℕ} {level least : ℕ} {r : Route}
     → KeepsPromise price → Lawful g.rows → IsNamed g → Lawful new
     → KeepsFaces g.rows new m → KeepsEnds g.rows new m u v r.start → CoversMeeting price g new m u v heights distances level least r
     → IsFirst price new u v (moved m r) least
-met_survives price g new m u v heights distances level least r promise lawful has lawful_new keeps ends covers =
+met_survives {price} {g} {new} {m} {u} {v} {heights} {distances} {level} {least} {r} promise lawful has lawful_new keeps ends covers =
     covered_survives price g.rows new m u v (lid price g lawful has u v heights distances level least covers.met) level r least keeps ends
     (covers_met price g lawful has u v heights distances level least covers.met new m r covers keeps) promise lawful_new

@@ -309,10 +309,10 @@ no_route price g lawful v heights are u none r n priced =
     (record { crossed = r.crossed; position = r.end; to = priced.route.to; ends = priced.route.ends; walk = priced.route.walk; cost = priced.cost })
 
 -- the first route by the heights of a search is its plan
-pub is_plan : (price : Pricing) (rows : Rows) (u v : ℕ) (heights : List ℕ) (found : PricedRoute) (plan : Plan) → AreHeights price (canonical rows) v heights
+pub is_plan : {price : Pricing} {rows : Rows} {u v : ℕ} {heights : List ℕ} {found : PricedRoute} {plan : Plan} → AreHeights price (canonical rows) v heights
     → IsFirstRoute price (canonical rows) u v heights found
     → plan.route ≡ found.route → plan.price ≡ found.price → plan.heights ≡ heights → IsPlan price rows u v plan
-is_plan price rows u v heights found plan are is route cost same = record {
+is_plan {price} {rows} {u} {v} {heights} {found} {plan} are is route cost same = record {
   heights = subst (AreHeights price (canonical rows) v) (sym same) are;
   first = subst (λ r. IsFirst price rows u v r plan.price) (sym route) (subst (IsFirst price rows u v found.route) (sym cost) is.first);
   by_heights = subst (λ hs. IsFirstByHeights price rows u v (height_in rows hs) plan.route plan.price) (sym same)

@@ -1,7 +1,7 @@
 -- Steps of a walk through the faces, and first tight darts.
 use Rattle.std.proofs.Math.Seq.{drop-cons}
 use Rattle.std.proofs.Common.{add-one, drop, get_or, ◌≡◌, ◌≢◌, ℕ, zero, suc, ◌+◌, ◌<◌, Bool, true, false}
-use Rattle.std.proofs.Common.{List, [], ◌∷◌, length, Some, None, inl, inr, refl, sym, ap, subst, ◌∙◌, arith}
+use Rattle.std.proofs.Common.{List, ◌∷◌, length, Some, None, inl, inr, refl, sym, ap, subst, ◌∙◌, arith}
 use Rattle.std.specs.Prelude.{IsTrue, if◌then◌else◌, MatchOption, Option, slice_index}
 use Rattle.std.proofs.lemmas.Bool.{cases_lt, false≢true}
 use Rattle.topo_core.specs.declared.darts.Dart.{Dart}
@@ -121,9 +121,9 @@ module _ (price : Pricing) (rows : Rows) (lawful : Lawful rows) where
 
 -- ---- Routes with a price
 
-pub route_priced : (price : Pricing) (rows : Rows) (u v n : ℕ) (r : Route) (from to : Dart) → corner rows u r.start ≡ Some from → corner rows v r.end ≡ Some to
+pub route_priced : (price : Pricing) (rows : Rows) (u v n : ℕ) (r : Route) {from to : Dart} → corner rows u r.start ≡ Some from → corner rows v r.end ≡ Some to
     → Walks price rows from r.crossed to n → (priced : IsPricedRoute price rows u v r n) × (priced.route.from ≡ from)
-route_priced price rows u v n r from to starts ends (walk, cost) = (
+route_priced price rows u v n r {from} {to} starts ends (walk, cost) = (
   record {
     route = record { from = from; to = to; starts = starts; ends = ends; walk = walk };
     cost = cost;
@@ -136,16 +136,14 @@ pub from_item : {X : Type 0} (xs : List X) (i : ℕ) (x : X) → i < length xs �
 from_item xs i x l is = rw add-one (drop-cons xs i x l ∙ ap (λ y. y ∷ drop (suc i) xs) (sym is))
 
 -- nothing is left to cross
-pub walks_home : (price : Pricing) (rows : Rows) → Lawful rows → (at to left : ℕ) (xs : List Dart) (Whole : Type 0) (same : Bool) → at < length (darts rows)
-    → to < length (darts rows) → xs ≡ [] → left ≡ 0
-    → (Whole → Walks price rows (dart_of rows at) xs (dart_of rows to) left) → (Walks price rows (dart_of rows at) xs (dart_of rows to) left → Whole)
+pub walks_home : {rows : Rows} {Whole : Type 0} {same : Bool} → Lawful rows → (at to : ℕ) → at < length (darts rows) → to < length (darts rows)
+    → (Whole → SameFace (system rows) (dart_of rows at) (dart_of rows to)) → (SameFace (system rows) (dart_of rows at) (dart_of rows to) → Whole)
     → (IsTrue same → SameCycle (next_of rows) at to) × (SameCycle (next_of rows) at to → IsTrue same) → (IsTrue same → Whole) × (Whole → IsTrue same)
-walks_home price rows lawful at to left xs Whole same at_in to_in none nothing forth back test =
-    let On = λ (ys : List Dart). Walks price rows (dart_of rows at) ys (dart_of rows to) left in (
-      (λ w. back (subst On (sym none) (face_of_numbers rows lawful at to at_in to_in (test.0 w), nothing))),
-      (λ whole. let walk = subst On none (forth whole) in
-          test.1 (subst (SameCycle (next_of rows) at) (number_of rows lawful to to_in) (numbers_of_face rows lawful at (dart_of rows to) at_in walk.0))),
-    )
+walks_home {rows} lawful at to at_in to_in forth back test = (
+  λ w. back (face_of_numbers rows lawful at to at_in to_in (test.0 w)),
+  λ whole. test.1 (subst (SameCycle (next_of rows) at) (number_of rows lawful to to_in)
+      (numbers_of_face rows lawful at (dart_of rows to) at_in (forth whole))),
+)
 
 -- a walk round a face without a tight dart below a number
 pub none_before : (price : Pricing) (rows : Rows) (heights : List ℕ) (at number i : ℕ) → next_of rows (after (next_of rows) i at) ≡ at

@@ -65,10 +65,10 @@ pub crossed_already : (price : Pricing) (g : Named) (bound : ℕ) (heights : Lis
 crossed_already price g bound heights d other promise is low p asked = grind arith
 
 -- and nor does its own price
-pub crossed_low : (price : Pricing) (g : Named) (bound : ℕ) (heights : List ℕ) (d other q : ℕ) → KeepsPromise price → Price price g.rows (dart_named g d) q
-    → other ≡ twin_name g d
-    → min (slice_index heights other) bound ≤ slice_index heights d + q → IsCrossed price g bound heights d
-crossed_low price g bound heights d other q promise priced is low p asked =
+pub crossed_low : {price : Pricing} (g : Named) (bound : ℕ) (heights : List ℕ) (d : ℕ) {other q : ℕ} → KeepsPromise price
+    → Price price g.rows (dart_named g d) q → other ≡ twin_name g d → min (slice_index heights other) bound ≤ slice_index heights d + q
+    → IsCrossed price g bound heights d
+crossed_low {price} g bound heights d {other} {q} promise priced is low p asked =
     let same = single_price price g.rows promise (dart_named g d) p q asked priced in
     let there : slice_index heights other ≡ slice_index heights (twin_name g d) = ap (slice_index heights) is in
     omega arith

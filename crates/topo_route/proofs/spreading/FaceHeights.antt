@@ -130,6 +130,6 @@ module _ (g : Named) (has : IsNamed g) (face : ℕ → ℕ) (heights : List ℕ)
 
 -- ---- Tops that the other end sets
 
-pub even_top : (g : Named) (has : IsNamed g) (face : ℕ → ℕ) (heights : List ℕ) (level most j k : ℕ) → IsName g j → IsName g k → face j ≡ face k
+pub even_top : {g : Named} (has : IsNamed g) (face : ℕ → ℕ) (heights : List ℕ) (level most j k : ℕ) → IsName g j → IsName g k → face j ≡ face k
     → top_of level most (dart_heights g face heights) j ≡ top_of level most (dart_heights g face heights) k
-even_top g has face heights level most j k lj lk e = ap (λ n. max level (most + 1 - n)) (one_number g face heights has j k lj lk e)
+even_top {g} has face heights level most j k lj lk e = ap (λ n. max level (most + 1 - n)) (one_number g face heights has j k lj lk e)

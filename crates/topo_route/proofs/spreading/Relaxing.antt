@@ -64,7 +64,7 @@ module _ (price : Pricing) (g : Named) (lawful : Lawful g.rows) (has : IsNamed g
         spreads = λ top s. narrowed price g face faces v (set heights (face t) x) (set names (face t) t) waiting' top top (reach_of least)
             (reach_of lower) d (waits top s) (λ k. omega arith) (omega arith);
         costs = now;
-        sums = sums_lowered g has face heights others least t x lower there within (omega arith) sums is;
+        sums = sums_lowered has face heights others x there within (omega arith) sums is;
         less = omega arith;
         falls = omega arith;
         lower = λ k. face_less g has face heights t x within there (omega arith) k;

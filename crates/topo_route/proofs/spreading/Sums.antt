@@ -12,11 +12,11 @@ use Rattle.topo_route.proofs.spreading.FaceHeights.{face_less, face_lowered, fac
 use Rattle.topo_route.proofs.names.Names.{name_below}
 
 -- one face is lowered
-pub sums_lowered : (g : Named) (has : IsNamed g) (face : ℕ → ℕ) (heights others : List ℕ) (least t x lower : ℕ) → IsName g t → face t < length heights
-    → x ≤ slice_index (dart_heights g face heights) t
+pub sums_lowered : {g : Named} (has : IsNamed g) (face : ℕ → ℕ) (heights others : List ℕ) {least t : ℕ} (x : ℕ) {lower : ℕ} → IsName g t
+    → face t < length heights → x ≤ slice_index (dart_heights g face heights) t
     → AreSums g (dart_heights g face heights) (dart_heights g face others) least → lower ≡ min least (x + number_at others (face t))
     → AreSums g (dart_heights g face (set heights (face t) x)) (dart_heights g face others) lower
-sums_lowered g has face heights others least t x lower there within low sums is = record {
+sums_lowered {g} has face heights others {least} {t} x there within low sums is = record {
   sums = λ k l. elim (cases_eq (face k) (face t)) [
     | inl e ↦
         let here = face_lowered g has face heights t x within k l e in

@@ -269,4 +269,4 @@ promise = record {
 }
 
 pub route_survives : IsFirst price after 3 4 found 4
-route_survives = survives price before after renamed 3 4 height found 4 promise lawful_before lawful_after faces ends covers
+route_survives = survives promise lawful_before lawful_after faces ends covers

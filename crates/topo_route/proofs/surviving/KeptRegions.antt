@@ -76,9 +76,9 @@ next_by_edge h edges es d is =
     ∙ follower_by_edge h edges (slice_index_or es 0 d.edge) es d is
 
 -- where two maps agree at d and at what comes next, the same dart comes next
-next_agrees : (g h : ℕ → Dart) → ((e : ℕ) → (g e).edge ≡ e) → ((e : ℕ) → (h e).edge ≡ e) → (es : List ℕ) (d next : Dart) → h d.edge ≡ d → g d.edge ≡ d
+next_agrees : (g h : ℕ → Dart) → ((e : ℕ) → (g e).edge ≡ e) → ((e : ℕ) → (h e).edge ≡ e) → (es : List ℕ) {d next : Dart} → h d.edge ≡ d → g d.edge ≡ d
     → next_around (map h es) d ≡ next → g next.edge ≡ h next.edge → next_around (map g es) d ≡ next
-next_agrees g h g_edges h_edges es d next is_h is_g leads agree =
+next_agrees g h g_edges h_edges es {d} {next} is_h is_g leads agree =
     let n = following (slice_index_or es 0 d.edge) es d.edge in
     let home : h n ≡ next = sym (next_by_edge h h_edges es d is_h) ∙ leads in
     let edge : next.edge ≡ n = ap (λ (c : Dart). c.edge) (sym home) ∙ h_edges n in
@@ -95,22 +95,22 @@ in_by_test d (c ∷ ds) h = elim (or_cases (same_dart d c) (has_dart ds d) h) [
 -- ---- Darts round a crossing
 
 -- what holds of each of four darts
-of_four : (P : Dart → Type 0) (a b c d t : Dart) → IsIn t (a ∷ b ∷ c ∷ d ∷ []) → P a → P b → P c → P d → P t
-of_four P a b c d t (inl e) pa pb pc pd = subst P (sym e) pa
-of_four P a b c d t (inr (inl e)) pa pb pc pd = subst P (sym e) pb
-of_four P a b c d t (inr (inr (inl e))) pa pb pc pd = subst P (sym e) pc
-of_four P a b c d t (inr (inr (inr (inl e)))) pa pb pc pd = subst P (sym e) pd
-of_four P a b c d t (inr (inr (inr (inr none)))) pa pb pc pd = absurd none
+of_four : (P : Dart → Type 0) {a b c d t : Dart} → IsIn t (a ∷ b ∷ c ∷ d ∷ []) → P a → P b → P c → P d → P t
+of_four P (inl e) pa pb pc pd = subst P (sym e) pa
+of_four P (inr (inl e)) pa pb pc pd = subst P (sym e) pb
+of_four P (inr (inr (inl e))) pa pb pc pd = subst P (sym e) pc
+of_four P (inr (inr (inr (inl e)))) pa pb pc pd = subst P (sym e) pd
+of_four P (inr (inr (inr (inr none)))) pa pb pc pd = absurd none
 
 -- t is of one of the two edges, and the next dart of the other
 abbrev Alternates : List Dart → ℕ → ℕ → Dart → Type 0
 Alternates around a b t = ((t.edge ≡ a) × ((next_around around t).edge ≡ b)) ⊎ ((t.edge ≡ b) × ((next_around around t).edge ≡ a))
 
-edges_alternate : (c n d m t : Dart) (a b : ℕ) → c.edge ≡ a → d.edge ≡ a → n.edge ≡ b → m.edge ≡ b → IsDistinct (c ∷ n ∷ d ∷ m ∷ [])
-    → IsIn t (c ∷ n ∷ d ∷ m ∷ []) → Alternates (c ∷ n ∷ d ∷ m ∷ []) a b t
-edges_alternate c n d m t a b c_is d_is n_is m_is distinct there =
+edges_alternate : {c n d m t : Dart} {a b : ℕ} → IsDistinct (c ∷ n ∷ d ∷ m ∷ []) → IsIn t (c ∷ n ∷ d ∷ m ∷ []) → c.edge ≡ a → d.edge ≡ a → n.edge ≡ b
+    → m.edge ≡ b → Alternates (c ∷ n ∷ d ∷ m ∷ []) a b t
+edges_alternate {c} {n} {d} {m} {a} {b} distinct there c_is d_is n_is m_is =
     let four = next_of_four c n d m distinct in
-    of_four (Alternates (c ∷ n ∷ d ∷ m ∷ []) a b) c n d m t there
+    of_four (Alternates (c ∷ n ∷ d ∷ m ∷ []) a b) there
     (inl (c_is, ap (λ (x : Dart). x.edge) four.first ∙ n_is))
     (inr (n_is, ap (λ (x : Dart). x.edge) four.second ∙ d_is))
     (inl (d_is, ap (λ (x : Dart). x.edge) four.third ∙ m_is))
@@ -124,10 +124,8 @@ crossing_alternates rows x t = by_sign x.sign where
       → IsIn t (clockwise sign (ahead rows x.crossed x.id) (behind rows x.crossed x.id) (ahead rows x.newcomer x.id) (behind rows x.newcomer x.id))
       → Alternates (clockwise sign (ahead rows x.crossed x.id) (behind rows x.crossed x.id) (ahead rows x.newcomer x.id) (behind rows x.newcomer x.id))
       x.crossed x.newcomer t
-  by_sign LeftToRight distinct there = edges_alternate (ahead rows x.crossed x.id) (ahead rows x.newcomer x.id) (behind rows x.crossed x.id)
-      (behind rows x.newcomer x.id) t x.crossed x.newcomer refl refl refl refl distinct there
-  by_sign RightToLeft distinct there = edges_alternate (ahead rows x.crossed x.id) (behind rows x.newcomer x.id) (behind rows x.crossed x.id)
-      (ahead rows x.newcomer x.id) t x.crossed x.newcomer refl refl refl refl distinct there
+  by_sign LeftToRight distinct there = edges_alternate distinct there refl refl refl refl
+  by_sign RightToLeft distinct there = edges_alternate distinct there refl refl refl refl
 
 of_count : (b : Bool) (n : ℕ) → n ≡ one b → 1 ≤ n → b ≡ true
 of_count true n e h = refl
@@ -223,7 +221,7 @@ module _ (before now : Rows) (region : RegionState) (kept : IsKept before now re
         sym (turn_at_point (system before) distinct_before (around_vertex before w) t (vertex_point before w w_in) at) ∙ leads in
         turn_at_point (system now) distinct_now (around_vertex now w) t (vertex_point now w w_now) there
         ∙ ap (λ list. next_around (map (end_dart now w) list) t) same
-        ∙ next_agrees (end_dart now w) (end_dart before w) (end_dart_edge now w) (end_dart_edge before w) es t next
+        ∙ next_agrees (end_dart now w) (end_dart before w) (end_dart_edge now w) (end_dart_edge before w) es
         (ap (end_dart before w) edge ∙ sym image.2) (ap (end_dart now w) edge ∙ sym t_now) old (same_end w next.edge l)
 
     -- both edges of a crossing where two darts of the region follow each other
@@ -303,11 +301,10 @@ kept_faces before now region inside lawful lawful_now of_before kept faces held 
 }
 
 -- a corner inside is where it was
-pub kept_corner : (before now : Rows) (region : RegionState) (inside : Dart → Bool) (w q : ℕ) → IsRegionOf before region → IsKept before now region
+pub kept_corner : {before now : Rows} {region : RegionState} {inside : Dart → Bool} (w q : ℕ) → IsKept before now region
     → ((d : Dart) → inside d ≡ true → holds_edge region d.edge ≡ true) → holds_vertex region w ≡ true
-    → ((c : Dart) → corner before w q ≡ Some c → inside c ≡ true)
-    → corner now w q ≡ corner before w q
-kept_corner before now region inside w q of_before kept held at_w corners =
+    → ((c : Dart) → corner before w q ≡ Some c → inside c ≡ true) → corner now w q ≡ corner before w q
+kept_corner {before} {now} {region} {inside} w q kept held at_w corners =
     slice_get-map (end_dart now w) (rotation now w) q
     ∙ ap (λ es. option_map (end_dart now w) (slice_get es q)) (kept.rotations w at_w)
     ∙ by_entry (slice_get (rotation before w) q) (λ c e. corners c (slice_get-map (end_dart before w) (rotation before w) q ∙ e))
@@ -320,10 +317,10 @@ kept_corner before now region inside w q of_before kept held at_w corners =
           (ap (holds_edge region) (sym (end_dart_edge before w e)) ∙ held (end_dart before w e) (is_inside (end_dart before w e) refl)))
 
 -- a corner of a dart inside was there before
-corner_before : (before now : Rows) (region : RegionState) (inside : Dart → Bool) (w q : ℕ) (c : Dart) → IsKept before now region
+corner_before : {before now : Rows} {region : RegionState} {inside : Dart → Bool} (w q : ℕ) {c : Dart} → IsKept before now region
     → ((d : Dart) → inside d ≡ true → holds_edge region d.edge ≡ true) → holds_vertex region w ≡ true → corner now w q ≡ Some c → inside c ≡ true
     → corner before w q ≡ Some c
-corner_before before now region inside w q c kept held at_w at h =
+corner_before {before} {now} {region} w q {c} kept held at_w at h =
     slice_get-map (end_dart before w) (rotation before w) q
     ∙ by_entry (slice_get (rotation before w) q)
     (sym (slice_get-map (end_dart now w) (rotation now w) q ∙ ap (λ es. option_map (end_dart now w) (slice_get es q)) (kept.rotations w at_w)) ∙ at) where
@@ -335,27 +332,25 @@ corner_before before now region inside w q c kept held at_w at h =
           ap (λ (x : Dart). Some x) (sym (same_end before now region kept w e (ap (holds_edge region) (sym edge) ∙ held c h)) ∙ same)
 
 -- and so are all corners of a vertex, where all of them are inside
-pub kept_corners : (before now : Rows) (region : RegionState) (inside : Dart → Bool) (w : ℕ) → IsRegionOf before region → IsKept before now region
+pub kept_corners : {before now : Rows} {region : RegionState} {inside : Dart → Bool} (w : ℕ) → IsKept before now region
     → ((d : Dart) → inside d ≡ true → holds_edge region d.edge ≡ true) → holds_vertex region w ≡ true
-    → ((q : ℕ) (c : Dart) → corner before w q ≡ Some c → inside c ≡ true)
-    → (q : ℕ) → corner now w q ≡ corner before w q
-kept_corners before now region inside w of_before kept held at_w corners q = kept_corner before now region inside w q of_before kept held at_w (corners q)
+    → ((q : ℕ) (c : Dart) → corner before w q ≡ Some c → inside c ≡ true) → (q : ℕ) → corner now w q ≡ corner before w q
+kept_corners w kept held at_w corners q = kept_corner w q kept held at_w (corners q)
 
 -- the corners of v, and those of u as far as the start
-pub kept_ends_to_start : (before now : Rows) (region : RegionState) (inside : Dart → Bool) (u v start : ℕ) → IsRegionOf before region → IsKept before now region
+pub kept_ends_to_start : {before now : Rows} {region : RegionState} {inside : Dart → Bool} (u v start : ℕ) → IsKept before now region
     → ((d : Dart) → inside d ≡ true → holds_edge region d.edge ≡ true) → holds_vertex region u ≡ true → holds_vertex region v ≡ true
     → ((q : ℕ) (c : Dart) → q ≤ start → corner before u q ≡ Some c → inside c ≡ true) → ((q : ℕ) (c : Dart) → corner before v q ≡ Some c → inside c ≡ true)
     → KeepsEnds before now (unmoved inside) u v start
-kept_ends_to_start before now region inside u v start of_before kept held at_u at_v starts target = record {
-  target = λ q. kept_corner before now region inside v q of_before kept held at_v (target q) ∙ sym (option_map_id (corner before v q));
-  starts = λ q low. kept_corner before now region inside u q of_before kept held at_u (λ c at. starts q c low at) ∙ sym (option_map_id (corner before u q));
-  behind = λ q c at h. (q, corner_before before now region inside u q c kept held at_u at h);
+kept_ends_to_start {before} u v start kept held at_u at_v starts target = record {
+  target = λ q. kept_corner v q kept held at_v (target q) ∙ sym (option_map_id (corner before v q));
+  starts = λ q low. kept_corner u q kept held at_u (λ c at. starts q c low at) ∙ sym (option_map_id (corner before u q));
+  behind = λ q c at h. (q, corner_before u q kept held at_u at h);
 }
 
 -- the corners of both
-pub kept_ends : (before now : Rows) (region : RegionState) (inside : Dart → Bool) (u v start : ℕ) → IsRegionOf before region → IsKept before now region
+pub kept_ends : {before now : Rows} {region : RegionState} {inside : Dart → Bool} (u v start : ℕ) → IsKept before now region
     → ((d : Dart) → inside d ≡ true → holds_edge region d.edge ≡ true) → holds_vertex region u ≡ true → holds_vertex region v ≡ true
     → ((q : ℕ) (c : Dart) → corner before u q ≡ Some c → inside c ≡ true) → ((q : ℕ) (c : Dart) → corner before v q ≡ Some c → inside c ≡ true)
     → KeepsEnds before now (unmoved inside) u v start
-kept_ends before now region inside u v start of_before kept held at_u at_v starts target =
-    kept_ends_to_start before now region inside u v start of_before kept held at_u at_v (λ q c low at. starts q c at) target
+kept_ends u v start kept held at_u at_v starts target = kept_ends_to_start u v start kept held at_u at_v (λ q c low at. starts q c at) target

@@ -128,22 +128,22 @@ abbrev pub HoldsFirst : Named → (ℕ → ℕ) → List ℕ → ℕ → List �
 HoldsFirst g face heights bound places n region = (i : ℕ) → i < n → slice_index heights (slice_index places i) < bound
     → (k : ℕ) → IsName g k → face k ≡ slice_index places i → holds_edge region (dart_named g k).edge ≡ true
 
-pub holds_next : (g : Named) (face : ℕ → ℕ) (heights : List ℕ) (bound : ℕ) (places : List ℕ) (n : ℕ) (before after : RegionState) → HoldsMore before after
+pub holds_next : (g : Named) (face : ℕ → ℕ) (heights : List ℕ) (bound : ℕ) (places : List ℕ) (n : ℕ) {before after : RegionState} → HoldsMore before after
     → HoldsFirst g face heights bound places n before
     → (slice_index heights (slice_index places n) < bound → (k : ℕ) → IsName g k → face k ≡ slice_index places n
     → holds_edge after (dart_named g k).edge ≡ true) → HoldsFirst g face heights bound places (n + 1) after
-holds_next g face heights bound places n before after more first next i less low k l e = elim (cases_lt i n) [
+holds_next g face heights bound places n more first next i less low k l e = elim (cases_lt i n) [
   | inl earlier ↦ more.edges (dart_named g k).edge (first i earlier low k l e)
   | inr last ↦
       let is : i ≡ n = omega arith in
       next (subst (λ j. slice_index heights (slice_index places j) < bound) is low) k l (e ∙ ap (slice_index places) is)
 ]
 
-pub holds_below : (g : Named) → IsNamed g → (face : ℕ → ℕ) (faces : ℕ) → HasFaces g face faces
+pub holds_below : {g : Named} {face : ℕ → ℕ} {faces : ℕ} → IsNamed g → HasFaces g face faces
     → (heights : List ℕ) (bound : ℕ) (places : List ℕ) (region : RegionState) → length heights ≡ faces → bound ≤ unreached
     → ((f : ℕ) → f < length heights → slice_index heights f ≢ unreached → has_id places f ≡ true)
     → HoldsFirst g face heights bound places (length places) region → HoldsBelow g (dart_heights g face heights) bound region
-holds_below g has face faces has_faces heights bound places region one_each small all first k l low =
+holds_below {g} {face} has has_faces heights bound places region one_each small all first k l low =
     let within : face k < length heights = omega (arith, has_faces.within k l) in
     let is = height_by_face g face heights has k l within in
     let (i, less, at) = listed_at places (face k) (all (face k) within (λ e. omega arith)) in

@@ -170,24 +170,24 @@ module _ (price : Pricing) (promise : KeepsPromise price) (old : Rows) (lawful :
   }
 
 -- the first route survives where all that the search has seen is still there
-pub survives : (price : Pricing) (old new : Rows) (m : Renaming) (u v : ℕ) (height : Dart → ℕ) (r : Route) (p : ℕ) → KeepsPromise price
+pub survives : {price : Pricing} {old new : Rows} {m : Renaming} {u v : ℕ} {height : Dart → ℕ} {r : Route} {p : ℕ} → KeepsPromise price
     → Lawful old → Lawful new
     → KeepsFaces old new m → KeepsEnds old new m u v r.start → CoversSearch price old m u v height r p → IsFirst price new u v (moved m r) p
-survives price old new m u v height r p promise lawful lawful_new keeps ends covers =
+survives {price} {old} {new} {m} {u} {v} {height} {r} {p} promise lawful lawful_new keeps ends covers =
     let stays = face_inside old new m keeps in
     covered_survives price old new m u v (level price promise old lawful m u v height r p keeps.round stays covers) p r p keeps ends
     (covers_search price promise old lawful m u v height r p keeps.round stays covers new) promise lawful_new
 
 -- the same of the heights that a search leaves
-pub found_survives : (price : Pricing) (g : Named) (new : Rows) (m : Renaming) (u v : ℕ) (top : ℕ → ℕ) (heights : List ℕ) (r : Route) (p : ℕ)
+pub found_survives : {price : Pricing} {g : Named} {new : Rows} {m : Renaming} {u v : ℕ} {top : ℕ → ℕ} {heights : List ℕ} {r : Route} {p : ℕ}
     → KeepsPromise price → Lawful g.rows → IsNamed g → Lawful new
     → KeepsFaces g.rows new m → KeepsEnds g.rows new m u v r.start → CoversKnown price g m u v top heights r p → IsFirst price new u v (moved m r) p
-found_survives price g new m u v top heights r p promise lawful has lawful_new keeps ends covers =
-    survives price g.rows new m u v (capped price g lawful has u v top heights covers.known) r p promise lawful lawful_new keeps ends
-    (record {
+found_survives {price} {g} {m} {u} {v} {top} {heights} {r} {p} promise lawful has lawful_new keeps ends covers =
+    let searched : CoversSearch price g.rows m u v (capped price g lawful has u v top heights covers.known) r p = record {
       certificate = covers.known.certificate;
       first = first_by_capped price g lawful has u v top heights covers.known r p covers.first covers.below;
       near = covers.near;
       target = covers.target;
       starts = covers.starts;
-    })
+    } in
+    survives promise lawful lawful_new keeps ends searched

@@ -194,7 +194,7 @@ module _ (price : Pricing) (g : Named) (lawful : Lawful g.rows) (has : IsNamed g
         (seen_held route.from (start_seen within r.start route.from route.starts)) in
         let at_v = held_corner g.rows region good holds.of_rows v r.end route.to route.ends (seen_held route.to (target_seen r.end route.to route.ends)) in
         let faces = kept_faces g.rows now region seen lawful lawful_now holds.of_rows kept seen_region seen_held in
-        let ends = kept_ends g.rows now region seen u v r.start holds.of_rows kept seen_held at_u at_v (start_seen within) target_seen in
+        let ends = kept_ends u v r.start kept seen_held at_u at_v (start_seen within) target_seen in
         let by_least : IsFirstByHeights price g.rows u v height r least = subst (λ n. IsFirstByHeights price g.rows u v height r n) is first in
         let covers : CoversMeeting price g now (unmoved seen) u v heights distances level least r = record {
           met = met;
@@ -202,24 +202,27 @@ module _ (price : Pricing) (g : Named) (lawful : Lawful g.rows) (has : IsNamed g
           near_target = near_target;
           near_start = near_start;
           starts = λ q c before at. start_seen within q c at;
-          all_starts = λ l q. kept_corners g.rows now region seen u holds.of_rows kept seen_held at_u (start_seen within) q
-              ∙ sym (option_map_id (corner g.rows u q));
+          all_starts = λ l q. kept_corners u kept seen_held at_u (start_seen within) q ∙ sym (option_map_id (corner g.rows u q));
         } in
-        let survives = met_survives price g now (unmoved seen) u v heights distances level least r promise lawful has lawful_now faces ends covers in
+        let survives = met_survives promise lawful has lawful_now faces ends covers in
         let same : moved (unmoved seen) r ≡ r = ap (λ xs. record { start = r.start; crossed = xs; end = r.end }) (unmoved_list r.crossed) in
         subst (λ s. IsFirst price now u v s p) same (subst (λ n. IsFirst price now u v (moved (unmoved seen) r) n) (sym is) survives)
 
+-- what a search leaves: where it stopped, its route, and the region that it has seen
+pub record HasSeen (price : Pricing) (g : Named) (u v : ℕ) (heights distances : List ℕ) (stop : Option Stop) (r : Route) (p : ℕ)
+    (found : Option RegionState) : Type 0 where
+  pub rests : IfSome stop (λ s. RestsOn price g u v heights distances s.level s.least r p)
+  pub seen : IfSome found (λ region. IsSomeAnd stop (λ s. (0 < s.least) × (s.least < unreached) × HoldsSeen g heights distances s.level s.least region))
+
 -- what a search hands out
-pub first_seen : (price : Pricing) (g : Named) (lawful : Lawful g.rows) (has : IsNamed g) (u v : ℕ) (heights distances : List ℕ) (stop : Option Stop)
-    (r : Route) (p : ℕ) (found : Option RegionState) → KeepsPromise price
-    → IfSome stop (λ s. RestsOn price g u v heights distances s.level s.least r p)
-    → IfSome found (λ region. IsSomeAnd stop (λ s. (0 < s.least) × (s.least < unreached) × HoldsSeen g heights distances s.level s.least region))
+pub first_seen : {price : Pricing} {g : Named} {u v : ℕ} {heights distances : List ℕ} {stop : Option Stop} {r : Route} {p : ℕ} {found : Option RegionState}
+    → KeepsPromise price → Lawful g.rows → IsNamed g → HasSeen price g u v heights distances stop r p found
     → IfSome found (λ region. IsRegionOf g.rows region × IsFirstWhileKept price g.rows u v region r p)
-first_seen price g lawful has u v heights distances stop r p None promise rests seen = tt
-first_seen price g lawful has u v heights distances None r p (Some region) promise rests seen = absurd seen
-first_seen price g lawful has u v heights distances (Some stop) r p (Some region) promise rests seen =
-    let met = rests.met.meets seen.1 in (
-      seen.2.of_rows,
-      first_while_kept price g lawful has u v heights distances stop.level stop.least met region seen.2 promise (rests.met.within seen.0)
-          r p rests.first,
+first_seen {found = None} promise lawful has s = tt
+first_seen {stop = None} {found = Some region} promise lawful has s = absurd s.seen
+first_seen {price} {g} {u} {v} {heights} {distances} {stop = Some at} {r} {p} {found = Some region} promise lawful has s =
+    let (some, reached, holds) = s.seen in (
+      holds.of_rows,
+      first_while_kept price g lawful has u v heights distances at.level at.least (s.rests.met.meets reached) region holds promise (s.rests.met.within some)
+          r p s.rests.first,
     )

@@ -228,26 +228,26 @@ module _ (before p : Rows) (region : RegionState) (e : ℕ) (good : IsWellFormed
 -- ---- All calls
 
 -- a picture that has kept a region keeps it when a call spares it
-pub spared : (price : Pricing) (limits : Limits) (before p q : Rows) (region : RegionState) (call : Call) (reply : Reply)
+pub spared : (price : Pricing) (limits : Limits) {before p q : Rows} {region : RegionState} (call : Call) (reply : Reply)
     → Lawful before → Lawful p → IsRegionOf before region → IsKept before p region
     → Step price limits p call reply q → Spares before region call reply → IsKept before q region
-spared price limits before p q region call (Refused why) lawful lawful_p of_before kept step spares =
+spared price limits {before} {region} call (Refused why) lawful lawful_p of_before kept step spares =
     subst (λ rows. IsKept before rows region) (sym step.1) kept
-spared price limits before p q region (Grow u position kind) (Grown vertex edge) lawful lawful_p of_before kept step spares =
+spared price limits {before} {p} {region} (Grow u position kind) (Grown vertex edge) lawful lawful_p of_before kept step spares =
     let region_p = region_now before p region lawful of_before kept in
     subst (λ rows. IsKept before rows region) (sym step.3)
     (kept_twice before p (grown p u position kind) region kept (grown_kept p region u position kind region_p spares))
-spared price limits before p q region (Insert u v kind) (Put made) lawful lawful_p of_before kept step spares =
+spared price limits {before} {p} {region} (Insert u v kind) (Put made) lawful lawful_p of_before kept step spares =
     let region_p = region_now before p region lawful of_before kept in
     subst (λ rows. IsKept before rows region) (sym step.4) (kept_twice before p (shown p u v kind made.route) region kept
     (shown_kept p region u v kind made.route lawful_p.embedding.well_formed region_p spares.0 spares.1 spares.2))
-spared price limits before p q region (Delete e) (Deleted edge) lawful lawful_p of_before kept step spares =
+spared price limits {before} {p} {region} (Delete e) (Deleted edge) lawful lawful_p of_before kept step spares =
     let region_p = region_now before p region lawful of_before kept in
     subst (λ rows. IsKept before rows region) (sym step.3) (kept_twice before p (without p e) region kept
     (without_kept before p region e lawful.embedding.well_formed lawful_p.embedding.well_formed of_before kept region_p step.0 spares))
-spared price limits before p q region (Grow u position kind) (Put made) lawful lawful_p of_before kept step spares = absurd spares
-spared price limits before p q region (Grow u position kind) (Deleted edge) lawful lawful_p of_before kept step spares = absurd spares
-spared price limits before p q region (Insert u v kind) (Grown vertex edge) lawful lawful_p of_before kept step spares = absurd spares
-spared price limits before p q region (Insert u v kind) (Deleted edge) lawful lawful_p of_before kept step spares = absurd spares
-spared price limits before p q region (Delete e) (Grown vertex edge) lawful lawful_p of_before kept step spares = absurd spares
-spared price limits before p q region (Delete e) (Put made) lawful lawful_p of_before kept step spares = absurd spares
+spared price limits (Grow u position kind) (Put made) lawful lawful_p of_before kept step spares = absurd spares
+spared price limits (Grow u position kind) (Deleted edge) lawful lawful_p of_before kept step spares = absurd spares
+spared price limits (Insert u v kind) (Grown vertex edge) lawful lawful_p of_before kept step spares = absurd spares
+spared price limits (Insert u v kind) (Deleted edge) lawful lawful_p of_before kept step spares = absurd spares
+spared price limits (Delete e) (Grown vertex edge) lawful lawful_p of_before kept step spares = absurd spares
+spared price limits (Delete e) (Put made) lawful lawful_p of_before kept step spares = absurd spares

@@ -44,7 +44,7 @@ returns-in-Some g c =
     (IsFirstRoute price n c.args.u c.args.v heights)) numbered c.in_ok-found.ensures in
     let found = subst (λ o. MatchOption o (HasNoRoute price rows c.args.u c.args.v) (IsFirstRoute price (canonical rows) c.args.u c.args.v heights))
     c.in-Some.is by_numbers in
-    is_plan price rows c.args.u c.args.v heights c.in-Some.field-0 _ (subst (λ (n : Named). AreHeights price n c.args.v heights)
+    is_plan (subst (λ (n : Named). AreHeights price n c.args.v heights)
     numbered c.in_ok-least_heights.ensures.are_heights) found refl refl (c.from_vec.ensures ∙ c.in_ok-numbers.ensures)
 
 pub returns : goal.returns

@@ -50,7 +50,6 @@ loop-i-preserved g c =
     elim c.if-get-bound.branch [
       | then-get-bound+in_ok-mark_face w ↦
           let marks = w.in_ok-mark_face.ensures in
-          let after = w.mark_face.new.region in
           let within : face < length names = omega (arith, inside, c.requires.labelled.one_each, c.requires.labelled.as_many) in
           let dart : w.index.result.now ≡ slice_index names face = w.index.ensures ∙ get_or_default_zero names face w.index.result.now within in
           let here : face_of w.index.result.now ≡ face = ap face_of dart ∙ c.requires.labelled.inside face (omega (arith, inside, c.requires.labelled.one_each))
@@ -59,12 +58,12 @@ loop-i-preserved g c =
             of_rows = subst OfRows (sym w.region-is) marks.of_rows;
             more = subst More (sym w.region-is) (more_on invariant.more marks.more);
             first = subst First (sym w.region-is)
-                (holds_next named face_of heights c.args.bound places i before after marks.more invariant.first (λ low k l e. marks.round k l (e ∙ sym here)));
+                (holds_next named face_of heights c.args.bound places i marks.more invariant.first (λ low k l e. marks.round k l (e ∙ sym here)));
           }
       | else-get-bound w ↦ record {
         of_rows = subst OfRows (sym w.region-is) invariant.of_rows;
         more = subst More (sym w.region-is) invariant.more;
-        first = subst First (sym w.region-is) (holds_next named face_of heights c.args.bound places i before before (no_more before) invariant.first
+        first = subst First (sym w.region-is) (holds_next named face_of heights c.args.bound places i (no_more before) invariant.first
             (λ low. absurd (omega (arith, c.get.ensures, w.if-get-bound.false))));
       }
     ]
@@ -73,17 +72,15 @@ pub returns : goal.returns
 returns g c =
     let graph = c.args.graph.now in
     let named = g.W.FaceGraph.named graph in
-    let lawful = g.met.W.FaceGraph.lawful graph in
     let has = g.met.W.FaceGraph.has_names graph in
     let face = g.W.FaceGraph.face_of graph in
-    let faces = g.W.FaceGraph.face_bound graph in
     let has_faces = g.met.W.FaceGraph.has_faces graph in
     let places = c.written-places.result.now in
     let whole : c.loop-i.i ≡ length places = omega arith in
     record {
       of_rows = c.loop-i.invariant.of_rows;
       more = c.loop-i.invariant.more;
-      below = holds_below named has face faces has_faces c.args.labels.now.heights c.args.bound places c.loop-i.region c.requires.labelled.one_each
+      below = holds_below has has_faces c.args.labels.now.heights c.args.bound places c.loop-i.region c.requires.labelled.one_each
           (omega (arith, c.ranges.bound.fits)) c.written-places.ensures.all
           (subst (λ n. HoldsFirst named face c.args.labels.now.heights c.args.bound places n c.loop-i.region) whole c.loop-i.invariant.first);
     }

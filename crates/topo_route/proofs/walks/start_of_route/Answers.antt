@@ -11,8 +11,7 @@ returns-then-walks g c =
     let rows = g.D.Dual.shows c.args.dual.now in
     let price = prices_of (g.F.PriceFn.may_return c.args.tariff.now) in
     let On = λ (xs : List Dart). Walks price rows (dart_of rows c.in-Some-Some.from) xs (dart_of rows c.in-Some-Some.to) c.args.price in
-    let priced = route_priced price rows c.args.u c.args.v c.args.price c.args.route.now (dart_of rows c.in-Some-Some.from)
-    (dart_of rows c.in-Some-Some.to) c.in-Some-Some.ensures.1 c.in-Some-Some.ensures'.1
+    let priced = route_priced price rows c.args.u c.args.v c.args.price c.args.route.now c.in-Some-Some.ensures.1 c.in-Some-Some.ensures'.1
     (subst On c.as_slice.ensures (c.walks.ensures.0 c.if-walks.true)) in (
       c.in-Some-Some.ensures.0,
       priced.0,

@@ -1,4 +1,4 @@
-use Rattle.std.proofs.Common.{arith, ◌≡◌, ◌+◌, [], ◌∷◌, List, subst, drop}
+use Rattle.std.proofs.Common.{arith, ◌≡◌, ◌+◌, [], ◌∷◌, List, subst, sym, drop}
 use Rattle.std.proofs.lemmas.Bool.{false≢true}
 use Rattle.std.proofs.lemmas.List.{drop_all}
 use Rattle.topo_core.specs.declared.darts.Dart.{Dart}
@@ -31,7 +31,7 @@ returns-then-left-eq0 g c =
     let price = prices_of (g.F.PriceFn.may_return c.args.tariff.now) in
     let i = c.loop-dart.dart-index in
     let none : drop i c.args.crossed.now ≡ [] = drop_all i c.args.crossed.now c.loop-dart-test.false in
-    let Whole : Type 0 = Walks price rows (dart_of rows c.args.from) c.args.crossed.now (dart_of rows c.args.to) c.args.price in
-    walks_home price rows (lawful_shown (g.met.D.Dual.numbered c.args.dual.now) (g.met.D.FaceGraph.lawful c.args.dual.now))
-    c.loop-dart.at c.args.to c.loop-dart.left (drop i c.args.crossed.now) Whole c.same_face.result
-    c.loop-dart.invariant.within c.requires.to_within none c.if-left-eq0.true c.loop-dart.invariant.forth c.loop-dart.invariant.back c.same_face.ensures
+    let On = λ (xs : List Dart). Walks price rows (dart_of rows c.loop-dart.at) xs (dart_of rows c.args.to) c.loop-dart.left in
+    walks_home (lawful_shown (g.met.D.Dual.numbered c.args.dual.now) (g.met.D.FaceGraph.lawful c.args.dual.now))
+    c.loop-dart.at c.args.to c.loop-dart.invariant.within c.requires.to_within (λ whole. (subst On none (c.loop-dart.invariant.forth whole)).0)
+    (λ face. c.loop-dart.invariant.back (subst On (sym none) (face, c.if-left-eq0.true))) c.same_face.ensures

@@ -83,8 +83,8 @@ returns-else-height-saturating_sub-clause-crossed g c =
     let at : slice_index (dart_heights named face heights) twin ≡ slice_index heights c.face_at-face.result =
     of_face price named has face faces has_faces c.args.v heights c.args.self.now.names.items c.requires.costs twin c.across-twin.ensures.name
     ∙ ap (slice_index heights) (sym c.face_at-face.ensures.face) in
-    crossed_low price named (reach_of c.args.least.now) (dart_heights named face heights)
-    c.args.dart twin c.in-Some.price c.in-Some.ensures.promise c.in-Some.ensures.price c.across-twin.ensures.twin (omega arith)
+    crossed_low named (reach_of c.args.least.now) (dart_heights named face heights) c.args.dart c.in-Some.ensures.promise c.in-Some.ensures.price
+    c.across-twin.ensures.twin (omega arith)
 
 pub returns-in-None-clause-crossed : goal.returns-in-None-clause-crossed
 returns-in-None-clause-crossed g c p asked = absurd (c.in-None.ensures.price p asked)

@@ -62,7 +62,7 @@ loop-dart-preserved g c =
     let top = λ (least : ℕ). top_of c.args.level (min c.args.most least) (dart_heights named face c.args.other.now) in
     record {
       spreads = taken_relaxes price named lawful has face faces has_faces c.args.v c.args.other.now (top c.loop-dart.least) (top c.relax_face.new.least) small
-          (even_top named has face c.args.other.now c.args.level (min c.args.most c.loop-dart.least)) c.loop-dart.invariant.spreads c.in-Some.ensures.name
+          (even_top has face c.args.other.now c.args.level (min c.args.most c.loop-dart.least)) c.loop-dart.invariant.spreads c.in-Some.ensures.name
           (λ k s l less. c.in-Some.ensures.others k s l (omega (arith, c.min.ensures))) c.in-Some.ensures.fewer relaxes
           (λ k. omega (arith, relaxes.less));
       sums = relaxes.sums;
@@ -86,7 +86,7 @@ returns g c =
     record {
       costs = c.loop-dart.invariant.spreads.costs;
       settled = all_settled price named face faces c.args.v now.heights now.names.items now.waiting has small top (reach_of c.loop-dart.least)
-          (even_top named has face c.args.other.now c.args.level (min c.args.most c.loop-dart.least))
+          (even_top has face c.args.other.now c.args.level (min c.args.most c.loop-dart.least))
           c.loop-dart.invariant.spreads (λ k s l less. c.in_default.ensures.others k s l (omega (arith, c.min.ensures)));
       sums = c.loop-dart.invariant.sums;
       less = c.loop-dart.invariant.less;
