@@ -83,10 +83,10 @@ listed_more {live} {live'} {hs} new {x} y one_more within within' k t ey en =
     }
 
 -- a new segment's halves have its label
-pub labelled_more : {old new : ℕ → ℕ} {live : ℕ → Bool} (labels : List ℕ) {hs : List ℕ} (all : List ℕ) {x : ℕ} (y i : ℕ) {label : ℕ}
+pub labelled_more : {old new : ℕ → ℕ} {live : ℕ → Bool} (labels : List ℕ) {hs all : List ℕ} {x y : ℕ} (i : ℕ) {label : ℕ}
     → all ≡ (hs ++ x ∷ []) ++ y ∷ [] → y ≡ twin x → length hs ≡ 2 * i → label ≡ map_of labels i → IsListed live hs
     → AreLabelled labels hs old → AddsLabel live old new x label → AreLabelled labels all new
-labelled_more {old} {new} labels {hs} all {x} y i en ey size is k were t a l =
+labelled_more {old} {new} labels {hs} {all} {x} {y} i en ey size is k were t a l =
     let g : Longer hs all x y = subst (λ (l : List ℕ). Longer hs l x y) (sym en) (longer hs x y) in
     elim (three a (length hs) (subst (λ (n : ℕ). a < n) g.size l)) [
       | inl before ↦ ap new (g.old a before) ∙ t.others (map_of hs a) (k.alive a before) ∙ were a before

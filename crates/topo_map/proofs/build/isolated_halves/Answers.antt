@@ -37,9 +37,8 @@ loop-segment-preserved c =
       size = ap length e ∙ (let w : length ((old ++ x ∷ []) ++ y ∷ []) ≡ 2 * (c.loop-segment.segment + 1) = omega arith in w);
       alone = alone_more c.loop-segment.segments c.insert_isolated-half.new.segments old new x y c.loop-segment.invariant.alone
           c.insert_isolated-half.ensures.inserted c.twin.ensures e;
-      labels = labelled_more c.args.edges.now new y c.loop-segment.segment
-          e c.twin.ensures c.loop-segment.invariant.size refl c.loop-segment.invariant.alone.listed c.loop-segment.invariant.labels
-          c.insert_isolated-half.ensures.label;
+      labels = labelled_more c.args.edges.now c.loop-segment.segment e c.twin.ensures c.loop-segment.invariant.size refl
+          c.loop-segment.invariant.alone.listed c.loop-segment.invariant.labels c.insert_isolated-half.ensures.label;
       blank = blank_more c.loop-segment.segments c.insert_isolated-half.new.segments x c.loop-segment.invariant.blank c.insert_isolated-half.ensures.inserted
           c.insert_isolated-half.ensures.faces;
       room = (let w : length c.args.edges.now ≤ room_of c.insert_isolated-half.new.segments + (c.loop-segment.segment + 1) = omega arith in w);
