@@ -18,17 +18,18 @@ then_not_due : {A B : Type 0} (fault : ScriptFault) (o : Option A) (next : A →
 unfolding and_then
 then_not_due fault o next e = rw (sym e)
 
-pub member_there : {A : Type 0} (form : Path → Data → Read A) (path at_member : Path) (key : Key) (d found : Data) (name : List ℕ) (r : Read A)
-    → name ≡ key_name key → at_member ≡ member_of path key → Some found ≡ get name d → Gives r (form at_member found) → Gives r (member_form form path key d)
+pub member_there : {A : Type 0} (form : Path → Data → Read A) (path : Path) {at_member : Path} (key : Key) (d : Data) {found : Data} {name : List ℕ}
+    (r : Read A) → name ≡ key_name key → at_member ≡ member_of path key → Some found ≡ get name d → Gives r (form at_member found)
+    → Gives r (member_form form path key d)
 unfolding member_form
-member_there form path at_member key d found name r named placed there h =
+member_there form path key d {found} r named placed there h =
     let e = then_due (BadShape (member_of path key)) (get (key_name key) d) found (form (member_of path key)) (there ∙ ap (λ n. get n d) named) in
     subst (Gives r) (sym e) (subst (λ p. Gives r (form p found)) placed h)
 
-pub member_missing : {A : Type 0} (form : Path → Data → Read A) (path at_member : Path) (key : Key) (d : Data) (name : List ℕ)
+pub member_missing : {A : Type 0} (form : Path → Data → Read A) (path : Path) {at_member : Path} (key : Key) (d : Data) {name : List ℕ}
     → name ≡ key_name key → at_member ≡ member_of path key → None ≡ get name d → member_form form path key d ≡ Err (BadShape at_member)
 unfolding member_form
-member_missing form path at_member key d name named placed missing =
+member_missing form path key d named placed missing =
     then_not_due (BadShape (member_of path key)) (get (key_name key) d) (form (member_of path key)) (missing ∙ ap (λ n. get n d) named)
     ∙ ap (λ p. Err (BadShape p)) (sym placed)
 
@@ -77,12 +78,12 @@ pub member_or_missing : {A : Type 0} (default : A) (form : Path → Data → Rea
 unfolding member_or
 member_or_missing default form path key d missing = rw (sym missing)
 
-pub member_read : {A : Type 0} (form : Path → Data → Read A) (path : Path) (key : Key) (d found : Data) (a : A)
+pub member_read : {A : Type 0} (form : Path → Data → Read A) (path : Path) (key : Key) (d : Data) {found : Data} {a : A}
     → get (key_name key) d ≡ Some found → ((p : Path) → form p found ≡ Ok a) → member_form form path key d ≡ Ok a
 unfolding member_form and_then
-member_read form path key d found a there h = rw there (h (member_of path key))
+member_read form path key d there h = rw there (h (member_of path key))
 
-pub element_read : {A : Type 0} (form : Path → Data → Read A) (path : Path) (i : ℕ) (d found : Data) (a : A)
+pub element_read : {A : Type 0} (form : Path → Data → Read A) (path : Path) (i : ℕ) (d : Data) {found : Data} {a : A}
     → at i d ≡ Some found → ((p : Path) → form p found ≡ Ok a) → element form path i d ≡ Ok a
 unfolding element and_then
-element_read form path i d found a there h = rw there (h (element_of path i))
+element_read form path i d there h = rw there (h (element_of path i))

@@ -14,7 +14,7 @@ use Rattle.serde_json.specs.Read.{of_json, of_members, number_of, number_from, m
 use Rattle.topo_forms.specs.declared.path.Path.{Path}
 use Rattle.topo_forms.specs.Paths.{element_of}
 use Rattle.topo_forms.specs.Reads.{Read, and_then, number_below, list_form, items_from, value_of}
-use Rattle.topo_forms.specs.Tokens.{Spells, SpellsItems, GoesOn, SpellsMember, SpellsNumber, SpellsText}
+use Rattle.topo_forms.specs.Tokens.{Spells, SpellsItems, GoesOn, SpellsMember, SpellsNumber, SpellsNumbers, SpellsText}
 use Rattle.topo_forms.proofs.Bytes.{within as within_limit, json_of-read}
 use Rattle.topo_forms.proofs.Steps.{went}
 
@@ -136,17 +136,17 @@ not_closed a o (Token.boolean b ∷ ts) p e = refl
 not_closed a o (Token.null ∷ ts) p e = refl
 not_closed a o (Token.bad ∷ ts) p e = refl
 
-pub few_done : (nesting : ℕ) (ts rest : List Token) → after_end_array ts ≡ Some rest → GoesOn nesting ts no_items rest
-few_done nesting ts rest e = record {
+pub few_done : {nesting : ℕ} {ts rest : List Token} → after_end_array ts ≡ Some rest → GoesOn nesting ts no_items rest
+few_done {ts} {rest} e = record {
   written = json.no_items;
   begins = λ depth n d le. items_end (value depth) n ts rest le e;
   means = refl;
 }
 
-one_more : (nesting : ℕ) (ts mid rest : List Token) (written : json.Json) (d : Data) (ds : Items)
+one_more : {nesting : ℕ} {ts mid rest : List Token} {written : json.Json} {d : Data} {ds : Items}
     → ((depth : ℕ) → nesting ≤ depth → value depth ts ≡ Some (written, mid)) → of_json written ≡ Some d
     → GoesOn nesting mid ds rest → GoesOn nesting ts (item d ds) rest
-one_more nesting ts mid rest written d ds begins means more =
+one_more {nesting} {ts} {mid} {written} begins means more =
     let least = begins nesting (omega arith) in
     let less = skip_value-shorter nesting ts mid (ap left least) in
     let going = not_closed _ _ ts (written, mid) (sym (value_is nesting ts) ∙ least) in record {
@@ -156,26 +156,28 @@ one_more nesting ts mid rest written d ds begins means more =
       means = rw (means, more.means);
     }
 
-pub element_then : {A : Type 0} (inner nesting : ℕ) (form : Path → Data → Read A) (ts : List Token) (a : A) (mid rest : List Token) (ds : Items)
+pub element_then : {A : Type 0} {inner nesting : ℕ} {form : Path → Data → Read A} {ts : List Token} {a : A} {mid rest : List Token} {ds : Items}
     → (s : Spells inner form ts a mid) → inner ≤ nesting → GoesOn nesting mid ds rest → GoesOn nesting ts (item s.spelled ds) rest
-element_then inner nesting form ts a mid rest ds s within more =
-    one_more nesting ts mid rest s.written s.spelled ds (λ depth le. s.begins depth (omega arith)) s.means more
+element_then s within more = one_more (λ depth le. s.begins depth (omega arith)) s.means more
 
-pub text_then : (nesting : ℕ) (text : List ℕ) (ts mid rest : List Token) (ds : Items) → ts ≡ Token.string text ∷ mid → GoesOn nesting mid ds rest
+-- three numbers, and the end of the array
+pub numbers_then : {ts rest : List Token} {a b c : ℕ} (s : SpellsNumbers ts a b c rest)
+    → GoesOn 0 ts (item s.first.spelled (item s.second.spelled (item s.third.spelled no_items))) rest
+numbers_then s = element_then s.first (omega arith) (element_then s.second (omega arith) (element_then s.third (omega arith) (few_done s.closed)))
+
+pub text_then : {nesting : ℕ} {text : List ℕ} {ts mid rest : List Token} {ds : Items} → ts ≡ Token.string text ∷ mid → GoesOn nesting mid ds rest
     → GoesOn nesting ts (item (string text) ds) rest
-text_then nesting text ts mid rest ds e more =
-    one_more nesting ts mid rest (json.string text) (string text) ds (λ depth le. ap (value depth) e ∙ value_is depth (Token.string text ∷ mid)) refl more
+text_then {text} {mid} e more =
+    one_more {written = json.string text} (λ depth le. ap (value depth) e ∙ value_is depth (Token.string text ∷ mid)) refl more
 
-pub number_then : (nesting n : ℕ) (ts mid rest : List Token) (ds : Items) → SpellsNumber ts n mid → GoesOn nesting mid ds rest
+pub number_then : {nesting n : ℕ} {ts mid rest : List Token} {ds : Items} → SpellsNumber ts n mid → GoesOn nesting mid ds rest
     → GoesOn nesting ts (item (number (unsigned n)) ds) rest
-number_then nesting n ts mid rest ds s more =
-    one_more nesting ts mid rest (json.number s.0)
-    (number (unsigned n)) ds (λ depth le. ap (value depth) s.1 ∙ value_is depth (Token.number s.0 ∷ mid)) (rw s.2) more
+number_then {mid} s more =
+    one_more {written = json.number s.0} (λ depth le. ap (value depth) s.1 ∙ value_is depth (Token.number s.0 ∷ mid)) (rw s.2) more
 
-pub few_tokens : {A : Type 0} (nesting : ℕ) (form : Path → Data → Read A) (ts mid rest : List Token) (a : A) (ds : Items) → ts ≡ Token.begin_array ∷ mid
-    → GoesOn nesting mid ds rest
-    → ((path : Path) → form path (array ds) ≡ Ok a) → Spells (nesting + 1) form ts a rest
-few_tokens nesting form ts mid rest a ds e more read = record {
+pub few_tokens : {A : Type 0} (nesting : ℕ) {form : Path → Data → Read A} {ts mid rest : List Token} {a : A} (ds : Items) → ts ≡ Token.begin_array ∷ mid
+    → GoesOn nesting mid ds rest → ((path : Path) → form path (array ds) ≡ Ok a) → Spells (nesting + 1) form ts a rest
+few_tokens nesting {mid} ds e more read = record {
   written = json.array more.written;
   spelled = array ds;
   begins = λ depth le. ap (value depth) e ∙ value-begin_array depth mid (omega arith)
@@ -192,18 +194,17 @@ pub record MembersTo (nesting : ℕ) (ts : List Token) (old ms : Members) (rest 
   pub begins : (depth n : ℕ) → nesting ≤ depth → length ts ≤ n → members (value depth) n ts ≡ Some (written, rest)
   pub means : of_members written old ≡ Some ms
 
-pub members_done : (nesting : ℕ) (ts rest : List Token) (old : Members) → read_key ts ≡ Some (None, rest) → MembersTo nesting ts old old rest
-members_done nesting ts rest old e = record {
+pub members_done : {nesting : ℕ} {ts rest : List Token} {old : Members} → read_key ts ≡ Some (None, rest) → MembersTo nesting ts old old rest
+members_done {ts} {rest} e = record {
   written = json.no_members;
   begins = λ depth n d le. members_end (value depth) n ts rest le e;
   means = refl;
 }
 
-pub member_then : {A : Type 0} (inner nesting : ℕ) (form : Path → Data → Read A) (name : List ℕ) (ts : List Token) (a : A) (mid rest : List Token)
-    (old ms : Members)
-    → (m : SpellsMember inner form name ts a mid) → inner ≤ nesting → MembersTo nesting mid (put name m.2.spelled old) ms rest
+pub member_then : {A : Type 0} {inner nesting : ℕ} {form : Path → Data → Read A} {name : List ℕ} {ts : List Token} {a : A} {mid rest : List Token}
+    {old ms : Members} → (m : SpellsMember inner form name ts a mid) → inner ≤ nesting → MembersTo nesting mid (put name m.2.spelled old) ms rest
     → MembersTo nesting ts old ms rest
-member_then inner nesting form name ts a mid rest old ms m within more =
+member_then {inner} {form} {name} {ts} {a} {mid} m within more =
     let less = read_key-shorter ts (Some name) m.0 m.1 in
     let lesser = tokens-shorter inner form m.0 a mid m.2 in record {
       written = json.member name m.2.written more.written;
@@ -212,10 +213,9 @@ member_then inner nesting form name ts a mid rest old ms m within more =
       means = rw m.2.means more.means;
     }
 
-pub object_tokens : {A : Type 0} (nesting : ℕ) (form : Path → Data → Read A) (ts mid rest : List Token) (a : A) (ms : Members) → ts ≡ Token.begin_object ∷ mid
-    → MembersTo nesting mid no_members ms rest
-    → ((path : Path) → form path (object ms) ≡ Ok a) → Spells (nesting + 1) form ts a rest
-object_tokens nesting form ts mid rest a ms e more read = record {
+pub object_tokens : {A : Type 0} (nesting : ℕ) {form : Path → Data → Read A} {ts mid rest : List Token} {a : A} (ms : Members) → ts ≡ Token.begin_object ∷ mid
+    → MembersTo nesting mid no_members ms rest → ((path : Path) → form path (object ms) ≡ Ok a) → Spells (nesting + 1) form ts a rest
+object_tokens nesting {mid} ms e more read = record {
   written = json.object more.written;
   spelled = object ms;
   begins = λ depth le. ap (value depth) e ∙ value-begin_object depth mid (omega arith)
@@ -231,9 +231,9 @@ read_as : (bytes : List ℕ) (ts : List Token) (written : json.Json) (d : Data) 
 read_as bytes ts written d same begins means = ap (λ us. option_and_then of_json (option_and_then (λ p. json.if_last p.0 p.1) (value max_depth us))) (sym same)
     ∙ rw begins means
 
-pub text_tokens : {A : Type 0} (nesting : ℕ) (form : Path → Data → Read A) (limit : ℕ) (bytes : List ℕ) (ts : List Token) (a : A) (rest : List Token)
+pub text_tokens : {A : Type 0} {nesting : ℕ} {form : Path → Data → Read A} (limit : ℕ) (bytes : List ℕ) {ts : List Token} {a : A} {rest : List Token}
     → length bytes ≤ limit → IsUtf8 bytes → ts ≡ tokens bytes → Spells nesting form ts a rest → rest ≡ [] → SpellsText nesting form limit bytes a
-text_tokens nesting form limit bytes ts a rest short utf8 same s last within path =
+text_tokens {form} limit bytes {ts} short utf8 same s last within path =
     let begins = s.begins max_depth within ∙ ap (λ r. Some (s.written, r)) last in
     let json = json_of-read bytes s.spelled utf8 (read_as bytes ts s.written s.spelled same begins s.means) in
     went (value_of limit bytes) (form path) s.spelled (within_limit limit bytes (Some s.spelled) short json) ∙ s.reads path

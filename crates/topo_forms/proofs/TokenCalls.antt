@@ -8,82 +8,69 @@ use Rattle.topo_core.specs.declared.calls.Call.TheVariants.{Grow, Insert, Delete
 use Rattle.topo_core.specs.declared.calls.Command.TheVariants.{Plain, Planned}
 use Rattle.topo_forms.specs.CallForms.{call_form, grow_form, insert_form, delete_form, command_form, plain_form, planned_form}
 use Rattle.topo_forms.specs.Reads.{number_form}
-use Rattle.topo_forms.specs.Tokens.{Spells, GoesOn}
+use Rattle.topo_forms.specs.Tokens.{Spells, SpellsNumbers, GoesOn}
 use Rattle.topo_forms.specs.TokenParts.{SpellsCall}
 use Rattle.topo_forms.proofs.Lookups.{element_read}
-use Rattle.topo_forms.proofs.Spellings.{few_done, element_then, text_then, few_tokens}
+use Rattle.topo_forms.proofs.Spellings.{few_done, element_then, numbers_then, text_then, few_tokens}
 use Rattle.topo_forms.proofs.Steps.{went}
 
-pub grow_tokens : (u position kind : ℕ) (ts r1 r2 r3 rest : List Token) → Spells 0 number_form ts u r1 → Spells 0 number_form r1 position r2
-    → Spells 0 number_form r2 kind r3
-    → after_end_array r3 ≡ Some rest → SpellsCall (codes "grow") ts (Grow u position kind) rest
+pub grow_tokens : {u position kind : ℕ} {ts rest : List Token} → SpellsNumbers ts u position kind rest
+    → SpellsCall (codes "grow") ts (Grow u position kind) rest
 unfolding call_form grow_form
-grow_tokens u position kind ts r1 r2 r3 rest first second third close =
-    let ds = item (string (codes "grow")) (item first.spelled (item second.spelled (item third.spelled no_items))) in (
+grow_tokens {u} {position} {kind} s =
+    let ds = item (string (codes "grow")) (item s.first.spelled (item s.second.spelled (item s.third.spelled no_items))) in (
       ds,
-      text_then 0 (codes "grow") _ ts rest _ refl
-          (element_then 0 0 number_form ts u r1 rest _ first (omega arith)
-          (element_then 0 0 number_form r1 position r2 rest _ second (omega arith)
-          (element_then 0 0 number_form r2 kind r3 rest _ third (omega arith) (few_done 0 r3 rest close)))),
+      text_then refl (numbers_then s),
       λ path.
-          went _ _ u (element_read number_form path 1 (array ds) first.spelled u refl first.reads)
-          ∙ went _ _ position (element_read number_form path 2 (array ds) second.spelled position refl second.reads)
-          ∙ went _ _ kind (element_read number_form path 3 (array ds) third.spelled kind refl third.reads),
+          went _ _ u (element_read number_form path 1 (array ds) refl s.first.reads)
+          ∙ went _ _ position (element_read number_form path 2 (array ds) refl s.second.reads)
+          ∙ went _ _ kind (element_read number_form path 3 (array ds) refl s.third.reads),
       refl,
     )
 
-pub insert_tokens : (u v kind : ℕ) (ts r1 r2 r3 rest : List Token) → Spells 0 number_form ts u r1 → Spells 0 number_form r1 v r2
-    → Spells 0 number_form r2 kind r3
-    → after_end_array r3 ≡ Some rest → SpellsCall (codes "insert") ts (Insert u v kind) rest
+pub insert_tokens : {u v kind : ℕ} {ts rest : List Token} → SpellsNumbers ts u v kind rest
+    → SpellsCall (codes "insert") ts (Insert u v kind) rest
 unfolding call_form insert_form
-insert_tokens u v kind ts r1 r2 r3 rest first second third close =
-    let ds = item (string (codes "insert")) (item first.spelled (item second.spelled (item third.spelled no_items))) in (
+insert_tokens {u} {v} {kind} s =
+    let ds = item (string (codes "insert")) (item s.first.spelled (item s.second.spelled (item s.third.spelled no_items))) in (
       ds,
-      text_then 0 (codes "insert") _ ts rest _ refl
-          (element_then 0 0 number_form ts u r1 rest _ first (omega arith)
-          (element_then 0 0 number_form r1 v r2 rest _ second (omega arith)
-          (element_then 0 0 number_form r2 kind r3 rest _ third (omega arith) (few_done 0 r3 rest close)))),
+      text_then refl (numbers_then s),
       λ path.
-          went _ _ u (element_read number_form path 1 (array ds) first.spelled u refl first.reads)
-          ∙ went _ _ v (element_read number_form path 2 (array ds) second.spelled v refl second.reads)
-          ∙ went _ _ kind (element_read number_form path 3 (array ds) third.spelled kind refl third.reads),
+          went _ _ u (element_read number_form path 1 (array ds) refl s.first.reads)
+          ∙ went _ _ v (element_read number_form path 2 (array ds) refl s.second.reads)
+          ∙ went _ _ kind (element_read number_form path 3 (array ds) refl s.third.reads),
       refl,
     )
 
-pub delete_tokens : (edge : ℕ) (ts r1 rest : List Token) → Spells 0 number_form ts edge r1 → after_end_array r1 ≡ Some rest
+pub delete_tokens : {edge : ℕ} {ts r1 rest : List Token} → Spells 0 number_form ts edge r1 → after_end_array r1 ≡ Some rest
     → SpellsCall (codes "delete") ts (Delete edge) rest
 unfolding call_form delete_form
-delete_tokens edge ts r1 rest first close =
+delete_tokens {edge} first close =
     let ds = item (string (codes "delete")) (item first.spelled no_items) in (
       ds,
-      text_then 0 (codes "delete") _ ts rest _ refl (element_then 0 0 number_form ts edge r1 rest _ first (omega arith) (few_done 0 r1 rest close)),
-      λ path. went _ _ edge (element_read number_form path 1 (array ds) first.spelled edge refl first.reads),
+      text_then refl (element_then first (omega arith) (few_done close)),
+      λ path. went _ _ edge (element_read number_form path 1 (array ds) refl first.reads),
       refl,
     )
 
-pub call_tokens : (word : List ℕ) (o : Option Call) (ts r0 r1 rest : List Token) → ts ≡ begin_array ∷ r0 → r0 ≡ text_token word ∷ r1
+pub call_tokens : {word : List ℕ} (o : Option Call) {ts r0 r1 : List Token} (rest : List Token) → ts ≡ begin_array ∷ r0 → r0 ≡ text_token word ∷ r1
     → IfSome o (λ call. SpellsCall word r1 call rest)
     → IfSome o (λ call. Spells 1 call_form ts call rest)
-call_tokens word None ts r0 r1 rest e second s = tt
-call_tokens word (Some call) ts r0 r1 rest e second s = few_tokens 0 call_form ts r0 rest call s.0 e (subst (λ us. GoesOn 0 us s.0 rest) (sym second) s.1) s.2
+call_tokens None rest e second s = tt
+call_tokens (Some call) rest e second s = few_tokens 0 s.0 e (subst (λ us. GoesOn 0 us s.0 rest) (sym second) s.1) s.2
 
-pub plain_tokens : (word : List ℕ) (call : Call) (ts rest : List Token) → SpellsCall word ts call rest
+pub plain_tokens : {word : List ℕ} {call : Call} {ts rest : List Token} → SpellsCall word ts call rest
     → Spells 1 command_form (begin_array ∷ text_token word ∷ ts) (Plain call) rest
 unfolding command_form plain_form
-plain_tokens word call ts rest s = few_tokens 0 command_form _ (text_token word ∷ ts) rest (Plain call) s.0 refl s.1 (λ path. rw s.3 (went _ _ call (s.2 path)))
+plain_tokens {call} s = few_tokens 0 s.0 refl s.1 (λ path. rw s.3 (went _ _ call (s.2 path)))
 
-pub planned_tokens : (u v kind : ℕ) (ts r1 r2 r3 rest : List Token) → Spells 0 number_form ts u r1 → Spells 0 number_form r1 v r2
-    → Spells 0 number_form r2 kind r3
-    → after_end_array r3 ≡ Some rest → Spells 1 command_form (begin_array ∷ text_token (codes "planned") ∷ ts) (Planned u v kind) rest
+pub planned_tokens : {u v kind : ℕ} {ts rest : List Token} → SpellsNumbers ts u v kind rest
+    → Spells 1 command_form (begin_array ∷ text_token (codes "planned") ∷ ts) (Planned u v kind) rest
 unfolding command_form planned_form
-planned_tokens u v kind ts r1 r2 r3 rest first second third close =
-    let ds = item (string (codes "planned")) (item first.spelled (item second.spelled (item third.spelled no_items))) in
-    few_tokens 0 command_form _ (text_token (codes "planned") ∷ ts) rest (Planned u v kind) ds refl
-    (text_then 0 (codes "planned") _ ts rest _ refl
-    (element_then 0 0 number_form ts u r1 rest _ first (omega arith)
-    (element_then 0 0 number_form r1 v r2 rest _ second (omega arith)
-    (element_then 0 0 number_form r2 kind r3 rest _ third (omega arith) (few_done 0 r3 rest close)))))
+planned_tokens {u} {v} {kind} s =
+    let ds = item (string (codes "planned")) (item s.first.spelled (item s.second.spelled (item s.third.spelled no_items))) in
+    few_tokens 0 ds refl (text_then refl (numbers_then s))
     (λ path.
-    went _ _ u (element_read number_form path 1 (array ds) first.spelled u refl first.reads)
-    ∙ went _ _ v (element_read number_form path 2 (array ds) second.spelled v refl second.reads)
-    ∙ went _ _ kind (element_read number_form path 3 (array ds) third.spelled kind refl third.reads))
+    went _ _ u (element_read number_form path 1 (array ds) refl s.first.reads)
+    ∙ went _ _ v (element_read number_form path 2 (array ds) refl s.second.reads)
+    ∙ went _ _ kind (element_read number_form path 3 (array ds) refl s.third.reads))

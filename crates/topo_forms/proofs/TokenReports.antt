@@ -21,7 +21,7 @@ use Rattle.topo_forms.specs.Reads.{Read, and_then, number_form, list_form, items
 use Rattle.topo_forms.specs.ReplyForms.{entry_form}
 use Rattle.topo_forms.specs.RowForms.{rows_form}
 use Rattle.topo_forms.specs.Scripts.{limits_form, nulls_of, nulls_in, some_price, price_form, prices_form, report_form}
-use Rattle.topo_forms.specs.Tokens.{Spells, SpellsMember, SpellsNumber, SpellsThree}
+use Rattle.topo_forms.specs.Tokens.{Spells, SpellsNumber, SpellsThree}
 use Rattle.topo_forms.specs.TokenParts.{ArePricesOf, SpellsEnding}
 use Rattle.topo_forms.proofs.Lookups.{member_read}
 use Rattle.topo_forms.proofs.Spellings.{number_read, members_done, member_then, object_tokens}
@@ -37,22 +37,19 @@ limits_keys : (path : Path) (crossings edges vertices : Data)
 unfolding has_keys and_then
 limits_keys path crossings edges vertices = refl
 
-pub limits_tokens : (x : LimitRows) (ts r0 r1 r2 r3 rest : List Token) → ts ≡ begin_object ∷ r0
-    → SpellsMember 0 number_form (key_name Crossings) r0 x.crossings r1
-    → SpellsMember 0 number_form (key_name Edges) r1 x.edges r2 → SpellsMember 0 number_form (key_name Vertices) r2 x.vertices r3
-    → read_key r3 ≡ Some (None, rest) → Spells 1 limits_form ts x rest
+pub limits_tokens : {x : LimitRows} {ts r0 r1 rest : List Token} → ts ≡ begin_object ∷ r0
+    → SpellsThree 0 0 0 number_form number_form number_form (key_name Crossings) (key_name Edges) (key_name Vertices) r0 x.crossings x.edges x.vertices r1
+    → read_key r1 ≡ Some (None, rest) → Spells 1 limits_form ts x rest
 unfolding limits_form
-limits_tokens x ts r0 r1 r2 r3 rest e crossings edges vertices close =
-    let ms = limits_members crossings.2.spelled edges.2.spelled vertices.2.spelled in
-    object_tokens 0 limits_form ts r0 rest x ms e
-    (member_then 0 0 number_form _ r0 x.crossings r1 rest _ ms crossings (omega arith)
-    (member_then 0 0 number_form _ r1 x.edges r2 rest _ ms edges (omega arith)
-    (member_then 0 0 number_form _ r2 x.vertices r3 rest _ ms vertices (omega arith) (members_done 0 r3 rest ms close))))
+limits_tokens {x} e three close =
+    let ms = limits_members three.two.first.2.spelled three.two.second.2.spelled three.third.2.spelled in
+    object_tokens 0 ms e
+    (member_then three.two.first (omega arith) (member_then three.two.second (omega arith) (member_then three.third (omega arith) (members_done close))))
     (λ path.
-    went _ _ tt (limits_keys path crossings.2.spelled edges.2.spelled vertices.2.spelled)
-    ∙ went _ _ x.crossings (member_read number_form path Crossings (object ms) _ x.crossings refl crossings.2.reads)
-    ∙ went _ _ x.edges (member_read number_form path Edges (object ms) _ x.edges refl edges.2.reads)
-    ∙ went _ _ x.vertices (member_read number_form path Vertices (object ms) _ x.vertices refl vertices.2.reads))
+    went _ _ tt (limits_keys path _ _ _)
+    ∙ went _ _ x.crossings (member_read number_form path Crossings (object ms) refl three.two.first.2.reads)
+    ∙ went _ _ x.edges (member_read number_form path Edges (object ms) refl three.two.second.2.reads)
+    ∙ went _ _ x.vertices (member_read number_form path Vertices (object ms) refl three.third.2.reads))
 
 -- ---- Prices
 
@@ -160,50 +157,45 @@ version_read : (n : ℕ) (nulls : Bool) (history limits picture prices start ver
 unfolding nulls_in
 version_read n nulls history limits picture prices start version read of =
     went _ _ tt refl ∙ went _ _ n
-    (member_read number_form whole Version (object (report_members history limits picture prices start version)) version n refl read) ∙ of
+    (member_read number_form whole Version (object (report_members history limits picture prices start version)) refl read) ∙ of
 
 -- the prices, the start and the version of a report, closed and kept
-pub ending_tokens : {U : Type 0} (ps : List (Option ℕ)) (start : Rows) (n : ℕ) (ts end rest : List Token) (closed : Option U) (kept : Option (List (Option ℕ)))
-    (both_there : Option (List (Option ℕ)))
-    (r : Option (List (Option ℕ) × Rows)) → SpellsThree 1 4 0 (list_form (price_form true)) rows_form number_form (key_name Prices) (key_name Start)
-    (key_name Version) ts ps start n end
+pub ending_tokens : {U : Type 0} {ps : List (Option ℕ)} {start : Rows} {n : ℕ} {ts end : List Token} (rest : List Token) (closed : Option U)
+    (kept : Option (List (Option ℕ))) {both_there : Option (List (Option ℕ))} {r : Option (List (Option ℕ) × Rows)}
+    → SpellsThree 1 4 0 (list_form (price_form true)) rows_form number_form (key_name Prices) (key_name Start) (key_name Version) ts ps start n end
     → IfSome closed (λ _. read_key end ≡ Some (None, rest)) → IfSome kept (ArePricesOf n ps) → both_there ≡ option_and closed kept
     → r ≡ option_zip both_there (Some start)
     → IfSome r (λ found. SpellsEnding ts found.0 found.1 rest)
-ending_tokens ps start n ts end rest None kept both_there r members close are there is = let none : r ≡ None = is
+ending_tokens {start} rest None kept {r} members close are there is = let none : r ≡ None = is
     ∙ ap (λ o. option_zip o (Some start)) there in rw none tt
-ending_tokens ps start n ts end rest (Some u) None both_there r members close are there is = let none : r ≡ None = is
+ending_tokens {start} rest (Some u) None {r} members close are there is = let none : r ≡ None = is
     ∙ ap (λ o. option_zip o (Some start)) there in rw none tt
-ending_tokens ps start n ts end rest (Some u) (Some kept) both_there r members close are there is =
+ending_tokens {ps} {start} {n} {end} rest (Some u) (Some kept) {r} members close are there is =
     let found : r ≡ Some (kept, start) = is ∙ ap (λ o. option_zip o (Some start)) there in
     rw found (record { prices = ps; version = n; end = end; members = members; closed = close; are_kept = are })
 
-pub report_tokens : (x : Report) (ps : List (Option ℕ)) (n : ℕ) (ts r0 r1 r2 r3 r4 r5 r6 rest : List Token) → ts ≡ begin_object ∷ r0
-    → SpellsMember 5 (list_form entry_form) (key_name History) r0 x.history r1 → SpellsMember 1 limits_form (key_name Limits) r1 x.limits r2
-    → SpellsMember 4 rows_form (key_name Picture) r2 x.picture r3
-    → SpellsMember 1 (list_form (price_form true)) (key_name Prices) r3 ps r4 → SpellsMember 4 rows_form (key_name Start) r4 x.start r5
-    → SpellsMember 0 number_form (key_name Version) r5 n r6
-    → read_key r6 ≡ Some (None, rest) → ArePricesOf n ps x.prices → Spells 6 (λ path. report_form) ts x rest
+pub report_tokens : {x : Report} {ts r0 r1 rest : List Token} → ts ≡ begin_object ∷ r0
+    → SpellsThree 5 1 4 (list_form entry_form) limits_form rows_form (key_name History) (key_name Limits) (key_name Picture) r0 x.history x.limits x.picture r1
+    → SpellsEnding r1 x.prices x.start rest → Spells 6 (λ path. report_form) ts x rest
 unfolding report_form
-report_tokens x ps n ts r0 r1 r2 r3 r4 r5 r6 rest e history limits picture prices start version close kept =
-    let ms = report_members history.2.spelled limits.2.spelled picture.2.spelled prices.2.spelled start.2.spelled version.2.spelled in
-    let form = prices_form kept.0 in
-    object_tokens 5 (λ path. report_form) ts r0 rest x ms e
-    (member_then 5 5 (list_form entry_form) _ r0 x.history r1 rest _ ms history (omega arith)
-    (member_then 1 5 limits_form _ r1 x.limits r2 rest _ ms limits (omega arith)
-    (member_then 4 5 rows_form _ r2 x.picture r3 rest _ ms picture (omega arith)
-    (member_then 1 5 (list_form (price_form true)) _ r3 ps r4 rest _ ms prices (omega arith)
-    (member_then 4 5 rows_form _ r4 x.start r5 rest _ ms start (omega arith)
-    (member_then 0 5 number_form _ r5 n r6 rest _ ms version (omega arith) (members_done 5 r6 rest ms close)))))))
+report_tokens {x} e head ending =
+    let prices = ending.members.two.first in
+    let start = ending.members.two.second in
+    let version = ending.members.third in
+    let kept = ending.are_kept in
+    let ms = report_members head.two.first.2.spelled head.two.second.2.spelled head.third.2.spelled prices.2.spelled start.2.spelled version.2.spelled in
+    object_tokens 5 ms e
+    (member_then head.two.first (omega arith) (member_then head.two.second (omega arith) (member_then head.third (omega arith)
+    (member_then prices (omega arith) (member_then start (omega arith) (member_then version (omega arith) (members_done ending.closed)))))))
     (λ path.
-    went _ _ kept.0 (version_read n kept.0 _ _ _ _ _ _ version.2.reads kept.1)
-    ∙ went _ _ tt (report_keys history.2.spelled limits.2.spelled picture.2.spelled prices.2.spelled start.2.spelled version.2.spelled)
-    ∙ went _ _ x.history (member_read (list_form entry_form) whole History (object ms) _ x.history refl history.2.reads)
-    ∙ went _ _ x.limits (member_read limits_form whole Limits (object ms) _ x.limits refl limits.2.reads)
-    ∙ went _ _ x.picture (member_read rows_form whole Picture (object ms) _ x.picture refl picture.2.reads)
-    ∙ went _ _ x.prices (member_read form whole Prices (object ms) _ x.prices refl
-    (λ p. prices_read kept.0 p prices.2.spelled ps x.prices (prices.2.reads p) kept.2 kept.3 kept.4))
-    ∙ went _ _ x.start (member_read rows_form whole Start (object ms) _ x.start refl start.2.reads))
+    went _ _ kept.0 (version_read ending.version kept.0 _ _ _ _ _ _ version.2.reads kept.1)
+    ∙ went _ _ tt (report_keys _ _ _ _ _ _)
+    ∙ went _ _ x.history (member_read (list_form entry_form) whole History (object ms) refl head.two.first.2.reads)
+    ∙ went _ _ x.limits (member_read limits_form whole Limits (object ms) refl head.two.second.2.reads)
+    ∙ went _ _ x.picture (member_read rows_form whole Picture (object ms) refl head.third.2.reads)
+    ∙ went _ _ x.prices (member_read (prices_form kept.0) whole Prices (object ms) refl
+    (λ p. prices_read kept.0 p prices.2.spelled ending.prices x.prices (prices.2.reads p) kept.2 kept.3 kept.4))
+    ∙ went _ _ x.start (member_read rows_form whole Start (object ms) refl start.2.reads))
 
 -- a head, and the ending that is zipped to it
 pub zip_ends : {A B : Type 0} (a : A) (o : Option B) (p : A × B) (P : B → Type 0) → Some p ≡ option_zip (Some a) o → IfSome o P → (a ≡ p.0) × P p.1
@@ -215,15 +207,12 @@ zip_starts None b p P e h = absurd cc
 zip_starts (Some a) b p P e h = let same : (a, b) ≡ p = cc in (subst (λ q. P q.0) same h, ap (λ q. q.1) same)
 
 pub report_zipped : (head : List Entry × LimitRows × Rows) (ending : Option (List (Option ℕ) × Rows))
-    (p : (List Entry × LimitRows × Rows) × (List (Option ℕ) × Rows)) (ts r0 r1 rest : List Token) → ts ≡ begin_object ∷ r0
+    {p : (List Entry × LimitRows × Rows) × (List (Option ℕ) × Rows)} {ts r0 r1 rest : List Token} → ts ≡ begin_object ∷ r0
     → SpellsThree 5 1 4 (list_form entry_form) limits_form rows_form (key_name History) (key_name Limits) (key_name Picture) r0 head.0 head.1 head.2 r1
     → IfSome ending (λ found. SpellsEnding r1 found.0 found.1 rest) → Some p ≡ option_zip (Some head) ending
     → Spells 6 (λ path. report_form) ts (record { limits = p.0.1; prices = p.1.0; start = p.1.1; history = p.0.0; picture = p.0.2 }) rest
-report_zipped head ending p ts r0 r1 rest e members ends zipped =
+report_zipped head ending {p} {r0} {r1} {rest} e members ends zipped =
     let z = zip_ends head ending p (λ found. SpellsEnding r1 found.0 found.1 rest) zipped ends in
-    let end = z.1 in
     let first = subst (λ h. SpellsThree 5 1 4 (list_form entry_form) limits_form rows_form (key_name History) (key_name Limits)
     (key_name Picture) r0 h.0 h.1 h.2 r1) z.0 members in
-    report_tokens (record { limits = p.0.1; prices = p.1.0; start = p.1.1; history = p.0.0; picture = p.0.2 })
-    end.prices end.version ts _ _ _ _ _ _ _ rest e first.two.first first.two.second first.third
-    end.members.two.first end.members.two.second end.members.third end.closed end.are_kept
+    report_tokens e first z.1

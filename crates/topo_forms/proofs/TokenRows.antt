@@ -12,7 +12,7 @@ use Rattle.topo_forms.specs.declared.path.Path.{Path}
 use Rattle.topo_forms.specs.Paths.{key_name}
 use Rattle.topo_forms.specs.Reads.{number_form, list_form, has_keys, and_then}
 use Rattle.topo_forms.specs.RowForms.{sign_form, crossing_form, edge_form, rows_form}
-use Rattle.topo_forms.specs.Tokens.{Spells, SpellsMember}
+use Rattle.topo_forms.specs.Tokens.{Spells, SpellsThree, SpellsTwo}
 use Rattle.topo_forms.proofs.Lookups.{member_read}
 use Rattle.topo_forms.proofs.Spellings.{members_done, member_then, object_tokens}
 use Rattle.topo_forms.proofs.Steps.{went}
@@ -28,25 +28,22 @@ crossing_keys : (path : Path) (crossed id newcomer sign : Data)
 unfolding has_keys and_then
 crossing_keys path crossed id newcomer sign = refl
 
-pub crossing_tokens : (x : CrossRow) (ts r0 r1 r2 r3 r4 rest : List Token) → ts ≡ Token.begin_object ∷ r0
-    → SpellsMember 0 number_form (key_name Crossed) r0 x.crossed r1 → SpellsMember 0 number_form (key_name Id) r1 x.id r2
-    → SpellsMember 0 number_form (key_name Newcomer) r2 x.newcomer r3 → SpellsMember 0 sign_form (key_name SignKey) r3 x.sign r4
-    → read_key r4 ≡ Some (None, rest) → Spells 1 crossing_form ts x rest
+pub crossing_tokens : {x : CrossRow} {ts r0 r1 r2 rest : List Token} → ts ≡ Token.begin_object ∷ r0
+    → SpellsTwo 0 0 number_form number_form (key_name Crossed) (key_name Id) r0 x.crossed x.id r1
+    → SpellsTwo 0 0 number_form sign_form (key_name Newcomer) (key_name SignKey) r1 x.newcomer x.sign r2
+    → read_key r2 ≡ Some (None, rest) → Spells 1 crossing_form ts x rest
 unfolding crossing_form
-crossing_tokens x ts r0 r1 r2 r3 r4 rest e crossed id newcomer sign close =
-    let ms = crossing_members crossed.2.spelled id.2.spelled newcomer.2.spelled sign.2.spelled in
-    object_tokens 0 crossing_form ts r0 rest x ms e
-    (member_then 0 0 number_form _ r0 x.crossed r1 rest _ ms crossed (omega arith)
-    (member_then 0 0 number_form _ r1 x.id r2 rest _ ms id (omega arith)
-    (member_then 0 0 number_form _ r2 x.newcomer r3 rest _ ms newcomer (omega arith)
-    (member_then 0 0 sign_form _ r3 x.sign r4 rest _ ms sign (omega arith)
-    (members_done 0 r4 rest ms close)))))
+crossing_tokens {x} e front back close =
+    let ms = crossing_members front.first.2.spelled front.second.2.spelled back.first.2.spelled back.second.2.spelled in
+    object_tokens 0 ms e
+    (member_then front.first (omega arith) (member_then front.second (omega arith)
+    (member_then back.first (omega arith) (member_then back.second (omega arith) (members_done close)))))
     (λ path.
-    went _ _ tt (crossing_keys path crossed.2.spelled id.2.spelled newcomer.2.spelled sign.2.spelled)
-    ∙ went _ _ x.crossed (member_read number_form path Crossed (object ms) _ x.crossed refl crossed.2.reads)
-    ∙ went _ _ x.id (member_read number_form path Id (object ms) _ x.id refl id.2.reads)
-    ∙ went _ _ x.newcomer (member_read number_form path Newcomer (object ms) _ x.newcomer refl newcomer.2.reads)
-    ∙ went _ _ x.sign (member_read sign_form path SignKey (object ms) _ x.sign refl sign.2.reads))
+    went _ _ tt (crossing_keys path _ _ _ _)
+    ∙ went _ _ x.crossed (member_read number_form path Crossed (object ms) refl front.first.2.reads)
+    ∙ went _ _ x.id (member_read number_form path Id (object ms) refl front.second.2.reads)
+    ∙ went _ _ x.newcomer (member_read number_form path Newcomer (object ms) refl back.first.2.reads)
+    ∙ went _ _ x.sign (member_read sign_form path SignKey (object ms) refl back.second.2.reads))
 
 -- ---- Edges
 
@@ -59,27 +56,23 @@ edge_keys : (path : Path) (a b crossings id kind : Data)
 unfolding has_keys and_then
 edge_keys path a b crossings id kind = refl
 
-pub edge_tokens : (x : EdgeRow) (ts r0 r1 r2 r3 r4 r5 rest : List Token) → ts ≡ Token.begin_object ∷ r0
-    → SpellsMember 0 number_form (key_name A) r0 x.a r1 → SpellsMember 0 number_form (key_name B) r1 x.b r2
-    → SpellsMember 1 (list_form number_form) (key_name Crossings) r2 x.crossings r3 → SpellsMember 0 number_form (key_name Id) r3 x.id r4
-    → SpellsMember 0 number_form (key_name Kind) r4 x.kind r5 → read_key r5 ≡ Some (None, rest) → Spells 2 edge_form ts x rest
+pub edge_tokens : {x : EdgeRow} {ts r0 r1 r2 rest : List Token} → ts ≡ Token.begin_object ∷ r0
+    → SpellsTwo 0 0 number_form number_form (key_name A) (key_name B) r0 x.a x.b r1
+    → SpellsThree 1 0 0 (list_form number_form) number_form number_form (key_name Crossings) (key_name Id) (key_name Kind) r1 x.crossings x.id x.kind r2
+    → read_key r2 ≡ Some (None, rest) → Spells 2 edge_form ts x rest
 unfolding edge_form
-edge_tokens x ts r0 r1 r2 r3 r4 r5 rest e a b crossings id kind close =
-    let ms = edge_members a.2.spelled b.2.spelled crossings.2.spelled id.2.spelled kind.2.spelled in
-    object_tokens 1 edge_form ts r0 rest x ms e
-    (member_then 0 1 number_form _ r0 x.a r1 rest _ ms a (omega arith)
-    (member_then 0 1 number_form _ r1 x.b r2 rest _ ms b (omega arith)
-    (member_then 1 1 (list_form number_form) _ r2 x.crossings r3 rest _ ms crossings (omega arith)
-    (member_then 0 1 number_form _ r3 x.id r4 rest _ ms id (omega arith)
-    (member_then 0 1 number_form _ r4 x.kind r5 rest _ ms kind (omega arith)
-    (members_done 1 r5 rest ms close))))))
+edge_tokens {x} e front back close =
+    let ms = edge_members front.first.2.spelled front.second.2.spelled back.two.first.2.spelled back.two.second.2.spelled back.third.2.spelled in
+    object_tokens 1 ms e
+    (member_then front.first (omega arith) (member_then front.second (omega arith)
+    (member_then back.two.first (omega arith) (member_then back.two.second (omega arith) (member_then back.third (omega arith) (members_done close))))))
     (λ path.
-    went _ _ tt (edge_keys path a.2.spelled b.2.spelled crossings.2.spelled id.2.spelled kind.2.spelled)
-    ∙ went _ _ x.a (member_read number_form path A (object ms) _ x.a refl a.2.reads)
-    ∙ went _ _ x.b (member_read number_form path B (object ms) _ x.b refl b.2.reads)
-    ∙ went _ _ x.crossings (member_read (list_form number_form) path Crossings (object ms) _ x.crossings refl crossings.2.reads)
-    ∙ went _ _ x.id (member_read number_form path Id (object ms) _ x.id refl id.2.reads)
-    ∙ went _ _ x.kind (member_read number_form path Kind (object ms) _ x.kind refl kind.2.reads))
+    went _ _ tt (edge_keys path _ _ _ _ _)
+    ∙ went _ _ x.a (member_read number_form path A (object ms) refl front.first.2.reads)
+    ∙ went _ _ x.b (member_read number_form path B (object ms) refl front.second.2.reads)
+    ∙ went _ _ x.crossings (member_read (list_form number_form) path Crossings (object ms) refl back.two.first.2.reads)
+    ∙ went _ _ x.id (member_read number_form path Id (object ms) refl back.two.second.2.reads)
+    ∙ went _ _ x.kind (member_read number_form path Kind (object ms) refl back.third.2.reads))
 
 -- ---- Rows
 
@@ -94,24 +87,21 @@ rows_keys : (path : Path) (crossings edges next_crossing next_edge rotations : D
 unfolding has_keys and_then
 rows_keys path crossings edges next_crossing next_edge rotations = refl
 
-pub rows_tokens : (x : Rows) (ts r0 r1 r2 r3 r4 r5 rest : List Token) → ts ≡ Token.begin_object ∷ r0
-    → SpellsMember 2 (list_form crossing_form) (key_name Crossings) r0 x.crossings r1 → SpellsMember 3 (list_form edge_form) (key_name Edges) r1 x.edges r2
-    → SpellsMember 0 number_form (key_name NextCrossing) r2 x.next_crossing r3 → SpellsMember 0 number_form (key_name NextEdge) r3 x.next_edge r4
-    → SpellsMember 2 (list_form (list_form number_form)) (key_name Rotations) r4 x.rotations r5 → read_key r5 ≡ Some (None, rest) → Spells 4 rows_form ts x rest
+pub rows_tokens : {x : Rows} {ts r0 r1 r2 rest : List Token} → ts ≡ Token.begin_object ∷ r0
+    → SpellsTwo 2 3 (list_form crossing_form) (list_form edge_form) (key_name Crossings) (key_name Edges) r0 x.crossings x.edges r1
+    → SpellsThree 0 0 2 number_form number_form (list_form (list_form number_form)) (key_name NextCrossing) (key_name NextEdge) (key_name Rotations)
+    r1 x.next_crossing x.next_edge x.rotations r2
+    → read_key r2 ≡ Some (None, rest) → Spells 4 rows_form ts x rest
 unfolding rows_form
-rows_tokens x ts r0 r1 r2 r3 r4 r5 rest e crossings edges next_crossing next_edge rotations close =
-    let ms = rows_members crossings.2.spelled edges.2.spelled next_crossing.2.spelled next_edge.2.spelled rotations.2.spelled in
-    object_tokens 3 rows_form ts r0 rest x ms e
-    (member_then 2 3 (list_form crossing_form) _ r0 x.crossings r1 rest _ ms crossings (omega arith)
-    (member_then 3 3 (list_form edge_form) _ r1 x.edges r2 rest _ ms edges (omega arith)
-    (member_then 0 3 number_form _ r2 x.next_crossing r3 rest _ ms next_crossing (omega arith)
-    (member_then 0 3 number_form _ r3 x.next_edge r4 rest _ ms next_edge (omega arith)
-    (member_then 2 3 (list_form (list_form number_form)) _ r4 x.rotations r5 rest _ ms rotations (omega arith)
-    (members_done 3 r5 rest ms close))))))
+rows_tokens {x} e front back close =
+    let ms = rows_members front.first.2.spelled front.second.2.spelled back.two.first.2.spelled back.two.second.2.spelled back.third.2.spelled in
+    object_tokens 3 ms e
+    (member_then front.first (omega arith) (member_then front.second (omega arith)
+    (member_then back.two.first (omega arith) (member_then back.two.second (omega arith) (member_then back.third (omega arith) (members_done close))))))
     (λ path.
-    went _ _ tt (rows_keys path crossings.2.spelled edges.2.spelled next_crossing.2.spelled next_edge.2.spelled rotations.2.spelled)
-    ∙ went _ _ x.crossings (member_read (list_form crossing_form) path Crossings (object ms) _ x.crossings refl crossings.2.reads)
-    ∙ went _ _ x.edges (member_read (list_form edge_form) path Edges (object ms) _ x.edges refl edges.2.reads)
-    ∙ went _ _ x.next_crossing (member_read number_form path NextCrossing (object ms) _ x.next_crossing refl next_crossing.2.reads)
-    ∙ went _ _ x.next_edge (member_read number_form path NextEdge (object ms) _ x.next_edge refl next_edge.2.reads)
-    ∙ went _ _ x.rotations (member_read (list_form (list_form number_form)) path Rotations (object ms) _ x.rotations refl rotations.2.reads))
+    went _ _ tt (rows_keys path _ _ _ _ _)
+    ∙ went _ _ x.crossings (member_read (list_form crossing_form) path Crossings (object ms) refl front.first.2.reads)
+    ∙ went _ _ x.edges (member_read (list_form edge_form) path Edges (object ms) refl front.second.2.reads)
+    ∙ went _ _ x.next_crossing (member_read number_form path NextCrossing (object ms) refl back.two.first.2.reads)
+    ∙ went _ _ x.next_edge (member_read number_form path NextEdge (object ms) refl back.two.second.2.reads)
+    ∙ went _ _ x.rotations (member_read (list_form (list_form number_form)) path Rotations (object ms) refl back.third.2.reads))

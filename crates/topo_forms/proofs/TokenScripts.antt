@@ -38,17 +38,17 @@ pub optional_read : {A : Type 0} (form : Path → Data → Read A) (default : A)
     → member_or default form path k d ≡ Ok a
 unfolding member_or
 optional_read form default path k d None a there read = rw there (ap (λ x. Ok x) read)
-optional_read form default path k d (Some found) a there read = rw there (member_read form path k d found a there read)
+optional_read form default path k d (Some found) a there read = rw there (member_read form path k d there read)
 
 module _ {A : Type 0} (nesting : ℕ) (form : Path → Data → Read A) (name : List ℕ) (ts mid : List Token) where
   abbrev pub data_of : (o : Option A) → SpellsOptional nesting form name ts o mid → Option Data
   data_of None m = None
   data_of (Some a) m = Some m.2.spelled
 
-  pub optional_then : (outer : ℕ) (rest : List Token) (old ms : Members) (o : Option A) (m : SpellsOptional nesting form name ts o mid) → nesting ≤ outer
+  pub optional_then : {outer : ℕ} {rest : List Token} {old ms : Members} (o : Option A) (m : SpellsOptional nesting form name ts o mid) → nesting ≤ outer
       → MembersTo outer mid (optional name (data_of o m) old) ms rest → MembersTo outer ts old ms rest
-  optional_then outer rest old ms None m within more = subst (λ us. MembersTo outer us old ms rest) (sym m) more
-  optional_then outer rest old ms (Some a) m within more = member_then nesting outer form name ts a mid rest old ms m within more
+  optional_then {outer} {rest} {old} {ms} None m within more = subst (λ us. MembersTo outer us old ms rest) (sym m) more
+  optional_then (Some a) m within more = member_then m within more
 
   pub or_default : (default : A) (o : Option A) (m : SpellsOptional nesting form name ts o mid) → AreRead form default (data_of o m) (unwrap_or o default)
   or_default default None m = refl
@@ -59,6 +59,52 @@ pub prices_or_none : (n : ℕ) (ts mid : List Token) (o : Option (List (Option �
     → (h : ArePricesOf n (unwrap_or o []) kept) → AreRead (prices_form h.0) [] (data_of 1 (list_form (price_form true)) (key_name Prices) ts mid o m) kept
 prices_or_none n ts mid None m kept h = sym h.4
 prices_or_none n ts mid (Some ps) m kept h = λ path. prices_read h.0 path m.2.spelled ps kept (m.2.reads path) h.2 h.3 h.4
+
+-- ---- The limits, the prices and the start, which may be missing
+
+abbrev pub SpellsFront : List Token → Option LimitRows → Option (List (Option ℕ)) → Option (Option Rows) → List Token → Type 0
+SpellsFront ts l p s rest =
+    SpellsOptionals 1 1 4 limits_form (list_form (price_form true)) start_form (key_name Limits) (key_name Prices) (key_name Start) ts l p s rest
+
+-- what each of them is read as
+pub record AreFront (l p s : Option Data) (nulls : Bool) (limits : LimitRows) (prices : List (Option ℕ)) (start : Option Rows) : Type 0 where
+  pub of_limits : AreRead limits_form greatest_limits l limits
+  pub of_prices : AreRead (prices_form nulls) [] p prices
+  pub of_start : AreRead start_form None s start
+
+module _ (r0 r1 : List Token) (l : Option LimitRows) (p : Option (List (Option ℕ))) (s : Option (Option Rows)) (front : SpellsFront r0 l p s r1) where
+  abbrev pub limits_data : Option Data
+  limits_data = data_of 1 limits_form (key_name Limits) r0 front.one l front.first
+
+  abbrev pub prices_data : Option Data
+  prices_data = data_of 1 (list_form (price_form true)) (key_name Prices) front.one front.two p front.second
+
+  abbrev pub start_data : Option Data
+  start_data = data_of 4 start_form (key_name Start) front.two r1 s front.third
+
+  pub front_then : {rest : List Token} {ms : Members}
+      → MembersTo 4 r1 (optional (codes "start") start_data (optional (codes "prices") prices_data (optional (codes "limits") limits_data no_members))) ms rest
+      → MembersTo 4 r0 no_members ms rest
+  front_then more =
+      optional_then 1 limits_form _ r0 front.one l front.first (omega arith)
+      (optional_then 1 (list_form (price_form true)) _ front.one front.two p front.second (omega arith)
+      (optional_then 4 start_form _ front.two r1 s front.third (omega arith) more))
+
+  pub front_read : (n : ℕ) {limits : LimitRows} {prices : List (Option ℕ)} {start : Option Rows} → limits ≡ unwrap_or l greatest_limits
+      → (kept : ArePricesOf n (unwrap_or p []) prices) → start ≡ unwrap_or s None → AreFront limits_data prices_data start_data kept.0 limits prices start
+  front_read n {prices} same kept begun = record {
+    of_limits = subst (AreRead limits_form greatest_limits limits_data) (sym same) (or_default 1 limits_form _ r0 front.one greatest_limits l front.first);
+    of_prices = prices_or_none n front.one front.two p front.second prices kept;
+    of_start = subst (AreRead start_form None start_data) (sym begun) (or_default 4 start_form _ front.two r1 None s front.third);
+  }
+
+-- them, and the ending that is zipped to them
+pub zip_front : {B : Type 0} (front : Option LimitRows × Option (List (Option ℕ)) × Option (Option Rows)) (ending : Option B) (P : B → Type 0)
+    {p : (Option LimitRows × Option (List (Option ℕ)) × Option (Option Rows)) × B} {r0 r1 : List Token} → SpellsFront r0 front.0 front.1 front.2 r1
+    → IfSome ending P → Some p ≡ option_zip (Some front) ending → SpellsFront r0 p.0.0 p.0.1 p.0.2 r1 × P p.1
+zip_front front ending P {p} {r0} {r1} members ends zipped =
+    let z = zip_ends front ending p P zipped ends in
+    (subst (λ (f : Option LimitRows × Option (List (Option ℕ)) × Option (Option Rows)). SpellsFront r0 f.0 f.1 f.2 r1) z.0 members, z.1)
 
 -- ---- Scripts
 
@@ -100,82 +146,57 @@ all_found (Some l) (Some p) (Some s) v w = record { limits = refl; prices = refl
 pub version_read : (n : ℕ) (nulls : Bool) (ms : Members) (v : Data) → get (key_name Version) (object ms) ≡ Some v → ((path : Path) → number_form path v ≡ Ok n)
     → nulls_of n ≡ Ok nulls → nulls_in (object ms) ≡ Ok nulls
 unfolding nulls_in
-version_read n nulls ms v there read of = went _ _ tt refl ∙ went _ _ n (member_read number_form whole Version (object ms) v n there read) ∙ of
+version_read n nulls ms v there read of = went _ _ tt refl ∙ went _ _ n (member_read number_form whole Version (object ms) there read) ∙ of
 
-script_read : (x : Script) (n : ℕ) (l p s : Option Data) (v w : Data) (nulls : Bool) → nulls_of n ≡ Ok nulls → AreRead limits_form greatest_limits l x.limits
-    → AreRead (prices_form nulls) [] p x.prices
-    → AreRead start_form None s x.start → ((path : Path) → number_form path v ≡ Ok n) → ((path : Path) → workers_form path w ≡ Ok x.workers)
+script_read : {x : Script} {n : ℕ} {l p s : Option Data} (v w : Data) {nulls : Bool} → nulls_of n ≡ Ok nulls
+    → AreFront l p s nulls x.limits x.prices x.start → ((path : Path) → number_form path v ≡ Ok n) → ((path : Path) → workers_form path w ≡ Ok x.workers)
     → script_form (script_object l p s v w) ≡ Ok x
 unfolding script_form
-script_read x n l p s v w nulls of limits prices start version workers =
+script_read {x} {n} {l} {p} {s} v w {nulls} of front version workers =
     let d = script_object l p s v w in
     let there = all_found l p s v w in
     went _ _ nulls (version_read n nulls (script_members l p s v w) v there.version version of)
     ∙ went _ _ tt (script_keys l p s v w)
-    ∙ went _ _ x.limits (optional_read limits_form greatest_limits whole Limits d l x.limits there.limits limits)
-    ∙ went _ _ x.prices (optional_read (prices_form nulls) [] whole Prices d p x.prices there.prices prices)
-    ∙ went _ _ x.start (optional_read start_form None whole Start d s x.start there.start start)
-    ∙ went _ _ x.workers (member_read workers_form whole Workers d w x.workers there.workers workers)
+    ∙ went _ _ x.limits (optional_read limits_form greatest_limits whole Limits d l x.limits there.limits front.of_limits)
+    ∙ went _ _ x.prices (optional_read (prices_form nulls) [] whole Prices d p x.prices there.prices front.of_prices)
+    ∙ went _ _ x.start (optional_read start_form None whole Start d s x.start there.start front.of_start)
+    ∙ went _ _ x.workers (member_read workers_form whole Workers d there.workers workers)
 
-pub script_tokens : (x : Script) (l : Option LimitRows) (p : Option (List (Option ℕ))) (s : Option (Option Rows)) (n : ℕ)
-    (ts r0 r1 r2 r3 r4 r5 rest : List Token) → ts ≡ begin_object ∷ r0
-    → SpellsOptional 1 limits_form (key_name Limits) r0 l r1 → SpellsOptional 1 (list_form (price_form true)) (key_name Prices) r1 p r2
-    → SpellsOptional 4 start_form (key_name Start) r2 s r3
-    → SpellsMember 0 number_form (key_name Version) r3 n r4 → SpellsMember 3 workers_form (key_name Workers) r4 x.workers r5 → read_key r5 ≡ Some (None, rest)
+pub script_tokens : {x : Script} {l : Option LimitRows} {p : Option (List (Option ℕ))} {s : Option (Option Rows)} {n : ℕ} {ts r0 r1 rest : List Token}
+    → ts ≡ begin_object ∷ r0 → SpellsFront r0 l p s r1 → SpellsLists r1 n x.workers rest
     → x.limits ≡ unwrap_or l greatest_limits → ArePricesOf n (unwrap_or p []) x.prices → x.start ≡ unwrap_or s None → Spells 5 (λ path. script_form) ts x rest
-script_tokens x l p s n ts r0 r1 r2 r3 r4 r5 rest e limits prices start version workers close same kept begun =
-    let dl = data_of 1 limits_form (key_name Limits) r0 r1 l limits in
-    let dp = data_of 1 (list_form (price_form true)) (key_name Prices) r1 r2 p prices in
-    let ds = data_of 4 start_form (key_name Start) r2 r3 s start in
-    let ms = script_members dl dp ds version.2.spelled workers.2.spelled in
-    object_tokens 4 (λ path. script_form) ts r0 rest x ms e
-    (optional_then 1 limits_form _ r0 r1 4 rest _ ms l limits (omega arith)
-    (optional_then 1 (list_form (price_form true)) _ r1 r2 4 rest _ ms p prices (omega arith)
-    (optional_then 4 start_form _ r2 r3 4 rest _ ms s start (omega arith)
-    (member_then 0 4 number_form _ r3 n r4 rest _ ms version (omega arith)
-    (member_then 3 4 workers_form _ r4 x.workers r5 rest _ ms workers (omega arith) (members_done 4 r5 rest ms close))))))
-    (λ path.
-    script_read x n dl dp ds version.2.spelled workers.2.spelled kept.0 kept.1
-    (subst (AreRead limits_form greatest_limits dl) (sym same) (or_default 1 limits_form _ r0 r1 greatest_limits l limits))
-    (prices_or_none n r1 r2 p prices x.prices kept)
-    (subst (AreRead start_form None ds) (sym begun) (or_default 4 start_form _ r2 r3 None s start)) version.2.reads workers.2.reads)
+script_tokens {l} {p} {s} {n} {r0} {r1} e front lists same kept begun =
+    let version = lists.first.2 in
+    let workers = lists.second.2 in
+    let ms = script_members (limits_data r0 r1 l p s front) (prices_data r0 r1 l p s front) (start_data r0 r1 l p s front) version.spelled workers.spelled in
+    object_tokens 4 ms e
+    (front_then r0 r1 l p s front (member_then lists.first (omega arith) (member_then lists.second (omega arith) (members_done lists.closed))))
+    (λ path. script_read version.spelled workers.spelled kept.1 (front_read r0 r1 l p s front n same kept begun) version.reads workers.reads)
 
 -- ---- Parts that are zipped
 
-pub lists_tokens : {U : Type 0} (ts mid : List Token) (n : ℕ) (version : SpellsMember 0 number_form (key_name Version) ts n mid) (end rest : List Token)
-    (workers : Option (List (List Command))) (closed : Option U)
-    (both_there : Option ℕ) (r : Option (ℕ × List (List Command))) → IfSome workers (λ ws. SpellsMember 3 workers_form (key_name Workers) mid ws end)
+pub lists_tokens : {U : Type 0} (ts : List Token) {mid : List Token} {n : ℕ} (version : SpellsMember 0 number_form (key_name Version) ts n mid)
+    (end rest : List Token) (workers : Option (List (List Command))) (closed : Option U) {both_there : Option ℕ} {r : Option (ℕ × List (List Command))}
+    → IfSome workers (λ ws. SpellsMember 3 workers_form (key_name Workers) mid ws end)
     → IfSome closed (λ _. read_key end ≡ Some (None, rest)) → both_there ≡ option_and closed (Some n) → r ≡ option_zip both_there workers
     → IfSome r (λ found. SpellsLists ts found.0 found.1 rest)
-lists_tokens ts mid n version end rest workers None both_there r lists close there is = let none : r ≡ None = is
+lists_tokens ts version end rest workers None {r} lists close there is = let none : r ≡ None = is
     ∙ ap (λ o. option_zip o workers) there in rw none tt
-lists_tokens ts mid n version end rest None (Some u) both_there r lists close there is = let none : r ≡ None = is
+lists_tokens ts version end rest None (Some u) {r} lists close there is = let none : r ≡ None = is
     ∙ ap (λ o. option_zip o None) there in rw none tt
-lists_tokens ts mid n version end rest (Some ws) (Some u) both_there r lists close there is =
+lists_tokens ts {n} version end rest (Some ws) (Some u) {r} lists close there is =
     let found : r ≡ Some (n, ws) = is ∙ ap (λ o. option_zip o (Some ws)) there in
     rw found (record { mid = _; end = end; first = version; second = lists; closed = close })
 
-pub script_zipped : (front : Option LimitRows × Option (List (Option ℕ)) × Option (Option Rows)) (ending : Option (ℕ × List (List Command)))
-    (p : (Option LimitRows × Option (List (Option ℕ)) × Option (Option Rows)) × (ℕ × List (List Command))) (none : List (Option ℕ)) (given : List (Option ℕ))
-    (kept : Option (List (Option ℕ)))
-    (q : List (Option ℕ) × (Option (Option Rows) × List (List Command))) (limits : LimitRows) (start : Option Rows) (ts r0 r1 rest : List Token)
-    → ts ≡ begin_object ∷ r0
-    → SpellsOptionals 1 1 4 limits_form (list_form (price_form true)) start_form (key_name Limits) (key_name Prices)
-    (key_name Start) r0 front.0 front.1 front.2 r1
-    → IfSome ending (λ found. SpellsLists r1 found.0 found.1 rest) → Some p ≡ option_zip (Some front) ending → none ≡ [] → given ≡ unwrap_or p.0.1 none
-    → IfSome kept (ArePricesOf p.1.0 given)
-    → Some q ≡ option_zip kept (Some (p.0.2, p.1.1)) → limits ≡ unwrap_or p.0.0 greatest_limits → start ≡ unwrap_or q.1.0 None
+pub script_zipped : {l : Option LimitRows} {p : Option (List (Option ℕ))} {s : Option (Option Rows)} {n : ℕ} {ws : List (List Command)}
+    {none given : List (Option ℕ)} (kept : Option (List (Option ℕ))) {q : List (Option ℕ) × (Option (Option Rows) × List (List Command))}
+    {limits : LimitRows} {start : Option Rows} {ts r0 r1 rest : List Token} → ts ≡ begin_object ∷ r0 → SpellsFront r0 l p s r1 → SpellsLists r1 n ws rest
+    → none ≡ [] → given ≡ unwrap_or p none → IfSome kept (ArePricesOf n given) → Some q ≡ option_zip kept (Some (s, ws))
+    → limits ≡ unwrap_or l greatest_limits → start ≡ unwrap_or q.1.0 None
     → Spells 5 (λ path. script_form) ts (record { limits = limits; prices = q.0; start = start; workers = q.1.1 }) rest
-script_zipped front ending p none given kept q limits start ts r0 r1 rest e members ends zipped empty given_is is_kept zipped_kept limits_is start_is =
-    let z = zip_ends front ending p (λ found. SpellsLists r1 found.0 found.1 rest) zipped ends in
-    let lists = z.1 in
-    let first = subst (λ f. SpellsOptionals 1 1 4 limits_form (list_form (price_form true)) start_form (key_name Limits) (key_name Prices)
-    (key_name Start) r0 f.0 f.1 f.2 r1) z.0 members in
-    let w = zip_starts kept (p.0.2, p.1.1) q (ArePricesOf p.1.0 given) zipped_kept is_kept in
-    let prices : ArePricesOf p.1.0 (unwrap_or p.0.1 []) q.0 = subst (λ ps. ArePricesOf p.1.0 ps q.0) (given_is ∙ ap (unwrap_or p.0.1) empty) w.0 in
-    let workers : p.1.1 ≡ q.1.1 = ap (λ r. r.1) w.1 in
-    let begun : p.0.2 ≡ q.1.0 = ap (λ r. r.0) w.1 in
-    script_tokens (record { limits = limits; prices = q.0; start = start; workers = q.1.1 })
-    p.0.0 p.0.1 p.0.2 p.1.0 ts _ _ _ _ _ _ rest e first.first first.second first.third lists.first
-    (subst (λ ws. SpellsMember 3 workers_form (key_name Workers) lists.mid ws lists.end) workers lists.second) lists.closed limits_is prices
-    (start_is ∙ ap (λ o. unwrap_or o None) (sym begun))
+script_zipped {p} {s} {n} {ws} {given} kept {q} {r1} {rest} e front lists empty given_is is_kept zipped limits_is start_is =
+    let w = zip_starts kept (s, ws) q (ArePricesOf n given) zipped is_kept in
+    let prices : ArePricesOf n (unwrap_or p []) q.0 = subst (λ ps. ArePricesOf n ps q.0) (given_is ∙ ap (unwrap_or p) empty) w.0 in
+    let workers : ws ≡ q.1.1 = ap (λ r. r.1) w.1 in
+    let begun : s ≡ q.1.0 = ap (λ r. r.0) w.1 in
+    script_tokens e front (subst (λ us. SpellsLists r1 n us rest) workers lists) limits_is prices (start_is ∙ ap (λ o. unwrap_or o None) (sym begun))

@@ -6,7 +6,7 @@ use Rattle.topo_forms.proofs.script_forms.read_price_member.Goals as goal
 
 pub returns-in-Some : goal.returns-in-Some
 returns-in-Some c = member_there (prices_form c.args.nulls)
-    whole _ Prices _ _ c.name.result.now c.read_prices.result c.name.ensures c.member-path.ensures c.in-Some.ensures c.read_prices.ensures
+    whole Prices _ c.read_prices.result c.name.ensures c.member-path.ensures c.in-Some.ensures c.read_prices.ensures
 
 pub returns-in-None : goal.returns-in-None
-returns-in-None c = member_missing (prices_form c.args.nulls) whole _ Prices _ c.name.result.now c.name.ensures c.member-path.ensures c.in-None.ensures
+returns-in-None c = member_missing (prices_form c.args.nulls) whole Prices _ c.name.ensures c.member-path.ensures c.in-None.ensures

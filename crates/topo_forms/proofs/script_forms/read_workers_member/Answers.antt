@@ -5,8 +5,8 @@ use Rattle.topo_forms.proofs.Lookups.{member_there, member_missing}
 use Rattle.topo_forms.proofs.script_forms.read_workers_member.Goals as goal
 
 pub returns-in-Some : goal.returns-in-Some
-returns-in-Some c = member_there workers_form whole _ Workers _ _ c.name.result.now c.read_workers.result c.name.ensures c.member-path.ensures c.in-Some.ensures
-    c.read_workers.ensures
+returns-in-Some c =
+    member_there workers_form whole Workers _ c.read_workers.result c.name.ensures c.member-path.ensures c.in-Some.ensures c.read_workers.ensures
 
 pub returns-in-None : goal.returns-in-None
-returns-in-None c = member_missing workers_form whole _ Workers _ c.name.result.now c.name.ensures c.member-path.ensures c.in-None.ensures
+returns-in-None c = member_missing workers_form whole Workers _ c.name.ensures c.member-path.ensures c.in-None.ensures

@@ -2,4 +2,4 @@ use Rattle.topo_forms.proofs.TokenCalls.{delete_tokens}
 use Rattle.topo_forms.proofs.token_calls.token_delete.Goals as goal
 
 pub returns : goal.returns
-returns c = delete_tokens c.in_ok-edge.edge c.args.reader.now _ _ c.in_ok-edge.ensures c.in_ok-end_array.ensures
+returns c = delete_tokens c.in_ok-edge.ensures c.in_ok-end_array.ensures

@@ -2,4 +2,4 @@ use Rattle.topo_forms.proofs.TokenReplies.{cut_tokens}
 use Rattle.topo_forms.proofs.token_replies.token_cut.Goals as goal
 
 pub returns : goal.returns
-returns c = cut_tokens c.in_ok-segment.segment c.args.reader.now _ _ c.in_ok-segment.ensures c.in_ok-end_array.ensures
+returns c = cut_tokens c.in_ok-segment.ensures c.in_ok-end_array.ensures

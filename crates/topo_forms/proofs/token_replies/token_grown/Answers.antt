@@ -2,4 +2,4 @@ use Rattle.topo_forms.proofs.TokenReplies.{grown_tokens}
 use Rattle.topo_forms.proofs.token_replies.token_grown.Goals as goal
 
 pub returns : goal.returns
-returns c = grown_tokens c.in_ok-vertex.vertex c.in_ok-edge.edge c.args.reader.now _ _ _ c.in_ok-edge.ensures c.in_ok-vertex.ensures c.in_ok-end_object.ensures
+returns c = grown_tokens c.in_ok-edge.ensures c.in_ok-vertex.ensures c.in_ok-end_object.ensures

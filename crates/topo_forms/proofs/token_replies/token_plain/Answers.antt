@@ -5,5 +5,4 @@ use Rattle.topo_forms.proofs.token_replies.token_plain.Goals as goal
 pub returns : goal.returns
 returns c =
     let same : c.args.name.now ≡ c.in_ok-text.text.now = search rules in
-    plain_tokens c.args.number c.args.name.now c.in_ok-text.text.now c.in_ok-text.why c.args.reader.now c.end_array.new.reader c.in_ok-text.ensures same
-    c.in_ok-end_array.ensures
+    plain_tokens c.args.number c.in_ok-text.ensures same c.in_ok-end_array.ensures

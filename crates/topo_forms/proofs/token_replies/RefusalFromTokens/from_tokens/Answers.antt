@@ -3,5 +3,5 @@ use Rattle.topo_forms.proofs.token_replies.RefusalFromTokens.from_tokens.Goals a
 
 pub returns : goal.returns
 returns c =
-    refusal_tokens c.in_ok-number.number c.in_ok-name.name.now c.token_why.result c.args.reader.now _ _ _ c.token_why.new.reader c.in_ok-begin_array.ensures
+    refusal_tokens c.token_why.result c.token_why.new.reader c.in_ok-begin_array.ensures
     c.in_ok-number.ensures c.in_ok-name.ensures c.token_why.ensures

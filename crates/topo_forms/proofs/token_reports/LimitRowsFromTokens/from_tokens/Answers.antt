@@ -2,5 +2,4 @@ use Rattle.topo_forms.proofs.TokenReports.{limits_tokens}
 use Rattle.topo_forms.proofs.token_reports.LimitRowsFromTokens.from_tokens.Goals as goal
 
 pub returns : goal.returns
-returns c = limits_tokens _ c.args.reader.now _ _ _ _ _ c.in_ok-begin_object.ensures c.in_ok-crossings.ensures.two.first c.in_ok-crossings.ensures.two.second
-    c.in_ok-crossings.ensures.third c.in_ok-end_object.ensures
+returns c = limits_tokens c.in_ok-begin_object.ensures c.in_ok-crossings.ensures c.in_ok-end_object.ensures
