@@ -35,29 +35,27 @@ still_first price start history picture found way was same =
     (one_version price start.limits start.rows was.picture picture (versions history) then now) was.first
 
 -- at the prices and the start that are named
-pub first_now : {F : Type 0} (answers : F → Asking) (closure : Option F) (start from : Shown) (tariff : F) (history : List Entry) (picture : Rows)
-    (found : FoundState) (u v : ℕ)
-    → closure ≡ Some tariff → from ≡ start → Replays (prices_of (answers tariff)) from.limits from.rows history picture
+pub first_now : {F : Type 0} (answers : F → Asking) {closure : Option F} {start from : Shown} {tariff : F} (history : List Entry) {picture : Rows}
+    {found : FoundState} {u v : ℕ} → closure ≡ Some tariff → from ≡ start → Replays (prices_of (answers tariff)) from.limits from.rows history picture
     → IsFoundRoute (prices_named answers closure) start found
     → found.entries ≡ versions history → found.u ≡ u → found.v ≡ v → IsFirst (prices_of (answers tariff)) picture u v found.route found.price
-first_now answers closure start from tariff history picture found u v named begins way was same is_u is_v =
+first_now answers {start} {from} {tariff} history {picture} {found} named begins way was same is_u is_v =
     let at_tariff = subst (λ (o : Option _). IsFoundRoute (prices_named answers o) start found) named was in
     let at_start = subst (λ (s : Shown). IsFoundRoute (prices_of (answers tariff)) s found) (sym begins) at_tariff in
     let first = still_first (prices_of (answers tariff)) from history picture found way at_start same in
     rw (← is_u, ← is_v) first
 
 -- a route that outlives the calls since it was found, at the prices and the start that are named
-pub still_first_now : {F : Type 0} (answers : F → Asking) (closure : Option F) (start from : Shown) (tariff : F) (history entries : List Entry) (before : Shown)
-    (now : Rows) (region : RegionState)
-    (u v : ℕ) (r : Route) (p accepted : ℕ) → closure ≡ Some tariff → from ≡ start
+pub still_first_now : {F : Type 0} (answers : F → Asking) {closure : Option F} {start from : Shown} {tariff : F} {history entries : List Entry} {before : Shown}
+    {now : Rows} {region : RegionState} {u v : ℕ} {r : Route} {p accepted : ℕ} → closure ≡ Some tariff → from ≡ start
     → ReplaysLawfully (prices_of (answers tariff)) from.limits from.rows history now
     → IsVersionFrom (prices_named answers closure) start entries before → IsPrefix entries (versions history)
     → length (versions history) ≡ length entries + accepted
     → HaveSpared before.rows region history accepted → IsHeldBy (prices_named answers closure) before.rows u v r p region
     → IsFirst (prices_of (answers tariff)) now u v r p
-still_first_now answers closure start from tariff history entries before now region u v r p accepted named begins way was prefix count spared held =
+still_first_now answers {start} {from} {tariff} {entries} {before} {region} {u} {v} {r} {p} named begins way was prefix count spared held =
     let was_named = subst (λ (o : Option _). IsVersionFrom (prices_named answers o) start entries before) named was in
     let was_here = subst (λ (s : Shown). IsVersionFrom (prices_of (answers tariff)) s entries before) (sym begins) was_named in
     let held_here = subst (λ (o : Option _). IsHeldBy (prices_named answers o) before.rows u v r p region) named held in
-    outlives (prices_of (answers tariff)) from.limits from.rows before.rows now history entries region u v r p accepted way was_here.replayed prefix count
+    outlives (prices_of (answers tariff)) from.limits from.rows before.rows _ _ entries region u v r p _ way was_here.replayed prefix count
     spared was_here.lawful.lawful held_here.0 held_here.1

@@ -73,13 +73,13 @@ first_agree history n rs first k r there =
 -- ---- Going through a history
 
 -- an entry of another caller, or of one with no receipt left
-pub found_other : (n : ℕ) (rs : List Receipt) (es : List Entry) (k : ℕ) (e : Entry) (b : Bool) → (e.caller == n) ≡ b → (b ≡ true → length rs ≤ k)
+pub found_other : {n : ℕ} {rs : List Receipt} {es : List Entry} {k : ℕ} (e : Entry) (b : Bool) → (e.caller == n) ≡ b → (b ≡ true → length rs ≤ k)
     → AreFound es n rs k → AreFound (es ++ e ∷ []) n rs k
-found_other n rs es k e false is past h =
+found_other {n} {es} e false is past h =
     let same : receipts_due n (es ++ e ∷ []) ≡ receipts_due n es = due_append n es (e ∷ []) ∙ ap (λ l. receipts_due n es ++ l) (due_other n e is)
     ∙ append-nil (receipts_due n es) in
     record { within = h.within; first = (h.first.0, same ∙ h.first.1); all = λ lt. same ∙ h.all lt }
-found_other n rs es k e true is past h =
+found_other {n} {rs} {es} {k} e true is past h =
     let more = receipt_in e ∷ [] in
     let same : receipts_due n (es ++ e ∷ []) ≡ receipts_due n es ++ more = due_append n es (e ∷ []) ∙ ap (λ l. receipts_due n es ++ l) (due_own n e [] is) in
     record {
@@ -89,10 +89,9 @@ found_other n rs es k e true is past h =
     }
 
 -- the next receipt is the entry
-pub found_one : (n : ℕ) (rs : List Receipt) (es : List Entry) (k : ℕ) (e : Entry) → (e.caller == n) ≡ true → k < length rs → (r : Receipt) → r ≡ get_or rs k r
-    → r ≡ receipt_in e → AreFound es n rs k
-    → AreFound (es ++ e ∷ []) n rs (k + 1)
-found_one n rs es k e is lt r at eq h =
+pub found_one : {n : ℕ} {rs : List Receipt} {es : List Entry} {k : ℕ} (e : Entry) {r : Receipt} → (e.caller == n) ≡ true → k < length rs
+    → r ≡ get_or rs k r → r ≡ receipt_in e → AreFound es n rs k → AreFound (es ++ e ∷ []) n rs (k + 1)
+found_one {n} {rs} {es} {k} e {r} is lt at eq h =
     let more = receipt_in e ∷ [] in
     let same = due_append n es (e ∷ []) ∙ ap (λ l. receipts_due n es ++ l) (due_own n e [] is) in
     let whole : receipts_due n (es ++ e ∷ []) ≡ take (k + 1) rs = same ∙ ap (λ l. l ++ more) (h.all lt) ∙ ap (λ x. take k rs ++ x ∷ []) (sym eq ∙ at)
@@ -100,10 +99,10 @@ found_one n rs es k e is lt r at eq h =
     record { within = omega (arith, lt); first = ([], whole ∙ sym (append-nil (take (k + 1) rs))); all = λ _. whole }
 
 -- the next receipt is not the entry
-pub differs_here : (n : ℕ) (rs : List Receipt) (before after : List Entry) (k : ℕ) (e : Entry) (r : Receipt) → (e.caller == n) ≡ true → k < length rs
-    → slice_get rs k ≡ Some r → (r ≡ receipt_in e → ⊥)
+pub differs_here : {n : ℕ} {rs : List Receipt} {before : List Entry} (after : List Entry) {k : ℕ} (e : Entry) {r : Receipt} → (e.caller == n) ≡ true
+    → k < length rs → slice_get rs k ≡ Some r → (r ≡ receipt_in e → ⊥)
     → AreFound before n rs k → Differs (before ++ e ∷ after) n rs k
-differs_here n rs before after k e r is lt there other h = record {
+differs_here {n} {rs} {before} after {k} e {r} is lt there other h = record {
   receipt = r;
   there = there;
   differs = λ agrees.

@@ -70,7 +70,7 @@ pub apart : (g : ℕ) (ps : List PassState) → ((n : ℕ) → n < g → HasNumb
 apart g ps f le = apart_behind g [] ps f le
 
 -- the parts of the ledger that are joined are all
-pub all_parts : (parts rest given len res all : ℕ) → rest + given ≡ parts → all ≡ parts → res ≡ rest + len → (0 < len → res ≤ all) → given ≤ len
+pub all_parts : {parts : ℕ} (rest given len : ℕ) {res all : ℕ} → rest + given ≡ parts → all ≡ parts → res ≡ rest + len → (0 < len → res ≤ all) → given ≤ len
     → (res ≡ all) × (len ≤ given)
-all_parts parts rest given zero res all a b c d e = (omega (arith, a, b, c, e), omega arith)
-all_parts parts rest given (suc len) res all a b c d e = let f : res ≤ all = d (omega arith) in (omega (arith, a, b, c, e, f), omega (arith, a, b, c, e, f))
+all_parts rest given zero a b c d e = (omega (arith, a, b, c, e), omega arith)
+all_parts rest given (suc len) {res} {all} a b c d e = let f : res ≤ all = d (omega arith) in (omega (arith, a, b, c, e, f), omega (arith, a, b, c, e, f))

@@ -89,12 +89,12 @@ copied_there None = refl
 copied_there (Some p) = refl
 
 -- a replay with one accepted entry more is a version, one step on
-version_on : (price : Pricing) (start : Shown) (history : List Entry) (picture next : Shown) (entry : Entry)
+version_on : (price : Pricing) (start : Shown) (history : List Entry) (picture : Shown) {next : Shown} (entry : Entry)
     → Replays price start.limits start.rows history picture.rows
     → is_accepted entry.reply ≡ true → Step price start.limits picture.rows entry.call entry.reply next.rows → next.limits ≡ start.limits
     → IsPicture next.limits next.rows
     → IsVersionFrom price start (versions history ++ entry ∷ []) next
-version_on price start history picture next entry way on step same good = record {
+version_on price start history picture {next} entry way on step same good = record {
   replayed = record {
     accepted = versions_on (versions history) entry on ∙ ap (λ l. l ++ entry ∷ []) (versions_again history);
     replayed = replays_on price start.limits (versions history) start.rows picture.rows next.rows entry
@@ -138,7 +138,7 @@ module _ {F : Type 0} (answers : F → Asking) (closure : Option F) (start : Sho
       is old_step in
       let same : picture.limits ≡ old.start.limits = sym (ap (λ (o : Option Shown). (picture_after o new.picture).limits) is) ∙ ready.same_limits
       ∙ ap (λ (s : Shown). s.limits) unchanged.1 ∙ limits in
-      let there = version_on price old.start old.history old.picture picture next.entry way on step same good in
+      let there = version_on price old.start old.history old.picture next.entry way on step same good in
       subst (λ (o : Option F). IsVersionFrom (prices_named answers o) start (versions old.history ++ next.entry ∷ []) picture) (sym named)
       (subst (λ (s : Shown). IsVersionFrom price s (versions old.history ++ next.entry ∷ []) picture) from there)
 

@@ -17,7 +17,6 @@ pub returns-then-is_prefix_of : goal.returns-then-is_prefix_of
 returns-then-is_prefix_of g c good =
     let answers = g.F.PriceFn.may_return in
     let closure = g.K.ServiceBrand.closure in
-    let start = g.K.ServiceBrand.start in
     let book = c.args.book.now in
     let f = c.self.inside in
     let entries = f.version.entries in
@@ -40,6 +39,4 @@ returns-then-is_prefix_of g c good =
     let held = subst (λ (o : Option RegionState). IfSome o (IsHeldBy (prices_named answers closure) f.version.picture.rows f.u f.v f.first.route f.first.price))
     c.in-Some.is c.self.invariant.1 in
     subst (λ (s : FoundState). IsFirst (prices_of (answers book.tariff)) book.picture.rows s.u s.v s.route s.price) c.self.view_is
-    (still_first_now answers closure start book.start book.tariff book.history entries f.version.picture book.picture.rows c.in-Some.region f.u f.v
-    f.first.route f.first.price accepted
-    c.requires.named c.requires.begun c.history.ensures.lawful c.picture.ensures.version there count spared held)
+    (still_first_now answers c.requires.named c.requires.begun c.history.ensures.lawful c.picture.ensures.version there count spared held)

@@ -17,7 +17,7 @@ audit-requires g c =
     let s = c.gather-all.ensures in
     let there : (n : ℕ) → n < given → HasNumber n c.args.passes.items = rw (← c.as_slice.ensures.value) c.in_default.ensures.all_there in
     let len : vec_len c.args.passes ≡ length c.args.passes.items = search rules in
-    (all_parts MAX_PASSES c.into_parts-parts.result.1.parts given _ _ _ sum c.self.invariant.1 s.parts s.apart
+    (all_parts c.into_parts-parts.result.1.parts given _ sum c.self.invariant.1 s.parts s.apart
     (rw len (enough given c.args.passes.items there))).0
 
 pub returns-clause-all_there : goal.returns-clause-all_there
@@ -44,7 +44,7 @@ returns-clause-whole g c =
     let there : (n : ℕ) → n < given → HasNumber n passes = rw (← c.as_slice.ensures.value) c.in_default.ensures.all_there in
     let len : vec_len c.args.passes ≡ length passes = search rules in
     let few : vec_len c.args.passes ≤ given =
-    (all_parts MAX_PASSES rest.parts given _ _ _ sum c.self.invariant.1 s.parts s.apart (rw len (enough given passes there))).1 in
+    (all_parts rest.parts given _ sum c.self.invariant.1 s.parts s.apart (rw len (enough given passes there))).1 in
     let firsts : All (λ (p : PassState). AreFirst history p.number p.receipts) passes =
     rw (← c.as_slice.ensures.value, ← c.history.ensures) c.in_default.ensures.agree in
     let count : length history ≡ receipt_count passes =
