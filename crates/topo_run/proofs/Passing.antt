@@ -125,12 +125,11 @@ take_before (pass ∷ passes) rest (suc n) is = ap (λ (ps : List PassState). pa
 -- ---- The end of a service
 
 -- what a service that was closed has made of the lists
-pub served : {F : Type 0} (answers : F → Asking) (closure own : F) (first start : Shown) (picture : Rows) (lists : List (List Command))
-    (passes : List PassState) (history : List Entry)
-    → closure ≡ own → first ≡ start → HaveWorked lists passes → AreWhole history passes
+pub served : {F : Type 0} (answers : F → Asking) {closure own : F} {first start : Shown} {picture : Rows} {lists : List (List Command)}
+    {passes : List PassState} {history : List Entry} → closure ≡ own → first ≡ start → HaveWorked lists passes → AreWhole history passes
     → Replays (prices_of (answers closure)) first.limits first.rows history picture
     → IsRun (prices_of (answers own)) start.limits start.rows lists history picture
-served {F} answers closure own first start picture lists passes history same_closure same_start worked whole replayed =
+served {F} answers {closure} {own} {start} {picture} {lists} {passes} {history} same_closure same_start worked whole replayed =
     let begun : Replays (prices_of (answers closure)) start.limits start.rows history picture =
     subst (λ (s : Shown). Replays (prices_of (answers closure)) s.limits s.rows history picture) same_start replayed in
     let asked : Replays (prices_of (answers own)) start.limits start.rows history picture =
@@ -146,10 +145,9 @@ ok_both (Err e) P Q R f p q = p
 
 -- a run of copies of the lists, at the prices that a closure answers, is one of the lists at the script's prices, where it
 -- answers those
-pub own_run : (answers : Asking) (prices : List (Option ℕ)) (limits : Limits) (p q : Rows) (lists copies : List (List Command)) (history : List Entry)
-    → AnswersPrices answers prices
-    → copies ≡ lists → IsRun (prices_of answers) limits p copies history q → IsRun (priced prices) limits p lists history q
-own_run answers prices limits p q lists copies history own same run =
+pub own_run : {answers : Asking} {prices : List (Option ℕ)} {limits : Limits} {p q : Rows} {lists copies : List (List Command)} {history : List Entry}
+    → AnswersPrices answers prices → copies ≡ lists → IsRun (prices_of answers) limits p copies history q → IsRun (priced prices) limits p lists history q
+own_run {answers} {prices} {limits} {p} {q} {copies} {history} own same run =
     subst (λ (ls : List (List Command)). IsRun (priced prices) limits p ls history q) same
     (run_so (prices_of answers) (priced prices) own.only own.each limits p copies history q run)
 

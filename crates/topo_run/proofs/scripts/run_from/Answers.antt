@@ -1,5 +1,4 @@
 use Rattle.std.proofs.Common.{◌≡◌, map, ◌∙◌, ap}
-use Rattle.std.specs.Arc.{arc_value}
 use Rattle.topo_service.specs.Commands.{commands}
 use Rattle.topo_run.proofs.Passing.{own_run}
 use Rattle.topo_run.proofs.scripts.run_from.Goals as goal
@@ -7,7 +6,6 @@ use Rattle.topo_run.proofs.scripts.run_from.Goals as goal
 pub returns-clause-report : goal.returns-clause-report
 returns-clause-report g c =
     let script = c.args.script.now in
-    let outcome = c.in_ok-outcome.outcome in
     let heading = c.in-Ok.ensures in
     let same : map commands c.as_slice-2.result.now ≡ script.workers = ap (map commands) c.as_slice-2.ensures.value ∙ c.in-Ok-lists_of.ensures
     ∙ c.as_slice.ensures in
@@ -15,7 +13,5 @@ returns-clause-report g c =
       same_limits = heading.limits;
       same_prices = heading.prices;
       same_start = heading.start;
-      run = own_run (g.F.PriceFn.may_return (arc_value c.args.tariff)) script.prices c.args.start.limits c.args.start.rows outcome.picture script.workers
-          (map commands c.as_slice-2.result.now) outcome.history
-          c.requires same c.in_ok-outcome.ensures.run;
+      run = own_run c.requires same c.in_ok-outcome.ensures.run;
     }

@@ -27,8 +27,7 @@ returns-in-Ok-close-clause-run g c =
     let book = c.in-Ok-close.book in
     let closed = c.in-Ok-close.ensures in
     let run : IsRun (prices_of (g.F.PriceFn.may_return own)) start.limits start.rows lists book.history book.picture.rows =
-    served g.F.PriceFn.may_return book.tariff own book.start start book.picture.rows lists
-    c.in-Ok-run_all.passes.items book.history (closed.tariff ∙ c.in-Ok-run_all.ensures.same ∙ c.in-Ok.ensures.tariff)
+    served g.F.PriceFn.may_return (closed.tariff ∙ c.in-Ok-run_all.ensures.same ∙ c.in-Ok.ensures.tariff)
     (closed.start ∙ sym c.requires.start) c.in-Ok-run_all.ensures.worked closed.whole closed.legal in
     ok_both c.outcome_of.result _ _ _
     (λ outcome history picture. subst
