@@ -20,15 +20,13 @@ use Rattle.topo_serve.specs.Sessions.{AreAnswered, command_before, commands_of}
 
 -- ---- One line more
 
-pub answered_snoc : (price : Pricing) (limits : Limits) (lines texts : List (List ℕ)) (line text : List ℕ) (old mid new : Standing)
-    → AreAnswered price limits lines texts old mid
-    → Answers price limits (request_of line) text mid new → AreAnswered price limits (lines ++ line ∷ []) (texts ++ text ∷ []) old new
-answered_snoc price limits [] [] line text old mid new is more =
-    (new, subst (λ (s : Standing). Answers price limits (request_of line) text s new) is more, refl)
-answered_snoc price limits [] (t ∷ texts) line text old mid new is more = absurd is
-answered_snoc price limits (l ∷ lines) [] line text old mid new is more = absurd is
-answered_snoc price limits (l ∷ lines) (t ∷ texts) line text old mid new is more =
-    (is.0, is.1, answered_snoc price limits lines texts line text is.0 mid new is.2 more)
+module _ (price : Pricing) (limits : Limits) (line text : List ℕ) where
+  pub answered_snoc : (lines texts : List (List ℕ)) (old mid new : Standing) → AreAnswered price limits lines texts old mid
+      → Answers price limits (request_of line) text mid new → AreAnswered price limits (lines ++ line ∷ []) (texts ++ text ∷ []) old new
+  answered_snoc [] [] old mid new is more = (new, subst (λ (s : Standing). Answers price limits (request_of line) text s new) is more, refl)
+  answered_snoc [] (t ∷ texts) old mid new is more = absurd is
+  answered_snoc (l ∷ lines) [] old mid new is more = absurd is
+  answered_snoc (l ∷ lines) (t ∷ texts) old mid new is more = (is.0, is.1, answered_snoc lines texts is.0 mid new is.2 more)
 
 -- ---- Other prices that ask for the same
 

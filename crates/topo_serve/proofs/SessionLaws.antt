@@ -57,7 +57,7 @@ module _ (price : Pricing) (limits : Limits) (old mid new : Streams) (from now :
     plain = plain_snoc is.lines turn.line is.plain turn.plain;
     takes = subst (Takes old.left new.left old.ahead new.ahead) (sym (closed_snoc is.lines turn.line)) (taken_more (turn.line ++ 10 ∷ []) turn.takes);
     texts = is.texts ++ turn.told.text ∷ [];
-    answered = answered_snoc price limits is.lines is.texts turn.line turn.told.text from now to is.answered turn.told.answers;
+    answered = answered_snoc price limits turn.line turn.told.text is.lines is.texts from now to is.answered turn.told.answers;
     written = subst (Appends old.held new.held) (sym (closed_snoc is.texts turn.told.text))
         (Appends-trans old.held mid.held new.held _ _ is.written turn.told.written);
   }
@@ -96,7 +96,7 @@ module _ (price : Pricing) (limits : Limits) (old mid new : Streams) (from now :
         to = to;
         answered =
             subst (λ (ls : List (List ℕ)). AreAnswered price limits ls (is.texts ++ told.text ∷ []) from to) (sym all)
-            (answered_snoc price limits is.lines is.texts (b ∷ line) told.text from now to is.answered told.answers);
+            (answered_snoc price limits (b ∷ line) told.text is.lines is.texts from now to is.answered told.answers);
         written = subst (Appends old.held new.held) (sym (closed_snoc is.texts told.text))
             (Appends-trans old.held mid.held new.held _ _ is.written told.written);
       }
@@ -137,7 +137,7 @@ module _ (price : Pricing) (limits : Limits) (old mid new : Streams) (from now :
     are_read = are_read;
     texts = is.texts ++ cut.text ∷ [];
     to = cut.new;
-    answered = answered_snoc price limits is.lines is.texts line cut.text from now cut.new is.answered cut.answers;
+    answered = answered_snoc price limits line cut.text is.lines is.texts from now cut.new is.answered cut.answers;
     written = record {
       given = is.texts;
       last = cut.text;

@@ -6,7 +6,7 @@ use Rattle.std.proofs.KnownBytes.{Consumes-nil, Consumes-trans}
 use Rattle.topo_serve.specs.Lines.{IsPlain}
 use Rattle.topo_serve.specs.declared.ahead.Part.{Part}
 use Rattle.topo_serve.specs.declared.ahead.Part.TheVariants.{End, Feed, More}
-use Rattle.topo_serve.specs.Taking.{Consumed, EndsBy, EndsFirst, IsNoEnd, PartsAhead, Takes, TakesFirst, TakesLine, TakesPart, feed_of}
+use Rattle.topo_serve.specs.Taking.{Consumed, EndsBy, EndsFirst, Takes, TakesFirst, TakesLine, TakesPart, feed_of}
 use Rattle.topo_serve.proofs.LineLaws.{plain_append, take_more}
 
 pub consumed_trans : (a b c : Option (List ℕ)) → Consumed a b → Consumed b c → Consumed a c
@@ -27,49 +27,17 @@ takes_trans a b c old mid new x y p q = record {
       ∙ sym (append_assoc x y new);
 }
 
--- ---- A part of what is ahead, and of what is read
+-- ---- The last part of a line
 
-no_end_ends : (part : Part) (left : Option (List ℕ)) (ahead : List ℕ) → IsNoEnd part → EndsBy part left ahead
-no_end_ends Feed left ahead is = tt
-no_end_ends More left ahead is = tt
-no_end_ends End left ahead is = absurd is
-
-pub part_there : (most : ℕ) (a : Option (List ℕ)) (old new line after : List ℕ) (part : Part) → PartsAhead most old new line after part
-    → TakesPart most a a old new line after part
-part_there most a old new line after part p = record {
-  more = p.more;
-  plain = p.plain;
-  takes = record { read = []; consumed = Consumes-nil a; parted = append-nil old ∙ p.parted };
-  kept = p.kept;
-  ended = no_end_ends part a new p.no_end;
-}
-
-pub part_read : (most : ℕ) (a b : Option (List ℕ)) (old mid new line after : List ℕ) (part : Part) → old ≡ [] → Consumes a b mid
-    → PartsAhead most mid new line after part
-    → TakesPart most a b old new line after part
-part_read most a b old mid new line after part none consumed p = record {
-  more = p.more;
-  plain = p.plain;
-  takes = record { read = mid; consumed = consumed; parted = ap (λ (t : List ℕ). t ++ mid) none ∙ p.parted };
-  kept = p.kept;
-  ended = no_end_ends part b new p.no_end;
-}
-
-pub part_over : (most : ℕ) (a b : Option (List ℕ)) (old new line : List ℕ) → length line ≤ most → old ≡ [] → Consumes a b new → IsAtEnd b → new ≡ []
+pub part_over : {most : ℕ} {a b : Option (List ℕ)} {old new line : List ℕ} → length line ≤ most → old ≡ [] → Consumes a b new → IsAtEnd b → new ≡ []
     → TakesPart most a b old new line line End
-part_over most a b old new line within none consumed over empty = record {
+part_over {most} {new} {line} within none consumed over empty = record {
   more = [];
   plain = tt;
   takes = record { read = new; consumed = consumed; parted = ap (λ (t : List ℕ). t ++ new) none };
   kept = sym (ap (take most) (append-nil line) ∙ take_all most line within);
   ended = (over, empty);
 }
-
-pub consumed_none : (a : Option (List ℕ)) → Consumed a a
-consumed_none a = record { read = []; consumed = Consumes-nil a }
-
-pub consumed_read : (a b : Option (List ℕ)) (read : List ℕ) → Consumes a b read → Consumed a b
-consumed_read a b read consumed = record { read = read; consumed = consumed }
 
 -- ---- Parts of a line
 

@@ -14,4 +14,4 @@ returns-then-branch-clause-part g c =
     let consumed : Consumes (g.R.Read.remaining c.args.reader.now) (g.R.Read.remaining c.refill.new.reader) c.refill.new.self = search rules in
     let over : IsAtEnd (g.R.Read.remaining c.refill.new.reader) = search rules in
     let empty : c.refill.new.self ≡ [] = search rules in
-    part_over _ _ _ _ _ _ within none consumed over empty
+    part_over within none consumed over empty
