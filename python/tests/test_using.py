@@ -147,7 +147,7 @@ class Examples(unittest.TestCase):
 
     def test_shown_code(self):
         """The code that is shown is that of the program or the tests it is from, which the gate proves and runs."""
-        folders = [ROOT / "crates" / name / "src" for name in ("planar_book", "planar_editors", "topo_tests")]
+        folders = [ROOT / "crates" / name / "src" for name in ("planar_book", "planar_editors", "topo_test_support", "topo_tests")]
         sources = "".join(file.read_text() for folder in folders for file in sorted(folder.glob("*.rt")))
         for page in PAGES:
             shown = re.findall(r"```rust\n(.*?)```", (ROOT / page).read_text(), re.DOTALL)
