@@ -1,5 +1,6 @@
 -- What is done of a list of commands.
-use Rattle.std.proofs.Common.{ℕ, zero, suc, ◌+◌, ◌<◌, ◌∷◌, ◌++◌, slice_index_or, ◌≡◌, ◌≢◌, ◌-◌, ◌==◌, Bool, true, false, List, [], length, refl, ap, sym, ◌∙◌, subst, arith, length-append}
+use Rattle.std.proofs.Common.{ℕ, zero, suc, ◌+◌, ◌<◌, ◌∷◌, ◌++◌, slice_index_or, ◌≡◌, ◌≢◌, ◌-◌, ◌==◌}
+use Rattle.std.proofs.Common.{Bool, true, false, List, [], length, refl, ap, sym, ◌∙◌, subst, arith, length-append}
 use Rattle.std.proofs.lemmas.Bool.Decides.{nat_tests}
 use Rattle.topo_core.specs.declared.calls.Command.{Command}
 use Rattle.topo_service.specs.declared.workers.WorkerEnd.{WorkerEnd}

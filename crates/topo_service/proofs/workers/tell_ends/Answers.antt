@@ -12,7 +12,8 @@ pub loop-i-preserved : goal.loop-i-preserved
 loop-i-preserved g c = (search (rules, arith), search (rules, arith), search (rules, arith), told) where
   told : (j : ℕ) (p : PassState) (e : WorkerEnd) → j < c.loop-i.i + 1
       → slice_index_or c.push_reserved.new.self.items j e
-      ≡ end_by (receipts_of (slice_index_or c.args.passes.now j p) - slice_index_or c.args.before.now j 0) (length (slice_index_or (map commands c.args.lists.now) j []))
+      ≡ end_by (receipts_of (slice_index_or c.args.passes.now j p) - slice_index_or c.args.before.now j 0)
+      (length (slice_index_or (map commands c.args.lists.now) j []))
   told j p e lt =
       let i = c.loop-i.i in
       let passes = c.args.passes.now in

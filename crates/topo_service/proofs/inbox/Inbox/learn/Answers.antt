@@ -10,7 +10,8 @@ invariant_of-self-then-is_ok g c _ =
     let all = c.args.all.now in
     let known = c.self.inside.to in
     let begins = c.is_prefix_of.ensures.prefix c.if-not-is_prefix_of.false in
-    let count : length known + length (versions (drop c.in-Some.place c.args.history.now)) ≡ length all = omega (arith, c.in-Some.ensures.count, c.len-2.ensures.len, c.len-3.ensures.len, begins_length known all begins) in
+    let count : length known + length (versions (drop c.in-Some.place c.args.history.now)) ≡ length all =
+    omega (arith, c.in-Some.ensures.count, c.len-2.ensures.len, c.len-3.ensures.len, begins_length known all begins) in
     let added = if_ok c.add_from.result (sym c.is_ok.ensures.value ∙ c.if-is_ok.true) c.add_from.ensures in
     let later = versions (drop c.in-Some.place c.args.history.now) in
     c.share.ensures.same ∙ learnt c.args.history.now all known c.self.inside.from c.self.inside.missed.items c.in-Some.place c.requires begins

@@ -27,7 +27,8 @@ returns-clause-answered g c =
     let before : IsPrefix c.args.pass.now.seen (versions old) =
     rw (← c.prefix.ensures.now, ← ap (λ p. p.seen) c.pass.view_is) (c.is_prefix_of.ensures.prefix c.if-not-is_prefix_of.false) in
     let after = c.share.ensures.same ∙ c.prefix-2.ensures.now ∙ ap versions c.in_ok-receipt.ensures.entered in
-    let receipts = c.push_reserved.ensures.items ∙ ap (λ rs. rs ++ receipt_of c.args.call told ∷ []) (c.reserve.ensures.items ∙ ap (λ p. p.receipts) c.pass.view_is) in
+    let receipts = c.push_reserved.ensures.items
+    ∙ ap (λ rs. rs ++ receipt_of c.args.call told ∷ []) (c.reserve.ensures.items ∙ ap (λ p. p.receipts) c.pass.view_is) in
     record {
       reply = told;
       told = c.in_ok-receipt.ensures.told;
