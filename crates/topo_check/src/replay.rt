@@ -8,6 +8,7 @@ ghost use Rattle.topo_price.specs.Prices.{IsPromise, first_bad, prices_of};
 ghost use Rattle.topo_check.specs.Replays.{IsReplayed, IsTrueReport, IsUntrue, ReplayFailsBy};
 ghost use Rattle.topo_check.specs.Replays.{TellsCalls, TellsUntrue, calls_line};
 ghost use Rattle.topo_settings.specs.Settings.{priced, price_table};
+ghost use Rattle.topo_core.specs.declared.rows.TheConstants.{MAX_PRICE};
 
 use std::alloc::{AllocError, Global};
 use std::io::{Read, Write};
@@ -145,7 +146,7 @@ fn priced_replay(
         start,
         |facts: &Facts| -> Option<u32>
             ensures entry { slice_get table.entry.now facts.now.kind ≡ Some result }
-            ensures in_range { IfSome result (λ n. (1 ≤ n) × (n ≤ 1000)) }
+            ensures in_range { IfSome result (λ n. (1 ≤ n) × (n ≤ MAX_PRICE)) }
         { table.price(facts.kind) },
     )
 }

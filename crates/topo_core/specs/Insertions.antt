@@ -13,6 +13,7 @@ use Rattle.topo_core.specs.Picture.{darts, rotation, edge_at, system, ahead, beh
 use Rattle.topo_core.specs.Lawful.{IsWellFormed}
 use Rattle.topo_core.specs.Routes.{IsSimpleRoute}
 use Rattle.topo_core.specs.Changes.{shown, numbered}
+use Rattle.topo_core.specs.declared.rows.TheConstants.{KINDS}
 
 -- ---- What is asked of a route
 
@@ -29,7 +30,7 @@ pub record IsInsertable (rows : Rows) (u v kind : ℕ) (r : Route) : Type 0 wher
   pub u_there : u < length rows.rotations
   pub v_there : v < length rows.rotations
   pub ends_apart : u ≢ v
-  pub known : kind < 64
+  pub known : kind < KINDS
   pub start : r.start < length (rotation rows u)
   pub end : r.end < length (rotation rows v)
   pub crossed : AllByRecursion (λ d. has_dart (darts rows) d ≡ true) r.crossed
@@ -38,7 +39,7 @@ pub record IsInsertable (rows : Rows) (u v kind : ℕ) (r : Route) : Type 0 wher
 -- a route that meets no face twice crosses no segment twice
 abbrev pub SimpleRoutesAreInsertable : Type 0
 SimpleRoutesAreInsertable = (rows : Rows) (u v kind : ℕ) (r : Route) → IsWellFormed rows → u < length rows.rotations → v < length rows.rotations
-    → u ≢ v → kind < 64
+    → u ≢ v → kind < KINDS
     → IsSimpleRoute rows u v r → IsInsertable rows u v kind r
 
 -- the picture that shows the new edge is well formed

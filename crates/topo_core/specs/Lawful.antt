@@ -7,11 +7,12 @@ use Rattle.topo_core.specs.declared.rows.CrossRow.{CrossRow}
 use Rattle.topo_core.specs.Items.{occurrences, rises_below}
 use Rattle.topo_core.specs.Picture.{vertices, rotation, edge_row, cross_row, segment_count, system, face_count}
 use Rattle.topo_core.specs.Systems.{Connected}
+use Rattle.topo_core.specs.declared.rows.TheConstants.{KINDS}
 
 -- the ends are two vertices, the kind is known, and the path names crossings that are there
 abbrev pub has_good_path : Rows → EdgeRow → Bool
 has_good_path rows row = nat_lt row.a (length rows.rotations) && nat_lt row.b (length rows.rotations) && not (row.a == row.b)
-    && nat_lt row.kind 64 && list_all (λ x. is_some (cross_row rows x)) row.crossings
+    && nat_lt row.kind KINDS && list_all (λ x. is_some (cross_row rows x)) row.crossings
 
 abbrev pub has_good_paths : Rows → Bool
 has_good_paths rows = rises_below rows.next_edge (map (λ row. row.id) rows.edges) && list_all (has_good_path rows) rows.edges

@@ -12,23 +12,24 @@ use Rattle.topo_core.specs.Systems.{darts_in, has_dart, turn, Connected, SameFac
 use Rattle.topo_core.specs.Picture.{IsDart, darts, rotation, system, index_of, turn_images, face_count}
 use Rattle.topo_core.specs.Lawful.{IsEmbedding, HasGenusZero, IsWellFormed}
 use Rattle.topo_core.specs.Changes.{grown}
+use Rattle.topo_core.specs.declared.rows.TheConstants.{KINDS}
 
 -- ---- Embeddings
 
 -- a growth in a corner of a vertex makes a connected embedding of a connected embedding
 abbrev pub GrowthKeepsEmbedding : Type 0
-GrowthKeepsEmbedding = (rows : Rows) → IsEmbedding rows → (u p kind : ℕ) → u < length rows.rotations → p < length (rotation rows u) → kind < 64
+GrowthKeepsEmbedding = (rows : Rows) → IsEmbedding rows → (u p kind : ℕ) → u < length rows.rotations → p < length (rotation rows u) → kind < KINDS
     → IsEmbedding (grown rows u p kind)
 
 -- a growth makes no face and takes none away
 abbrev pub GrowthKeepsFaces : Type 0
-GrowthKeepsFaces = (rows : Rows) → IsWellFormed rows → (u p kind : ℕ) → u < length rows.rotations → p < length (rotation rows u) → kind < 64
+GrowthKeepsFaces = (rows : Rows) → IsWellFormed rows → (u p kind : ℕ) → u < length rows.rotations → p < length (rotation rows u) → kind < KINDS
     → face_count (grown rows u p kind) ≡ face_count rows
 
 -- so it keeps genus zero
 abbrev pub GrowthKeepsGenus : Type 0
-GrowthKeepsGenus = (rows : Rows) → IsWellFormed rows → HasGenusZero rows → (u p kind : ℕ) → u < length rows.rotations → p < length (rotation rows u) → kind < 64
-    → HasGenusZero (grown rows u p kind)
+GrowthKeepsGenus = (rows : Rows) → IsWellFormed rows → HasGenusZero rows → (u p kind : ℕ) → u < length rows.rotations → p < length (rotation rows u)
+    → kind < KINDS → HasGenusZero (grown rows u p kind)
 
 -- ---- Darts and turns
 

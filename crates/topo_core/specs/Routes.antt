@@ -13,6 +13,7 @@ use Rattle.topo_core.specs.declared.routes.Route.{Route}
 use Rattle.topo_core.specs.Darts.{dart_twin, dart_cmp}
 use Rattle.topo_core.specs.Systems.{System, SameFace, face_step, has_dart}
 use Rattle.topo_core.specs.Picture.{darts, corner, edge_at, system}
+use Rattle.topo_core.specs.declared.rows.TheConstants.{MAX_PRICE}
 
 -- ---- Walks through the faces
 
@@ -52,10 +53,10 @@ pub record AreFactsOf (row : EdgeRow) (facts : Facts) : Type 0 where
 abbrev pub Pricing : Type 1
 Pricing = Facts → ℕ → Type 0
 
--- the promise: a price is from 1 to 1000, and an edge has at most one
+-- the promise: a price is from 1 to MAX_PRICE, and an edge has at most one
 pub record KeepsPromise (price : Pricing) : Type 0 where
   pub positive : (facts : Facts) (n : ℕ) → price facts n → 1 ≤ n
-  pub at_most : (facts : Facts) (n : ℕ) → price facts n → n ≤ 1000
+  pub at_most : (facts : Facts) (n : ℕ) → price facts n → n ≤ MAX_PRICE
   pub single : (facts : Facts) (m n : ℕ) → price facts m → price facts n → m ≡ n
 
 -- crossing the dart costs n

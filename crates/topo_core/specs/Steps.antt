@@ -12,6 +12,7 @@ use Rattle.topo_core.specs.declared.calls.Refusal.TheVariants.{NoVertex, SameEnd
 use Rattle.topo_core.specs.Picture.{rotation, edge_row}
 use Rattle.topo_core.specs.Routes.{Pricing, IsFirst, HasNoRoute}
 use Rattle.topo_core.specs.Changes.{shown, grown, without, IsCut}
+use Rattle.topo_core.specs.declared.rows.TheConstants.{KINDS}
 
 -- ---- The order of refusals
 
@@ -40,7 +41,7 @@ abbrev pub grow_refusal : Limits → Rows → ℕ → ℕ → ℕ → Option Ref
 grow_refusal limits rows u p kind = first_cause
     ((not (has_vertex rows u), NoVertex)
     ∷ (not (nat_lt p (length (rotation rows u))), NoPosition)
-    ∷ (not (nat_lt kind 64), BadKind)
+    ∷ (not (nat_lt kind KINDS), BadKind)
     ∷ (not (nat_lt (length rows.rotations) limits.vertices && nat_lt rows.next_edge limits.edges), Full)
     ∷ [])
 
@@ -49,7 +50,7 @@ abbrev pub insert_refusal : Limits → Rows → ℕ → ℕ → ℕ → Option R
 insert_refusal limits rows u v kind = first_cause
     ((not (has_vertex rows u && has_vertex rows v), NoVertex)
     ∷ (u == v, SameEnds)
-    ∷ (not (nat_lt kind 64), BadKind)
+    ∷ (not (nat_lt kind KINDS), BadKind)
     ∷ (not (nat_lt rows.next_edge limits.edges), Full)
     ∷ [])
 

@@ -1,6 +1,7 @@
 //! A picture as plain data.
 
 ghost use Rattle.std.specs.Prelude.{◌<◌, ◌^◌};
+ghost use Rattle.topo_core.specs.declared.rows.TheConstants.{KINDS};
 
 use crate::darts::Sign;
 use crate::listed::Listed;
@@ -39,6 +40,9 @@ pub struct Rows {
 /// The kinds of edges are below this number.
 pub const KINDS: usize = 64;
 
+/// The greatest price of crossing an edge. The least is 1.
+pub const MAX_PRICE: u32 = 1000;
+
 /// What a price may depend on: an edge without its crossings.
 #[derive(Clone, Copy, Debug, PartialEq, Eq)]
 pub struct Facts {
@@ -49,17 +53,18 @@ pub struct Facts {
     ghost id_in_range: { id < 2 ^ 32 },
     ghost a_in_range: { a < 2 ^ 32 },
     ghost b_in_range: { b < 2 ^ 32 },
-    ghost known_kind: { kind < 64 },
+    ghost known_kind: { kind < KINDS },
 }
 
 impl Facts {
     ghost use Rattle.std.specs.Prelude.{◌≡◌, ◌<◌, IfSome, IsNone, ◌↔◌, ◌≤◌};
     ghost use Rattle.topo_core.specs.Routes.{AreFactsOf};
+    ghost use Rattle.topo_core.specs.declared.rows.TheConstants.{KINDS};
 
     /// The facts of an edge, or nothing where its kind is above 63.
     pub fn from_row(row: &EdgeRow) -> Option<Self>
         ensures facts { IfSome result (AreFactsOf row.now) }
-        ensures unknown { IsNone result ↔ (64 ≤ row.now.kind) }
+        ensures unknown { IsNone result ↔ (KINDS ≤ row.now.kind) }
     {
         let (id, a, b, kind) = (row.id, row.a, row.b, row.kind);
         if (kind as usize) < KINDS {

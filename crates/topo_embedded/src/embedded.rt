@@ -13,6 +13,7 @@ ghost use Rattle.topo_embedded.specs.Halves.{IsHalf, ShowsRows, half_in, path_of
 ghost use Rattle.topo_embedded.specs.Walking.{named_in};
 ghost use Rattle.topo_rows.specs.Flats.{AreTurnsOf};
 ghost use Rattle.topo_route.specs.Names.{IsNamed};
+ghost use Rattle.topo_core.specs.declared.rows.TheConstants.{KINDS};
 
 mod canonical;
 
@@ -36,7 +37,7 @@ use topo_table::Hints;
 
 /// The facts of an edge of a known kind.
 fn facts_of(edge: EdgeView<'_>) -> Facts
-    requires { edge.kind < 64 }
+    requires { edge.kind < KINDS }
     ensures { AreFactsOf (viewed_row edge.entry) result }
 {
     let (id, a, b, kind) = (edge.id, edge.a, edge.b, edge.kind);
@@ -290,7 +291,7 @@ impl Embedded {
     ) -> Result<(), AllocError>
         requires vertex { u < length self.old.rows.rotations }
         requires position { position < length (rotation self.old.rows u) }
-        requires known { kind < 64 }
+        requires known { kind < KINDS }
         requires vertices { length self.old.rows.rotations < 2 ^ 32 }
         requires edges { self.old.rows.next_edge + 1 < 2 ^ 32 }
         ensures ok { OnOk result (self.new.rows ≡ grown self.old.rows u position kind) }

@@ -10,6 +10,7 @@ ghost use Rattle.topo_embedded.specs.Halves.{half_in};
 ghost use Rattle.topo_embedded.specs.Parts.{Agree, with_paths};
 ghost use Rattle.topo_embedded.specs.Paths.{AreForEdges};
 ghost use Rattle.topo_table.specs.Places.{values_in};
+ghost use Rattle.topo_core.specs.declared.rows.TheConstants.{KINDS};
 
 use crate::parts::Parts;
 use crate::path::Path;
@@ -31,7 +32,7 @@ impl Parts {
         requires formed { IsWellFormed self.old.rows }
         requires vertex { u < length self.old.rows.rotations }
         requires position { position < length (rotation self.old.rows u) }
-        requires known { kind < 64 }
+        requires known { kind < KINDS }
         requires vertices { length self.old.rows.rotations < 2 ^ 32 }
         requires edges { self.old.rows.next_edge + 1 < 2 ^ 32 }
         requires shows { Agree self.old }

@@ -26,6 +26,7 @@ use Rattle.topo_forms.specs.TokenParts.{ArePricesOf, SpellsEnding}
 use Rattle.topo_forms.proofs.Lookups.{member_read}
 use Rattle.topo_forms.proofs.Spellings.{number_read, members_done, member_then, object_tokens}
 use Rattle.topo_forms.proofs.Steps.{went}
+use Rattle.topo_core.specs.declared.rows.TheConstants.{KINDS}
 
 -- ---- Limits
 
@@ -125,7 +126,7 @@ either_way : (nulls : Bool) (path : Path) (ds : Items) (ps : List (Option ℕ)) 
 either_way true path ds ps e none = e
 either_way false path ds ps e none = no_nulls path 0 ds ps e (none refl)
 
-pub prices_read : (nulls : Bool) (path : Path) (d : Data) (ps kept : List (Option ℕ)) → list_form (price_form true) path d ≡ Ok ps → length ps ≤ 64
+pub prices_read : (nulls : Bool) (path : Path) (d : Data) (ps kept : List (Option ℕ)) → list_form (price_form true) path d ≡ Ok ps → length ps ≤ KINDS
     → (nulls ≡ false → list_any is_none ps ≡ false)
     → kept ≡ without_ones ps → prices_form nulls path d ≡ Ok kept
 unfolding list_form prices_form and_then
@@ -134,8 +135,8 @@ prices_read nulls path (boolean b) ps kept e short none is = absurd cc
 prices_read nulls path (number n) ps kept e short none is = absurd cc
 prices_read nulls path (string s) ps kept e short none is = absurd cc
 prices_read nulls path (array ds) ps kept e short none is =
-    let few : items_len ds ≤ 64 = omega (arith, counted (price_form true) path 0 ds ps e) in
-    rw (le-leb (items_len ds) 64 few, either_way nulls path ds ps e none) (ap (λ qs. Ok qs) (sym is))
+    let few : items_len ds ≤ KINDS = omega (arith, counted (price_form true) path 0 ds ps e) in
+    rw (le-leb (items_len ds) KINDS few, either_way nulls path ds ps e none) (ap (λ qs. Ok qs) (sym is))
 prices_read nulls path (object ms) ps kept e short none is = absurd cc
 
 -- ---- Reports

@@ -16,6 +16,7 @@ use Rattle.topo_forms.specs.Tokens.{Spells, SpellsMember}
 use Rattle.topo_forms.proofs.TokenReports.{counted}
 use Rattle.topo_forms.proofs.Spellings.{word_tokens, deeper}
 use Rattle.topo_forms.proofs.Steps.{went}
+use Rattle.topo_forms.specs.declared.script_forms.TheConstants.{MAX_WORKERS}
 
 -- ---- Starts
 
@@ -47,7 +48,7 @@ seed_tokens text ts rest e is = deeper 0 4 start_form ts None rest (omega arith)
 
 -- ---- Lists of commands
 
-workers_read : (path : Path) (d : Data) (ws : List (List Command)) → list_form (list_form command_form) path d ≡ Ok ws → 0 < length ws → length ws ≤ 16
+workers_read : (path : Path) (d : Data) (ws : List (List Command)) → list_form (list_form command_form) path d ≡ Ok ws → 0 < length ws → length ws ≤ MAX_WORKERS
     → workers_form path d ≡ Ok ws
 unfolding list_form workers_form and_then
 workers_read path null ws e some few = absurd cc
@@ -57,12 +58,12 @@ workers_read path (string s) ws e some few = absurd cc
 workers_read path (array ds) ws e some few =
     let count = counted (list_form command_form) path 0 ds ws e in
     let more : 0 < items_len ds = omega arith in
-    let less : items_len ds ≤ 16 = omega arith in
-    rw (lt-ltb 0 (items_len ds) more, le-leb (items_len ds) 16 less) e
+    let less : items_len ds ≤ MAX_WORKERS = omega arith in
+    rw (lt-ltb 0 (items_len ds) more, le-leb (items_len ds) MAX_WORKERS less) e
 workers_read path (object ms) ws e some few = absurd cc
 
 pub workers_tokens : (ws : List (List Command)) (ts rest : List Token) → SpellsMember 3 (list_form (list_form command_form)) (key_name Workers) ts ws rest
-    → 0 < length ws → length ws ≤ 16
+    → 0 < length ws → length ws ≤ MAX_WORKERS
     → SpellsMember 3 workers_form (key_name Workers) ts ws rest
 workers_tokens ws ts rest m some few = (
   m.0,

@@ -16,6 +16,8 @@ use Rattle.topo_forms.specs.Prices.{without_ones}
 use Rattle.topo_forms.specs.RowForms.{rows_form}
 use Rattle.topo_forms.specs.CallForms.{command_form}
 use Rattle.topo_forms.specs.ReplyForms.{entry_form}
+use Rattle.topo_core.specs.declared.rows.TheConstants.{KINDS}
+use Rattle.topo_forms.specs.declared.script_forms.TheConstants.{MAX_WORKERS}
 
 -- ---- Limits
 
@@ -54,7 +56,7 @@ price_form nulls path d = if nulls && is_some (as_null d) then Ok None else some
 -- at most 64 prices, kept without the ones at their end
 unfoldable pub prices_form : Bool → Path → Data → Read (List (Option ℕ))
 prices_form nulls path d = do
-  _ ← passes (BadShape path) (nat_le (element_count d) 64)
+  _ ← passes (BadShape path) (nat_le (element_count d) KINDS)
   prices ← list_form (price_form nulls) path d
   Ok (without_ones prices)
 
@@ -72,7 +74,7 @@ start_form path d = if is_text (codes "seed") d then Ok None else picture_form p
 -- an array of 1 to 16 lists of commands
 unfoldable pub workers_form : Path → Data → Read (List (List Command))
 workers_form path d = do
-  _ ← passes (BadShape path) (nat_lt 0 (element_count d) && nat_le (element_count d) 16)
+  _ ← passes (BadShape path) (nat_lt 0 (element_count d) && nat_le (element_count d) MAX_WORKERS)
   list_form (list_form command_form) path d
 
 unfoldable pub script_form : Data → Read Script

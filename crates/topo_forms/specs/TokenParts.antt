@@ -19,6 +19,7 @@ use Rattle.topo_forms.specs.ReplyForms.{refusal_form}
 use Rattle.topo_forms.specs.RowForms.{rows_form}
 use Rattle.topo_forms.specs.Scripts.{nulls_of, price_form, workers_form}
 use Rattle.topo_forms.specs.Tokens.{GoesOn, SpellsMember, SpellsThree}
+use Rattle.topo_core.specs.declared.rows.TheConstants.{KINDS}
 
 -- behind this word, the tokens go on to the end of a call, which is no planned insertion
 abbrev pub SpellsCall : List ℕ → List Token → Call → List Token → Type 0
@@ -32,7 +33,7 @@ SpellsRefusal n name ts why rest = (ds : Items) × GoesOn 0 ts ds rest
 
 -- at most 64 prices, with a null only where the version lets it be, and those kept of them
 abbrev pub ArePricesOf : ℕ → List (Option ℕ) → List (Option ℕ) → Type 0
-ArePricesOf version prices kept = (nulls : Bool) × (nulls_of version ≡ Ok nulls) × (length prices ≤ 64) × (nulls ≡ false → list_any is_none prices ≡ false)
+ArePricesOf version prices kept = (nulls : Bool) × (nulls_of version ≡ Ok nulls) × (length prices ≤ KINDS) × (nulls ≡ false → list_any is_none prices ≡ false)
     × (kept ≡ without_ones prices)
 
 -- behind the picture of a report, the tokens go on with its prices, its start and its version to its end

@@ -6,6 +6,7 @@ ghost use Rattle.serde_json.specs.View.{view, items_view};
 ghost use Rattle.topo_forms.specs.Reads.{Gives, passes, element_count, list_form, items_from};
 ghost use Rattle.topo_forms.specs.Prices.{is_one, without_ones};
 ghost use Rattle.topo_forms.specs.Scripts.{some_price, price_form, prices_form};
+ghost use Rattle.topo_core.specs.declared.rows.TheConstants.{KINDS};
 
 use crate::fault::ScriptFault;
 use crate::form::{Form, element_count};
@@ -44,7 +45,7 @@ fn read_price(
 
 /// Tests that there is at most one price for each kind.
 fn check_prices(path: Path, value: &Value) -> Result<(), ScriptFault>
-    ensures { result ≡ passes (BadShape path) (nat_le (element_count (view value.now)) 64) }
+    ensures { result ≡ passes (BadShape path) (nat_le (element_count (view value.now)) KINDS) }
 {
     if element_count(value) <= MAX_PRICES {
         Ok(())

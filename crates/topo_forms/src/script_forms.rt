@@ -12,6 +12,7 @@ ghost use Rattle.topo_forms.specs.declared.path.Key.TheVariants.{Prices, Start, 
 ghost use Rattle.topo_forms.specs.Scripts.{limits_form, nulls_of, nulls_in, prices_form};
 ghost use Rattle.topo_forms.specs.Scripts.{picture_form, start_form, workers_form};
 ghost use Rattle.topo_forms.specs.Scripts.{script_form, script_of, report_form, report_of};
+ghost use Rattle.topo_forms.specs.declared.script_forms.TheConstants.{MAX_WORKERS};
 
 use crate::fault::ScriptFault;
 use crate::form::{
@@ -149,8 +150,8 @@ impl Form for Option<Rows> {
 
 /// Tests that there are 1 to 16 lists of commands.
 fn check_workers(path: Path, value: &Value) -> Result<(), ScriptFault>
-    ensures { result ≡ passes (BadShape path)
-        (nat_lt 0 (element_count (view value.now)) && nat_le (element_count (view value.now)) 16) }
+    ensures { result ≡ passes (BadShape path) (nat_lt 0 (element_count (view value.now))
+        && nat_le (element_count (view value.now)) MAX_WORKERS) }
 {
     let count = element_count(value);
     if 0 < count && count <= MAX_WORKERS {

@@ -12,6 +12,7 @@ use Rattle.topo_core.specs.Steps.{grow_refusal}
 use Rattle.topo_rows.specs.Shown.{IsPicture}
 use Rattle.topo_core.proofs.systems.Connection.{seed_is_embedding}
 use Rattle.topo_core.proofs.growing.GrownFaces.{growth_keeps_lawful}
+use Rattle.topo_core.specs.declared.rows.TheConstants.{KINDS}
 
 pub seed_is_picture : (limits : Limits) → IsPicture limits seed
 seed_is_picture limits = grind (arith, seed_is_embedding)
@@ -20,7 +21,7 @@ seed_is_picture limits = grind (arith, seed_is_embedding)
 pub record IsGrowable (limits : Limits) (rows : Rows) (u p kind : ℕ) : Type 0 where
   pub vertex : u < length rows.rotations
   pub position : p < length (rotation rows u)
-  pub known : kind < 64
+  pub known : kind < KINDS
   pub vertex_left : length rows.rotations < limits.vertices
   pub edge_left : rows.next_edge < limits.edges
 

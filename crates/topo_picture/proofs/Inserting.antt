@@ -14,13 +14,14 @@ use Rattle.topo_core.proofs.inserting.ShownRows.{shown_vertices}
 use Rattle.topo_core.proofs.routing.SimpleRoutes.{simple_is_insertable}
 use Rattle.topo_rows.specs.Shown.{IsPicture}
 use Rattle.topo_changes.proofs.inserting.InsertedLawful.{insertion_keeps_lawful}
+use Rattle.topo_core.specs.declared.rows.TheConstants.{KINDS}
 
 -- what holds where an insertion is not refused before a route is looked for
 pub record IsAdmitted (limits : Limits) (rows : Rows) (u v kind : ℕ) : Type 0 where
   pub u_there : u < length rows.rotations
   pub v_there : v < length rows.rotations
   pub apart : u ≢ v
-  pub known : kind < 64
+  pub known : kind < KINDS
   pub edge_left : rows.next_edge < limits.edges
 
 -- tests that none refuses

@@ -8,10 +8,11 @@ use Rattle.topo_core.specs.Picture.{edge_row}
 use Rattle.topo_core.specs.Lawful.{Lawful}
 use Rattle.topo_core.specs.Routes.{IsSimpleRoute}
 use Rattle.topo_rows.specs.Shown.{IsPicture}
+use Rattle.topo_core.specs.declared.rows.TheConstants.{KINDS}
 
 -- a new edge shown along a route that meets no face twice makes a lawful picture of a lawful picture
 abbrev pub InsertionKeepsLawful : Type 0
-InsertionKeepsLawful = (rows : Rows) (u v kind : ℕ) (r : Route) → Lawful rows → u < length rows.rotations → v < length rows.rotations → u ≢ v → kind < 64
+InsertionKeepsLawful = (rows : Rows) (u v kind : ℕ) (r : Route) → Lawful rows → u < length rows.rotations → v < length rows.rotations → u ≢ v → kind < KINDS
     → IsSimpleRoute rows u v r
     → rows.next_crossing + length r.crossed ≤ 4294967296 → Lawful (shown rows u v kind r)
 

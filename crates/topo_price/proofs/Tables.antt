@@ -5,11 +5,12 @@ use Rattle.std.specs.Prelude.{nat_lt}
 use Rattle.std.specs.List.{position_or_len}
 use Rattle.std.proofs.lemmas.Bool.Decides.{nat_tests}
 use Rattle.topo_price.specs.Prices.{is_good, first_bad}
+use Rattle.topo_core.specs.declared.rows.TheConstants.{MAX_PRICE}
 
-within : (n : ℕ) → is_good (Some n) ≡ true → (1 ≤ n) × (n ≤ 1000)
+within : (n : ℕ) → is_good (Some n) ≡ true → (1 ≤ n) × (n ≤ MAX_PRICE)
 within n h = (grind (arith, nat_tests), grind (arith, nat_tests))
 
-good_price : (entry : Option ℕ) → is_good entry ≡ true → IfSome entry (λ n. (1 ≤ n) × (n ≤ 1000))
+good_price : (entry : Option ℕ) → is_good entry ≡ true → IfSome entry (λ n. (1 ≤ n) × (n ≤ MAX_PRICE))
 good_price None h = tt
 good_price (Some n) h = within n h
 
@@ -40,5 +41,5 @@ pub good_entry : (entries : List (Option ℕ)) → first_bad entries ≡ None �
 good_entry entries h i = good_at entries (past_all (position_or_len (λ entry. not (is_good entry)) entries) (length entries)
     (nat_lt (position_or_len (λ entry. not (is_good entry)) entries) (length entries)) refl h) i
 
-pub price_in_range : (entries : List (Option ℕ)) → first_bad entries ≡ None → (i : ℕ) → IfSome (slice_index_or entries i None) (λ n. (1 ≤ n) × (n ≤ 1000))
+pub price_in_range : (entries : List (Option ℕ)) → first_bad entries ≡ None → (i : ℕ) → IfSome (slice_index_or entries i None) (λ n. (1 ≤ n) × (n ≤ MAX_PRICE))
 price_in_range entries h i = good_price (slice_index_or entries i None) (good_entry entries h i)

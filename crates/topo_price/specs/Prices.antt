@@ -2,15 +2,16 @@
 use Rattle.std.specs.Prelude.{◌≡◌, ℕ, ◌≤◌, nat_le, not, ◌&&◌, Bool, true, List, Option, Some, None, MatchOption, position}
 use Rattle.topo_core.specs.declared.rows.Facts.{Facts}
 use Rattle.topo_core.specs.Routes.{Pricing}
+use Rattle.topo_core.specs.declared.rows.TheConstants.{MAX_PRICE}
 
 -- what a closure answers: these facts may be answered so
 abbrev pub Asking : Type 1
 Asking = Facts → Option ℕ → Type 0
 
--- the promise: an answer is none or from 1 to 1000, and two answers on equal facts are equal
+-- the promise: an answer is none or from 1 to MAX_PRICE, and two answers on equal facts are equal
 pub record IsPromise (answers : Asking) : Type 0 where
   pub positive : (facts : Facts) (n : ℕ) → answers facts (Some n) → 1 ≤ n
-  pub at_most : (facts : Facts) (n : ℕ) → answers facts (Some n) → n ≤ 1000
+  pub at_most : (facts : Facts) (n : ℕ) → answers facts (Some n) → n ≤ MAX_PRICE
   pub single : (facts : Facts) (a b : Option ℕ) → answers facts a → answers facts b → a ≡ b
 
 -- the prices that the answers stand for
@@ -23,10 +24,10 @@ IsPriceOf price facts answer = MatchOption answer ((n : ℕ) → price facts n �
 
 -- ---- Tables of prices by kind
 
--- an entry that a table may have: none, or from 1 to 1000
+-- an entry that a table may have: none, or from 1 to MAX_PRICE
 abbrev pub is_good : Option ℕ → Bool
 is_good None = true
-is_good (Some n) = nat_le 1 n && nat_le n 1000
+is_good (Some n) = nat_le 1 n && nat_le n MAX_PRICE
 
 -- the least kind with an entry that no table may have
 abbrev pub first_bad : List (Option ℕ) → Option ℕ

@@ -3,18 +3,16 @@
 ghost use Rattle.std.specs.Prelude.{◌≡◌, ◌<◌, ◌≤◌, Some, None, Err, IfSome};
 ghost use Rattle.std.specs.Prelude.{IsSomeAnd, MatchResult, slice_get, length};
 ghost use Rattle.topo_price.specs.Prices.{first_bad, is_good};
+ghost use Rattle.topo_core.specs.declared.rows.TheConstants.{KINDS, MAX_PRICE};
 
 use std::fmt;
 use std::marker::Model;
 use thiserror::Error;
-use topo_core::rows::KINDS;
-
-/// The greatest price of crossing an edge. The least is 1.
-pub const MAX_PRICE: u32 = 1000;
+use topo_core::rows::{KINDS, MAX_PRICE};
 
 #[derive(Clone, Copy, Debug, Drop, PartialEq, Eq, Error)]
 pub enum PriceFault {
-    /// The least kind whose price is 0 or above 1000.
+    /// The least kind whose price is 0 or above `MAX_PRICE`.
     BadPrice(u8),
 }
 
@@ -71,7 +69,7 @@ fn first_bad_kind(prices: &[Option<u32>]) -> Option<usize>
     prices.iter().position(|entry| !is_good_price(*entry))
 }
 
-/// A price from 1 to 1000 for each kind, or none.
+/// A price from 1 to `MAX_PRICE` for each kind, or none.
 #[derive(Drop)]
 pub struct PriceTable {
     prices: [Option<u32>; KINDS],
@@ -79,13 +77,14 @@ pub struct PriceTable {
 
 impl Model for PriceTable {
     ghost use Rattle.std.specs.Prelude.{◌≡◌, ℕ, List, Option, length, None};
+    ghost use Rattle.topo_core.specs.declared.rows.TheConstants.{KINDS};
     ghost use Rattle.topo_price.specs.Prices.{first_bad};
 
     ghost Value = { List (Option ℕ) };
 
     ghost view = { λ t. t.prices };
 
-    ghost invariant = { λ t. (length t.prices ≡ 64) × (first_bad t.prices ≡ None) };
+    ghost invariant = { λ t. (length t.prices ≡ KINDS) × (first_bad t.prices ≡ None) };
 }
 
 impl PriceTable {
@@ -102,9 +101,9 @@ impl PriceTable {
 
     /// The price of a kind.
     pub fn price(&self, kind: u8) -> Option<u32>
-        requires { kind < 64 }
+        requires { kind < KINDS }
         ensures entry { slice_get self.now kind ≡ Some result }
-        ensures in_range { IfSome result (λ n. (1 ≤ n) × (n ≤ 1000)) }
+        ensures in_range { IfSome result (λ n. (1 ≤ n) × (n ≤ MAX_PRICE)) }
     {
         self.prices[kind as usize]
     }

@@ -53,7 +53,7 @@ impl<F: PriceFn> Tariff<F> {
     ghost use Rattle.topo_price.specs.Prices.{IsPriceOf, IsPromise, prices_of};
 
     /// Stores the closure. The promise is the caller's: it may be asked for any edge, answers none
-    /// or from 1 to 1000, and answers the same for the same facts.
+    /// or from 1 to `MAX_PRICE`, and answers the same for the same facts.
     pub fn new(ask: F) -> Tariff<F>
         requires callable { F.is_callable ask }
         requires promise { IsPromise (F.may_return ask) }

@@ -8,6 +8,7 @@ ghost use Rattle.topo_core.specs.Rotations.{twin};
 ghost use Rattle.topo_core.specs.Routes.{KeepsPromise};
 ghost use Rattle.topo_price.specs.Prices.{prices_of};
 ghost use Rattle.topo_route.specs.Numbers.{IsPriceAt, dart_of, next_of};
+ghost use Rattle.topo_core.specs.declared.rows.TheConstants.{MAX_PRICE};
 
 use crate::dual::Dual;
 use crate::steps;
@@ -66,7 +67,7 @@ pub(crate) fn corner_at<D: Dual>(dual: &D, v: u32, position: u32) -> Option<u32>
 pub(crate) fn price_at<D: Dual, F: PriceFn>(dual: &D, tariff: &Tariff<F>, dart: u32) -> Option<u32>
     requires { dart < length (darts (D.shows dual.now)) }
     ensures price { IsPriceAt (prices_of (F.may_return tariff.now)) (D.shows dual.now) dart result }
-    ensures in_range { IfSome result (λ p. (1 ≤ p) × (p ≤ 1000)) }
+    ensures in_range { IfSome result (λ p. (1 ≤ p) × (p ≤ MAX_PRICE)) }
     ensures promise { KeepsPromise (prices_of (F.may_return tariff.now)) }
 {
     steps::price_at(dual, tariff, dart)

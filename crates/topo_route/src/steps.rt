@@ -9,6 +9,7 @@ ghost use Rattle.topo_price.specs.Prices.{prices_of};
 ghost use Rattle.topo_route.specs.FaceHeights.{dart_heights};
 ghost use Rattle.topo_route.specs.Names.{IsName, dart_named, next_name, twin_name};
 ghost use Rattle.topo_route.specs.Numbers.{IsPriceFor};
+ghost use Rattle.topo_core.specs.declared.rows.TheConstants.{MAX_PRICE};
 
 use crate::face_graph::FaceGraph;
 use crate::stamped_array::StampedArray;
@@ -79,7 +80,7 @@ pub(crate) fn price_at<W: FaceGraph, F: PriceFn>(
     requires { IsName (W.named graph.now) dart }
     ensures price { IsPriceFor (prices_of (F.may_return tariff.now))
         (W.named graph.now).rows (dart_named (W.named graph.now) dart) result }
-    ensures in_range { IfSome result (λ p. (1 ≤ p) × (p ≤ 1000)) }
+    ensures in_range { IfSome result (λ p. (1 ≤ p) × (p ≤ MAX_PRICE)) }
     ensures promise { KeepsPromise (prices_of (F.may_return tariff.now)) }
 {
     let facts = graph.facts(dart);

@@ -23,6 +23,7 @@ use Rattle.topo_core.proofs.inserting.WovenPaths.{counted_in}
 use Rattle.topo_core.proofs.growing.Growing.{below_limit, all_from}
 use Rattle.topo_rows.specs.Pairs.{begins_with_least, crossing_pairs, end_pairs, is_valid_edge, pair, path_pairs, rotation_pairs}
 use Rattle.topo_rows.proofs.PairCounts.{crossing_count, end_count, path_count, rotation_count}
+use Rattle.topo_core.specs.declared.rows.TheConstants.{KINDS}
 
 -- ---- Tests of all items
 
@@ -215,7 +216,7 @@ named (c ∷ cs) x = elim (cases_Bool (c.id == x)) [
 pub paths_over : (rows : Rows) (ids : List ℕ) → IsPermutation (map (λ x. x.id) rows.crossings) ids
     → list_all (is_valid_edge (length rows.rotations) ids) rows.edges ≡ list_all (has_good_path rows) rows.edges
 paths_over rows ids moved = same_all (is_valid_edge (length rows.rotations) ids) (has_good_path rows) rows.edges (λ row.
-    ap (λ b. nat_lt row.a (length rows.rotations) && nat_lt row.b (length rows.rotations) && not (row.a == row.b) && nat_lt row.kind 64 && b)
+    ap (λ b. nat_lt row.a (length rows.rotations) && nat_lt row.b (length rows.rotations) && not (row.a == row.b) && nat_lt row.kind KINDS && b)
     (same_all (λ x. list_any (λ y. y == x) ids) (λ x. is_some (cross_row rows x)) row.crossings
     (λ x. sym (list_any-IsPermutation (λ y. y == x) (map (λ x. x.id) rows.crossings) ids moved) ∙ named rows.crossings x)))
 

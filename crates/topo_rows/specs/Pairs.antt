@@ -3,6 +3,7 @@ use Rattle.std.specs.Prelude.{ℕ, ◌+◌, ◌*◌, ◌==◌, Bool, not, List, 
 use Rattle.std.specs.List.{list_all, list_any}
 use Rattle.topo_core.specs.declared.rows.EdgeRow.{EdgeRow}
 use Rattle.topo_core.specs.declared.rows.CrossRow.{CrossRow}
+use Rattle.topo_core.specs.declared.rows.TheConstants.{KINDS}
 
 -- a pair of an edge and a crossing or a vertex, as one number
 abbrev pub pair : ℕ → ℕ → ℕ
@@ -28,7 +29,7 @@ end_pairs edges = flat_map (λ row. pair row.id row.a ∷ pair row.id row.b ∷ 
 -- the ends of an edge are two of n vertices, its kind is known, and its path names these crossings alone
 abbrev pub is_valid_edge : ℕ → List ℕ → EdgeRow → Bool
 is_valid_edge n ids row =
-    nat_lt row.a n && nat_lt row.b n && not (row.a == row.b) && nat_lt row.kind 64 && list_all (λ x. list_any (λ y. y == x) ids) row.crossings
+    nat_lt row.a n && nat_lt row.b n && not (row.a == row.b) && nat_lt row.kind KINDS && list_all (λ x. list_any (λ y. y == x) ids) row.crossings
 
 -- the list begins with its least number
 abbrev pub begins_with_least : List ℕ → Bool

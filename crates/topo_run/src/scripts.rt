@@ -3,7 +3,7 @@
 ghost use Rattle.std.specs.Prelude.{◌≡◌, IfErr, IfOk, IfSome, None, Some, ◌≤◌, slice_get};
 ghost use Rattle.std.specs.Arc.{arc_value};
 ghost use Rattle.topo_price.specs.Prices.{IsPromise, first_bad};
-ghost use Rattle.topo_price.specs.declared.table.TheConstants.{MAX_PRICE};
+ghost use Rattle.topo_core.specs.declared.rows.TheConstants.{MAX_PRICE};
 ghost use Rattle.topo_run.specs.Runs.{AnswersPrices, FailsRun, IsReportFrom, IsReportOf};
 ghost use Rattle.topo_run.specs.Working.{IsOfService};
 ghost use Rattle.topo_settings.specs.Limiting.{AreLimits};

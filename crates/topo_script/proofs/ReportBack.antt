@@ -36,6 +36,7 @@ use Rattle.topo_forms.specs.ReplyForms.{refused_form, grown_form, inserted_form,
 use Rattle.topo_forms.specs.Scripts.{limits_form, nulls_of, nulls_in, some_price, price_form, prices_form, report_form}
 use Rattle.topo_forms.proofs.Steps.{went}
 use Rattle.topo_script.proofs.RowsBack.{short_back, list_back, member_back, all_map, rows_back}
+use Rattle.topo_core.specs.declared.rows.TheConstants.{KINDS}
 
 -- ---- Forms
 
@@ -212,18 +213,19 @@ both_map : (nulls : Bool) (prices : List (Option ℕ)) → AllByRecursion (MaySt
 both_map nulls [] h k = tt
 both_map nulls (price ∷ prices) h k = (λ p. price_back nulls p price h.0 k.0, both_map nulls prices h.1 k.1)
 
-few : (path : Path) (prices : List (Option ℕ)) → length prices ≤ 64 → passes (BadShape path) (nat_le (element_count (list_data price_data prices)) 64) ≡ Ok tt
-few path prices h = rw (items_len-items_of price_data prices, le-leb (length prices) 64 h)
+few : (path : Path) (prices : List (Option ℕ)) → length prices ≤ KINDS
+    → passes (BadShape path) (nat_le (element_count (list_data price_data prices)) KINDS) ≡ Ok tt
+few path prices h = rw (items_len-items_of price_data prices, le-leb (length prices) KINDS h)
 
 kept_back : (nulls : Bool) (path : Path) (prices : List (Option ℕ)) → AllByRecursion (MayStand nulls) prices → AllByRecursion PriceFits prices
-    → length prices ≤ 64
+    → length prices ≤ KINDS
     → prices_form nulls path (list_data price_data prices) ≡ Ok (without_ones prices)
 unfolding prices_form
 kept_back nulls path prices stand fit short = went _ _ tt (few path prices short)
     ∙ went _ _ prices (list_back (price_form nulls) price_data path prices (both_map nulls prices stand fit))
 
 prices_back : (nulls : Bool) (path : Path) (prices : List (Option ℕ)) → without_ones prices ≡ prices → AllByRecursion (MayStand nulls) prices
-    → AllByRecursion PriceFits prices → length prices ≤ 64
+    → AllByRecursion PriceFits prices → length prices ≤ KINDS
     → prices_form nulls path (prices_data prices) ≡ Ok prices
 prices_back nulls path prices kept stand fit short =
     ap (λ (ps : List (Option ℕ)). prices_form nulls path (list_data price_data ps)) kept ∙ kept_back nulls path prices stand fit short
@@ -252,7 +254,7 @@ report_keys : (r : Report) → has_keys whole (key.History ∷ key.Limits ∷ ke
 unfolding has_keys and_then
 report_keys r = refl
 
-pub report_back : (r : Report) → ReportFits r → length r.prices ≤ 64 → without_ones r.prices ≡ r.prices → report_form (report_data r) ≡ Ok r
+pub report_back : (r : Report) → ReportFits r → length r.prices ≤ KINDS → without_ones r.prices ≡ r.prices → report_form (report_data r) ≡ Ok r
 unfolding report_form
 report_back r h short kept =
     let entries = all_map EntryFits (λ entry. (p : Path) → entry_form p (entry_data entry) ≡ Ok entry) r.history

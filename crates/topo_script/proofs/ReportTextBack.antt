@@ -27,6 +27,7 @@ use Rattle.topo_script.proofs.Texts.{IsPlain, ArePlainItems, plain_number, plain
 use Rattle.topo_script.proofs.Texts.{no_plain_items, one_plain_item, plain_object, no_plain_members, one_plain_member}
 use Rattle.topo_script.proofs.RowsBack.{all_map, plain_short, plain_rows, deeper, text_value}
 use Rattle.topo_script.proofs.ReportBack.{report_back}
+use Rattle.topo_core.specs.declared.rows.TheConstants.{KINDS}
 
 three_plain : (n : ℕ) (a b d : Data) → IsPlain n a → IsPlain n b → IsPlain n d → ArePlainItems n (item a (item b (item d no_items)))
 three_plain n a b d h k l = one_plain_item n a _ h (one_plain_item n b _ k (one_plain_item n d _ l (no_plain_items n)))
@@ -109,13 +110,13 @@ plain_report r h kept = plain_object 5 _ refl
     (one_plain_member 5 _ _ _ (deeper 4 5 _ (omega arith) (plain_rows r.start h.start))
     (one_plain_member 5 _ _ _ (plain_short 5 (version_of r.prices) (small_version (has_null r.prices))) (no_plain_members 5)))))))
 
-report_read_back : (r : Report) → ReportFits r → length r.prices ≤ 64 → without_ones r.prices ≡ r.prices → IsUtf8 (report_text r)
+report_read_back : (r : Report) → ReportFits r → length r.prices ≤ KINDS → without_ones r.prices ≡ r.prices → IsUtf8 (report_text r)
     → length (report_text r) ≤ 268435456 → report_of (report_text r) ≡ Ok r
 unfolding report_of report_text
 report_read_back r h few kept utf8 short =
     went _ _ (report_data r) (text_value 268435456 6 (report_data r) (plain_report r h kept) (omega arith) utf8 short) ∙ report_back r h few kept
 
-pub report_text_read_back : (r : Report) (text : List ℕ) → text ≡ report_text r → IsUtf8 text → ReportFits r → length r.prices ≤ 64
+pub report_text_read_back : (r : Report) (text : List ℕ) → text ≡ report_text r → IsUtf8 text → ReportFits r → length r.prices ≤ KINDS
     → without_ones r.prices ≡ r.prices → length text ≤ 268435456 → report_of text ≡ Ok r
 report_text_read_back r text e utf8 h few kept short =
     ap report_of e ∙ report_read_back r h few kept (subst IsUtf8 e utf8) (subst (λ (t : List ℕ). length t ≤ 268435456) e short)

@@ -14,6 +14,7 @@ ghost use Rattle.topo_script.specs.ReportTexts.{limits_data, price_data, prices_
 ghost use Rattle.topo_script.specs.ReportTexts.{version_of, way_data, dart_data, call_data};
 ghost use Rattle.topo_script.specs.ReportTexts.{refusal_data, inserted_data, reply_data};
 ghost use Rattle.topo_script.specs.ReportTexts.{entry_data, report_data, report_text};
+ghost use Rattle.topo_core.specs.declared.rows.TheConstants.{KINDS};
 
 use crate::written::{Written, write_after, write_list};
 use std::alloc::{AllocError, Global};
@@ -272,8 +273,8 @@ impl Written for Report {
 /// left out, and its version is 2 exactly where a price is null.
 pub fn report(alloc: Global, report: &Report) -> Result<String, AllocError>
     ensures text { IfOk result (λ text. string_bytes text ≡ report_text report.now) }
-    ensures reads_back { IfOk result (λ text. ReportFits report.now → length report.now.prices ≤ 64
-        → without_ones report.now.prices ≡ report.now.prices
+    ensures reads_back { IfOk result (λ text. ReportFits report.now
+        → length report.now.prices ≤ KINDS → without_ones report.now.prices ≡ report.now.prices
         → length (string_bytes text) ≤ 268435456 → report_of (string_bytes text) ≡ Ok report.now) }
 {
     let mut text = String::new(alloc);

@@ -15,6 +15,7 @@ ghost use Rattle.topo_serve.specs.Turns.{AnswerFailsBy, BeginFailsBy, BeginsAll,
 ghost use Rattle.topo_serve.specs.Turns.{IsOpened, IsTurn, LineFailsBy, LinesFailBy, OfLine};
 ghost use Rattle.topo_serve.specs.Turns.{OpenedFailsBy, OpenFailsBy, Opens, OpensNoneBy, ServesAll};
 ghost use Rattle.topo_serve.specs.Turns.{Stays, TurnFailsBy, WriteFailsBy, begins_at, streams};
+ghost use Rattle.topo_core.specs.declared.rows.TheConstants.{MAX_PRICE};
 
 use crate::ahead::{Ahead, Part};
 use crate::answers::{answer_line, counts_answer};
@@ -172,7 +173,7 @@ fn serve_priced<I: Read, O: Write>(
         start,
         |facts: &Facts| -> Option<u32>
             ensures entry { slice_get table.entry.now facts.now.kind ≡ Some result }
-            ensures in_range { IfSome result (λ n. (1 ≤ n) × (n ≤ 1000)) }
+            ensures in_range { IfSome result (λ n. (1 ≤ n) × (n ≤ MAX_PRICE)) }
         { table.price(facts.kind) },
         ahead,
         has_feed,

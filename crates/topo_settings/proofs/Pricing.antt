@@ -21,6 +21,7 @@ use Rattle.topo_core.specs.History.{IsRun, Replays}
 use Rattle.topo_settings.specs.Settings.{price_of_kind, price_table, priced}
 use Rattle.topo_price.specs.Prices.{first_bad}
 use Rattle.topo_price.proofs.Tables.{price_in_range}
+use Rattle.topo_core.specs.declared.rows.TheConstants.{KINDS, MAX_PRICE}
 
 -- what one asks for, the other does
 abbrev pub Allows : Pricing → Pricing → Type 0
@@ -88,17 +89,17 @@ module _ (a b : Pricing) (allows : Allows a b) (back : Allows b a) where
 
 -- ---- The prices of all kinds
 
-pub table_price : (prices table : List (Option ℕ)) (kind : ℕ) (answer : Option ℕ) → table ≡ price_table prices → kind < 64 → slice_get table kind ≡ Some answer
-    → answer ≡ price_of_kind prices kind
+pub table_price : (prices table : List (Option ℕ)) (kind : ℕ) (answer : Option ℕ) → table ≡ price_table prices → kind < KINDS
+    → slice_get table kind ≡ Some answer → answer ≡ price_of_kind prices kind
 unfolding price_table
 table_price prices table kind answer is below there =
     sym (get_or_from_slice_get table kind answer answer there) ∙ ap (λ (ps : List (Option ℕ)). get_or ps kind answer) is
-    ∙ get_or-map-range_with_len (price_of_kind prices) 0 64 kind kind answer below (omega arith)
+    ∙ get_or-map-range_with_len (price_of_kind prices) 0 KINDS kind kind answer below (omega arith)
 
-price_there : (prices table : List (Option ℕ)) (kind : ℕ) → table ≡ price_table prices → kind < 64 → slice_get table kind ≡ Some (price_of_kind prices kind)
+price_there : (prices table : List (Option ℕ)) (kind : ℕ) → table ≡ price_table prices → kind < KINDS → slice_get table kind ≡ Some (price_of_kind prices kind)
 unfolding price_table
 price_there prices table kind is below =
-    let all : length table ≡ 64 = ap length is ∙ length-map-range_with_len (price_of_kind prices) 0 64 in
+    let all : length table ≡ KINDS = ap length is ∙ length-map-range_with_len (price_of_kind prices) 0 KINDS in
     let there = slice_get-get_or table kind None (omega arith) in
     there ∙ ap Some (table_price prices table kind (get_or table kind None) is below there)
 
@@ -118,9 +119,9 @@ module _ (price : Pricing) (prices table : List (Option ℕ)) (is : table ≡ pr
 
 -- a price of a table without a bad one
 pub good_there : (prices table : List (Option ℕ)) (kind n : ℕ) → table ≡ price_table prices → first_bad (price_table prices) ≡ None
-    → slice_get table kind ≡ Some (Some n) → (1 ≤ n) × (n ≤ 1000)
+    → slice_get table kind ≡ Some (Some n) → (1 ≤ n) × (n ≤ MAX_PRICE)
 good_there prices table kind n is good there =
-    subst (λ (o : Option ℕ). IfSome o (λ n. (1 ≤ n) × (n ≤ 1000))) (get_or_from_slice_get table kind (Some n) None there)
+    subst (λ (o : Option ℕ). IfSome o (λ n. (1 ≤ n) × (n ≤ MAX_PRICE))) (get_or_from_slice_get table kind (Some n) None there)
     (price_in_range table (subst (λ (ps : List (Option ℕ)). first_bad ps ≡ None) (sym is) good) kind)
 
 pub ok_so : {A E : Type 0} (r : Result A E) (P Q : A → Type 0) → ((a : A) → P a → Q a) → IfOk r P → IfOk r Q

@@ -17,6 +17,7 @@ use Rattle.topo_settings.specs.declared.fault.RunFault.{RunFault}
 use Rattle.topo_settings.specs.declared.fault.RunFault.TheVariants.{Memory, Script, BadLimits, Price, Load, NoSeat, Mismatch}
 use Rattle.topo_settings.specs.declared.fault.RunFault.TheVariants.{WrongReply, WrongPicture, ReadFault, WriteFault}
 use Rattle.topo_settings.specs.Limiting.{AreLimits}
+use Rattle.topo_core.specs.declared.rows.TheConstants.{KINDS}
 
 -- ---- Prices
 
@@ -30,7 +31,7 @@ priced prices facts n = price_of_kind prices facts.kind ≡ Some n
 
 -- the prices of all kinds
 unfoldable pub price_table : List (Option ℕ) → List (Option ℕ)
-price_table prices = map (price_of_kind prices) (range_with_len 0 64)
+price_table prices = map (price_of_kind prices) (range_with_len 0 KINDS)
 
 -- ---- What is set
 

@@ -23,6 +23,7 @@ use Rattle.topo_core.proofs.deleting.WithoutRows.{has_id_in}
 use Rattle.topo_rows.specs.Around.{entry_after}
 use Rattle.topo_rows.proofs.AroundPoints.{turn_at_vertex}
 use Rattle.topo_changes.proofs.growing.Corners.{corner_known, entry_known}
+use Rattle.topo_core.specs.declared.rows.TheConstants.{KINDS}
 
 -- the place of an entry that stands nowhere before it
 place_of_new : (f : ℕ) (xs ys : List ℕ) → ((x : ℕ) → IsIn x xs → x ≢ f) → position_or_len (λ y. y == f) (xs ++ f ∷ ys) ≡ length xs
@@ -44,7 +45,7 @@ after_new : (f d : ℕ) (xs ys : List ℕ) → slice_index_or (xs ++ f ∷ ys) (
 after_new f d xs ys = get_or-append-add xs (f ∷ ys) 1 d
 
 module _ (rows : Rows) (u p kind : ℕ) (good : IsWellFormed rows) (u_in : u < length rows.rotations) (p_in : p < length (rotation rows u))
-    (known : kind < 64) where
+    (known : kind < KINDS) where
   abbrev grew : Rows
   grew = grown rows u p kind
 

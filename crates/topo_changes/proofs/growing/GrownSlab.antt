@@ -24,9 +24,10 @@ use Rattle.topo_perm.proofs.permutations.Walks.{twin-cases}
 use Rattle.topo_rows.proofs.Begins.{get_left, get_right}
 use Rattle.topo_changes.proofs.growing.GrownCorner.{grown_good, grown_turns, known_below, leads_on, new_row}
 use Rattle.topo_changes.proofs.inserting.InsertedNumbers.{dart_here, dart_of, even_count, number_less, number_of, turn_number}
+use Rattle.topo_core.specs.declared.rows.TheConstants.{KINDS}
 
 module _ (rows : Rows) (good : IsWellFormed rows) (u p kind : ℕ) (u_in : u < length rows.rotations) (p_in : p < length (rotation rows u))
-    (known : kind < 64) where
+    (known : kind < KINDS) where
   abbrev pub after : Rows
   after = grown rows u p kind
 

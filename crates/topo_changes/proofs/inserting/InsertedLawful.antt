@@ -34,6 +34,7 @@ use Rattle.topo_perm.proofs.runs.Passing.{Passed, passed}
 use Rattle.topo_changes.proofs.inserting.InsertedPath.{IsPath, is_insertion_path, new_chords_of, name, path_subdivisions, path_chords, path_of}
 use Rattle.topo_changes.proofs.rows.Totals.{segments_total}
 use Rattle.topo_rows.proofs.Verdicts.{bare_points}
+use Rattle.topo_core.specs.declared.rows.TheConstants.{KINDS}
 
 -- ---- No vertex becomes bare
 
@@ -101,7 +102,7 @@ pub record HasInsertionPath (rows : Rows) (u v kind : ℕ) (r : Route) (good : I
       (lifted rows (shown rows u v kind r) to))
 
 pub has_insertion_path : (rows : Rows) (u v kind : ℕ) (r : Route) (good : IsWellFormed rows) → u < length rows.rotations → v < length rows.rotations → u ≢ v
-    → kind < 64 → IsSimpleRoute rows u v r → HasInsertionPath rows u v kind r good
+    → kind < KINDS → IsSimpleRoute rows u v r → HasInsertionPath rows u v kind r good
 has_insertion_path rows u v kind r good lu lv apart known simple =
     let q : Rows = shown rows u v kind r in
     let may : IsInsertable rows u v kind r = simple_is_insertable rows u v kind r good lu lv apart known simple in
@@ -132,7 +133,7 @@ pub record Gains (rows : Rows) (u v kind : ℕ) (r : Route) : Type 0 where
   pub faces : face_count (shown rows u v kind r) ≡ face_count rows + (length r.crossed + 1)
   pub connected : Connected (system rows) → Connected (system (shown rows u v kind r))
 
-pub gains : (rows : Rows) (u v kind : ℕ) (r : Route) → IsWellFormed rows → u < length rows.rotations → v < length rows.rotations → u ≢ v → kind < 64
+pub gains : (rows : Rows) (u v kind : ℕ) (r : Route) → IsWellFormed rows → u < length rows.rotations → v < length rows.rotations → u ≢ v → kind < KINDS
     → IsSimpleRoute rows u v r → Gains rows u v kind r
 gains rows u v kind r good lu lv apart known simple =
     let q : Rows = shown rows u v kind r in
@@ -157,8 +158,8 @@ gains rows u v kind r good lu lv apart known simple =
     }
 
 -- the picture that shows a new edge along a route that meets no face twice is lawful
-pub insertion_keeps_lawful : (rows : Rows) (u v kind : ℕ) (r : Route) → Lawful rows → u < length rows.rotations → v < length rows.rotations → u ≢ v → kind < 64
-    → IsSimpleRoute rows u v r
+pub insertion_keeps_lawful : (rows : Rows) (u v kind : ℕ) (r : Route) → Lawful rows → u < length rows.rotations → v < length rows.rotations → u ≢ v
+    → kind < KINDS → IsSimpleRoute rows u v r
     → rows.next_crossing + length r.crossed ≤ 4294967296 → Lawful (shown rows u v kind r)
 insertion_keeps_lawful rows u v kind r lawful lu lv apart known simple small =
     let q : Rows = shown rows u v kind r in

@@ -19,6 +19,7 @@ use Rattle.topo_core.proofs.inserting.Weaving.{in_filter}
 use Rattle.topo_core.proofs.deleting.WithoutRows.{filter_passes, from_least_first, gone, in_rotated, is_left, is_uncrossed, left_apart}
 use Rattle.topo_core.proofs.deleting.WithoutRows.{occurrences-passing, rises_passing, without_counted, without_crossing, without_crossings}
 use Rattle.topo_core.proofs.deleting.WithoutRows.{without_edge_there, without_entry, without_rotated, without_rotation, without_rows, without_vertices}
+use Rattle.topo_core.specs.declared.rows.TheConstants.{KINDS}
 
 module _ (rows : Rows) (e : ℕ) (good : IsWellFormed rows) (known : is_some (edge_row rows e) ≡ true) where
   abbrev after : Rows
@@ -53,7 +54,7 @@ module _ (rows : Rows) (e : ℕ) (good : IsWellFormed rows) (known : is_some (ed
       let test = test_of_each (has_good_path rows) row rows.edges
       (right_true (rises_below rows.next_edge (map (λ row. row.id) rows.edges)) (list_all (has_good_path rows) rows.edges) good.paths) h in
       and_from _ (list_all (λ x. is_some (cross_row after x)) (filter (is_uncrossed rows e) row.crossings))
-      (subst (λ n. (nat_lt row.a n && nat_lt row.b n && not (row.a == row.b) && nat_lt row.kind 64) ≡ true) (sym (without_vertices rows e))
+      (subst (λ n. (nat_lt row.a n && nat_lt row.b n && not (row.a == row.b) && nat_lt row.kind KINDS) ≡ true) (sym (without_vertices rows e))
       (left_true _ _ test))
       (all_from (λ x. is_some (cross_row after x)) (filter (is_uncrossed rows e) row.crossings) (λ x k.
       ap is_some (without_crossing rows e x (not-true (has_id (gone rows e) x) (filter_passes (is_uncrossed rows e) x row.crossings k)))

@@ -29,6 +29,7 @@ use Rattle.topo_core.proofs.numbering.Members.{in_left, in_map, in_right, left_t
 use Rattle.topo_core.proofs.systems.NewDarts.{new_system, old_system, reaches_new, stays_connected, turn_of_old, turn_of_twin}
 use Rattle.topo_core.proofs.numbering.Standing.{good_crossing, is_of_rows, stands_once, system_test}
 use Rattle.topo_core.proofs.systems.SystemDarts.{edge_at_row, eqb_self, path_facts, row_id, row_in, some_of, vertex_in}
+use Rattle.topo_core.specs.declared.rows.TheConstants.{KINDS}
 
 -- ---- Tests of lists
 
@@ -216,7 +217,7 @@ last_vertex v n h k = grind (arith, nat_tests)
 one_vertex_more : (a b n : ℕ) (c d e : Bool) → (nat_lt a n && nat_lt b n && c && d && e) ≡ true → (nat_lt a (n + 1) && nat_lt b (n + 1) && c && d && e) ≡ true
 one_vertex_more a b n c d e h = grind (arith, nat_tests)
 
-one_edge_more : (u n kind : ℕ) → u < n → kind < 64 → (nat_lt u (n + 1) && nat_lt n (n + 1) && not (eqb u n) && nat_lt kind 64 && true) ≡ true
+one_edge_more : (u n kind : ℕ) → u < n → kind < KINDS → (nat_lt u (n + 1) && nat_lt n (n + 1) && not (eqb u n) && nat_lt kind KINDS && true) ≡ true
 one_edge_more u n kind h k = grind (arith, nat_tests)
 
 -- a new id is neither of two old ones
@@ -364,11 +365,11 @@ module _ (rows : Rows) (u p kind : ℕ) (paths : has_good_paths rows ≡ true) (
   old_path : (row : EdgeRow) → has_good_path rows row ≡ true → has_good_path after row ≡ true
   old_path row h = grind (arith, more_vertices, one_vertex_more)
 
-  new_path : kind < 64 → has_good_path after new_row ≡ true
+  new_path : kind < KINDS → has_good_path after new_row ≡ true
   new_path known = grind (arith, more_vertices, one_edge_more)
 
   -- the paths of the grown picture are good
-  pub paths_after_growth : kind < 64 → has_good_paths after ≡ true
+  pub paths_after_growth : kind < KINDS → has_good_paths after ≡ true
   paths_after_growth known = and_from (rises_below (rows.next_edge + 1) (map (λ row. row.id) (rows.edges ++ new_row ∷ []))) _
       (ap (rises_below (rows.next_edge + 1)) (map-append (λ row. row.id) rows.edges (new_row ∷ []))
       ∙ rises_push rows.next_edge (map (λ row. row.id) rows.edges) (left_true _ (list_all (has_good_path rows) rows.edges) paths))
@@ -540,7 +541,7 @@ module _ (rows : Rows) (u p kind : ℕ) (paths : has_good_paths rows ≡ true) (
       grind (arith, system_after, system_before, reaches_new, turn_of_old, not_new, turn_of_twin, system_test)
 
 -- a growth at a corner makes an embedding of an embedding
-pub growth_keeps_embedding : (rows : Rows) → IsEmbedding rows → (u p kind : ℕ) → u < length rows.rotations → p < length (rotation rows u) → kind < 64
+pub growth_keeps_embedding : (rows : Rows) → IsEmbedding rows → (u p kind : ℕ) → u < length rows.rotations → p < length (rotation rows u) → kind < KINDS
     → IsEmbedding (grown rows u p kind)
 growth_keeps_embedding rows good u p kind u_in p_in known = record {
   well_formed = grind (arith, paths_after_growth, crossings_after_growth, rotations_after_growth);

@@ -26,6 +26,7 @@ use Rattle.topo_core.proofs.numbering.Numbering.{dart_at, has_at, images_length,
 use Rattle.topo_core.proofs.numbering.Numbering.{place_in, place_later, place_less, turn_stays, twin_in}
 use Rattle.topo_core.proofs.numbering.Renumbering.{face_at, face_carried, face_permutes}
 use Rattle.topo_core.proofs.numbering.Standing.{back_forward, system_test}
+use Rattle.topo_core.specs.declared.rows.TheConstants.{KINDS}
 
 -- ---- Places in a longer list
 
@@ -48,7 +49,7 @@ place_second (c ∷ ds) es d h =
 
 module _ (rows : Rows) (u p kind : ℕ) (paths : has_good_paths rows ≡ true) (crossings : has_good_crossings rows ≡ true)
     (rotations : has_good_rotations rows ≡ true)
-    (u_in : u < length rows.rotations) (p_in : p < length (rotation rows u)) (known : kind < 64) where
+    (u_in : u < length rows.rotations) (p_in : p < length (rotation rows u)) (known : kind < KINDS) where
   abbrev after : Rows
   after = grown rows u p kind
 
@@ -169,7 +170,7 @@ module _ (rows : Rows) (u p kind : ℕ) (paths : has_good_paths rows ≡ true) (
       let segments = sum_by_push segment_count rows.edges new_row in omega arith
 
 -- a growth at a corner makes a lawful picture of a lawful picture
-pub growth_keeps_lawful : (rows : Rows) → Lawful rows → (u p kind : ℕ) → u < length rows.rotations → p < length (rotation rows u) → kind < 64
+pub growth_keeps_lawful : (rows : Rows) → Lawful rows → (u p kind : ℕ) → u < length rows.rotations → p < length (rotation rows u) → kind < KINDS
     → Lawful (grown rows u p kind)
 growth_keeps_lawful rows lawful u p kind u_in p_in known =
     let good = lawful.embedding.well_formed in

@@ -28,6 +28,7 @@ use Rattle.topo_core.proofs.numbering.Standing.{good_crossing, good_rotation, on
 use Rattle.topo_core.proofs.systems.SystemDarts.{crossing_there, eqb_self, vertex_in}
 use Rattle.topo_core.proofs.inserting.Weaving.{below_never, below_not_counted, in_filter, in_woven, number_counted, number_once, occurrences-woven}
 use Rattle.topo_core.proofs.numbering.NumberOrder.{right_holds}
+use Rattle.topo_core.specs.declared.rows.TheConstants.{KINDS}
 
 -- ---- Tests and numbers
 
@@ -46,7 +47,7 @@ or_fails : (t w : Bool) → w ≡ false → (t || w) ≡ t
 or_fails true w h = refl
 or_fails false w h = h
 
-new_ends : (u v n kind : ℕ) → u < n → v < n → u ≢ v → kind < 64 → (nat_lt u n && nat_lt v n && not (eqb u v) && nat_lt kind 64) ≡ true
+new_ends : (u v n kind : ℕ) → u < n → v < n → u ≢ v → kind < KINDS → (nat_lt u n && nat_lt v n && not (eqb u v) && nat_lt kind KINDS) ≡ true
 new_ends u v n kind u_in v_in apart known = grind (arith, nat_tests)
 
 neither_end : (u v w : ℕ) → u ≢ w → v ≢ w → (eqb u w || eqb v w) ≡ false
@@ -164,7 +165,7 @@ module _ (rows : Rows) (u v kind : ℕ) (r : Route) (good : IsWellFormed rows) (
       let test = test_of_each (has_good_path rows) row rows.edges
       (right_true (rises_below rows.next_edge (map (λ row. row.id) rows.edges)) (list_all (has_good_path rows) rows.edges) good.paths) h in
       and_from _ (list_all (λ x. is_some (cross_row after x)) (woven (new_on rows r row.id) 0 row.crossings))
-      (subst (λ n. (nat_lt row.a n && nat_lt row.b n && not (row.a == row.b) && nat_lt row.kind 64) ≡ true) (sym (shown_vertices rows u v kind r))
+      (subst (λ n. (nat_lt row.a n && nat_lt row.b n && not (row.a == row.b) && nat_lt row.kind KINDS) ≡ true) (sym (shown_vertices rows u v kind r))
       (left_true _ _ test))
       (all_from (λ x. is_some (cross_row after x)) (woven (new_on rows r row.id) 0 row.crossings)
       (λ x k. elim (in_woven (new_on rows r row.id) 0 x row.crossings k) [
@@ -178,7 +179,7 @@ module _ (rows : Rows) (u v kind : ℕ) (r : Route) (good : IsWellFormed rows) (
   new_path_good : has_good_path after (newcomer_row rows u v kind r) ≡ true
   new_path_good =
       and_from _ (list_all (λ x. is_some (cross_row after x)) (map (λ y. y.0) (numbered rows r)))
-      (subst (λ n. (nat_lt u n && nat_lt v n && not (u == v) && nat_lt kind 64) ≡ true) (sym (shown_vertices rows u v kind r))
+      (subst (λ n. (nat_lt u n && nat_lt v n && not (u == v) && nat_lt kind KINDS) ≡ true) (sym (shown_vertices rows u v kind r))
       (new_ends u v (length rows.rotations) kind may.u_there may.v_there may.ends_apart may.known))
       (all_from (λ x. is_some (cross_row after x)) (map (λ y. y.0) (numbered rows r)) (λ x k.
       let image = in_images (λ y. y.0) x (numbered rows r) k in

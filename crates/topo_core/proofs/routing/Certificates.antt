@@ -20,6 +20,7 @@ use Rattle.topo_core.specs.Picture.{darts, corner, edge_at, system}
 use Rattle.topo_core.specs.Routes.{Pricing, Price, Costs, Crosses, IsRoute, IsPricedRoute, IsFirst, IsCertificate, KeepsPromise, AreFactsOf, route_cmp}
 use Rattle.topo_core.specs.RouteLaws.{IsTight, TakesFirstDarts, arrival, IsFirstByHeights}
 use Rattle.topo_core.proofs.numbering.DartOrder.{dart_cmp_equal, dart_cmp_self, nat_cmp_self}
+use Rattle.topo_core.specs.declared.rows.TheConstants.{KINDS}
 
 -- ---- Comparisons
 
@@ -228,26 +229,26 @@ one_cost price rows same (d ∷ ds) m n a b =
 
 -- ---- Facts
 
-abbrev facts : (id a b kind : ℕ) → id < 2 ^ 32 → a < 2 ^ 32 → b < 2 ^ 32 → kind < 64 → Facts
+abbrev facts : (id a b kind : ℕ) → id < 2 ^ 32 → a < 2 ^ 32 → b < 2 ^ 32 → kind < KINDS → Facts
 facts id a b kind id_in a_in b_in kind_in =
     record { id = id; a = a; b = b; kind = kind; id_in_range = id_in; a_in_range = a_in; b_in_range = b_in; known_kind = kind_in }
 
 -- facts are told apart by their four numbers alone
-module _ (a b kind : ℕ) (a_in : a < 2 ^ 32) (b_in : b < 2 ^ 32) (kind_in : kind < 64) where
+module _ (a b kind : ℕ) (a_in : a < 2 ^ 32) (b_in : b < 2 ^ 32) (kind_in : kind < KINDS) where
   facts_by_id : (m n : ℕ) → m ≡ n → (p : m < 2 ^ 32) (q : n < 2 ^ 32)
       → facts m a b kind p a_in b_in kind_in ≡ facts n a b kind q a_in b_in kind_in
   facts_by_id m n e = let P : ℕ → Type 0 = λ n. (p : m < 2 ^ 32) (q : n < 2 ^ 32)
       → facts m a b kind p a_in b_in kind_in ≡ facts n a b kind q a_in b_in kind_in in
       subst P e (λ p q. ap (λ (x : m < 2 ^ 32). facts m a b kind x a_in b_in kind_in) (le_prop p q))
 
-module _ (id b kind : ℕ) (id_in : id < 2 ^ 32) (b_in : b < 2 ^ 32) (kind_in : kind < 64) where
+module _ (id b kind : ℕ) (id_in : id < 2 ^ 32) (b_in : b < 2 ^ 32) (kind_in : kind < KINDS) where
   facts_by_a : (m n : ℕ) → m ≡ n → (p : m < 2 ^ 32) (q : n < 2 ^ 32)
       → facts id m b kind id_in p b_in kind_in ≡ facts id n b kind id_in q b_in kind_in
   facts_by_a m n e = let P : ℕ → Type 0 = λ n. (p : m < 2 ^ 32) (q : n < 2 ^ 32)
       → facts id m b kind id_in p b_in kind_in ≡ facts id n b kind id_in q b_in kind_in in
       subst P e (λ p q. ap (λ (x : m < 2 ^ 32). facts id m b kind id_in x b_in kind_in) (le_prop p q))
 
-module _ (id a kind : ℕ) (id_in : id < 2 ^ 32) (a_in : a < 2 ^ 32) (kind_in : kind < 64) where
+module _ (id a kind : ℕ) (id_in : id < 2 ^ 32) (a_in : a < 2 ^ 32) (kind_in : kind < KINDS) where
   facts_by_b : (m n : ℕ) → m ≡ n → (p : m < 2 ^ 32) (q : n < 2 ^ 32)
       → facts id a m kind id_in a_in p kind_in ≡ facts id a n kind id_in a_in q kind_in
   facts_by_b m n e = let P : ℕ → Type 0 = λ n. (p : m < 2 ^ 32) (q : n < 2 ^ 32)
@@ -255,10 +256,10 @@ module _ (id a kind : ℕ) (id_in : id < 2 ^ 32) (a_in : a < 2 ^ 32) (kind_in : 
       subst P e (λ p q. ap (λ (x : m < 2 ^ 32). facts id a m kind id_in a_in x kind_in) (le_prop p q))
 
 module _ (id a b : ℕ) (id_in : id < 2 ^ 32) (a_in : a < 2 ^ 32) (b_in : b < 2 ^ 32) where
-  facts_by_kind : (m n : ℕ) → m ≡ n → (p : m < 64) (q : n < 64)
+  facts_by_kind : (m n : ℕ) → m ≡ n → (p : m < KINDS) (q : n < KINDS)
       → facts id a b m id_in a_in b_in p ≡ facts id a b n id_in a_in b_in q
-  facts_by_kind m n e = let P : ℕ → Type 0 = λ n. (p : m < 64) (q : n < 64) → facts id a b m id_in a_in b_in p ≡ facts id a b n id_in a_in b_in q in
-      subst P e (λ p q. ap (λ (x : m < 64). facts id a b m id_in a_in b_in x) (le_prop p q))
+  facts_by_kind m n e = let P : ℕ → Type 0 = λ n. (p : m < KINDS) (q : n < KINDS) → facts id a b m id_in a_in b_in p ≡ facts id a b n id_in a_in b_in q in
+      subst P e (λ p q. ap (λ (x : m < KINDS). facts id a b m id_in a_in b_in x) (le_prop p q))
 
 -- facts of one row are the same
 pub one_facts : (row : EdgeRow) (f g : Facts) → AreFactsOf row f → AreFactsOf row g → f ≡ g

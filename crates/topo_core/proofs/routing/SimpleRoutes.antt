@@ -23,6 +23,7 @@ use Rattle.topo_core.proofs.numbering.Numbering.{index_less, turn_stays, twin_in
 use Rattle.topo_core.proofs.systems.Orbits.{SameCycle-sym, SameCycle-trans}
 use Rattle.topo_core.proofs.numbering.Renumbering.{face_darts, face_numbers, face_permutes}
 use Rattle.topo_core.proofs.routing.RouteDarts.{corner_in}
+use Rattle.topo_core.specs.declared.rows.TheConstants.{KINDS}
 
 -- ---- Darts of one segment
 
@@ -112,6 +113,6 @@ module _ (rows : Rows) (good : IsWellFormed rows) where
 
 -- an edge can be shown along a route that meets no face twice
 pub simple_is_insertable : (rows : Rows) (u v kind : ℕ) (r : Route) → IsWellFormed rows → u < length rows.rotations → v < length rows.rotations
-    → u ≢ v → kind < 64
+    → u ≢ v → kind < KINDS
     → IsSimpleRoute rows u v r → IsInsertable rows u v kind r
 simple_is_insertable rows u v kind r good u_in v_in apart known simple = grind (arith, corner_in, position_there, crossed_in, crosses_once)

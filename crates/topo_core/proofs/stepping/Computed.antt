@@ -24,6 +24,7 @@ use Rattle.topo_core.proofs.numbering.DartLaws.{for_each, same_dart_true}
 use Rattle.topo_core.proofs.systems.Connection.{connected_by_spread, spreads_in}
 use Rattle.topo_core.proofs.routing.Certificates.{Certified, first_by_heights}
 use Rattle.topo_core.proofs.numbering.Members.{left_true, right_true}
+use Rattle.topo_core.specs.declared.rows.TheConstants.{KINDS}
 
 -- ---- Tests
 
@@ -107,7 +108,7 @@ module _ (s : System) where
 
 -- the row's numbers are in the ranges of facts
 abbrev in_range_test : EdgeRow → Bool
-in_range_test row = nat_lt row.id (2 ^ 32) && (nat_lt row.a (2 ^ 32) && (nat_lt row.b (2 ^ 32) && nat_lt row.kind 64))
+in_range_test row = nat_lt row.id (2 ^ 32) && (nat_lt row.a (2 ^ 32) && (nat_lt row.b (2 ^ 32) && nat_lt row.kind KINDS))
 
 four_tests : (a b c d : Bool) → (a && (b && (c && d))) ≡ true → (a ≡ true) × (b ≡ true) × (c ≡ true) × (d ≡ true)
 four_tests true true true d h = (refl, refl, refl, h)
@@ -131,7 +132,7 @@ module _ (prices : List ℕ) (rows : Rows) where
 
   price_there : (d : Dart) → in_range_test (edge_at rows d.edge) ≡ true → has_price d ≡ true → Price (by_kind prices) rows d (price_at d)
   price_there d h has = let row = edge_at rows d.edge in
-      let tests = four_tests (nat_lt row.id (2 ^ 32)) (nat_lt row.a (2 ^ 32)) (nat_lt row.b (2 ^ 32)) (nat_lt row.kind 64) h in
+      let tests = four_tests (nat_lt row.id (2 ^ 32)) (nat_lt row.a (2 ^ 32)) (nat_lt row.b (2 ^ 32)) (nat_lt row.kind KINDS) h in
       record {
         facts = record {
           id = row.id;
@@ -141,7 +142,7 @@ module _ (prices : List ℕ) (rows : Rows) where
           id_in_range = lt_from_test row.id (2 ^ 32) tests.0;
           a_in_range = lt_from_test row.a (2 ^ 32) tests.1;
           b_in_range = lt_from_test row.b (2 ^ 32) tests.2;
-          known_kind = lt_from_test row.kind 64 tests.3;
+          known_kind = lt_from_test row.kind KINDS tests.3;
         };
         known = record { id = refl; a = refl; b = refl; kind = refl };
         asked = (refl, (let above = lt_from_test 0 (price_at d) has in omega arith));

@@ -37,6 +37,7 @@ use Rattle.topo_core.proofs.routing.RouteDarts.{corner_in}
 use Rattle.topo_embedded.specs.Halves.{RowsWithPaths, ShowsRows, half_at, half_in, path_of}
 use Rattle.topo_embedded.proofs.halves.Made.{agreeing_numbers}
 use Rattle.topo_embedded.proofs.halves.Numbers.{StandsAt, half_alive, half_of_number, stands_at}
+use Rattle.topo_core.specs.declared.rows.TheConstants.{KINDS}
 
 -- ---- Lists with something more at their end
 
@@ -80,7 +81,7 @@ got_two_more (x ∷ xs) y z d (suc a) h = grind (arith, got_two_more xs y z d a 
 
 -- ---- The grown rows
 
-module _ (rows : Rows) (good : IsWellFormed rows) (u v kind : ℕ) (u_in : u < length rows.rotations) (v_in : v < length (rotation rows u)) (known : kind < 64)
+module _ (rows : Rows) (good : IsWellFormed rows) (u v kind : ℕ) (u_in : u < length rows.rotations) (v_in : v < length (rotation rows u)) (known : kind < KINDS)
     (paths : List (List ℕ)) (r : Rotation)
     (s : ShowsRows (record { rows = rows; paths = paths }) r) (x : ℕ) where
   abbrev p : RowsWithPaths
@@ -206,7 +207,7 @@ corner_alive p good r r' same s u v named u_in v_in is =
     ap (is_live r') (is c at)
     ∙ half_alive p good r' (kept_shows p r r' same s) (half_in p c) (record { dart = c; there = corner_in p.rows good u v c at; is = refl })
 
-pub grown_parts : (rows : Rows) → IsWellFormed rows → (u v kind : ℕ) → u < length rows.rotations → v < length (rotation rows u) → kind < 64
+pub grown_parts : (rows : Rows) → IsWellFormed rows → (u v kind : ℕ) → u < length rows.rotations → v < length (rotation rows u) → kind < KINDS
     → (paths : List (List ℕ)) (r r' r'' : Rotation) → ShowsRows (record { rows = rows; paths = paths }) r → r'.slots ≡ r.slots
     → IsEmbedding r' → (named x : ℕ) → ((c : Dart) → corner rows u v ≡ Some c → named ≡ half_in (record { rows = rows; paths = paths }) c)
     → IsHang (turn r') (turn r'') half_limit named x → Grows r' r'' x → AddsLabel (is_live r') (edge_of r') (edge_of r'') x rows.next_edge
@@ -226,7 +227,7 @@ grown_parts rows good u v kind u_in v_in known paths r r' r'' s same whole named
 -- grown or not
 pub grown_formed : {A E : Type 0} (result : Result A E) (p : RowsWithPaths) (rows new : Rows) (paths : List (List ℕ))
     → (let q : RowsWithPaths = record { rows = rows; paths = paths } in q ≡ p) → IsWellFormed rows → (u v kind : ℕ) → u < length p.rows.rotations
-    → v < length (rotation p.rows u) → kind < 64
+    → v < length (rotation p.rows u) → kind < KINDS
     → OnOk result (new ≡ grown rows u v kind) → OnErr result (new ≡ rows) → IsWellFormed new
 grown_formed (Ok a) p rows new paths seen good u v kind u_in v_in known ok err =
     let same : p.rows ≡ rows = ap (λ (q : RowsWithPaths). q.rows) (sym seen) in

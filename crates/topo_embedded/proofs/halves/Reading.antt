@@ -27,6 +27,7 @@ use Rattle.topo_embedded.specs.Halves.{RowsWithPaths, ShowsRows, by_way, half_in
 use Rattle.topo_embedded.specs.Walking.{IsOnPath, end_seg, end_way}
 use Rattle.topo_embedded.proofs.halves.Apart.{halves_apart}
 use Rattle.topo_embedded.proofs.halves.Numbers.{StandsAt, found_place, stands_at}
+use Rattle.topo_core.specs.declared.rows.TheConstants.{KINDS}
 
 -- the row of an edge at its place
 pub record EdgeRead (rows : Rows) (e place : ℕ) (row : EdgeRow) : Type 0 where
@@ -57,10 +58,10 @@ pub edge_found : (rows : Rows) (e place : ℕ) (row found : EdgeRow) → EdgeRea
 edge_found rows e place row found at is = (let both : Some found ≡ Some row = sym is ∙ at.found in cc)
 
 -- its kind is known
-kind_of_tests : (a b k n : ℕ) (d : Bool) → (nat_lt a n && nat_lt b n && not (eqb a b) && nat_lt k 64 && d) ≡ true → k < 64
+kind_of_tests : (a b k n : ℕ) (d : Bool) → (nat_lt a n && nat_lt b n && not (eqb a b) && nat_lt k KINDS && d) ≡ true → k < KINDS
 kind_of_tests a b k n d h = grind (arith, nat_tests)
 
-pub kind_known : (rows : Rows) → has_good_paths rows ≡ true → (e : ℕ) (row : EdgeRow) → edge_row rows e ≡ Some row → row.kind < 64
+pub kind_known : (rows : Rows) → has_good_paths rows ≡ true → (e : ℕ) (row : EdgeRow) → edge_row rows e ≡ Some row → row.kind < KINDS
 kind_known rows good e row there = grind (arith, test_of_each, right_true, kind_of_tests, row_in)
 
 -- the path of such an edge, as it is read at its place

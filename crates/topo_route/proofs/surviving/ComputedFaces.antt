@@ -25,6 +25,7 @@ use Rattle.topo_core.proofs.numbering.Numbering.{get_place, has_at, place_in}
 use Rattle.topo_route.specs.Surviving.{CoversSearch, IsSameEdge, KeepsEnds, KeepsFaces}
 use Rattle.topo_route.specs.SurvivingEvidence.{after, ahead, before, behind, found, height, price, renamed, seen}
 use Rattle.topo_route.proofs.surviving.Searched.{survives}
+use Rattle.topo_core.specs.declared.rows.TheConstants.{MAX_PRICE}
 
 -- ---- Tests
 
@@ -254,7 +255,7 @@ covers = record {
 
 -- ---- The route after
 
-within : (kind : ℕ) → slice_index_or (4 ∷ 4 ∷ 4 ∷ 4 ∷ []) kind 1 ≤ 1000
+within : (kind : ℕ) → slice_index_or (4 ∷ 4 ∷ 4 ∷ 4 ∷ []) kind 1 ≤ MAX_PRICE
 within zero = omega arith
 within (suc zero) = omega arith
 within (suc (suc zero)) = omega arith

@@ -11,6 +11,7 @@ use Rattle.topo_core.proofs.routing.Certificates.{same_some}
 use Rattle.topo_core.proofs.stepping.Computed.{Passes, Planned, first_by_tests}
 use Rattle.topo_core.proofs.routing.LeastRoutes.{least_is_simple}
 use Rattle.topo_core.proofs.false_cases.no_certificate.Goals as goal
+use Rattle.topo_core.specs.declared.rows.TheConstants.{MAX_PRICE}
 
 -- the facts of edge 1 of the triangle, and what crossing it costs
 abbrev side : Facts
@@ -19,7 +20,7 @@ side = record { id = 1; a = 1; b = 2; kind = 2; id_in_range = lit≤ tt; a_in_ra
 side_price : Price uneven bipyramid (back 1 0) 2
 side_price = record { facts = side; known = record { id = refl; a = refl; b = refl; kind = refl }; asked = (refl, lit≤ tt) }
 
-within : (kind : ℕ) → slice_index_or (1 ∷ 5 ∷ 2 ∷ 9 ∷ []) kind 1 ≤ 1000
+within : (kind : ℕ) → slice_index_or (1 ∷ 5 ∷ 2 ∷ 9 ∷ []) kind 1 ≤ MAX_PRICE
 within zero = lit≤ tt
 within (suc zero) = lit≤ tt
 within (suc (suc zero)) = lit≤ tt
@@ -33,7 +34,7 @@ kept = record {
   single = λ facts m n one other. one.0 ∙ sym other.0;
 }
 
-low : (kind : ℕ) → slice_index_or (1 ∷ 9 ∷ []) kind 1 ≤ 1000
+low : (kind : ℕ) → slice_index_or (1 ∷ 9 ∷ []) kind 1 ≤ MAX_PRICE
 low zero = lit≤ tt
 low (suc zero) = lit≤ tt
 low (suc (suc kind)) = lit≤ tt
