@@ -1,4 +1,5 @@
 pub mod Apart
+pub mod Ends
 pub mod Totals
 pub mod Laws
 pub mod Undoing

@@ -51,8 +51,8 @@ impl Model for Picture {
 }
 
 impl Picture {
-    ghost use Rattle.std.specs.Prelude.{◌≡◌, ◌⊎◌, ◌+◌, ◌<◌, ℕ, true, IfOk, IfErr};
-    ghost use Rattle.std.specs.Prelude.{IfSome, OnErr, length, is_some, Some, None};
+    ghost use Rattle.std.specs.Prelude.{◌≡◌, ◌≢◌, ◌⊎◌, ◌+◌, ◌<◌, ℕ, true, IfOk, IfErr};
+    ghost use Rattle.std.specs.Prelude.{IfSome, OnErr, OnOk, length, is_some, Some, None};
     ghost use Rattle.topo_core.specs.Pictures.{seed};
     ghost use Rattle.topo_core.specs.Routes.{IsSimpleRoute};
     ghost use Rattle.topo_core.specs.Changes.{IsCut, grown, shown, without};
@@ -61,6 +61,7 @@ impl Picture {
     ghost use Rattle.topo_route.specs.Regions.{IsApart};
     ghost use Rattle.topo_rows.specs.Loading.{FailsFirst};
     ghost use Rattle.topo_rows.specs.Shown.{IsPicture};
+    ghost use Rattle.topo_picture.specs.Ends.{HasVertices, IsEndsRefusal};
     ghost use Rattle.topo_picture.specs.Totals.{AreCountsOf};
     ghost use Rattle.topo_picture.specs.Undoing.{IsShownOn};
     ghost use Rattle.topo_core.specs.declared.rows.Rows.{Rows};
@@ -174,10 +175,17 @@ impl Picture {
         ensures refused { IfErr result
             (λ why. insert_refusal self.now.limits self.now.rows u v kind ≡ Some why) }
     {
-        match check_insertion(&self.limits, self.embedded.rows(), u, v, kind) {
-            Some(why) => Err(why),
-            None => Ok(()),
-        }
+        check_insertion(&self.limits, self.embedded.rows(), u, v, kind)
+    }
+
+    /// Whether a route may be looked for between these: both are vertices, and not the same. Else
+    /// NoVertex comes before SameEnds.
+    pub fn admit_ends(&self, u: u32, v: u32) -> Result<(), Refusal>
+        ensures there { OnOk result (HasVertices self.now.rows u v) }
+        ensures apart { OnOk result (u ≢ v) }
+        ensures refused { IfErr result (IsEndsRefusal self.now.rows u v) }
+    {
+        check_ends(self.embedded.rows(), u, v)
     }
 
     /// The numbers that a growth would get, or the first reason why it would be refused, as `grow`
@@ -384,13 +392,15 @@ impl Picture {
     }
 }
 
-ghost use Rattle.std.specs.Prelude.{◌≡◌, ◌+◌, ◌<◌, ◌≤◌, true, IfErr, IfOk};
+ghost use Rattle.std.specs.Prelude.{◌≡◌, ◌≢◌, ◌+◌, ◌<◌, ◌≤◌, ℕ, true, IfErr, IfOk, OnOk};
 ghost use Rattle.std.specs.Prelude.{None, Some, length, [], ◌∷◌};
 ghost use Rattle.topo_core.specs.Pictures.{seed};
 ghost use Rattle.topo_core.specs.Steps.{HasRoomFor, grow_refusal, insert_refusal};
 ghost use Rattle.topo_rows.specs.Flats.{AreTurnsOf};
 ghost use Rattle.topo_rows.specs.Loading.{FailsFirst};
 ghost use Rattle.topo_rows.specs.Shown.{IsPicture};
+ghost use Rattle.topo_picture.specs.Ends.{HasVertices, IsEndsRefusal};
+ghost use Rattle.topo_core.specs.declared.limits.Limits.{Limits};
 
 /// The rotation system of rows that are a picture within the limits. Else the first test that they
 /// fail, or Memory.
@@ -494,20 +504,43 @@ fn check_room(limits: &Limits, rows: &KeptRows, route: &Route) -> Result<EdgeId,
     Ok(EdgeId::new(rows.next_edge()))
 }
 
-/// The first reason to refuse an insertion before a route is looked for.
-fn check_insertion(limits: &Limits, rows: &KeptRows, u: u32, v: u32, kind: u32) -> Option<Refusal>
-    ensures { result ≡ insert_refusal limits.now rows.now u v kind }
+/// Whether a route may be looked for between these: both are vertices, and not the same. That one
+/// is no vertex comes first.
+fn check_ends(rows: &KeptRows, u: u32, v: u32) -> Result<(), Refusal>
+    ensures there { OnOk result (HasVertices rows.now u v) }
+    ensures apart { OnOk result (u ≢ v) }
+    ensures refused { IfErr result (IsEndsRefusal rows.now u v) }
+    ensures first { IfErr result (λ why. (limits : Limits) (kind : ℕ)
+        → insert_refusal limits rows.now u v kind ≡ Some why) }
 {
     let vertices = rows.rotations().len();
     if u as usize >= vertices || v as usize >= vertices {
-        Some(Refusal::NoVertex)
+        Err(Refusal::NoVertex)
     } else if u == v {
-        Some(Refusal::SameEnds)
-    } else if kind as usize >= KINDS {
-        Some(Refusal::BadKind)
-    } else if rows.next_edge() >= limits.edges {
-        Some(Refusal::Full)
+        Err(Refusal::SameEnds)
     } else {
-        None
+        Ok(())
+    }
+}
+
+/// Whether an insertion is refused before a route is looked for, and the first reason.
+fn check_insertion(
+    limits: &Limits,
+    rows: &KeptRows,
+    u: u32,
+    v: u32,
+    kind: u32,
+) -> Result<(), Refusal>
+    ensures admitted { OnOk result (insert_refusal limits.now rows.now u v kind ≡ None) }
+    ensures refused { IfErr result
+        (λ why. insert_refusal limits.now rows.now u v kind ≡ Some why) }
+{
+    check_ends(rows, u, v)?;
+    if kind as usize >= KINDS {
+        Err(Refusal::BadKind)
+    } else if rows.next_edge() >= limits.edges {
+        Err(Refusal::Full)
+    } else {
+        Ok(())
     }
 }

@@ -4,7 +4,8 @@ use Rattle.topo_core.specs.declared.rows.Rows.{Rows}
 use Rattle.topo_core.specs.declared.calls.Refusal.{Refusal}
 use Rattle.topo_core.specs.declared.calls.Refusal.TheVariants.{NoVertex, SameEnds, NoPosition, NoEdge, BadKind, Cut, Full, Memory, NoRoute}
 use Rattle.topo_core.specs.Routes.{Pricing}
-use Rattle.topo_service.specs.Faults.{IsEndsRefusal, IsPlanRefusal}
+use Rattle.topo_picture.specs.Ends.{IsEndsRefusal}
+use Rattle.topo_service.specs.Faults.{IsPlanRefusal}
 
 pub ends_refused : (price : Pricing) (rows : Rows) (u v : ℕ) (why : Refusal) → IsEndsRefusal rows u v why → IsPlanRefusal price rows u v why
 ends_refused price rows u v NoVertex h = h

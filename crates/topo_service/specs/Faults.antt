@@ -1,5 +1,5 @@
 -- What refuses a pass, a view, a plan, or the end of a service.
-use Rattle.std.specs.Prelude.{◌≡◌, ◌≢◌, ◌<◌, ◌≤◌, ◌⊎◌, ℕ, List, length}
+use Rattle.std.specs.Prelude.{◌≡◌, ◌≢◌, ◌<◌, ◌≤◌, ◌⊎◌, ℕ, List}
 use Rattle.topo_core.specs.declared.rows.Rows.{Rows}
 use Rattle.topo_core.specs.declared.calls.Entry.{Entry}
 use Rattle.topo_core.specs.declared.calls.Refusal.{Refusal}
@@ -8,6 +8,7 @@ use Rattle.topo_core.specs.Items.{IsIn}
 use Rattle.topo_core.specs.Routes.{Pricing, HasNoRoute}
 use Rattle.topo_core.specs.Steps.{refusal_number}
 use Rattle.topo_rows.specs.Shown.{Shown}
+use Rattle.topo_picture.specs.Ends.{HasVertices}
 use Rattle.topo_versions.specs.Versions.{IsVersionFrom}
 use Rattle.topo_service.specs.declared.faults.EndFault.{EndFault}
 use Rattle.topo_service.specs.declared.faults.EndFault.TheVariants.{PassMissing, Mismatch}
@@ -37,22 +38,6 @@ pub record HasDifference (history : List Entry) (passes : List PassState) (numbe
 abbrev pub IsEndFault : ℕ → List Entry → List PassState → EndFault → Type 0
 IsEndFault given history passes (PassMissing n) = (n < given) × (HasNumber n passes → ⊥) × ((m : ℕ) → m < n → HasNumber m passes)
 IsEndFault given history passes (Mismatch n k) = ((m : ℕ) → m < given → HasNumber m passes) × HasDifference history passes n k
-
--- both are vertices
-abbrev pub HasVertices : Rows → ℕ → ℕ → Type 0
-HasVertices rows u v = (u < length rows.rotations) × (v < length rows.rotations)
-
--- why no route is looked for between these: one is no vertex, or they are the same
-abbrev pub IsEndsRefusal : Rows → ℕ → ℕ → Refusal → Type 0
-IsEndsRefusal rows u v NoVertex = HasVertices rows u v → ⊥
-IsEndsRefusal rows u v SameEnds = HasVertices rows u v × (u ≡ v)
-IsEndsRefusal rows u v NoRoute = ⊥
-IsEndsRefusal rows u v Memory = ⊥
-IsEndsRefusal rows u v NoPosition = ⊥
-IsEndsRefusal rows u v NoEdge = ⊥
-IsEndsRefusal rows u v BadKind = ⊥
-IsEndsRefusal rows u v (Cut segment) = ⊥
-IsEndsRefusal rows u v Full = ⊥
 
 -- why no plan was made on these rows: the first cause that holds, but memory may be wanted in the search
 abbrev pub IsPlanRefusal : Pricing → Rows → ℕ → ℕ → Refusal → Type 0

@@ -5,11 +5,12 @@ ghost use Rattle.topo_core.specs.History.{IsPrefix, versions};
 ghost use Rattle.topo_core.specs.Routes.{IsFirst};
 ghost use Rattle.topo_price.specs.Prices.{prices_of};
 ghost use Rattle.topo_versions.specs.Names.{prices_named};
-ghost use Rattle.topo_service.specs.Faults.{HasVertices, IsPlanFault, IsPlanRefusal};
+ghost use Rattle.topo_picture.specs.Ends.{HasVertices};
+ghost use Rattle.topo_service.specs.Faults.{IsPlanFault, IsPlanRefusal};
 ghost use Rattle.topo_service.specs.Found.{IsFoundRoute, IsHeldBy};
 
 use crate::faults::PassFault;
-use crate::pass::{PassOver, admit_ends};
+use crate::pass::PassOver;
 use std::alloc::Global;
 use std::marker::Model;
 use topo_book::Book;
@@ -208,7 +209,7 @@ pub(crate) fn first_on<A: PriceFn>(
     ensures there { OnOk result (HasVertices picture.now.rows u v) }
     ensures apart { OnOk result (u ≢ v) }
 {
-    admit_ends(picture, u, v)?;
+    picture.admit_ends(u, v)?;
     let mut sheet = match work.take() {
         Some(sheet) => sheet,
         None => match Workspace::new(alloc) {

@@ -1,13 +1,14 @@
 //! What one caller has.
 
-ghost use Rattle.std.specs.Prelude.{◌≡◌, ◌≢◌, length, IfOk, IfErr, OnOk};
+ghost use Rattle.std.specs.Prelude.{◌≡◌, ◌≢◌, length, IfOk, IfErr};
+ghost use Rattle.topo_picture.specs.Ends.{HasVertices};
 ghost use Rattle.topo_core.specs.History.{IsPrefix};
 ghost use Rattle.topo_price.specs.Prices.{prices_of};
 ghost use Rattle.topo_route.specs.Plans.{IsPlan};
 ghost use Rattle.topo_rows.specs.Shown.{Shown};
 ghost use Rattle.topo_versions.specs.Names.{prices_named};
 ghost use Rattle.topo_versions.specs.Versions.{AreLegal, IsVersionFrom};
-ghost use Rattle.topo_service.specs.Faults.{HasVertices, IsEndsRefusal, IsPlanFault, IsPlanRefusal};
+ghost use Rattle.topo_service.specs.Faults.{IsPlanFault, IsPlanRefusal};
 
 use crate::faults::PassFault;
 use crate::inbox::Inbox;
@@ -74,23 +75,6 @@ impl<F: PriceFn, K: ServiceBrand<F>, G: VersionReader<F, K>> Model for PassOver<
     ghost invariant = { λ p. (p.share.parts ≡ 1) × (p.share.amount ≡ length p.receipts.items) };
 }
 
-/// Whether a route may be looked for between these on a picture: both are vertices, and not the
-/// same. That it is no vertex comes first.
-pub(crate) fn admit_ends(picture: &Picture, u: u32, v: u32) -> Result<(), Refusal>
-    ensures there { OnOk result (HasVertices picture.now.rows u v) }
-    ensures apart { OnOk result (u ≢ v) }
-    ensures refused { IfErr result (IsEndsRefusal picture.now.rows u v) }
-{
-    let vertices = picture.counts().vertices;
-    if u >= vertices || v >= vertices {
-        return Err(Refusal::NoVertex);
-    }
-    if u == v {
-        return Err(Refusal::SameEnds);
-    }
-    Ok(())
-}
-
 /// The first cheapest route on a frozen picture, or why there is none.
 fn plan_in<A: PriceFn>(
     alloc: Global,
@@ -127,7 +111,7 @@ fn plan_on<A: PriceFn>(
     ensures refused { IfErr result
         (IsPlanRefusal (prices_of (A.may_return tariff.now)) picture.now.rows u v) }
 {
-    admit_ends(picture, u, v)?;
+    picture.admit_ends(u, v)?;
     match picture.freeze(alloc) {
         Ok(frozen) => plan_in(alloc, &frozen, tariff, u, v),
         Err(_) => Err(Refusal::Memory),
