@@ -13,7 +13,7 @@ use Rattle.topo_route.specs.Regions.{IsKept, IsRegionOf, RegionState, Spares}
 
 -- vertices 0 and 2 of the hexagon are on one face, with the edges 0, 1, 2 and 6: the region of the search between them
 abbrev pub face_region : RegionState
-face_region = record { edges = true ∷ true ∷ true ∷ false ∷ false ∷ false ∷ true ∷ false ∷ []; vertices = true ∷ true ∷ true ∷ true ∷ false ∷ false ∷ [] }
+face_region = record { edges = 1 ∷ 1 ∷ 1 ∷ 0 ∷ 0 ∷ 0 ∷ 1 ∷ 0 ∷ []; vertices = 1 ∷ 1 ∷ 1 ∷ 1 ∷ 0 ∷ 0 ∷ [] }
 
 -- the route in that face
 abbrev pub straight : Route

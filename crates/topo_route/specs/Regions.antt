@@ -1,5 +1,5 @@
 -- Regions that searches have seen: where a later picture has kept one, the route that the search found is still the first.
-use Rattle.std.specs.Prelude.{◌≡◌, ℕ, ◌<◌, ◌≤◌, Bool, true, false, List, Some, All, IfSome, length, slice_index_or, is_some}
+use Rattle.std.specs.Prelude.{◌≡◌, ◌==◌, ℕ, ◌<◌, ◌≤◌, Bool, true, false, List, Some, All, IfSome, length, slice_index_or, is_some}
 use Rattle.topo_core.specs.declared.calls.Call.{Call}
 use Rattle.topo_core.specs.declared.calls.Call.TheVariants.{Grow, Insert, Delete}
 use Rattle.topo_core.specs.declared.calls.Entry.{Entry}
@@ -20,16 +20,16 @@ use Rattle.topo_route.specs.Surviving.{IsRegion, KeepsEnds, KeepsFaces, unmoved}
 
 -- ---- Regions
 
--- edges and vertices of a picture, marked by their ids; an id past the end of a list is not marked
+-- edges and vertices of a picture, marked by a 1 at their ids; an id past the end of a list is not marked
 pub record RegionState : Type 0 where
-  pub edges : List Bool
-  pub vertices : List Bool
+  pub edges : List ℕ
+  pub vertices : List ℕ
 
 abbrev pub holds_edge : RegionState → ℕ → Bool
-holds_edge region e = slice_index_or region.edges e false
+holds_edge region e = slice_index_or region.edges e 0 == 1
 
 abbrev pub holds_vertex : RegionState → ℕ → Bool
-holds_vertex region w = slice_index_or region.vertices w false
+holds_vertex region w = slice_index_or region.vertices w 0 == 1
 
 -- its edges and vertices are there, and it holds both ends of each edge
 pub record IsRegionOf (rows : Rows) (region : RegionState) : Type 0 where

@@ -11,8 +11,9 @@ use topo_core::rows::Facts;
 /// region if its edges, with the crossings on them, and the edges round its vertices are as they
 /// were.
 pub struct Region {
-    edges: Vec<bool>,
-    vertices: Vec<bool>,
+    // A 1 for each that is marked. To let a list of `bool` go takes a look at each of them.
+    edges: Vec<u8>,
+    vertices: Vec<u8>,
 }
 
 // Written out, so that it is proved once: a derived one is proved anew in each function that lets
@@ -73,24 +74,24 @@ impl Region {
 }
 
 /// Whether an id is marked.
-fn is_marked(marks: &[bool], id: u32) -> bool
-    ensures { result ≡ slice_index_or marks.now id false }
+fn is_marked(marks: &[u8], id: u32) -> bool
+    ensures { result ≡ (slice_index_or marks.now id 0 == 1) }
 {
     match marks.get(id as usize) {
-        Some(marked) => *marked,
+        Some(mark) => *mark == 1,
         None => false,
     }
 }
 
 /// Marks an id. The list grows as far as that takes.
-fn mark_id(marks: &mut Vec<bool>, id: u32) -> Result<(), AllocError>
-    ensures { OnOk result ((k : ℕ) → slice_index_or marks.new.items k false
-        ≡ (id == k || slice_index_or marks.old.items k false)) }
+fn mark_id(marks: &mut Vec<u8>, id: u32) -> Result<(), AllocError>
+    ensures { OnOk result ((k : ℕ) → (slice_index_or marks.new.items k 0 == 1)
+        ≡ (id == k || slice_index_or marks.old.items k 0 == 1)) }
 {
     let place = id as usize;
     if marks.len() <= place {
-        marks.resize(place + 1, false)?;
+        marks.resize(place + 1, 0)?;
     }
-    marks[place] = true;
+    marks[place] = 1;
     Ok(())
 }
