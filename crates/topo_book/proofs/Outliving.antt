@@ -63,12 +63,12 @@ module _ (before : Rows) (region : RegionState) where
     counted false off = rw (more, off) (omega (arith, length-append (versions others.recent) [], others.count))
 
   -- the last entry, of which so many more are accepted
-  pub ended_spared : (entries : List Entry) (entry : Entry) (accepted left : ℕ) (b : Bool) → 1 ≤ length entries
+  pub ended_spared : (entries : List Entry) (entry : Entry) (accepted : ℕ) {left : ℕ} {b : Bool} → 1 ≤ length entries
       → entry ≡ slice_index_or entries (length entries - 1) entry → accepted ≢ 0
       → b ≡ is_accepted entry.reply → left ≡ (if b then accepted - 1 else accepted) → spare entry
       → HaveSpared before region (take (length entries - 1) entries) left
       → HaveSpared before region entries accepted
-  ended_spared entries entry accepted left b some last more kind less one others =
+  ended_spared entries entry accepted {left} {b} some last more kind less one others =
       subst (HaveSpared before region entries) (counts b kind less) (last_spared entries (take (length entries - 1) entries) entry left parts one others) where
         parts : entries ≡ take (length entries - 1) entries ++ entry ∷ []
         parts = ends (length entries - 1) (omega (arith, some)) last where

@@ -50,9 +50,9 @@ grown_is_picture limits rows u p kind was accepted =
     }
 
 -- after a growth that is not refused, with or without memory for it
-pub after_growth : {A E : Type 0} (r : Result A E) (limits : Limits) (rows new : Rows) (u p kind : ℕ) → OnOk r (new ≡ grown rows u p kind)
+pub after_growth : {A E : Type 0} (r : Result A E) (limits : Limits) (rows : Rows) {new : Rows} (u p kind : ℕ) → OnOk r (new ≡ grown rows u p kind)
     → OnErr r (new ≡ rows)
     → IsPicture limits rows → None ≡ grow_refusal limits rows u p kind → IsPicture limits new
-after_growth (Ok done) limits rows new u p kind ok err was accepted =
+after_growth (Ok done) limits rows u p kind ok err was accepted =
     subst (IsPicture limits) (sym ok) (grown_is_picture limits rows u p kind was (sym accepted))
-after_growth (Err refused) limits rows new u p kind ok err was accepted = subst (IsPicture limits) (sym err) was
+after_growth (Err refused) limits rows u p kind ok err was accepted = subst (IsPicture limits) (sym err) was

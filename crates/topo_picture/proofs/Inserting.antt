@@ -43,7 +43,7 @@ module _ (limits : Limits) (rows : Rows) (u v kind : ℕ) (r : Route) (was : IsP
   -- a route that meets no face twice can be shown
   pub insertable : IsInsertable rows u v kind r
   insertable = let a = admitted limits rows u v kind may in
-      simple_is_insertable rows u v kind r was.lawful.embedding.well_formed a.u_there a.v_there a.apart a.known simple
+      simple_is_insertable rows u v r was.lawful.embedding.well_formed a.u_there a.v_there a.apart a.known simple
 
   -- what an insertion along it makes of a picture is a picture, if there is room
   pub shown_is_picture : HasRoomFor limits rows r → IsPicture limits (shown rows u v kind r)

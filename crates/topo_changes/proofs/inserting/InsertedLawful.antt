@@ -105,7 +105,7 @@ pub has_insertion_path : (rows : Rows) (u v kind : ℕ) (r : Route) (good : IsWe
     → kind < KINDS → IsSimpleRoute rows u v r → HasInsertionPath rows u v kind r good
 has_insertion_path rows u v kind r good lu lv apart known simple =
     let q : Rows = shown rows u v kind r in
-    let may : IsInsertable rows u v kind r = simple_is_insertable rows u v kind r good lu lv apart known simple in
+    let may : IsInsertable rows u v kind r = simple_is_insertable rows u v r good lu lv apart known simple in
     let form : IsWellFormed q = shown_well_formed rows u v kind r good may in
     let s : ShowsTurns rows rows.next_edge u v r q = shows_turns rows u v kind r good may form in
     let from : Dart = simple.route.from in
@@ -137,7 +137,7 @@ pub gains : (rows : Rows) (u v kind : ℕ) (r : Route) → IsWellFormed rows →
     → IsSimpleRoute rows u v r → Gains rows u v kind r
 gains rows u v kind r good lu lv apart known simple =
     let q : Rows = shown rows u v kind r in
-    let may : IsInsertable rows u v kind r = simple_is_insertable rows u v kind r good lu lv apart known simple in
+    let may : IsInsertable rows u v kind r = simple_is_insertable rows u v r good lu lv apart known simple in
     let h : HasInsertionPath rows u v kind r good = has_insertion_path rows u v kind r good lu lv apart known simple in
     let z : Dart = lifted rows q h.from in
     let e : Dart = lifted rows q h.to in

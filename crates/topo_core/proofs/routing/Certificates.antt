@@ -92,33 +92,44 @@ module _ (price : Pricing) (rows : Rows) (s : System) (ds : List Dart) (height :
       let climb = gentle x cost.0 there cost.2 in
       grind (arith, height_bounds)
 
+  -- a walk across these darts from c down to height 0, which costs n
+  pub record ComesDown (c : Dart) (xs : List Dart) (n : ℕ) : Type 0 where
+    pub to : Dart
+    pub walk : Crosses s c xs to
+    pub cost : Costs price rows xs n
+    pub down : height to ≡ 0
+
   -- a walk across the first tight darts comes before each other walk of the same cost from the same face, or is that walk
-  compare_walks : ((d : Dart) (p : ℕ) → Price price rows d p → 1 ≤ p) → (xs ys : List Dart) (c d e : Dart) (n : ℕ) → has_dart ds c ≡ true
-      → Crosses s c xs d → Costs price rows xs n → height d ≡ 0 → Crosses s c ys e → Costs price rows ys n → height e ≡ 0 → height c ≡ n
-      → ((x : Dart) → has_dart ds x ≡ true → has_dart (darts rows) x ≡ true) → s ≡ system rows
+  compare_walks : ((d : Dart) (p : ℕ) → Price price rows d p → 1 ≤ p) → (xs ys : List Dart) {c : Dart} {n : ℕ} → has_dart ds c ≡ true
+      → ComesDown c xs n → ComesDown c ys n → height c ≡ n → ((x : Dart) → has_dart ds x ≡ true → has_dart (darts rows) x ≡ true) → s ≡ system rows
       → TakesFirstDarts price rows height c xs → (slice_cmp dart_cmp xs ys ≡ Less) ⊎ (xs ≡ ys)
-  compare_walks positive [] [] c d e n h walk cost down walk' cost' down' same known is first = inr refl
-  compare_walks positive [] (y ∷ ys) c d e n h walk cost down walk' cost' down' same known is first = inl refl
-  compare_walks positive (x ∷ xs) [] c d e n h walk cost down walk' cost' down' same known is first =
-      let one = positive x cost.0 cost.2 in
-      grind (arith, cost)
-  compare_walks positive (x ∷ xs) (y ∷ ys) c d e n h walk cost down walk' cost' down' same known is first =
-      let mine = descends x xs c d n h walk cost down same in
-      let other = descends y ys c e n h walk' cost' down' same in
-      let tight : IsTight price rows height y = record { cost = other.cost; asked = other.asked; drop = other.drop } in
-      let before = first.0 y (known y other.is_in) (subst (λ t. SameFace t c y) is walk'.0) tight in
-      by_order (split_order (dart_cmp x y) before) mine other
-      (λ ys' m is_rest same_cost. compare_walks positive xs ys' (dart_twin x) d e m (twins x mine.is_in) (walk.1)
-      (subst (Costs price rows xs) (sym same_cost) cost.3) down is_rest.0 is_rest.1 down' (mine.later ∙ sym same_cost) known is first.1) where
-        by_order : (dart_cmp x y ≡ Less) ⊎ (dart_cmp x y ≡ Equal) → Descends c x xs cost.1 → Descends c y ys cost'.1
-            → ((ys' : List Dart) (m : ℕ) → Crosses s (dart_twin x) ys' e × Costs price rows ys' m → m ≡ cost.1
+  compare_walks positive [] [] h mine other same known is first = inr refl
+  compare_walks positive [] (y ∷ ys) h mine other same known is first = inl refl
+  compare_walks positive (x ∷ xs) [] h mine other same known is first =
+      let paid = mine.cost in
+      let free = other.cost in
+      let one = positive x paid.0 paid.2 in
+      grind (arith, paid, free)
+  compare_walks positive (x ∷ xs) (y ∷ ys) {c} {n} h mine other same known is first =
+      let cost = mine.cost in
+      let cost' = other.cost in
+      let here = descends x xs c mine.to n h mine.walk cost mine.down same in
+      let there = descends y ys c other.to n h other.walk cost' other.down same in
+      let tight : IsTight price rows height y = record { cost = there.cost; asked = there.asked; drop = there.drop } in
+      let before = first.0 y (known y there.is_in) (subst (λ t. SameFace t c y) is other.walk.0) tight in
+      by_order (split_order (dart_cmp x y) before) here there
+      (λ ys' m walk paid same_cost. compare_walks positive xs ys' (twins x here.is_in)
+      (record { to = mine.to; walk = mine.walk.1; cost = subst (Costs price rows xs) (sym same_cost) cost.3; down = mine.down })
+      (record { to = other.to; walk = walk; cost = paid; down = other.down }) (here.later ∙ sym same_cost) known is first.1) where
+        by_order : (dart_cmp x y ≡ Less) ⊎ (dart_cmp x y ≡ Equal) → Descends c x xs mine.cost.1 → Descends c y ys other.cost.1
+            → ((ys' : List Dart) (m : ℕ) → Crosses s (dart_twin x) ys' other.to → Costs price rows ys' m → m ≡ mine.cost.1
             → (slice_cmp dart_cmp xs ys' ≡ Less) ⊎ (xs ≡ ys'))
             → (slice_cmp dart_cmp (x ∷ xs) (y ∷ ys) ≡ Less) ⊎ ((x ∷ xs) ≡ (y ∷ ys))
-        by_order (inl less) mine other rest = inl (ap (λ o. ordering_then o (slice_cmp dart_cmp xs ys)) less)
-        by_order (inr equal) mine other rest =
+        by_order (inl less) here there rest = inl (ap (λ o. ordering_then o (slice_cmp dart_cmp xs ys)) less)
+        by_order (inr equal) here there rest =
             let one_dart : x ≡ y = dart_cmp_equal x y equal in
-            let one_cost : cost'.1 ≡ cost.1 = sym other.later ∙ ap (λ z. height (dart_twin z)) (sym one_dart) ∙ mine.later in
-            elim (rest ys cost'.1 (subst (λ z. Crosses s (dart_twin z) ys e) (sym one_dart) walk'.1, cost'.3) one_cost) [
+            let one_cost : other.cost.1 ≡ mine.cost.1 = sym there.later ∙ ap (λ z. height (dart_twin z)) (sym one_dart) ∙ here.later in
+            elim (rest ys other.cost.1 (subst (λ z. Crosses s (dart_twin z) ys other.to) (sym one_dart) other.walk.1) other.cost.3 one_cost) [
               | inl less ↦ inl (ap (λ o. ordering_then o (slice_cmp dart_cmp xs ys)) equal ∙ less)
               | inr lists ↦ inr (ap (λ z. z ∷ xs) one_dart ∙ ap (λ zs. y ∷ zs) lists)
             ]
@@ -173,9 +184,9 @@ module _ (price : Pricing) (rows : Rows) (u v : ℕ) (height : Dart → ℕ) (kn
 
       walks : (slice_cmp dart_cmp r.crossed other.crossed ≡ Less) ⊎ (r.crossed ≡ other.crossed)
       walks = compare_walks price rows (system rows) (darts rows) height known.closed known.twins known.certificate.even known.certificate.gentle positive
-          r.crossed other.crossed mine.from mine.to priced.route.to n (known.corners r.start mine.from mine.starts)
-          mine.walk by_heights.priced.cost (known.certificate.target r.end mine.to mine.ends)
-          other_walk priced.cost (known.certificate.target other.end priced.route.to priced.route.ends)
+          r.crossed other.crossed (known.corners r.start mine.from mine.starts)
+          (record { to = mine.to; walk = mine.walk; cost = by_heights.priced.cost; down = known.certificate.target r.end mine.to mine.ends })
+          (record { to = priced.route.to; walk = other_walk; cost = priced.cost; down = known.certificate.target other.end priced.route.to priced.route.ends })
           (start_height r by_heights.priced) (λ x h. h) refl by_heights.first_darts
 
       equal_starts : nat_cmp r.start other.start ≡ Equal

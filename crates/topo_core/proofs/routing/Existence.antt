@@ -157,12 +157,12 @@ module _ (price : Pricing) (promise : KeepsPromise price) (rows : Rows) (u v : �
     not_first r priced before = none r n (record { is_least = record { priced = priced; least = no_cheaper }; first = λ other has. before other has })
 
     -- routes that start at a, cross xs and end at z, where all earlier ones cost something else
-    at_end : (a : ℕ) (xs : List Dart) (z : ℕ)
+    at_end : {a : ℕ} {xs : List Dart} {z : ℕ}
         → ((other : Route) → other.start < a → Has other n → ⊥)
         → ((other : Route) → other.start ≡ a → slice_cmp dart_cmp xs other.crossed ≡ Greater → Has other n → ⊥)
         → ((other : Route) → other.start ≡ a → other.crossed ≡ xs → other.end < z → Has other n → ⊥)
         → (r : Route) → r.start ≡ a → r.crossed ≡ xs → r.end ≡ z → Has r n → ⊥
-    at_end a xs z starts walks ends r rs rc re priced = not_first r priced before where
+    at_end {a} {xs} {z} starts walks ends r rs rc re priced = not_first r priced before where
       before : (other : Route) → Has other n → route_cmp r other ≡ Greater → ⊥
       before other has g =
           elim (then_greater (nat_cmp r.start other.start) (ordering_then (slice_cmp dart_cmp r.crossed other.crossed) (nat_cmp r.end other.end)) g) [
@@ -181,7 +181,7 @@ module _ (price : Pricing) (promise : KeepsPromise price) (rows : Rows) (u v : �
         → ((other : Route) → other.start ≡ a → slice_cmp dart_cmp xs other.crossed ≡ Greater → Has other n → ⊥)
         → (r : Route) → r.start ≡ a → r.crossed ≡ xs → Has r n → ⊥
     at_walk a xs starts walks r rs rc priced = by_number (λ z. (r : Route) → r.start ≡ a → r.crossed ≡ xs → r.end ≡ z → Has r n → ⊥)
-        (λ z ends. at_end a xs z starts walks (λ other os oc low. ends other.end low other os oc refl)) r.end r rs rc refl priced
+        (λ z ends. at_end {a = a} {xs = xs} {z = z} starts walks (λ other os oc low. ends other.end low other os oc refl)) r.end r rs rc refl priced
 
     at_start : (a : ℕ) → ((other : Route) → other.start < a → Has other n → ⊥) → (r : Route) → r.start ≡ a → Has r n → ⊥
     at_start a starts r rs priced = by_list n (λ xs. (r : Route) → r.start ≡ a → r.crossed ≡ xs → Has r n → ⊥)

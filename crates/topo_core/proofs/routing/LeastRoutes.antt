@@ -25,18 +25,18 @@ module _ (price : Pricing) (promise : KeepsPromise price) (rows : Rows) (good : 
   IsShortest c d n = (ys : List Dart) (m : ℕ) → Crosses (system rows) c ys d → Costs price rows ys m → n ≤ m
 
   -- what is left of a shortest walk never comes to the first face again
-  comes_never_back : (ys : List Dart) (b c d : Dart) (n m : ℕ) → has_dart (darts rows) c ≡ true → IsShortest c d n → Crosses (system rows) b ys d
+  comes_never_back : (ys : List Dart) (b c d : Dart) {n : ℕ} (m : ℕ) → has_dart (darts rows) c ≡ true → IsShortest c d n → Crosses (system rows) b ys d
       → Costs price rows ys m → m ≤ n
       → AllByRecursion (λ y. SameFace (system rows) c (dart_twin y) → ⊥) ys
-  comes_never_back [] b c d n m c_in shortest walk cost below = tt
-  comes_never_back (y ∷ ys) b c d n m c_in shortest walk cost below =
+  comes_never_back [] b c d m c_in shortest walk cost below = tt
+  comes_never_back (y ∷ ys) b c d {n} m c_in shortest walk cost below =
       let positive = promise.positive cost.2.facts cost.0 cost.2.asked in
       let total = cost.4 in
       let back : SameFace (system rows) c (dart_twin y) → ⊥ = λ same.
       let short = shortest ys cost.1 (begins_anywhere ys c (dart_twin y) d c_in same walk.1) cost.3 in
       omega arith
       in
-      (back, comes_never_back ys (dart_twin y) c d n cost.1 c_in shortest walk.1 cost.3 (omega arith))
+      (back, comes_never_back ys (dart_twin y) c d cost.1 c_in shortest walk.1 cost.3 (omega arith))
 
   shortest_meets_once : (xs : List Dart) (c d : Dart) (n : ℕ) → has_dart (darts rows) c ≡ true → IsShortest c d n → Crosses (system rows) c xs d
       → Costs price rows xs n
@@ -48,7 +48,7 @@ module _ (price : Pricing) (promise : KeepsPromise price) (rows : Rows) (good : 
       let whole = shortest (x ∷ ys) (cost.0 + m) (walk.0, other) (cost.0, m, cost.2, paid, refl) in
       omega arith
       in (
-        comes_never_back (x ∷ xs) c c d n n c_in shortest walk cost (omega arith),
+        comes_never_back (x ∷ xs) c c d n c_in shortest walk cost (omega arith),
         shortest_meets_once xs (dart_twin x) d cost.1 (twin_in rows x (face_stays rows good c x c_in walk.0)) later walk.1 cost.3,
       )
 

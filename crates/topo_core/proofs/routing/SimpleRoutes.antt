@@ -83,11 +83,11 @@ module _ (rows : Rows) (good : IsWellFormed rows) where
       (x_in, crossed_in xs (dart_twin x) d (twin_in rows x x_in) walk.1)
 
   -- x lies in the face of c, and the walk from b never comes to that face again: so it does not cross the segment of x
-  never_again : (ys : List Dart) (c x b d : Dart) → IsHere c → SameFace (system rows) c x → IsHere b → (SameFace (system rows) c b → ⊥)
+  never_again : (ys : List Dart) {c : Dart} (x b d : Dart) → IsHere c → SameFace (system rows) c x → IsHere b → (SameFace (system rows) c b → ⊥)
       → Crosses (system rows) b ys d
       → AllByRecursion (λ y. SameFace (system rows) c (dart_twin y) → ⊥) ys → AllByRecursion (λ y. same_segment x y ≡ false) ys
-  never_again [] c x b d c_in on_face b_in apart walk never = tt
-  never_again (y ∷ ys) c x b d c_in on_face b_in apart walk never =
+  never_again [] x b d c_in on_face b_in apart walk never = tt
+  never_again (y ∷ ys) {c} x b d c_in on_face b_in apart walk never =
       let y_in = face_stays b y b_in walk.0 in
       let other : same_segment x y ≡ false = elim (cases_Bool (same_segment x y)) [
         | inl one_segment ↦ absurd (elim (same_or_twins x y one_segment) [
@@ -96,14 +96,14 @@ module _ (rows : Rows) (good : IsWellFormed rows) where
         ])
         | inr other ↦ other
       ] in
-      (other, never_again ys c x (dart_twin y) d c_in on_face (twin_in rows y y_in) never.0 walk.1 never.1)
+      (other, never_again ys x (dart_twin y) d c_in on_face (twin_in rows y y_in) never.0 walk.1 never.1)
 
   -- a walk that meets no face twice crosses no segment twice
   pub crosses_once : (xs : List Dart) (c d : Dart) → IsHere c → Crosses (system rows) c xs d → MeetsFacesOnce (system rows) c xs → CrossesOnce xs
   crosses_once [] c d h walk once = tt
   crosses_once (x ∷ xs) c d h walk once =
       let twin_here = twin_in rows x (face_stays c x h walk.0) in (
-        never_again xs c x (dart_twin x) d h walk.0 twin_here once.0.0 walk.1 once.0.1,
+        never_again xs x (dart_twin x) d h walk.0 twin_here once.0.0 walk.1 once.0.1,
         crosses_once xs (dart_twin x) d twin_here walk.1 once.1,
       )
 
@@ -112,7 +112,7 @@ module _ (rows : Rows) (good : IsWellFormed rows) where
   position_there w p c at = subst (λ n. p < n) (length-map (rotation rows w) (end_dart rows w)) (slice_get_within (around_vertex rows w) p c at)
 
 -- an edge can be shown along a route that meets no face twice
-pub simple_is_insertable : (rows : Rows) (u v kind : ℕ) (r : Route) → IsWellFormed rows → u < length rows.rotations → v < length rows.rotations
+pub simple_is_insertable : (rows : Rows) (u v : ℕ) {kind : ℕ} (r : Route) → IsWellFormed rows → u < length rows.rotations → v < length rows.rotations
     → u ≢ v → kind < KINDS
     → IsSimpleRoute rows u v r → IsInsertable rows u v kind r
-simple_is_insertable rows u v kind r good u_in v_in apart known simple = grind (arith, corner_in, position_there, crossed_in, crosses_once)
+simple_is_insertable rows u v r good u_in v_in apart known simple = grind (arith, corner_in, position_there, crossed_in, crosses_once)

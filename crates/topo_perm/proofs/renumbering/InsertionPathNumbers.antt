@@ -94,22 +94,22 @@ abbrev AreAliveAt : (ℕ → Bool) → ℕ → List Subdivision → Type 0
 AreAliveAt live n ks = AllByRecursion (λ k. IsAlive live n k.beyond × IsAlive live n (twin k.near)) ks
 
 module _ (h name name' : ℕ → ℕ) {live : ℕ → Bool} {n : ℕ} (e : ℕ) (at_e : h (name e) ≡ name' e) (et : IsAlive live n (name e)) where
-  corners_under : (z z' : ℕ) (ks js : List Subdivision) (ls is : List NewChord) → AreAlong name z ks e ls → AreAlong name' z' js e is → h z ≡ z'
+  corners_under : {z z' : ℕ} (ks js : List Subdivision) (ls is : List NewChord) → AreAlong name z ks e ls → AreAlong name' z' js e is → h z ≡ z'
       → IsAlive live n z → AreSubdivisionsAt h ks js → AreAliveAt live n ks → AreCornersUnder h live n ls is
-  corners_under z z' [] [] [] is a b at_z zt at alive = absurd a
-  corners_under z z' [] [] (l ∷ []) [] a b at_z zt at alive = absurd b
-  corners_under z z' [] [] (l ∷ []) (i ∷ []) a b at_z zt at alive =
+  corners_under [] [] [] is a b at_z zt at alive = absurd a
+  corners_under [] [] (l ∷ []) [] a b at_z zt at alive = absurd b
+  corners_under [] [] (l ∷ []) (i ∷ []) a b at_z zt at alive =
       ((subst (IsAlive live n) (sym a.0) zt, subst (IsAlive live n) (sym a.1) et), (b.0 ∙ sym at_z ∙ ap h (sym a.0), b.1 ∙ sym at_e ∙ ap h (sym a.1)), tt)
-  corners_under z z' [] [] (l ∷ []) (i ∷ (v ∷ is)) a b at_z zt at alive = absurd b
-  corners_under z z' [] [] (l ∷ (u ∷ ls)) is a b at_z zt at alive = absurd a
-  corners_under z z' [] (j ∷ js) ls is a b at_z zt at alive = absurd at
-  corners_under z z' (k ∷ ks) [] ls is a b at_z zt at alive = absurd at
-  corners_under z z' (k ∷ ks) (j ∷ js) [] is a b at_z zt at alive = absurd a
-  corners_under z z' (k ∷ ks) (j ∷ js) (l ∷ ls) [] a b at_z zt at alive = absurd b
-  corners_under z z' (k ∷ ks) (j ∷ js) (l ∷ ls) (i ∷ is) a b at_z zt at alive = (
+  corners_under [] [] (l ∷ []) (i ∷ (v ∷ is)) a b at_z zt at alive = absurd b
+  corners_under [] [] (l ∷ (u ∷ ls)) is a b at_z zt at alive = absurd a
+  corners_under [] (j ∷ js) ls is a b at_z zt at alive = absurd at
+  corners_under (k ∷ ks) [] ls is a b at_z zt at alive = absurd at
+  corners_under (k ∷ ks) (j ∷ js) [] is a b at_z zt at alive = absurd a
+  corners_under (k ∷ ks) (j ∷ js) (l ∷ ls) [] a b at_z zt at alive = absurd b
+  corners_under (k ∷ ks) (j ∷ js) (l ∷ ls) (i ∷ is) a b at_z zt at alive = (
     (subst (IsAlive live n) (sym a.0) zt, subst (IsAlive live n) (sym a.1) alive.0.0),
     (b.0 ∙ sym at_z ∙ ap h (sym a.0), b.1 ∙ sym at.0 ∙ ap h (sym a.1)),
-    corners_under (twin k.near) (twin j.near) ks js ls is a.2 b.2 at.2 alive.0.1 at.3 alive.1,
+    corners_under ks js ls is a.2 b.2 at.2 alive.0.1 at.3 alive.1,
   )
 
 -- ---- The numbers of the darts of the system below
@@ -295,8 +295,7 @@ module _ {g : ℕ → ℕ} {n : ℕ} {f : ℕ → ℕ} {m : ℕ} {name : ℕ →
 
   chords_are_alike : AreAlike second (chords_of ls) (chords_of is)
   chords_are_alike = chords_alike second n middle top ls is chords_are
-      (corners_under second name (subdivided_number nu js) e (second_names e p.to_there) (alive_here e p.to_there) (name c)
-      (subdivided_number nu js c) ks js ls is
+      (corners_under second name (subdivided_number nu js) e (second_names e p.to_there) (alive_here e p.to_there) ks js ls is
       p.along along (second_names c p.from_there) (alive_here c p.from_there) second_subdivisions
       (every (λ k. IsAlive subdivided n k.beyond × IsAlive subdivided n (twin k.near)) ks (λ k h. ((alive_beyond k h).0, alive_back k h))))
 

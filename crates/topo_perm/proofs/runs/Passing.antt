@@ -283,17 +283,17 @@ module _ {b : ℕ → ℕ} {n : ℕ} {f : ℕ → ℕ} {m : ℕ} {name names : �
       far_chords (twin k.near) (twin k.dart) ks ls along.2 (twin-within m k.dart h.even good.0.there) (next_lies b m name names k good.0) outs.0 outs.1 good.1,
     )
 
-  in_faces : (z : ℕ) {c : ℕ} (ks : List Subdivision) (ls : List NewChord) → AreAlong name z ks e ls → z < n → c < m → LiesAt b names z c
+  in_faces : {z c : ℕ} (ks : List Subdivision) (ls : List NewChord) → AreAlong name z ks e ls → z < n → c < m → LiesAt b names z c
       → Walks f c ks e → MeetsOnce f c ks → AllByRecursion (GoodSubdivision b m name names) ks → AllByRecursion (λ k. twin k.near < n) ks → AreInFaces b ls
-  in_faces z [] [] along lz lc lies walk once good within = tt
-  in_faces z {c} [] (l ∷ []) along lz lc lies walk once good within =
+  in_faces [] [] along lz lc lies walk once good within = tt
+  in_faces {z} {c} [] (l ∷ []) along lz lc lies walk once good within =
       let there : SameCycle (face_next b) z (name e) = SameCycle-trans (face_next b) z (names c) (name e) lies
       (SameCycle-trans (face_next b) (names c) (names e) (name e) (h.carried c e lc le walk)
       (SameCycle-sym (face_next b) n h.permutation (name e) (names e) (h.name_within e le) (h.at_name e le))) in
       (subst (λ (v : ℕ). SameCycle (face_next b) v l.to) (sym along.0) (subst (λ (v : ℕ). SameCycle (face_next b) z v) (sym along.1) there), tt, tt)
-  in_faces z [] (l ∷ (j ∷ ls)) along lz lc lies walk once good within = elim along [ ]
-  in_faces z (k ∷ ks) [] along lz lc lies walk once good within = elim along [ ]
-  in_faces z {c} (k ∷ ks) (l ∷ ls) along lz lc lies walk once good within =
+  in_faces [] (l ∷ (j ∷ ls)) along lz lc lies walk once good within = elim along [ ]
+  in_faces (k ∷ ks) [] along lz lc lies walk once good within = elim along [ ]
+  in_faces {z} {c} (k ∷ ks) (l ∷ ls) along lz lc lies walk once good within =
       let lk : k.dart < m = good.0.there in
       let lt : twin k.dart < m = twin-within m k.dart h.even lk in
       let there : SameCycle (face_next b) z k.beyond = SameCycle-trans (face_next b) z (names c) k.beyond lies
@@ -305,7 +305,7 @@ module _ {b : ℕ → ℕ} {n : ℕ} {f : ℕ → ℕ} {m : ℕ} {name names : �
         subst (λ (v : ℕ). SameCycle (face_next b) v l.to) (sym along.0) (subst (λ (v : ℕ). SameCycle (face_next b) z v) (sym along.1) there),
         all_map (λ j. SameCycle (face_next b) z j.from → ⊥) (λ j. SameCycle (face_next b) l.from j.from → ⊥)
             (λ j w v. w (subst (λ (u : ℕ). SameCycle (face_next b) u j.from) along.0 v)) ls far,
-        in_faces (twin k.near) ks ls along.2 within.0 lt next walk.1 once.1 good.1 within.1,
+        in_faces ks ls along.2 within.0 lt next walk.1 once.1 good.1 within.1,
       )
 
 -- ---- The whole insertion path
@@ -371,7 +371,7 @@ passed g n f m name c ks e ls p =
     let above : AreFacesAbove b n f m name s.names = faces_above b n f m name ks p.named i s in
     let good : AllByRecursion (GoodSubdivision b m name s.names) ks = good_subdivisions b n f m name ks i s in
     let faces : AreInFaces b ls =
-    in_faces above e p.to_there (name c) ks ls p.along (p.named.within c p.from_there) p.from_there (above.at_name c p.from_there) p.walk p.once good
+    in_faces above e p.to_there ks ls p.along (p.named.within c p.from_there) p.from_there (above.at_name c p.from_there) p.walk p.once good
     (all_map (IsSubdivision b n m name) (λ k. twin k.near < n) (λ k w. twin-within n k.near even w.near_there) ks i) in
     let d : AreDrawnChords live b g n ls = chord_all live g n ls p.permutation even p.new_chords (ready p i s) faces subdivided.slab in
     let back : ℕ → ℕ = λ y. find_below (λ v. s.names v == y) m in
