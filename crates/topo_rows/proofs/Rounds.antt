@@ -386,11 +386,12 @@ pub range_push_zero : (n : ℕ) → range_with_len 0 (n + 1) ≡ range_with_len 
 range_push_zero n = let e : 0 + n ≡ n = omega arith in range_push 0 n ∙ ap (λ k. range_with_len 0 n ++ k ∷ []) e
 
 -- the next crossing
-pub crossing_more : (rows : Rows) (i : ℕ) (row : CrossRow) (images now next : List ℕ) (crossings : List CrossRow) (round : List ℕ) → crossings ≡ rows.crossings
+pub crossing_more : (rows : Rows) (i : ℕ) (row : CrossRow) (images : List ℕ) {now next : List ℕ} {crossings : List CrossRow} {round : List ℕ}
+    → crossings ≡ rows.crossings
     → i < length crossings → row ≡ get_or crossings i row → round ≡ crossing_round rows row
     → now ≡ written images (flat_map (λ x. links (crossing_round rows x)) (take i crossings)) → next ≡ written now (links round)
     → next ≡ written images (flat_map (λ x. links (crossing_round rows x)) (take (i + 1) crossings))
-crossing_more rows i row images now next crossings round same inside at is was step =
+crossing_more rows i row images {now} {next} {crossings} same inside at is was step =
     linked_more (λ x. links (crossing_round rows x)) (take i crossings) row images now next was (step ∙ ap (λ r. written now (links r)) is)
     ∙ ap (λ xs. written images (flat_map (λ x. links (crossing_round rows x)) xs))
     (sym (take_more crossings i row inside ∙ ap (λ r. take i crossings ++ r ∷ []) (sym at)))

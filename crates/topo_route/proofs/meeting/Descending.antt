@@ -124,10 +124,10 @@ module _ (price : Pricing) (g : Named) (lawful : Lawful g.rows) (has : IsNamed g
       let total = cost.4 in (omega arith, omega arith)
 
   -- and stays below the top
-  goes_below : (x : Dart) (xs : List Dart) (c to : Dart) (n : ℕ) → has_dart (darts g.rows) c ≡ true → IsBelow c → Crosses (system g.rows) c (x ∷ xs) to
+  goes_below : (x : Dart) (xs : List Dart) (c to : Dart) {n : ℕ} → has_dart (darts g.rows) c ≡ true → IsBelow c → Crosses (system g.rows) c (x ∷ xs) to
       → Costs price g.rows (x ∷ xs) n → level to ≡ 0 → level c ≡ n
       → IsBelow x × IsBelow (dart_twin x)
-  goes_below x xs c to n h below walk cost down same =
+  goes_below x xs c to {n} h below walk cost down same =
       let (from, next) = goes_down x xs c to n h walk cost down same in
       let here = below_face c x h below walk.0 in
       let total = cost.4 in
@@ -139,18 +139,18 @@ module _ (price : Pricing) (g : Named) (lawful : Lawful g.rows) (has : IsNamed g
   ends_below [] c to n h below walk cost down same = below_face c to h below walk
   ends_below (x ∷ xs) c to n h below walk cost down same =
       let (from, next) = goes_down x xs c to n h walk cost down same in
-      let (here, other) = goes_below x xs c to n h below walk cost down same in
+      let (here, other) = goes_below x xs c to h below walk cost down same in
       ends_below xs (dart_twin x) to cost.1 (twin_in g.rows x (in_face c x h walk.0)) other walk.1 cost.3 down next
 
   -- above the target the face of a dart below the top has a tight one
-  tight_there : (at : ℕ) (xs : List Dart) (to : Dart) (n : ℕ) → IsName g at → Crosses (system g.rows) (dart_named g at) xs to
+  tight_there : (at : ℕ) (xs : List Dart) (to : Dart) {n : ℕ} → IsName g at → Crosses (system g.rows) (dart_named g at) xs to
       → Costs price g.rows xs n → level to ≡ 0
       → height (dart_named g at) ≡ n → IsBelow (dart_named g at) → 0 < n → HasTight price g heights at
-  tight_there at [] to n l walk cost down same below above = let zero_cost : n ≡ 0 = cost in absurd (omega arith)
-  tight_there at (x ∷ xs) to n l walk cost down same below above =
+  tight_there at [] to {n} l walk cost down same below above = let zero_cost : n ≡ 0 = cost in absurd (omega arith)
+  tight_there at (x ∷ xs) to {n} l walk cost down same below above =
       let start : level (dart_named g at) ≡ n = omega arith in
       let (from, next) = goes_down x xs (dart_named g at) to n l.there walk cost down start in
-      let (here, other) = goes_below x xs (dart_named g at) to n l.there below walk cost down start in
+      let (here, other) = goes_below x xs (dart_named g at) to l.there below walk cost down start in
       let total = cost.4 in
       record {
         dart = x;
@@ -163,23 +163,23 @@ module _ (price : Pricing) (g : Named) (lawful : Lawful g.rows) (has : IsNamed g
   has_tight at l below above =
       let here = below_named at l below in
       let walk = known.reaches (dart_named g at) l.there here in
-      tight_there at walk.crossed walk.to (height (dart_named g at)) l walk.walk walk.cost
+      tight_there at walk.crossed walk.to l walk.walk walk.cost
       (omega (arith, known.certificate.target walk.position walk.to walk.ends)) refl here above
 
   -- the first tight darts are those by the levels too
-  first_levels : (c : Dart) (xs : List Dart) (to : Dart) (n : ℕ) → has_dart (darts g.rows) c ≡ true → Crosses (system g.rows) c xs to → Costs price g.rows xs n
+  first_levels : (c : Dart) (xs : List Dart) (to : Dart) {n : ℕ} → has_dart (darts g.rows) c ≡ true → Crosses (system g.rows) c xs to → Costs price g.rows xs n
       → level to ≡ 0 → level c ≡ n → IsBelow c
       → TakesFirstDarts price g.rows height c xs → TakesFirstDarts price g.rows level c xs
-  first_levels c [] to n h walk cost down same below takes = tt
-  first_levels c (x ∷ xs) to n h walk cost down same below takes =
+  first_levels c [] to h walk cost down same below takes = tt
+  first_levels c (x ∷ xs) to {n} h walk cost down same below takes =
       let (from, next) = goes_down x xs c to n h walk cost down same in
-      let (here, other) = goes_below x xs c to n h below walk cost down same in (
+      let (here, other) = goes_below x xs c to h below walk cost down same in (
         (λ y y_in face tight.
             let high = below_face c y h below face in
             let drop = tight.drop in
             let low = below_twin y tight.cost y_in high tight.asked (omega arith) in
             takes.0 y y_in face (record { cost = tight.cost; asked = tight.asked; drop = omega arith })),
-        first_levels (dart_twin x) xs to cost.1 (twin_in g.rows x (in_face c x h walk.0)) walk.1 cost.3 down next other takes.1,
+        first_levels (dart_twin x) xs to (twin_in g.rows x (in_face c x h walk.0)) walk.1 cost.3 down next other takes.1,
       )
 
   -- ---- One step down
@@ -242,11 +242,11 @@ module _ (price : Pricing) (g : Named) (lawful : Lawful g.rows) (has : IsNamed g
   -- ---- At the target
 
   -- a walk that costs nothing crosses nothing
-  no_end : KeepsPromise price → (c : Dart) (xs : List Dart) (to : Dart) (n p : ℕ) → Crosses (system g.rows) c xs to → Costs price g.rows xs n → n ≡ 0
+  no_end : KeepsPromise price → (c : Dart) (xs : List Dart) (to : Dart) {n : ℕ} (p : ℕ) → Crosses (system g.rows) c xs to → Costs price g.rows xs n → n ≡ 0
       → corner g.rows v p ≡ Some to
       → ((p : ℕ) (d : Dart) → corner g.rows v p ≡ Some d → SameFace (system g.rows) c d → ⊥) → ⊥
-  no_end promise c [] to n p walk cost nothing at none = none p to at walk
-  no_end promise c (x ∷ xs) to n p walk cost nothing at none = let one = promise.positive cost.2.facts cost.0 cost.2.asked in let total = cost.4 in omega arith
+  no_end promise c [] to p walk cost nothing at none = none p to at walk
+  no_end promise c (x ∷ xs) to p walk cost nothing at none = let one = promise.positive cost.2.facts cost.0 cost.2.asked in let total = cost.4 in omega arith
 
   -- the face of height 0 where a descent ends has a corner of the target
   pub has_end : (promise : KeepsPromise price) (from last : ℕ) (crossed : List Dart) → IsName g from → slice_index heights from < top from
@@ -259,7 +259,7 @@ module _ (price : Pricing) (g : Named) (lawful : Lawful g.rows) (has : IsNamed g
       let low = ends_below crossed (dart_named g from) to (height (dart_named g from)) l.there here (descent.walk to (record { steps = 0; leads = refl }))
       descent.cost (omega arith) (omega arith) in
       let walk = known.reaches to descent.name.there low in
-      no_end promise to walk.crossed walk.to (height to) walk.position walk.walk walk.cost zero_there walk.ends none
+      no_end promise to walk.crossed walk.to walk.position walk.walk walk.cost zero_there walk.ends none
 
   -- the first lowest corner is below the top
   pub start_below : (u position from : ℕ) → IsStart g u heights position from
@@ -292,7 +292,7 @@ module _ (price : Pricing) (g : Named) (lawful : Lawful g.rows) (has : IsNamed g
         priced = priced;
         least_height = λ p d at. omega (arith, start.least p d at, low p d at);
         first_start = λ p d less at same. start.first p d less at (omega (arith, low p d at));
-        first_darts = first_levels c found.route.crossed end.to n start.name.there walk descent.cost (known.certificate.target found.route.end end.to end.there)
+        first_darts = first_levels c found.route.crossed end.to start.name.there walk descent.cost (known.certificate.target found.route.end end.to end.there)
             at_level below descent.first_darts;
         first_end = first_end;
       } in

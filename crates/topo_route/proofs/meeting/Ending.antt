@@ -76,21 +76,27 @@ module _ (price : Pricing) (g : Named) (lawful : Lawful g.rows) (has : IsNamed g
     pub blank_sums : (others : List ℕ) → AreSums g (dart_heights g face heights) (dart_heights g face others) unreached
     blank_sums others = record { sums = λ k l. omega (arith, blank_dart k l); attained = λ some. absurd (some refl) }
 
+  -- no face is reached, and none waits
+  pub record IsBlank (heights names waiting : List ℕ) : Type 0 where
+    pub heights_are : heights ≡ replicate faces unreached
+    pub as_many : faces ≤ length names
+    pub none_waits : waiting ≡ []
+
   -- the corners of v are reached, and then those of u
   pub started_both : {blank names none others names' coming heights on_names waiting distances back_names coming' : List ℕ} {l l' l'' : ℕ} → faces < 2 ^ 32
-      → blank ≡ replicate faces unreached → faces ≤ length names → none ≡ [] → others ≡ replicate faces unreached → faces ≤ length names' → coming ≡ []
+      → IsBlank blank names none → IsBlank others names' coming
       → Relaxes price g face faces v others blank names none l g.size heights on_names waiting l' g.size
       → IsZeroAt g.rows v (height_of g (dart_heights g face heights))
       → Relaxes price g face faces u heights others names' coming l' g.size distances back_names coming' l'' g.size
       → IsZeroAt g.rows u (height_of g (dart_heights g face distances))
       → SpreadsBoth price g face faces u v heights on_names waiting distances back_names coming' l''
-  started_both {blank} {names} {none} {others} {names'} {coming} {heights} {on_names} {waiting} {distances} {back_names} {coming'} {l} {l'} {l''} few is_blank
-      as_many is_none are_blank as_many' are_none on at_target back at_start = record {
+  started_both {blank} {names} {none} {others} {names'} {coming} {heights} {on_names} {waiting} {distances} {back_names} {coming'} {l} {l'} {l''} few
+      empty empty' on at_target back at_start = record {
         on = narrowed price g face faces v heights on_names waiting (λ k. unreached) (λ k. reach_of l'') (reach_of l') (reach_of l'') g.size
-            (on.spreads (λ k. unreached) (blank_spreads blank names few is_blank as_many v (reach_of l) none is_none)) (λ k. omega arith)
+            (on.spreads (λ k. unreached) (blank_spreads blank names few empty.heights_are empty.as_many v (reach_of l) none empty.none_waits)) (λ k. omega arith)
             (omega (arith, back.less));
         back = narrowed price g face faces u distances back_names coming' (λ k. unreached) (λ k. reach_of l'') (reach_of l'') (reach_of l'') g.size
-            (back.spreads (λ k. unreached) (blank_spreads others names' few are_blank as_many' u (reach_of l') coming are_none))
+            (back.spreads (λ k. unreached) (blank_spreads others names' few empty'.heights_are empty'.as_many u (reach_of l') coming empty'.none_waits))
             (λ k. omega arith) (omega arith);
         sums = sums_swapped g has (dart_heights g face distances) (dart_heights g face heights) l'' (one_for_each g face distances)
             (one_for_each g face heights) back.sums;

@@ -102,11 +102,11 @@ module _ (price : Pricing) (g : Named) (lawful : Lawful g.rows) (has : IsNamed g
       let low = below_twin y tight.cost h below tight.asked (omega arith) in
       record { cost = tight.cost; asked = tight.asked; drop = omega arith }
 
-  first_capped : (xs : List Dart) (c to : Dart) (n : ℕ) → has_dart (darts g.rows) c ≡ true → IsBelow c → Crosses (system g.rows) c xs to
+  first_capped : (xs : List Dart) (c to : Dart) {n : ℕ} → has_dart (darts g.rows) c ≡ true → IsBelow c → Crosses (system g.rows) c xs to
       → Costs price g.rows xs n → capped to ≡ 0 → capped c ≡ n
       → TakesFirstDarts price g.rows height c xs → TakesFirstDarts price g.rows capped c xs
-  first_capped [] c to n h below walk cost down same takes = tt
-  first_capped (x ∷ xs) c to n h below walk cost down same takes =
+  first_capped [] c to h below walk cost down same takes = tt
+  first_capped (x ∷ xs) c to {n} h below walk cost down same takes =
       let next = falls_on price g.rows lawful v capped known.certificate x xs c to n h walk cost down same in
       let here = below_face c x h below walk.0 in
       let from = next.from in
@@ -114,7 +114,7 @@ module _ (price : Pricing) (g : Named) (lawful : Lawful g.rows) (has : IsNamed g
       let total = cost.4 in
       let other = below_twin x cost.0 next.here here cost.2 (omega arith) in (
         (λ y y_in face tight. takes.0 y y_in face (tight_known y y_in (below_face c y h below face) tight)),
-        first_capped xs (dart_twin x) to cost.1 next.there other walk.1 cost.3 down lands takes.1,
+        first_capped xs (dart_twin x) to next.there other walk.1 cost.3 down lands takes.1,
       )
 
   -- the first route by the heights is first by the heights cut off
@@ -134,6 +134,6 @@ module _ (price : Pricing) (g : Named) (lawful : Lawful g.rows) (has : IsNamed g
         priced = first.priced;
         least_height = λ q c at. omega (arith, first.least_height q c at, below q c at);
         first_start = λ q c before at same. first.first_start q c before at (omega (arith, below q c at));
-        first_darts = first_capped r.crossed from to p from_in (omega arith) first.priced.route.walk first.priced.cost down (omega arith) first.first_darts;
+        first_darts = first_capped r.crossed from to from_in (omega arith) first.priced.route.walk first.priced.cost down (omega arith) first.first_darts;
         first_end = first.first_end;
       }

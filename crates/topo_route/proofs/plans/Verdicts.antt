@@ -14,12 +14,12 @@ use Rattle.topo_route.specs.declared.plan.PlanFault.TheVariants.{WrongLength, Un
 use Rattle.topo_route.specs.Plans.{ComesFirst, FailsFirst, HasFirstEnd, HasFirstStart, IsPlan, PassesAll, height_in}
 
 module _ (price : Pricing) (rows : Rows) (u v : ℕ) (plan : Plan) where
-  pub comes_first_by : (from last : Dart) (heights : List ℕ) (crossed : List Dart) (ends : Bool) → heights ≡ plan.heights → crossed ≡ plan.route.crossed
+  pub comes_first_by : (from last : Dart) {heights : List ℕ} {crossed : List Dart} (ends : Bool) → heights ≡ plan.heights → crossed ≡ plan.route.crossed
       → last ≡ arrival from crossed
       → HasFirstStart rows u heights plan.route.start plan.price → TakesFirstDarts price rows (height_in rows heights) from crossed
       → (IsTrue ends → HasFirstEnd rows v plan.route.end last) × (HasFirstEnd rows v plan.route.end last → IsTrue ends)
       → (IsTrue ends → ComesFirst price rows u v plan from) × (ComesFirst price rows u v plan from → IsTrue ends)
-  comes_first_by from last heights crossed ends same_heights same_crossed arrives starts takes test =
+  comes_first_by from last {heights} {crossed} ends same_heights same_crossed arrives starts takes test =
       let reached : last ≡ arrival from plan.route.crossed = arrives ∙ ap (arrival from) same_crossed in (
         (λ w. record {
           first_start = subst (λ hs. HasFirstStart rows u hs plan.route.start plan.price) same_heights starts;

@@ -18,18 +18,18 @@ module _ (heights waiting waiting' : List ℕ) (item : ℕ) (popped : (i : ℕ) 
       sym (popped mine ∙ ap (λ (b : Bool). b || is_waiting waiting' mine) (ne_eqb item mine ne))
 
   -- it says that it is too high
-  pub too_high : (others : List ℕ) (level most bound k : ℕ) → k < 2 ^ 32 → item < 2 ^ 64 → level ≤ bound → min (most + 1) unreached ≤ bound
+  pub too_high : (others : List ℕ) (level most : ℕ) {bound : ℕ} (k : ℕ) → k < 2 ^ 32 → item < 2 ^ 64 → level ≤ bound → min (most + 1) unreached ≤ bound
       → bound ≤ item / 2 ^ 32 → slice_index heights k < top_of level most others k
       → is_pending heights waiting' k ≡ is_pending heights waiting k
-  too_high others level most bound k short small low most_low high below =
+  too_high others level most {bound} k short small low most_low high below =
       passed_over k (λ e. let up = high_item k (slice_index heights k) item bound short high e in omega arith)
 
   -- the dart that it is of is not low
-  pub not_low : (others : List ℕ) (level most dart height number k : ℕ) → k < 2 ^ 32 → dart ≡ dart_of_item item → height ≡ slice_index heights dart
+  pub not_low : (others : List ℕ) {level : ℕ} (most : ℕ) {dart height number : ℕ} (k : ℕ) → k < 2 ^ 32 → dart ≡ dart_of_item item → height ≡ slice_index heights dart
       → number ≡ number_at others dart
       → level ≤ height → most < height + number → slice_index heights k < top_of level most others k
       → is_pending heights waiting' k ≡ is_pending heights waiting k
-  not_low others level most dart height number k short is at there low past below = passed_over k (λ e.
+  not_low others most {dart} k short is at there low past below = passed_over k (λ e.
       let one : dart ≡ k = is ∙ ap dart_of_item e ∙ dart_of_own k (slice_index heights k) short in
       let same : slice_index heights dart ≡ slice_index heights k = ap (slice_index heights) one in
       let other : number_at others dart ≡ number_at others k = ap (number_at others) one in omega arith)

@@ -49,14 +49,14 @@ module _ (price : Pricing) (g : Named) (lawful : Lawful g.rows) (has : IsNamed g
   }
 
   -- a face is lowered and waits
-  lowered_relaxes : (heights names waiting waiting' : List ℕ) (least lower t x d : ℕ)
+  lowered_relaxes : {heights names waiting waiting' : List ℕ} {least lower t : ℕ} (x d : ℕ)
       → AreSums g (dart_heights g face heights) (dart_heights g face others) least → IsName g t → AreFaceCosts price g face faces v heights names
       → x < slice_index (dart_heights g face heights) t → AreFaceCosts price g face faces v (set heights (face t) x) (set names (face t) t)
       → lower ≡ min least (x + number_at others (face t)) → length waiting' ≡ length waiting + 1
       → ((top : ℕ → ℕ) → Spreads price g face faces v top (reach_of least) heights names waiting d
       → Spreads price g face faces v top (reach_of least) (set heights (face t) x) (set names (face t) t) waiting' d)
       → Relaxes price g face faces v others heights names waiting least d (set heights (face t) x) (set names (face t) t) waiting' lower d
-  lowered_relaxes heights names waiting waiting' least lower t x d sums there costs low now is longer waits =
+  lowered_relaxes {heights} {names} {waiting} {waiting'} {least} {lower} {t} x d sums there costs low now is longer waits =
       let within = has_face has_faces costs t there in
       let at = of_face price g has face faces has_faces v heights names costs t there in
       let less = passed_effort heights waiting (face t) x within (omega arith) in
@@ -70,22 +70,28 @@ module _ (price : Pricing) (g : Named) (lawful : Lawful g.rows) (has : IsNamed g
         lower = λ k. face_less g has face heights t x within there (omega arith) k;
       }
 
+  -- the twin of a dart, by its name
+  pub record IsTwin (d other : ℕ) : Type 0 where
+    pub is : other ≡ twin_name g d
+    pub there : IsName g other
+    pub short : other < 2 ^ 32
+
   -- the face of the twin of a dart of the face in hand
-  pub twin_relaxes : (heights names waiting waiting' : List ℕ) (least lower d other p : ℕ)
+  pub twin_relaxes : {heights names waiting waiting' : List ℕ} {least lower d other p : ℕ}
       → AreSums g (dart_heights g face heights) (dart_heights g face others) least → AreFaceCosts price g face faces v heights names
-      → IsReached g (dart_heights g face heights) d → KeepsPromise price → Price price g.rows (dart_named g d) p → other ≡ twin_name g d → IsName g other
-      → slice_index (dart_heights g face heights) d + p < min (slice_index (dart_heights g face heights) other) (reach_of least) → other < 2 ^ 32
+      → IsReached g (dart_heights g face heights) d → KeepsPromise price → Price price g.rows (dart_named g d) p → IsTwin d other
+      → slice_index (dart_heights g face heights) d + p < min (slice_index (dart_heights g face heights) other) (reach_of least)
       → lower ≡ min least (slice_index (dart_heights g face heights) d + p + number_at others (face other))
       → ((i : ℕ) → is_waiting waiting' i ≡ (item_of other (slice_index (dart_heights g face heights) d + p) == i || is_waiting waiting i))
       → length waiting' ≡ length waiting + 1
       → Relaxes price g face faces v others heights names waiting least d (set heights (face other) (slice_index (dart_heights g face heights) d + p))
       (set names (face other) other) waiting' lower d
-  twin_relaxes heights names waiting waiting' least lower d other p sums costs in_hand promise asked is there low short least_is added longer =
-      lowered_relaxes heights names waiting waiting' least lower other (slice_index (dart_heights g face heights) d + p) d sums there costs (omega arith)
-      (twin_costs price g lawful has face faces has_faces v (reach_of least) heights names waiting d other p costs in_hand promise asked is there low)
+  twin_relaxes {heights} {names} {waiting} {waiting'} {least} {lower} {d} {other} {p} sums costs in_hand promise asked twin low least_is added longer =
+      lowered_relaxes (slice_index (dart_heights g face heights) d + p) d sums twin.there costs (omega arith)
+      (twin_costs price g lawful has face faces has_faces v (reach_of least) heights names waiting d other p costs in_hand promise asked twin.is twin.there low)
       least_is longer
       (λ top s. twin_waits price g lawful has face faces has_faces v (reach_of least)
-      heights names waiting d other p costs in_hand promise asked is there low top waiting' short added s)
+      heights names waiting d other p costs in_hand promise asked twin.is twin.there low top waiting' twin.short added s)
 
   -- ---- Round the face in hand
 
@@ -101,13 +107,13 @@ module _ (price : Pricing) (g : Named) (lawful : Lawful g.rows) (has : IsNamed g
       one_height g face heights has at d here there (ap face place ∙ face_after g lawful has face faces has_faces n d there) ∙ is
 
   -- one more dart of the face has been crossed, and their heights are what they were
-  pub crossed_on : (heights heights' : List ℕ) (least least' n d at : ℕ) → IsName g d → at ≡ after (next_name g) n d
+  pub crossed_on : {heights heights' : List ℕ} {least least' : ℕ} (n : ℕ) {d at : ℕ} → IsName g d → at ≡ after (next_name g) n d
       → AreLowered (dart_heights g face heights) (dart_heights g face heights') → least' ≤ least
       → slice_index (dart_heights g face heights') at ≡ slice_index (dart_heights g face heights) d
       → ((j : ℕ) → j < n → IsCrossed price g (reach_of least) (dart_heights g face heights) (after (next_name g) j d))
       → IsCrossed price g (reach_of least') (dart_heights g face heights') at
       → (j : ℕ) → j < n + 1 → IsCrossed price g (reach_of least') (dart_heights g face heights') (after (next_name g) j d)
-  crossed_on heights heights' least least' n d at there place lower less same so_far here j within = elim (cases_lt j n) [
+  crossed_on {heights} {heights'} {least} {least'} n {d} {at} there place lower less same so_far here j within = elim (cases_lt j n) [
     | inr last ↦ let is : n ≡ j = omega arith in
         subst (IsCrossed price g (reach_of least') (dart_heights g face heights')) (place ∙ ap (λ i. after (next_name g) i d) is) here
     | inl earlier ↦
@@ -172,7 +178,7 @@ module _ (price : Pricing) (g : Named) (lawful : Lawful g.rows) (has : IsNamed g
     started is added longer =
         let walk : Reaches price g.rows v (dart_named g c) 0 =
         record { crossed = []; position = i; to = dart_named g c; ends = at; walk = record { steps = 0; leads = refl }; cost = refl } in
-        lowered_relaxes heights names waiting waiting' least lower c 0 g.size sums there costs high
+        lowered_relaxes 0 g.size sums there costs high
         (lowered_costs price g has face faces has_faces v heights names costs c 0 there high walk (omega arith)) (omega arith) longer
         (λ top s. lowered_waits price g has face faces has_faces v heights names costs c 0 there high walk (omega arith) top (reach_of least)
         waiting waiting' g.size short s added)

@@ -89,10 +89,10 @@ module _ (price : Pricing) (promise : KeepsPromise price) (old : Rows) (lawful :
   -- ---- Down the walk
 
   -- behind each dart of a walk that costs no more than the price, darts are lower than the price and inside
-  inside_on : (x : Dart) (xs : List Dart) (c to : Dart) (n : ℕ) → has_dart (darts old) c ≡ true → Crosses (system old) c (x ∷ xs) to
+  inside_on : (x : Dart) (xs : List Dart) (c to : Dart) {n : ℕ} → has_dart (darts old) c ≡ true → Crosses (system old) c (x ∷ xs) to
       → (cost : Costs price old (x ∷ xs) n)
       → height to ≡ 0 → height c ≡ n → n ≤ p → (cost.1 < p) × (m.inside (dart_twin x) ≡ true)
-  inside_on x xs c to n h walk cost down same low =
+  inside_on x xs c to {n} h walk cost down same low =
       let next = falls_on price old lawful v height covers.certificate x xs c to n h walk cost down same in
       let lands = next.to in
       let some = promise.positive cost.2.facts cost.0 cost.2.asked in
@@ -107,7 +107,7 @@ module _ (price : Pricing) (promise : KeepsPromise price) (old : Rows) (lawful :
   crosses_inside [] c to n h walk cost down same low = tt
   crosses_inside (x ∷ xs) c to n h walk cost down same low =
       let next = falls_on price old lawful v height covers.certificate x xs c to n h walk cost down same in
-      let (below, stays_in) = inside_on x xs c to n h walk cost down same low in
+      let (below, stays_in) = inside_on x xs c to h walk cost down same low in
       (stays_in, crosses_inside xs (dart_twin x) to cost.1 next.there walk.1 cost.3 down next.to (omega arith))
 
   -- a dart that is tight by the heights cut off is tight
@@ -118,16 +118,16 @@ module _ (price : Pricing) (promise : KeepsPromise price) (old : Rows) (lawful :
       let here : n ≡ tight.cost + level (dart_twin y) = omega (arith, level_inside y h) in
       record { cost = tight.cost; asked = tight.asked; drop = same ∙ cut_tight (m.inside (dart_twin y)) p tight.cost n (height (dart_twin y)) some low here }
 
-  first_cut : (xs : List Dart) (c to : Dart) (n : ℕ) → has_dart (darts old) c ≡ true → m.inside c ≡ true → Crosses (system old) c xs to → Costs price old xs n
+  first_cut : (xs : List Dart) {c : Dart} (to : Dart) {n : ℕ} → has_dart (darts old) c ≡ true → m.inside c ≡ true → Crosses (system old) c xs to → Costs price old xs n
       → height to ≡ 0 → height c ≡ n → n ≤ p
       → TakesFirstDarts price old height c xs → TakesFirstDarts price old level c xs
-  first_cut [] c to n h l walk cost down same low takes = tt
-  first_cut (x ∷ xs) c to n h l walk cost down same low takes =
+  first_cut [] to h l walk cost down same low takes = tt
+  first_cut (x ∷ xs) {c} to {n} h l walk cost down same low takes =
       let next = falls_on price old lawful v height covers.certificate x xs c to n h walk cost down same in
-      let (below, stays_in) = inside_on x xs c to n h walk cost down same low in (
+      let (below, stays_in) = inside_on x xs c to h walk cost down same low in (
         (λ y y_in face tight. takes.0 y y_in face
             (tight_uncut y n (stays c y l face) (one_level price old lawful v height covers.certificate c y h face ∙ same) low tight)),
-        first_cut xs (dart_twin x) to cost.1 next.there stays_in walk.1 cost.3 down next.to (omega arith) takes.1,
+        first_cut xs to next.there stays_in walk.1 cost.3 down next.to (omega arith) takes.1,
       )
 
   -- ---- The route
@@ -151,7 +151,7 @@ module _ (price : Pricing) (promise : KeepsPromise price) (old : Rows) (lawful :
     first_start = λ q c before at same.
         let high = covers.first.least_height q c at in
         covers.first.first_start q c before at (omega (arith, level_inside c (covers.starts q c (omega arith) at)));
-    first_darts = first_cut r.crossed from covers.first.priced.route.to p from_in (covers.starts r.start from (omega arith) covers.first.priced.route.starts)
+    first_darts = first_cut r.crossed covers.first.priced.route.to from_in (covers.starts r.start from (omega arith) covers.first.priced.route.starts)
         covers.first.priced.route.walk covers.first.priced.cost ends_down from_height (omega arith) covers.first.first_darts;
     first_end = covers.first.first_end;
   }

@@ -60,5 +60,6 @@ returns g c =
     let many : faces ≤ length c.clear.new.self.names.items = omega (arith, c.in_ok-clear.ensures.names, c.faces-faces.ensures) in
     let many' : faces ≤ length c.clear-2.new.self.names.items = omega (arith, c.in_ok-clear-2.ensures.names, c.faces-faces.ensures) in
     started_both price named lawful has face faces has_faces c.args.u c.args.v few
-    (c.in_ok-clear.ensures.heights ∙ whole) many c.in_ok-clear.ensures.waiting (c.in_ok-clear-2.ensures.heights ∙ whole) many' c.in_ok-clear-2.ensures.waiting
+    (record { heights_are = c.in_ok-clear.ensures.heights ∙ whole; as_many = many; none_waits = c.in_ok-clear.ensures.waiting })
+    (record { heights_are = c.in_ok-clear-2.ensures.heights ∙ whole; as_many = many'; none_waits = c.in_ok-clear-2.ensures.waiting })
     c.in_ok-start_at.ensures.relaxes c.in_ok-start_at.ensures.ends c.in_ok-start_at-2.ensures.relaxes c.in_ok-start_at-2.ensures.ends

@@ -81,8 +81,7 @@ loop-item-preserved-else-is_low g c =
           | then-height-level t ↦ absurd (false≢true (sym w.if-is_low.false ∙ t.is_low-is ∙ lt-ltb height c.args.level t.if-height-level.true))
           | else-height-level t ↦
               let past : c.args.most < height + number_at c.args.other.now c.face_at-face.result = grind arith in
-              not_low heights c.loop-item.waiting c.pop.new.self item c.in-Some.ensures.waits others c.args.level c.args.most dart height
-              (number_at c.args.other.now c.face_at-face.result) k short c.dart_of_item-dart.ensures at number
+              not_low heights c.loop-item.waiting c.pop.new.self item c.in-Some.ensures.waits others c.args.most k short c.dart_of_item-dart.ensures at number
               t.if-height-level.false past less ∙ was.same k short l less
         ]
       ];

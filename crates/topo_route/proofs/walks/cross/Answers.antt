@@ -20,7 +20,7 @@ returns-in-Some-pay g c =
     let rows = g.D.Dual.shows c.args.dual.now in
     let lawful = lawful_shown (g.met.D.Dual.numbered c.args.dual.now) (g.met.D.FaceGraph.lawful c.args.dual.now) in
     crossed_to (prices_of (g.F.PriceFn.may_return c.args.tariff.now))
-    rows lawful c.args.at c.in-Some.number c.args.left c.across.result c.in-Some-pay.rest c.args.dart
+    rows lawful c.args.left c.in-Some-pay.rest
     c.requires c.in-Some.ensures.0 c.in-Some.ensures.1 c.across.ensures.twin c.across.ensures.within (c.same_face.ensures.0 c.if-not-same_face.false)
     c.in-Some-pay.ensures (twin_dart rows lawful c.in-Some.number c.in-Some.ensures.0)
 

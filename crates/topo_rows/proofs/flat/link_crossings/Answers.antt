@@ -34,9 +34,7 @@ link_crossing-requires-clause-newcomer_within c = let room = c.requires.room in 
 pub loop-i-preserved : goal.loop-i-preserved
 loop-i-preserved c =
     crossing_more c.args.rows.now c.loop-i.i (get_or c.as_slice-crossings.result.now c.loop-i.i no_row)
-    c.args.images.now c.loop-i.images c.link_crossing.new.images c.as_slice-crossings.result.now
-    (round_ahead (get_or c.as_slice-crossings.result.now c.loop-i.i no_row).sign (slice_index c.args.ahead.now (2 * c.loop-i.i))
-    (slice_index c.args.ahead.now (2 * c.loop-i.i + 1)))
+    c.args.images.now
     c.as_slice-crossings.ensures c.loop-i-test.true
     (sym (get_or_default c.as_slice-crossings.result.now c.loop-i.i (get_or c.as_slice-crossings.result.now c.loop-i.i no_row) no_row c.loop-i-test.true))
     (crossing_read c.args.rows.now c.requires.well_formed c.args.ahead.now c.requires.ahead c.loop-i.i c.as_slice-crossings.result.now no_row

@@ -51,9 +51,9 @@ returns-in_ok-push-in-Some g c =
           c.push.new.self c.lower.new.least dart) (sym hs)
           (subst (λ (xs : List ℕ). Relaxes price named face faces v others heights names waiting c.args.least.now dart (set heights (face twin) x)
           xs c.push.new.self c.lower.new.least dart) (sym ns)
-          (twin_relaxes price named lawful has face faces has_faces v others heights names waiting c.push.new.self c.args.least.now c.lower.new.least dart twin
-          c.in-Some.price c.requires.sums c.requires.costs c.requires.in_hand
-          c.in-Some.ensures.promise c.in-Some.ensures.price c.across-twin.ensures.twin there (omega arith) c.across-twin.type_inv
+          (twin_relaxes price named lawful has face faces has_faces v others c.requires.sums c.requires.costs c.requires.in_hand
+          c.in-Some.ensures.promise c.in-Some.ensures.price
+          (record { is = c.across-twin.ensures.twin; there = there; short = c.across-twin.type_inv }) (omega arith)
           (omega (arith, c.in_ok-lower-in-Some.ensures.least))
           (λ i. c.in_ok-push-in-Some.ensures.waits i ∙ ap (λ (j : ℕ). j == i || is_waiting c.lower.new.self.waiting i) item
           ∙ ap (λ (ws : List ℕ). item_of twin x == i || is_waiting ws i) c.in_ok-lower-in-Some.ensures.waiting)
