@@ -13,7 +13,7 @@ const DONE: u8 = 0;
 const TOO_SMALL: u8 = 4;
 
 /// The status of out of memory, and what is said of it.
-const WANT_OF_MEMORY: u8 = 3;
+const OUT_OF_MEMORY: u8 = 3;
 
 const NO_MEMORY: &[u8] = b"planar: 8 Memory\n";
 
@@ -40,7 +40,7 @@ fn put_fault(alloc: Global, fault: &RunFault, output: &mut [u8], size: &mut usiz
 {
     match format!(in alloc; "planar: {fault}\n") {
         Ok(line) => put(fault.status(), line.as_bytes(), output, size),
-        Err(_) => put(WANT_OF_MEMORY, NO_MEMORY, output, size),
+        Err(_) => put(OUT_OF_MEMORY, NO_MEMORY, output, size),
     }
 }
 

@@ -2,7 +2,7 @@
 
 ghost use Rattle.std.specs.Prelude.{◌≡◌, ◌↔◌, IsTrue};
 
-use crate::calls::{Entry, Reply};
+use crate::calls::Reply;
 use crate::darts::Dart;
 use crate::listed::Listed;
 use crate::routes::{Inserted, Route};
@@ -52,15 +52,6 @@ impl Reply {
             (Reply::Refused(why), Reply::Refused(other)) => why == other,
             _ => false,
         }
-    }
-}
-
-impl Entry {
-    /// Whether the two are equal.
-    pub fn equals(&self, other: &Entry) -> bool
-        ensures { IsTrue result ↔ (self.now ≡ other.now) }
-    {
-        self.caller == other.caller && self.call == other.call && self.reply.equals(&other.reply)
     }
 }
 

@@ -335,7 +335,7 @@ impl Embedded {
         Crossed::new(*dart, hint, self.half_of(*dart))
     }
 
-    /// Draws a new edge of the given kind along a route that meets no face twice, from the first of
+    /// Adds a new edge of the given kind along a route that meets no face twice, from the first of
     /// the ends to the second. An error is out of memory, and then all is as before.
     pub fn insert(
         &mut self,

@@ -63,7 +63,7 @@ fn subdivided(crossed: &[Crossed], half: Half) -> Half
     half
 }
 
-/// Draws the segments of the new edge between the crossings and its ends, the last one first, and
+/// Adds the segments of the new edge between the crossings and its ends, the last one first, and
 /// writes down their halves.
 fn add_chords(
     segments: &mut Embedding,

@@ -8,7 +8,7 @@ use topo_picture::Picture;
 
 /// Says on standard error which call was out of memory.
 pub(crate) fn tell<R: Eprint>(rt: &R, call: &str) {
-    let _ = eprintln!(rt; "wants memory: {call}");
+    let _ = eprintln!(rt; "out of memory: {call}");
 }
 
 /// What a call of the program's own bookkeeping answers, which is made once more if it is out of

@@ -92,6 +92,7 @@ pub(crate) fn start_corner<W: FaceGraph>(
 {
     let least = least_corner(graph, u, heights);
     if least == u64::MAX {
+        // For the proof: what the type keeps.
         heights.in_range();
         return None;
     }

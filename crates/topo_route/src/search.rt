@@ -161,6 +161,7 @@ fn find_route<W: FaceGraph, F: PriceFn>(
         work.new.to_start.names.items stop.level stop.least))) }
     ensures promise { KeepsPromise (prices_of (F.may_return tariff.now)) }
 {
+    // For the proof: what the type keeps.
     tariff.keeps_promise();
     if let Some(route) = direct_route(alloc, graph, u, v) {
         let first = PricedRoute { route, price: 0 };

@@ -237,6 +237,7 @@ impl Labels {
             (dart_heights (W.named priced.now.graph.now)
             (W.face_of priced.now.graph.now) self.new.heights)) }
     {
+        // For the proof: what the type keeps.
         let _darts = priced.graph.size();
         while let Some((dart, height)) = next_pending(
             priced.graph,
@@ -290,6 +291,7 @@ impl Labels {
             (dart_heights (W.named priced.now.graph.now)
             (W.face_of priced.now.graph.now) self.new.heights)) }
     {
+        // For the proof: what the type keeps.
         let _darts = priced.graph.size();
         let reach = (*least).saturating_add(1);
         match next_pending(

@@ -173,6 +173,7 @@ pub(crate) fn are_crossings_good(
     ensures two_each { IfOk result
         (λ yes. IsTrue yes → length (path_pairs rows.now.edges) ≡ 2 * length rows.now.crossings) }
 {
+    // For the proof: what the type keeps.
     let _next = rows.next_crossing;
     if !rise_and_differ(alloc, rows)? {
         return Ok(false);

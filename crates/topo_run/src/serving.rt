@@ -166,8 +166,8 @@ fn serve<
     }
 }
 
-/// What the lists lead to from a start, each carried out by a thread of its own. One list alone is
-/// carried out on a book.
+/// Carries out lists of commands from a start, each in a thread of its own, and says what they have
+/// led to. One list alone is carried out on a book.
 pub(crate) fn run_lists<F: PriceFn + Drop + Send + Sync, R: Threads + Wait + Sync, T: Gate>(
     rt: &R,
     alloc: Global,

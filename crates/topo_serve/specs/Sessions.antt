@@ -147,8 +147,8 @@ pub record IsPartlyServed (old_left new_left old_held new_held : Option (List �
 abbrev pub IsBroken : Option (List ℕ) → Option (List ℕ) → Option (List ℕ) → Option (List ℕ) → Type 0
 IsBroken old_left new_left old_held new_held = Keeps old_held new_held ⊎ IsCutShort old_left new_left old_held new_held
 
--- A fault of the first line is its first one, and then nothing is written. Where the reader fails or memory is wanted, the
--- answers so far are written, and where the writer fails, a part of the last one.
+-- A fault of the first line is its first one, and then nothing is written. If the reader fails or a call is out of memory, the
+-- answers so far are written, and if the writer fails, a part of the last one.
 abbrev pub ServeFailsBy : RunFault → Option (List ℕ) → Option (List ℕ) → Option (List ℕ) → Option (List ℕ) → Type 0
 ServeFailsBy Memory old_left new_left old_held new_held = IsBroken old_left new_left old_held new_held
 ServeFailsBy (Script fault) old_left new_left old_held new_held = OpensNone old_left new_left (Script fault) × Keeps old_held new_held

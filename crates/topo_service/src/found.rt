@@ -210,15 +210,15 @@ pub(crate) fn first_on<A: PriceFn>(
     ensures apart { OnOk result (u ≢ v) }
 {
     picture.admit_ends(u, v)?;
-    let mut sheet = match work.take() {
-        Some(sheet) => sheet,
+    let mut workspace = match work.take() {
+        Some(workspace) => workspace,
         None => match Workspace::new(alloc) {
-            Ok(sheet) => sheet,
+            Ok(workspace) => workspace,
             Err(_) => return Err(Refusal::Memory),
         },
     };
-    let found = first_route_seen(alloc, &picture.embedded(), tariff, u, v, &mut sheet);
-    *work = Some(sheet);
+    let found = first_route_seen(alloc, &picture.embedded(), tariff, u, v, &mut workspace);
+    *work = Some(workspace);
     match found {
         Ok(Some(first)) => Ok(first),
         Ok(None) => Err(Refusal::NoRoute),

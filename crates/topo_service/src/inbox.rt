@@ -144,8 +144,8 @@ impl<F: PriceFn, K: ServiceBrand<F>> Inbox<F, K> {
         self.is_whole = true;
     }
 
-    /// Takes in what was accepted since, up to all the accepted entries of a history. If that is too
-    /// much, or memory is wanted, it keeps nothing until it begins anew.
+    /// Takes in what was accepted since, up to all the accepted entries of a history. If that is
+    /// too much, or it is out of memory, it keeps nothing until it begins anew.
     pub(crate) fn learn(&mut self, alloc: Global, history: &[Entry], all: &LogPrefix<F, K>)
         requires { all.now ≡ versions history.now }
     {
@@ -167,7 +167,7 @@ impl<F: PriceFn, K: ServiceBrand<F>> Inbox<F, K> {
     }
 
     /// The version with what it missed carried out on its picture, which nobody else holds. None if
-    /// that cannot be done: the version is another, or is held elsewhere, or memory is wanted.
+    /// that cannot be done: the version is another, or is held elsewhere, or it is out of memory.
     pub(crate) fn bring_up_to_date(
         &self,
         alloc: Global,

@@ -34,7 +34,7 @@ pub trait Gate: Sync {
 pub enum WorkerEnd {
     /// Each command was carried out.
     Done,
-    /// Memory was wanted for the command at this place; the rest of the list was not run.
+    /// The command at this place was out of memory; the rest of the list was not run.
     OutOfMemory(usize),
 }
 

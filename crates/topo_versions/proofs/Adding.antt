@@ -7,7 +7,7 @@ use prog.Atomic.{either}
 use Rattle.logbook.specs.Pages.{Cell, cell, keeps, no_nib, step, Moves, Goes}
 use Rattle.topo_core.specs.declared.calls.Entry.{Entry}
 use Rattle.topo_versions.specs.Listing.{IsKept, Adds}
-use Rattle.topo_versions.proofs.Fronts.{prefix_whole}
+use Rattle.topo_versions.proofs.Prefixes.{prefix_whole}
 
 abbrev pub shown : List Entry → List Entry
 shown log = []

@@ -8,8 +8,8 @@ abbrev pub IsKept : List Cell → List Entry → Type 0
 IsKept cells log = cells ≡ (length log, true) ∷ (0, true) ∷ []
 
 -- the word with the length of the list
-abbrev pub head_of : Book → Named
-head_of b = record { tracked = true; key = 0; book = b }
+abbrev pub length_word : Book → Named
+length_word b = record { tracked = true; key = 0; book = b }
 
 -- the entry was added to all that had been seen; or the list was longer
 abbrev pub Adds : Step Entry → View Entry ℕ → ℕ → View Entry ℕ → Type 0

@@ -3,7 +3,7 @@
 ghost use Rattle.std.specs.Prelude.{◌≡◌, ◌+◌, ◌==◌, ◌<◌, ◌≤◌, ◌^◌, ◌++◌, ◌∷◌};
 ghost use Rattle.std.specs.Prelude.{[], if◌then◌else◌, length, true, MatchBool};
 ghost use Rattle.topo_core.specs.History.{IsPrefix};
-ghost use Rattle.topo_versions.specs.Listing.{head_of};
+ghost use Rattle.topo_versions.specs.Listing.{length_word};
 ghost use Rattle.topo_versions.specs.Names.{prices_named};
 ghost use Rattle.topo_versions.specs.Versions.{AreLegal};
 
@@ -62,17 +62,17 @@ impl Plain<Entry, Entry, u64> for Append {
 
 /// An empty log, which is not bound to a service yet.
 pub struct FreshLog {
-    head: Word<Entry, u64, AppendOnly>,
+    length: Word<Entry, u64, AppendOnly>,
     seen: Seen<Entry, u64, AppendOnly>,
     pub ghost empty: { seen.log ≡ [] },
-    pub ghost head_is: { head ≡ head_of seen.book },
+    pub ghost word_is: { length ≡ length_word seen.book },
 }
 
 impl FreshLog {
     pub fn new() -> FreshLog {
         let (seen, mut first, _second) = Seen::open(Start::alone(), 0, 0);
         FreshLog {
-            head: Word::tracked(0, &mut first),
+            length: Word::tracked(0, &mut first),
             seen,
         }
     }
@@ -82,10 +82,10 @@ impl FreshLog {
         requires { self.seen.book ≡ K.book }
         ensures { result.1 ≡ [] }
     {
-        let FreshLog { head, seen } = self;
+        let FreshLog { length, seen } = self;
         (
             LogLength {
-                word: head,
+                word: length,
                 of: PhantomData,
             },
             LogPrefix {
@@ -102,7 +102,7 @@ impl FreshLog {
 pub struct LogLength<K: LogBrand> {
     word: Word<Entry, u64, AppendOnly>,
     of: PhantomData<K>,
-    ghost head_is: { word ≡ head_of K.book },
+    ghost word_is: { word ≡ length_word K.book },
 }
 
 /// A prefix of the log that was seen: accepted entries that lead by steps from the start, at the
@@ -184,7 +184,7 @@ impl<F: PriceFn, K: ServiceBrand<F>> LogPrefix<F, K> {
 
     /// Adds an accepted entry, which is to be a step on, to all that was seen, and says whether it
     /// did. If the log is longer than what was seen, nothing changes.
-    pub fn add(&mut self, head: &LogLength<K>, entry: &Entry) -> bool
+    pub fn add(&mut self, log_length: &LogLength<K>, entry: &Entry) -> bool
         requires room { length self.old + 1 < 2 ^ 64 }
         requires follows { AreLegal (prices_named F.may_return K.closure) K.start
             (self.old ++ entry.now ∷ []) }
@@ -194,7 +194,7 @@ impl<F: PriceFn, K: ServiceBrand<F>> LogPrefix<F, K> {
         let mut seen = self.seen.again();
         let mut offer = seen.plain::<NoGain, Entry, Append>(entry);
         let mut pen = seen.no_pen();
-        let found = head
+        let found = log_length
             .word
             .compare_exchange::<Append, NoGain>(len, len + 1, &mut seen, &mut offer, &mut pen);
         if found != len {

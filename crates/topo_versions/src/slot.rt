@@ -1,4 +1,4 @@
-//! One of the two sides of the version store.
+//! One of the two slots of the version store.
 
 ghost use Rattle.std.specs.Prelude.{◌≡◌, IfSome, Some, None};
 
@@ -9,7 +9,7 @@ use std::alloc::AllocError;
 use std::marker::Model;
 use topo_price::tariff::PriceFn;
 
-/// A side of the store: the version that readers take, and nothing on the side that they have left,
+/// A slot of the store: the version that readers take, and nothing in the slot that they have left,
 /// so that the store keeps no version before the one of now.
 #[derive(Drop)]
 pub struct Slot<F: PriceFn, K: ServiceBrand<F>> {
@@ -25,7 +25,7 @@ impl<F: PriceFn, K: ServiceBrand<F>> Model for Slot<F, K> {
     ghost view = { λ s. s.version };
 }
 
-// A side is written whole, and takes in no operations.
+// A slot is written whole, and takes in no operations.
 impl<F: PriceFn + Drop, K: ServiceBrand<F>> Absorb<()> for Slot<F, K> {
     type State = ();
 
@@ -39,7 +39,7 @@ impl<F: PriceFn + Drop, K: ServiceBrand<F>> Absorb<()> for Slot<F, K> {
 }
 
 impl<F: PriceFn, K: ServiceBrand<F>> Slot<F, K> {
-    /// The side that shows a version.
+    /// The slot that shows a version.
     pub(crate) fn of(version: Version<F, K>) -> Slot<F, K>
         ensures { result ≡ Some version }
     {
@@ -48,7 +48,7 @@ impl<F: PriceFn, K: ServiceBrand<F>> Slot<F, K> {
         }
     }
 
-    /// The side that nobody looks at.
+    /// The slot that nobody looks at.
     pub(crate) fn blank() -> Slot<F, K>
         ensures { result ≡ None }
     {

@@ -1,4 +1,4 @@
-//! The version store: `left_right`, with a version on the side that readers take.
+//! The version store: `left_right`, with a version in the slot that readers take.
 
 ghost use Rattle.std.specs.Prelude.{◌≡◌, ◌<◌, ◌^◌, IfOk, Some};
 ghost use Rattle.std.specs.Arc.{arc_value};
@@ -53,8 +53,8 @@ fn current_version<F: PriceFn + Drop, K: ServiceBrand<F>>(
 impl<F: PriceFn + Drop, K: ServiceBrand<F>> VersionWriter<F, K> for StoreWriter<F, K> {
     ghost published = { λ w. entries_shown w.desk.shown.value };
 
-    // The next version is shown on the side that is blank. Once the readers have left the other
-    // side, that one becomes blank.
+    // The next version is shown in the slot that is blank. Once the readers have left the other
+    // slot, that one becomes blank.
     fn publish<R: Wait>(&mut self, rt: &R, prefix: &LogPrefix<F, K>, picture: Arc<Picture>)
         requires follows { IsVersionFrom (prices_named F.may_return K.closure) K.start prefix.now
             (arc_value picture) }

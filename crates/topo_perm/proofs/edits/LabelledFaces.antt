@@ -190,8 +190,8 @@ module _ {live live' : ℕ → Bool} {f g l l' : ℕ → ℕ} {n c d x y new : �
   on_side a s = subst (λ (v : ℕ). Side v) s.leads (walked s.steps).3
 
   -- without the chord, no face is parted
-  undrawn : IsAllowedUnchord g f n (twin x)
-  undrawn = record {
+  unchord : IsAllowedUnchord g f n (twin x)
+  unchord = record {
     turns = record { before = k.turns.after; after = k.turns.before; even = k.turns.even; within = lt };
     two_faces = λ s. two (turn_round (twin x) x lt (subst (λ (v : ℕ). Met (twin x) v) (twin-twin x) s));
     not_alone = λ e w. (away live live' n x d adds td).not_self (sym k.edit.end.turns ∙ e ∙ twin-twin x);
@@ -199,7 +199,7 @@ module _ {live live' : ℕ → Bool} {f g l l' : ℕ → ℕ} {n c d x y new : �
   }
 
   back : (a b : ℕ) → live a ≡ true → live b ≡ true → Met a b → SameCycle (face_next f) a b
-  back a b t s = unchord_keeps_faces g f n (twin x) a b undrawn (from_twin a t) (from_twin b s)
+  back a b t s = unchord_keeps_faces g f n (twin x) a b unchord (from_twin a t) (from_twin b s)
     where
       from_twin : (a : ℕ) → live a ≡ true → IsApart n a (twin x)
       from_twin a t = let p = away live live' n x a adds t in record { within = p.within; not_self = p.not_twin; not_twin = λ e. p.not_self (e ∙ twin-twin x) }

@@ -131,8 +131,8 @@ chord_permutation g n k p even lh =
 -- ---- One chord drawn
 
 -- f is the turn without the chord, and g the turn with it
-new_chord_drawn : (g : ℕ → ℕ) (n : ℕ) (k : NewChord) → IsNewChord g n k → IsChord (without_chord g k) g n k.from k.to k.half
-new_chord_drawn g n k i =
+new_chord_added : (g : ℕ → ℕ) (n : ℕ) (k : NewChord) → IsNewChord g n k → IsChord (without_chord g k) g n k.from k.to k.half
+new_chord_added g n k i =
     let y : ℕ = k.half in
     let half : ℕ → ℕ = without g (twin y) in
     let at_twin : half (twin y) ≡ twin y = without-self g (twin y) (twin y) refl in
@@ -149,7 +149,7 @@ new_chord_drawn g n k i =
 
 allowed_new_chord : (g : ℕ → ℕ) (n : ℕ) (k : NewChord) → IsPermutation g n → n % 2 ≡ 0 → IsNewChord g n k
     → SameCycle (face_next (without_chord g k)) k.from k.to → IsAllowedChord (without_chord g k) g n k.from k.to k.half
-allowed_new_chord g n k p even i one = grind (arith, chord_permutation, new_chord_drawn)
+allowed_new_chord g n k p even i one = grind (arith, chord_permutation, new_chord_added)
 
 -- and the chord may be taken out again
 allowed_unchord_of : (g : ℕ → ℕ) (n : ℕ) (k : NewChord) → IsPermutation g n → n % 2 ≡ 0 → IsNewChord g n k
@@ -175,7 +175,7 @@ allowed_unchord_of g n k p even i one =
 -- ---- All of them
 
 -- g has all chords, b none. Each chord makes one face more, what hung together does so, and other faces stay
-pub record AreDrawnChords (live : ℕ → Bool) (b g : ℕ → ℕ) (n : ℕ) (ks : List NewChord) : Type 0 where
+pub record AreAddedChords (live : ℕ → Bool) (b g : ℕ → ℕ) (n : ℕ) (ks : List NewChord) : Type 0 where
   pub slab : IsSlab (with_chords live ks) g n
   pub faces : live_cycle_count (with_chords live ks) (face_next g) n ≡ live_cycle_count live (face_next b) n + length ks
   pub connected : IsConnectedAmong live b n → IsConnectedAmong (with_chords live ks) g n
@@ -225,18 +225,18 @@ chords_run live g n (k ∷ ks) p even h ready = (
   (
     record { within = h.0.there; adds = chord_adds live g n k ks even h ready; permutation = p },
     grind (arith, live_chords),
-    new_chord_drawn g n k h.0,
+    new_chord_added g n k h.0,
   ),
 )
 
 pub chord_all : (live : ℕ → Bool) (g : ℕ → ℕ) (n : ℕ) (ks : List NewChord) → IsPermutation g n → n % 2 ≡ 0 → AreNewChords g n ks → AreReady live ks
-    → AreInFaces (without_chords g ks) ks → IsSlab live (without_chords g ks) n → AreDrawnChords live (without_chords g ks) g n ks
+    → AreInFaces (without_chords g ks) ks → IsSlab live (without_chords g ks) n → AreAddedChords live (without_chords g ks) g n ks
 chord_all live g n [] p even h ready faces slab = grind arith
 chord_all live g n (k ∷ ks) p even h ready faces slab =
     let f : ℕ → ℕ = without_chord g k in
     let b : ℕ → ℕ = without_chords f ks in
     let i : IsNewChord g n k = h.0 in
-    let below : AreDrawnChords live b f n ks =
+    let below : AreAddedChords live b f n ks =
     chord_all live f n ks (chord_permutation g n k p even i.there) even (chords_stay g n k ks even h.1 h.2) ready.1 faces.2 slab in
     let from_off_chords : IsOffChords n ks k.from = all_map (AreApartChords n k) (λ l. IsApart n k.from l.half) (λ l w. w.from) ks h.1 in
     let one : SameCycle (face_next f) k.from k.to = below.kept k.from k.to i.from_apart.within from_off_chords faces.1 faces.0 in

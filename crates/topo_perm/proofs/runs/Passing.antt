@@ -12,7 +12,7 @@ use Rattle.topo_perm.specs.Renumbering.{RenumbersTurn, Renumbers}
 use Rattle.topo_perm.proofs.permutations.Walks.{twin-within, face_next-permutation}
 use Rattle.topo_perm.proofs.permutations.Faces.{twin-twin, twin-apart}
 use Rattle.topo_perm.proofs.renumbering.Renumbered.{renumbered_same_cycle, renumbered_cycles, renumbered_faces, renumbered_connected}
-use Rattle.topo_perm.proofs.runs.Chords.{NewChord, AreReady, AreInFaces, AreDrawnChords, chord_all, without_chords}
+use Rattle.topo_perm.proofs.runs.Chords.{NewChord, AreReady, AreInFaces, AreAddedChords, chord_all, without_chords}
 use Rattle.topo_perm.proofs.runs.Chords.{with_chords, live_chords, with_self, with_twin, with_old, all_map}
 use Rattle.topo_perm.proofs.runs.Subdivisions.{Subdivision, IsSubdivision, AreSubdividable, Subdivided, IsNamed, IsWithin, Straightened}
 use Rattle.topo_perm.proofs.runs.Subdivisions.{straighten, with_subdivisions, live_subdivisions, dead_subdivisions, all_subdivisions}
@@ -373,7 +373,7 @@ passed g n f m name c ks e ls p =
     let faces : AreInFaces b ls =
     in_faces above e p.to_there ks ls p.along (p.named.within c p.from_there) p.from_there (above.at_name c p.from_there) p.walk p.once good
     (all_map (IsSubdivision b n m name) (λ k. twin k.near < n) (λ k w. twin-within n k.near even w.near_there) ks i) in
-    let d : AreDrawnChords live b g n ls = chord_all live g n ls p.permutation even p.new_chords (ready p i s) faces subdivided.slab in
+    let d : AreAddedChords live b g n ls = chord_all live g n ls p.permutation even p.new_chords (ready p i s) faces subdivided.slab in
     let back : ℕ → ℕ = λ y. find_below (λ v. s.names v == y) m in
     let r : RenumbersTurn s.names back f s.bottom m below n = renumbers b n f m name ks s in
     let count_below : cycle_count (face_next f) m ≡ live_cycle_count below (face_next s.bottom) n =

@@ -106,14 +106,19 @@ module _ (price : Pricing) (g : Named) (lawful : Lawful g.rows) (has : IsNamed g
   at_height heights n d at h there here place is =
       one_height g face heights has at d here there (ap face place ∙ face_after g lawful has face faces has_faces n d there) ∙ is
 
+  -- heights and the least sum have fallen, but a dart is as high as the one in hand was
+  pub record FallElsewhere (heights heights' : List ℕ) (least least' d at : ℕ) : Type 0 where
+    pub lower : AreLowered (dart_heights g face heights) (dart_heights g face heights')
+    pub less : least' ≤ least
+    pub same : slice_index (dart_heights g face heights') at ≡ slice_index (dart_heights g face heights) d
+
   -- one more dart of the face has been crossed, and their heights are what they were
   pub crossed_on : {heights heights' : List ℕ} {least least' : ℕ} (n : ℕ) {d at : ℕ} → IsName g d → at ≡ after (next_name g) n d
-      → AreLowered (dart_heights g face heights) (dart_heights g face heights') → least' ≤ least
-      → slice_index (dart_heights g face heights') at ≡ slice_index (dart_heights g face heights) d
+      → FallElsewhere heights heights' least least' d at
       → ((j : ℕ) → j < n → IsCrossed price g (reach_of least) (dart_heights g face heights) (after (next_name g) j d))
       → IsCrossed price g (reach_of least') (dart_heights g face heights') at
       → (j : ℕ) → j < n + 1 → IsCrossed price g (reach_of least') (dart_heights g face heights') (after (next_name g) j d)
-  crossed_on {heights} {heights'} {least} {least'} n {d} {at} there place lower less same so_far here j within = elim (cases_lt j n) [
+  crossed_on {heights} {heights'} {least} {least'} n {d} {at} there place falls so_far here j within = elim (cases_lt j n) [
     | inr last ↦ let is : n ≡ j = omega arith in
         subst (IsCrossed price g (reach_of least') (dart_heights g face heights')) (place ∙ ap (λ i. after (next_name g) i d) is) here
     | inl earlier ↦
@@ -122,8 +127,8 @@ module _ (price : Pricing) (g : Named) (lawful : Lawful g.rows) (has : IsNamed g
         let e = face_after g lawful has face faces has_faces j d there in
         let at_there = subst (IsName g) (sym place) (after_is g lawful has n d there) in
         let at_face : face k ≡ face at = e ∙ sym (ap face place ∙ face_after g lawful has face faces has_faces n d there) in
-        still_crossed (dart_heights g face heights) (dart_heights g face heights') (reach_of least) (reach_of least') k lower (omega arith)
-        (one_height g face heights' has k at l at_there at_face ∙ same ∙ sym (one_height g face heights has k d l there e)) (so_far j earlier)
+        still_crossed (dart_heights g face heights) (dart_heights g face heights') (reach_of least) (reach_of least') k falls.lower (omega (arith, falls.less))
+        (one_height g face heights' has k at l at_there at_face ∙ falls.same ∙ sym (one_height g face heights has k d l there e)) (so_far j earlier)
   ]
 
   -- another dart of the face may be said to be in hand

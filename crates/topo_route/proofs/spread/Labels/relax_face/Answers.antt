@@ -89,8 +89,8 @@ loop-steps-preserved g c =
     let on = same_hand price named lawful has face faces has_faces v others dart at there was.name inside step.relaxes in
     let place : c.next_along-at.result ≡ after (next_name named) (i + 1) dart = c.next_along-at.ensures.next ∙ ap (next_name named) was.place
     ∙ sym (after-one (next_name named) i dart) in
-    let crossed = crossed_on price named lawful has face faces has_faces v others i there was.place step.relaxes.lower
-    step.relaxes.less (step.same ∙ sym was.same) was.crossed step.crossed in
+    let crossed = crossed_on price named lawful has face faces has_faces v others i there was.place
+    (record { lower = step.relaxes.lower; less = step.relaxes.less; same = step.same ∙ sym was.same }) was.crossed step.crossed in
     record {
       relaxes = both_steps price named lawful has face faces has_faces v others was.relaxes on;
       place = place;
@@ -126,8 +126,8 @@ returns-then-at-dart g c =
     let on = same_hand price named lawful has face faces has_faces v others dart at there was.name inside step.relaxes in
     let place : c.next_along-at.result ≡ after (next_name named) (i + 1) dart = c.next_along-at.ensures.next ∙ ap (next_name named) was.place
     ∙ sym (after-one (next_name named) i dart) in
-    let crossed = crossed_on price named lawful has face faces has_faces v others i there was.place step.relaxes.lower
-    step.relaxes.less (step.same ∙ sym was.same) was.crossed step.crossed in
+    let crossed = crossed_on price named lawful has face faces has_faces v others i there was.place
+    (record { lower = step.relaxes.lower; less = step.relaxes.less; same = step.same ∙ sym was.same }) was.crossed step.crossed in
     let home : after (next_name named) (i + 1) dart ≡ dart = sym place ∙ c.if-at-dart.true in
     let P = λ (k : ℕ). IsCrossed price named (reach_of l') (dart_heights named face hs') k in
     both_steps price named lawful has face faces has_faces v others was.relaxes

@@ -4,7 +4,7 @@ use Rattle.topo_versions.proofs.log_prefix.LogPrefix.add.Goals as goal
 
 pub compare_exchange-found-requires : goal.compare_exchange-found-requires
 compare_exchange-found-requires g c =
-    let h = c.args.head.now.head_is in
+    let h = c.args.log_length.now.word_is in
     let offer = c.plain-offer.ensures in
     let pen = c.no_pen-pen.ensures in
     let same = c.again-seen.ensures in

@@ -2,7 +2,7 @@ use Rattle.std.proofs.Common.{◌≤◌, ap, sym, subst, arith, length, List}
 use Rattle.std.proofs.lemmas.Bool.Decides.{nat_tests}
 use mathlib.Core.List.{IsPrefix}
 use Rattle.topo_core.specs.declared.calls.Entry.{Entry}
-use Rattle.topo_versions.proofs.Fronts.{prefix_length, prefix_shorter}
+use Rattle.topo_versions.proofs.Prefixes.{prefix_length, prefix_shorter}
 use Rattle.topo_versions.proofs.log_prefix.LogPrefix.is_prefix_of.Goals as goal
 
 pub returns-clause-prefix : goal.returns-clause-prefix

@@ -2,7 +2,7 @@ use Rattle.std.proofs.Common.{◌≡◌, ap, sym, ◌∙◌, subst, arith, lengt
 use Rattle.std.proofs.lemmas.Bool.Decides.{nat_tests}
 use mathlib.Core.List.{IsPrefix}
 use Rattle.topo_core.specs.declared.calls.Entry.{Entry}
-use Rattle.topo_versions.proofs.Fronts.{prefix_same}
+use Rattle.topo_versions.proofs.Prefixes.{prefix_same}
 use Rattle.topo_versions.proofs.log_prefix.LogPrefix.same_as.Goals as goal
 
 pub returns-clause-same : goal.returns-clause-same
