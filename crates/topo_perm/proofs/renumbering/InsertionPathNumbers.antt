@@ -94,7 +94,7 @@ abbrev AreAliveAt : (ℕ → Bool) → ℕ → List Subdivision → Type 0
 AreAliveAt live n ks = AllByRecursion (λ k. IsAlive live n k.beyond × IsAlive live n (twin k.near)) ks
 
 module _ (h name name' : ℕ → ℕ) {live : ℕ → Bool} {n : ℕ} (e : ℕ) (at_e : h (name e) ≡ name' e) (et : IsAlive live n (name e)) where
-  corners_under : {z z' : ℕ} (ks js : List Subdivision) (ls is : List NewChord) → AreAlong name z ks e ls → AreAlong name' z' js e is → h z ≡ z'
+  corners_under : (ks js : List Subdivision) (ls is : List NewChord) {z z' : ℕ} → AreAlong name z ks e ls → AreAlong name' z' js e is → h z ≡ z'
       → IsAlive live n z → AreSubdivisionsAt h ks js → AreAliveAt live n ks → AreCornersUnder h live n ls is
   corners_under [] [] [] is a b at_z zt at alive = absurd a
   corners_under [] [] (l ∷ []) [] a b at_z zt at alive = absurd b

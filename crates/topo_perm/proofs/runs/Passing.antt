@@ -283,17 +283,17 @@ module _ {b : ℕ → ℕ} {n : ℕ} {f : ℕ → ℕ} {m : ℕ} {name names : �
       far_chords (twin k.near) (twin k.dart) ks ls along.2 (twin-within m k.dart h.even good.0.there) (next_lies b m name names k good.0) outs.0 outs.1 good.1,
     )
 
-  in_faces : {z c : ℕ} (ks : List Subdivision) (ls : List NewChord) → AreAlong name z ks e ls → z < n → c < m → LiesAt b names z c
+  in_faces : (ks : List Subdivision) (ls : List NewChord) {z c : ℕ} → AreAlong name z ks e ls → z < n → c < m → LiesAt b names z c
       → Walks f c ks e → MeetsOnce f c ks → AllByRecursion (GoodSubdivision b m name names) ks → AllByRecursion (λ k. twin k.near < n) ks → AreInFaces b ls
   in_faces [] [] along lz lc lies walk once good within = tt
-  in_faces {z} {c} [] (l ∷ []) along lz lc lies walk once good within =
+  in_faces [] (l ∷ []) {z} {c} along lz lc lies walk once good within =
       let there : SameCycle (face_next b) z (name e) = SameCycle-trans (face_next b) z (names c) (name e) lies
       (SameCycle-trans (face_next b) (names c) (names e) (name e) (h.carried c e lc le walk)
       (SameCycle-sym (face_next b) n h.permutation (name e) (names e) (h.name_within e le) (h.at_name e le))) in
       (subst (λ (v : ℕ). SameCycle (face_next b) v l.to) (sym along.0) (subst (λ (v : ℕ). SameCycle (face_next b) z v) (sym along.1) there), tt, tt)
   in_faces [] (l ∷ (j ∷ ls)) along lz lc lies walk once good within = elim along [ ]
   in_faces (k ∷ ks) [] along lz lc lies walk once good within = elim along [ ]
-  in_faces {z} {c} (k ∷ ks) (l ∷ ls) along lz lc lies walk once good within =
+  in_faces (k ∷ ks) (l ∷ ls) {z} {c} along lz lc lies walk once good within =
       let lk : k.dart < m = good.0.there in
       let lt : twin k.dart < m = twin-within m k.dart h.even lk in
       let there : SameCycle (face_next b) z k.beyond = SameCycle-trans (face_next b) z (names c) k.beyond lies
