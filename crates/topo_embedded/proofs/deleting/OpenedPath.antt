@@ -259,13 +259,13 @@ module _ (rows : Rows) (others : List (List ℕ)) (path0 : List ℕ) (r : Rotati
       pub read_known : is_some (edge_row rows (edge_of now (turn now (twin half)))) ≡ true
       read_known = over_known rows others w.0 path0 r w.1 i now path (st w.0 w.1) (more w.0 w.1) half read
 
-      pub read_more : (behind mid : ℕ) → behind ≡ slice_index_or path (i + 1) 0
+      pub read_more : {behind mid : ℕ} {list : List ℕ} → behind ≡ slice_index_or path (i + 1) 0
           → mid ≡ across (leads_in rows others (edge_of now)) (turn now) (twin half) behind
           → (after : Rotation) → IsUnchord (turn now) (turn after) half_limit half → Shrinks now after half
           → KeepsLabels (is_live after) (edge_of now) (edge_of after)
-          → (list : List ℕ) → list ≡ set path i mid → (e : ℕ) (o : IsSetOut rows others e path0 r)
+          → list ≡ set path i mid → (e : ℕ) (o : IsSetOut rows others e path0 r)
           → IsOpenTo (record { rows = rows; paths = o.paths }) e r (i + 1) after list
-      read_more behind mid read_behind mid_is after edit shrinks labels list list_is e o =
+      read_more {behind} {mid} read_behind mid_is after edit shrinks labels list_is e o =
           subst (IsOpenTo (record { rows = rows; paths = o.paths }) e r (i + 1) after) (sym list_is)
           (opened_more rows others e path0 r o i now path (st e o)
           (inside_of e o (omega (arith, before_last))) half read after edit shrinks labels (more e o) mid

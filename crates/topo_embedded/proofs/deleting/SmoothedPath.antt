@@ -347,10 +347,10 @@ module _ (rows : Rows) (others : List (List ℕ)) (e : ℕ) (mids : List ℕ) (o
 -- ---- Between the two passes
 
 -- the segments of an edge are out, and the midpoints are all on its list but the last half
-are_opened : (rows : Rows) (others : List (List ℕ)) (e : ℕ) (path : List ℕ) (before now : Rotation) (list mids : List ℕ)
+are_opened : {rows : Rows} {others : List (List ℕ)} {e : ℕ} {path : List ℕ} {before : Rotation} (now : Rotation) (list mids : List ℕ)
     (o : IsSetOut rows others e path before) → IsOpenTo (record { rows = rows; paths = o.paths }) e before (length path) now list
     → mids ≡ take (length list - 1) list → IsOpened rows others e mids now
-are_opened rows others e path before now list mids o done is = record {
+are_opened {rows} {others} {e} {path} {before} now list mids o done is = record {
   before = before;
   path = path;
   set_out = o;
@@ -384,7 +384,7 @@ module _ (rows : Rows) (e : ℕ) (paths : List (List ℕ)) (r : Rotation) (lawfu
       → IsOpenTo (record { rows = rows; paths = o.paths }) e r (length path) now list) (mids_are : mids ≡ take (length list - 1) list) where
     pub opened_here : IsOpened rows (set paths at blank) e mids now
     opened_here = subst (λ (ls : List (List ℕ)). IsOpened rows ls e mids now) others_are
-        (are_opened rows others e path r now list mids handed_out (done e handed_out) mids_are)
+        (are_opened now list mids handed_out (done e handed_out) mids_are)
 
     module _ (after : Rotation) (lists : List (List ℕ)) (smoothed : (e : ℕ) (o : IsOpened rows (set paths at blank) e mids now)
         → IsSmoothedTo (record { rows = rows; paths = o.set_out.paths }) e o.before now mids (length mids) after lists) where

@@ -59,8 +59,8 @@ pub loop-i-preserved : goal.loop-i-preserved
 loop-i-preserved g c =
     read_more g.rows (values_in c.args.paths.now) c.args.path.now c.args.segments.now c.requires.1 c.loop-i.i c.loop-i.segments c.loop-i.path c.loop-i.invariant
     c.at-half.result (omega (arith, c.loop-i-test.true, c.len-last.ensures.len))
-    c.at-half.ensures c.at.result c.midpoint-mid.result c.at.ensures c.midpoint-mid.ensures
-    c.unchord.new.self c.unchord.ensures.edit c.unchord.ensures.shrinks c.unchord.ensures.labels c.set.new.self c.set.ensures
+    c.at-half.ensures c.at.ensures c.midpoint-mid.ensures
+    c.unchord.new.self c.unchord.ensures.edit c.unchord.ensures.shrinks c.unchord.ensures.labels c.set.ensures
 
 pub at-requires-2 : goal.at-requires-2
 at-requires-2 g c = omega (
