@@ -34,9 +34,9 @@ module _ (near beyond : ℕ) where
   abbrev pub subdivision : Subdivision
   subdivision = record { dart = 0; near = near; beyond = beyond }
 
-  pub put_ahead : (path xs ys now : List ℕ) (h last at : ℕ) → path ≡ xs ++ h ∷ (ys ++ last ∷ []) → at ≡ length xs → h ≡ near
+  pub put_ahead : {path : List ℕ} (xs ys : List ℕ) {now : List ℕ} (h last at : ℕ) → path ≡ xs ++ h ∷ (ys ++ last ∷ []) → at ≡ length xs → h ≡ near
       → now ≡ take (at + 1) path ++ shifted beyond (drop (at + 1) path) → now ≡ xs ++ (piece subdivision h ++ ys)
-  put_ahead path xs ys now h last at is place here moved =
+  put_ahead {path} xs ys h last at is place here moved =
       let next : at + 1 ≡ suc (length xs) = omega (arith, place) in
       moved ∙ ap (λ (k : ℕ). take k path ++ shifted beyond (drop k path)) next
       ∙ ap (λ (p : List ℕ). take (suc (length xs)) p ++ shifted beyond (drop (suc (length xs)) p)) is
@@ -46,9 +46,9 @@ module _ (near beyond : ℕ) where
       ∙ append_assoc xs (h ∷ []) (beyond ∷ ys)
       ∙ ap (λ (zs : List ℕ). xs ++ (zs ++ ys)) (sym (cond-true _ _ _ (eq-eqb h near here)))
 
-  pub put_behind : (path xs ys now : List ℕ) (h last at : ℕ) → path ≡ xs ++ h ∷ (ys ++ last ∷ []) → at ≡ length xs → h ≢ near → IsOn near h
-      → now ≡ take at path ++ shifted (twin beyond) (drop at path) → now ≡ xs ++ (piece subdivision h ++ ys)
-  put_behind path xs ys now h last at is place other on moved =
+  pub put_behind : {path : List ℕ} (xs ys : List ℕ) {now : List ℕ} (h last at : ℕ) → path ≡ xs ++ h ∷ (ys ++ last ∷ []) → at ≡ length xs → h ≢ near
+      → IsOn near h → now ≡ take at path ++ shifted (twin beyond) (drop at path) → now ≡ xs ++ (piece subdivision h ++ ys)
+  put_behind {path} xs ys h last at is place other on moved =
       moved ∙ ap (λ (k : ℕ). take k path ++ shifted (twin beyond) (drop k path)) place
       ∙ ap (λ (p : List ℕ). take (length xs) p ++ shifted (twin beyond) (drop (length xs) p)) is
       ∙ ap (λ (zs : List ℕ). zs ++ shifted (twin beyond) (drop (length xs) (xs ++ h ∷ (ys ++ last ∷ [])))) (take-append_seam xs (h ∷ (ys ++ last ∷ [])))
@@ -92,13 +92,12 @@ pads_here ids k cs i d less here = pads_more ids k cs i d less
     ∙ ap (λ (xs : List ℕ). pads ids k (take i cs) ++ xs) (cond-true _ _ _ (eq-eqb (edge_place ids (get_or cs i d)) k (sym here)))
 
 -- one list is another, and in the others nothing shows
-pub one_changed : (ids : List ℕ) (f f' : List ℕ → List ℕ) (was now now' : List (List ℕ)) (cs cs' : List Crossed) (k : ℕ) (list : List ℕ)
-    → ArePadded ids f was cs now
-    → k < length was → now' ≡ set now k list
+pub one_changed : {ids : List ℕ} {f : List ℕ → List ℕ} (f' : List ℕ → List ℕ) {was now now' : List (List ℕ)} {cs : List Crossed} (cs' : List Crossed)
+    (k : ℕ) (list : List ℕ) → ArePadded ids f was cs now → k < length was → now' ≡ set now k list
     → ((j : ℕ) → j < length was → j ≢ k → f' (slice_index_or was j []) ++ pads ids j cs' ≡ f (slice_index_or was j []) ++ pads ids j cs)
     → list ≡ f' (slice_index_or was k []) ++ pads ids k cs'
     → ((j : ℕ) → j < length was → 0 < length (pads ids j cs') → 0 < length (slice_index_or was j [])) → ArePadded ids f' was cs' now'
-one_changed ids f f' was now now' cs cs' k list p less is others here some = grind (arith, length-set, cases_eq, get_or-set_same, get_or-set_other)
+one_changed f' cs' k list p less is others here some = grind (arith, length-set, cases_eq, get_or-set_same, get_or-set_other)
 
 -- with room for one fewer there is no more room than before
 pub pads_fewer : (ids : List ℕ) (k : ℕ) (cs : List Crossed) (i : ℕ) (d : Crossed) → i < length cs → 0 < length (pads ids k (take i cs))
@@ -112,12 +111,12 @@ pads_fewer ids k cs i d less more =
           (0 ∷ []) []),
     )
 
-pub pad_less : (ids : List ℕ) (was now now' : List (List ℕ)) (cs : List Crossed) (i : ℕ) (c : Crossed) (list : List ℕ)
+pub pad_less : {ids : List ℕ} {was now now' : List (List ℕ)} (cs : List Crossed) (i : ℕ) (c : Crossed) (list : List ℕ)
     → ArePadded ids (λ hs. hs) was (take (i + 1) cs) now
     → i < length cs → c ≡ get_or cs i c → edge_place ids c < length was → now' ≡ set now (edge_place ids c) list
     → ((xs : List ℕ) (x : ℕ) → 0 < length xs → get_or now (edge_place ids c) [] ≡ xs ++ x ∷ [] → list ≡ xs) → ArePadded ids (λ hs. hs) was (take i cs) now'
-pad_less ids was now now' cs i c list p less is placed set_is list_is =
-    one_changed ids (λ hs. hs) (λ hs. hs) was now now' (take (i + 1) cs) (take i cs) (edge_place ids c) list p placed set_is
+pad_less {ids} {was} {now} cs i c list p less is placed set_is list_is =
+    one_changed (λ hs. hs) (take i cs) (edge_place ids c) list p placed set_is
     (λ j lj ne. ap (λ (xs : List ℕ). slice_index_or was j [] ++ xs) (sym (pads_same ids j cs i c less (λ e. ne (e
     ∙ ap (λ (b : Crossed). edge_place ids b) (sym is))))))
     (list_is (slice_index_or was (edge_place ids c) [] ++ pads ids (edge_place ids c) (take i cs)) 0 held
@@ -138,16 +137,16 @@ padded_none ids was cs = record {
 }
 
 -- a half more at the end of one list
-pub pad_more : (ids : List ℕ) (was now now' : List (List ℕ)) (cs : List Crossed) (i : ℕ) (c : Crossed) → ArePadded ids (λ hs. hs) was (take i cs) now
+pub pad_more : {ids : List ℕ} {was now now' : List (List ℕ)} (cs : List Crossed) (i : ℕ) (c : Crossed) → ArePadded ids (λ hs. hs) was (take i cs) now
     → i < length cs → c ≡ get_or cs i c → edge_place ids c < length was
     → now' ≡ set now (edge_place ids c) (get_or now (edge_place ids c) [] ++ 0 ∷ []) → 0 < length (get_or now (edge_place ids c) [])
     → ArePadded ids (λ hs. hs) was (take (i + 1) cs) now'
-pad_more ids was now now' cs i c p less is placed set_is held =
+pad_more {ids} {was} {now} cs i c p less is placed set_is held =
     let k = edge_place ids c in
     let spot : k ≡ edge_place ids (get_or cs i c) = ap (λ (b : Crossed). edge_place ids b) is in
     let here : get_or now k [] ≡ slice_index_or was k [] ++ pads ids k (take i cs) = p.each k placed in
     let long = ap length here ∙ length-append (slice_index_or was k []) (pads ids k (take i cs)) in
-    one_changed ids (λ hs. hs) (λ hs. hs) was now now' (take i cs) (take (i + 1) cs) k (get_or now k [] ++ 0 ∷ []) p placed set_is
+    one_changed (λ hs. hs) (take (i + 1) cs) k (get_or now k [] ++ 0 ∷ []) p placed set_is
     (λ j lj ne. ap (λ (xs : List ℕ). slice_index_or was j [] ++ xs) (pads_same ids j cs i c less (λ e. ne (e ∙ sym spot))))
     (ap (λ (xs : List ℕ). xs ++ 0 ∷ []) here ∙ append_assoc (slice_index_or was k []) (pads ids k (take i cs)) (0 ∷ [])
     ∙ ap (λ (xs : List ℕ). slice_index_or was k [] ++ xs) (sym (pads_here ids k cs i c less spot)))

@@ -162,10 +162,10 @@ module _ (p : RowsWithPaths) (good : IsWellFormed p.rows) (r : Rotation) (s : Sh
         subst (λ (b : Subdivision). IsCrossedAt p r d b) (sym same.2) (subst (λ (b : Dart). IsCrossedAt p r b j) (sym same.1) a.0)
     new_at x d k n (c ∷ ds) (j ∷ js) a (inr i) = new_at x d k (n + 1) ds js a.1 i
 
-    past_crossed : (x : ℕ) (w : Way) (k : Subdivision) (n : ℕ) (d : Dart) (ds : List Dart) (j : Subdivision) (js : List Subdivision) → IsCrossedAt p r d j
+    past_crossed : {x : ℕ} {w : Way} {k : Subdivision} (n : ℕ) {d : Dart} {ds : List Dart} {j : Subdivision} {js : List Subdivision} → IsCrossedAt p r d j
         → same_segment d (forward e g) ≡ false → AreCrossedAt p r ds js → IsCrossed x w k (n + 1) ds js
         → IsCrossed x w k n (d ∷ ds) (j ∷ js)
-    past_crossed x w k n d ds j js c off all u = grind (arith, new_at, skipped, two_stay, subdivided_past)
+    past_crossed n c off all u = grind (arith, new_at, skipped, two_stay, subdivided_past)
 
     -- ---- A crossed dart on the segment
 
@@ -218,7 +218,7 @@ module _ (p : RowsWithPaths) (good : IsWellFormed p.rows) (r : Rotation) (s : Sh
           inr (n, w, j, here_crossed n d w ds j js all.0 is (none_crossed (n + 1) ds js all.1 (others_off d ds on once.0))))
       | inr off ↦ elim (crossed_or_not (n + 1) ds js all.1 once.1) [
         | inl u ↦ inl (past_uncrossed n d ds j js all.0 off u)
-        | inr u ↦ inr (u.0, u.1, u.2, past_crossed u.0 u.1 u.2 n d ds j js all.0 off all.1 u.3)
+        | inr u ↦ inr (u.0, u.1, u.2, past_crossed n all.0 off all.1 u.3)
       ]
     ]
 
@@ -241,4 +241,4 @@ module _ (p : RowsWithPaths) (good : IsWellFormed p.rows) (r : Rotation) (s : Sh
         (here_crossed n d w ds j js all.0 (sym same.1) (none_crossed (n + 1) ds js all.1 (others_off d ds on once.0))))
     crossed_there x w k n (d ∷ ds) (j ∷ js) all once (inr i) =
         let apart : same_segment d (on_seg w) ≡ false = off_at d x (on_seg w) k (n + 1) ds js once.0 i in
-        past_crossed x w k n d ds j js all.0 apart all.1 (crossed_there x w k (n + 1) ds js all.1 once.1 i)
+        past_crossed n all.0 apart all.1 (crossed_there x w k (n + 1) ds js all.1 once.1 i)

@@ -1,6 +1,6 @@
 -- One crossed segment more is split.
 use Rattle.std.proofs.Common.{◌≡◌, ◌≢◌, ◌<◌, ◌+◌, ap, append-nil, append_assoc, arith, Bool, drop, false, get_or, length}
-use Rattle.std.proofs.Common.{length-set, List, [], ◌∷◌, ◌++◌, refl, set, subst, suc, sym, take, true, zero, ℕ, ◌∙◌}
+use Rattle.std.proofs.Common.{length-set, List, [], ◌∷◌, ◌++◌, inl, inr, refl, set, subst, suc, sym, take, true, zero, ℕ, ◌∙◌}
 use Rattle.std.specs.Prelude.{◌&&◌, ◌||◌, ◌==◌, cond, find, is_some, map, slice_get, slice_index_or, Some}
 use Rattle.std.specs.List.{All, AllByRecursion, position_or_len}
 use Rattle.std.proofs.lemmas.Bool.{false≢true, cases_Bool}
@@ -108,6 +108,12 @@ module _ (p : RowsWithPaths) (good : IsWellFormed p.rows) (r : Rotation) (s : Sh
   all_placed_here cs all ids same k d less =
       subst (λ (ids : List ℕ). IsPlaced ids (slice_index_or cs k d)) (sym same) (marked_here (slice_index_or cs k d) (all k d less))
 
+-- a half is split, and both parts keep its label
+pub record IsHalfSplit (before after : Rotation) (near x : ℕ) : Type 0 where
+  pub edit : IsSplit (turn before) (turn after) half_limit near x
+  pub grows : Grows before after x
+  pub label : AddsLabel (is_live before) (edge_of before) (edge_of after) x (edge_of before near)
+
 module _ (p : RowsWithPaths) (good : IsWellFormed p.rows) (r : Rotation) (s : ShowsRows p r) (whole : IsEmbedding r) where
   abbrev ids : List ℕ
   ids = ids_of_edges p.rows
@@ -132,10 +138,8 @@ module _ (p : RowsWithPaths) (good : IsWellFormed p.rows) (r : Rotation) (s : Sh
     alone d h ds js a.1 off.1,
   )
 
-  module _ (now now' : Rotation) (x : ℕ) (c : Crossed) (cs : List Crossed) (sp : AreSplit p r now cs) (is : IsMarked p c)
-      (once : AllByRecursion (λ b. same_segment c.dart b ≡ false) (crossed_darts cs))
-      (edit : IsSplit (turn now) (turn now') half_limit c.near x) (grows : Grows now now' x)
-      (adds : AddsLabel (is_live now) (edge_of now) (edge_of now') x (edge_of now c.near)) where
+  module _ {now now' : Rotation} {x : ℕ} (c : Crossed) (cs : List Crossed) (sp : AreSplit p r now cs) (is : IsMarked p c)
+      (once : AllByRecursion (λ b. same_segment c.dart b ≡ false) (crossed_darts cs)) (done : IsHalfSplit now now' c.near x) where
     abbrev c' : Crossed
     c' = record { dart = c.dart; hint = c.hint; near = c.near; beyond = x }
 
@@ -149,7 +153,10 @@ module _ (p : RowsWithPaths) (good : IsWellFormed p.rows) (r : Rotation) (s : Sh
     near_alive = half_alive p good r s c.near (record { dart = c.dart; there = is.there; is = sym is.near })
 
     dead_before : (a : ℕ) → is_live now a ≡ false → is_live r a ≡ false
-    dead_before a dead = grind (arith, cases_Bool, false≢true, alive_still)
+    dead_before a dead = elim (cases_Bool (is_live r a)) [
+      | inl alive ↦ absurd (false≢true (sym dead ∙ alive_still r now js a whole sp.run alive))
+      | inr was_dead ↦ was_dead
+    ]
 
     pub one_split : AreSplit p r now' (c' ∷ cs)
     one_split = record {
@@ -158,19 +165,19 @@ module _ (p : RowsWithPaths) (good : IsWellFormed p.rows) (r : Rotation) (s : Sh
           there = is.there;
           dart = refl;
           near = is.near;
-          new = dead_before x grows.live.new;
-          new_back = dead_before (twin x) grows.live.new_twin;
+          new = dead_before x done.grows.live.new;
+          new_back = dead_before (twin x) done.grows.live.new_twin;
         },
         sp.crossed,
       );
-      run = (turning_of now, sp.run, split_step now now' c.near x sp.whole (alive_still r now js c.near whole sp.run near_alive) edit grows);
-      whole = grows.embedding;
+      run = (turning_of now, sp.run, split_step now now' c.near x sp.whole (alive_still r now js c.near whole sp.run near_alive) done.edit done.grows);
+      whole = done.grows.embedding;
       alive = (
-        (grows.live.here, grows.live.here_twin),
+        (done.grows.live.here, done.grows.live.here_twin),
         all_map (λ b. (is_live now b.beyond ≡ true) × (is_live now (twin b.beyond) ≡ true)) (λ b. (is_live now' b.beyond ≡ true)
-            × (is_live now' (twin b.beyond) ≡ true)) (λ b a. (grows.stays b.beyond a.0, grows.stays (twin b.beyond) a.1)) cs sp.alive,
+            × (is_live now' (twin b.beyond) ≡ true)) (λ b a. (done.grows.stays b.beyond a.0, done.grows.stays (twin b.beyond) a.1)) cs sp.alive,
       );
-      labels = split_labels now now' x (edge_of now c.near) grows adds j refl refl p.rows.edges js p.paths sp.labels;
+      labels = split_labels now now' x (edge_of now c.near) done.grows done.label j refl refl p.rows.edges js p.paths sp.labels;
     }
 
     -- where the half is on its path
@@ -210,8 +217,7 @@ module _ (p : RowsWithPaths) (good : IsWellFormed p.rows) (r : Rotation) (s : Sh
         ∙ ap (λ (xs : List ℕ). among.before ++ among.half ∷ xs) (sym (append_assoc among.behind rest (0 ∷ []))) in
         let made : list ≡ among.before ++ (piece j among.half ++ (among.behind ++ rest)) =
         put among.before (among.behind ++ rest) among.half 0 here among.before_off among.on in
-        one_changed ids (put_halves js) (put_halves (j ∷ js)) p.paths paths (set paths (edge_place ids c) list) (take (n + 1) all) (take n all)
-        (edge_place ids c) list pad placed refl
+        one_changed (put_halves (j ∷ js)) (take n all) (edge_place ids c) list pad placed refl
         (λ k lk ne. ap (λ (xs : List ℕ). xs ++ pads ids k (take n all)) (elsewhere k lk ne)
         ∙ ap (λ (xs : List ℕ). put_halves js (slice_index_or p.paths k []) ++ xs)
         (sym (pads_same ids k all n c less (λ e. ne (e ∙ ap (λ (b : Crossed). edge_place ids b) (sym at))))))
@@ -221,13 +227,13 @@ module _ (p : RowsWithPaths) (good : IsWellFormed p.rows) (r : Rotation) (s : Sh
         (λ k lk more. pad.some k lk (pads_fewer ids k all n c less more))
 
   -- one step of the loop
-  pub split_more : (was cs : List Crossed) (n : ℕ) (c : Crossed) (now now' : Rotation) (x : ℕ) (paths : List (List ℕ)) (list : List ℕ)
+  pub split_more : {was cs : List Crossed} (n : ℕ) (c : Crossed) {now now' : Rotation} {x : ℕ} {paths : List (List ℕ)} (list : List ℕ)
       → CrossesOnce (crossed_darts was) → n < length cs → c ≡ get_or cs n c → edge_place ids c < length p.paths → AreSplitFrom p r now was cs (n + 1) paths
-      → IsSplit (turn now) (turn now') half_limit c.near x → Grows now now' x → AddsLabel (is_live now) (edge_of now) (edge_of now') x (edge_of now c.near)
+      → IsHalfSplit now now' c.near x
       → ((xs ys : List ℕ) (h last : ℕ) → get_or paths (edge_place ids c) [] ≡ xs ++ h ∷ (ys ++ last ∷ []) → AreOff c.near xs → IsOn c.near h
       → list ≡ xs ++ (piece (subdivision c.near x) h ++ ys))
       → AreSplitFrom p r now' was (set cs n (record { dart = c.dart; hint = c.hint; near = c.near; beyond = x })) n (set paths (edge_place ids c) list)
-  split_more was cs n c now now' x paths list once less at placed from edit grows adds put =
+  split_more {cs} n c {now'} {x} {paths} list once less at placed from done put =
       let new : Crossed = record { dart = c.dart; hint = c.hint; near = c.near; beyond = x } in
       let rest : List Crossed = drop (n + 1) cs in
       let next : n + 1 ≡ suc n = omega arith in
@@ -238,9 +244,9 @@ module _ (p : RowsWithPaths) (good : IsWellFormed p.rows) (r : Rotation) (s : Sh
       (once_at cs n c less (subst CrossesOnce (sym from.darts) once))) in
       let dropped : drop n (set cs n new) ≡ new ∷ rest = drop-set cs n new less in
       let taken : take n (set cs n new) ≡ take n cs = take-set cs n new in
-      let split : AreSplit p r now' (new ∷ rest) = one_split now now' x c rest from.split is once_here edit grows adds in
+      let split : AreSplit p r now' (new ∷ rest) = one_split c rest from.split is once_here done in
       let put_now : ArePadded ids (put_halves (subdivisions_of p.rows (new ∷ rest))) p.paths (take n cs) (set paths (edge_place ids c) list) =
-      one_put now now' x c rest from.split is once_here edit grows adds cs n paths list less at placed from.padded put in
+      one_put c rest from.split is once_here done cs n paths list less at placed from.padded put in
       let long = length-set cs n new in
       record {
         within = omega (arith, less, long);
@@ -252,7 +258,7 @@ module _ (p : RowsWithPaths) (good : IsWellFormed p.rows) (r : Rotation) (s : Sh
             (sym dropped)
             (subst (λ (xs : List Crossed). ArePadded ids (put_halves (subdivisions_of p.rows (new ∷ rest))) p.paths xs (set paths (edge_place ids c) list))
             (sym taken) put_now);
-        room = (let less_room = grows.room_less in let so_far = from.room in omega (arith, less_room, so_far, long));
+        room = (let less_room = done.grows.room_less in let so_far = from.room in omega (arith, less_room, so_far, long));
       }
 
   pub marked_alive : (now : Rotation) (was cs : List Crossed) (n : ℕ) (c : Crossed) (paths : List (List ℕ)) → AreSplitFrom p r now was cs n paths → IsMarked p c

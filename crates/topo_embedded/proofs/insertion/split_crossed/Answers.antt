@@ -4,7 +4,7 @@ use Rattle.topo_embedded.specs.declared.padding.Crossed.{Crossed}
 use Rattle.topo_embedded.specs.Crossing.{AreSplitFrom, IsMarked, ids_of_edges}
 use Rattle.topo_embedded.specs.Padding.{IsPlaced}
 use Rattle.topo_embedded.proofs.halves.KeptPaths.{kept_on}
-use Rattle.topo_embedded.proofs.inserting.Splits.{marked_alive, marked_here, marked_placed, same_many, split_all, split_more, split_none}
+use Rattle.topo_embedded.proofs.inserting.Splits.{IsHalfSplit, marked_alive, marked_here, marked_placed, same_many, split_all, split_more, split_none}
 use Rattle.topo_embedded.proofs.insertion.split_crossed.Goals as goal
 
 pub loop-n-init : goal.loop-n-init
@@ -48,16 +48,17 @@ loop-n-preserved g c =
     let placed = marked_placed g.p c.requires.0.formed c.args.segments.now c.requires.0.shows cross is in
     let ids : ids_in c.loop-n.paths ≡ ids_of_edges g.p.rows = c.loop-n.invariant.kept.0 ∙ c.requires.1.1 in
     let put = c.split_path.ensures.path in
+    let done : IsHalfSplit c.loop-n.segments c.split-beyond.new.self cross.near c.split-beyond.result =
+    record { edit = c.split-beyond.ensures.edit; grows = c.split-beyond.ensures.grows; label = c.split-beyond.ensures.label } in
     record {
       split = subst (λ (ps : List (List ℕ)). AreSplitFrom g.p c.args.segments.now c.split-beyond.new.self c.args.crossed.now
           (set c.loop-n.crossed n (record { dart = cross.dart; hint = cross.hint; near = cross.near; beyond = c.split-beyond.result })) n ps)
           (sym (put.put ∙ ap (λ (ids : List ℕ). set (values_in c.loop-n.paths) (place_in ids cross.dart.edge) put.path) ids))
-          (split_more g.p c.requires.0.formed c.args.segments.now c.requires.0.shows c.laws.ensures c.args.crossed.now c.loop-n.crossed n cross
-          c.loop-n.segments c.split-beyond.new.self c.split-beyond.result (values_in c.loop-n.paths) put.path
+          (split_more g.p c.requires.0.formed c.args.segments.now c.requires.0.shows c.laws.ensures n cross put.path
           c.requires.0.once less c.index-crossed-n.is placed
           (subst (λ (k : ℕ). AreSplitFrom g.p c.args.segments.now c.loop-n.segments c.args.crossed.now c.loop-n.crossed k (values_in c.loop-n.paths)) more
           c.loop-n.invariant.split)
-          c.split-beyond.ensures.edit c.split-beyond.ensures.grows c.split-beyond.ensures.label
+          done
           (λ xs ys h last is. put.is xs ys h last
           (ap (λ (ids : List ℕ). get_or (values_in c.loop-n.paths) (place_in ids cross.dart.edge) []) ids ∙ is)));
       kept = kept_on c.args.paths.now c.loop-n.paths c.split_path.new.paths c.loop-n.invariant.kept c.split_path.ensures.same;

@@ -30,8 +30,7 @@ loop-i-preserved c =
     let ok = when_ok c.pad_path.result (sym c.if-is_err.ensures.value) c.pad_path.ensures.ok in
     let some = when_ok c.pad_path.result (sym c.if-is_err.ensures.value) c.pad_path.ensures.some in
     record {
-      padded = pad_more ids (values_in c.args.paths.now) (values_in c.loop-i.paths) (values_in c.pad_path.new.paths) c.args.crossed.now c.loop-i.i cross
-          c.loop-i.invariant.padded c.loop-i-test.true c.index-crossed-i.is
+      padded = pad_more c.args.crossed.now c.loop-i.i cross c.loop-i.invariant.padded c.loop-i-test.true c.index-crossed-i.is
           (let less = placed_within ids cross.dart.edge here in
           let many = ids_many c.args.paths.now in omega arith)
           (subst (λ (ids : List ℕ). values_in c.pad_path.new.paths ≡ set (values_in c.loop-i.paths) (place_in ids cross.dart.edge)

@@ -11,7 +11,7 @@ returns-then-eq c = λ xs ys h last is off on.
     let same : c.at.result ≡ c.args.near = search rules in
     let here : c.at.result ≡ h = c.at.ensures ∙ ap (λ (p : List ℕ). get_or p c.place_of-at.result 0) is
     ∙ ap (λ (k : ℕ). get_or (xs ++ h ∷ (ys ++ last ∷ [])) k 0) at ∙ get_or-append_seam xs h (ys ++ last ∷ []) 0 in
-    put_ahead c.args.near c.args.beyond c.args.path.now xs ys c.shift_in.new.path h last c.place_of-at.result is at (sym here ∙ same) c.shift_in.ensures
+    put_ahead c.args.near c.args.beyond xs ys h last c.place_of-at.result is at (sym here ∙ same) c.shift_in.ensures
 
 pub returns-else-eq : goal.returns-else-eq
 returns-else-eq c = λ xs ys h last is off on.
@@ -19,7 +19,7 @@ returns-else-eq c = λ xs ys h last is off on.
     let other : c.at.result ≢ c.args.near = (λ e. search (rules, e)) in
     let here : c.at.result ≡ h = c.at.ensures ∙ ap (λ (p : List ℕ). get_or p c.place_of-at.result 0) is
     ∙ ap (λ (k : ℕ). get_or (xs ++ h ∷ (ys ++ last ∷ [])) k 0) at ∙ get_or-append_seam xs h (ys ++ last ∷ []) 0 in
-    put_behind c.args.near c.args.beyond c.args.path.now xs ys c.shift_in-else-eq.new.path h last c.place_of-at.result is at (λ e. other (here ∙ e)) on
+    put_behind c.args.near c.args.beyond xs ys h last c.place_of-at.result is at (λ e. other (here ∙ e)) on
     (c.shift_in-else-eq.ensures
     ∙ ap (λ (b : ℕ). take c.place_of-at.result c.args.path.now ++ shifted b (drop c.place_of-at.result c.args.path.now)) c.twin.ensures)
 

@@ -37,7 +37,7 @@ loop-n-preserved c =
       padded = λ was p.
           let many : length (values_in c.args.paths.now) ≡ length was = p.as_many in
           let all = ids_many c.args.paths.now in
-          pad_less ids was (values_in c.loop-n.paths) (values_in c.unpad_path.new.paths) c.args.crossed.now n cross shorter.path
+          pad_less c.args.crossed.now n cross shorter.path
           (subst (λ (k : ℕ). ArePadded ids (λ hs. hs) was (take k c.args.crossed.now) (values_in c.loop-n.paths)) more (c.loop-n.invariant.padded was p)) less
           c.index-crossed-n.is (omega (arith, placed, many, all))
           (shorter.put ∙ ap (λ (ids : List ℕ). set (values_in c.loop-n.paths) (place_in ids cross.dart.edge) shorter.path) same)
