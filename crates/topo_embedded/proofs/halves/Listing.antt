@@ -13,10 +13,10 @@ use Rattle.topo_embedded.specs.Making.{ArePathsOf, IsPathOf}
 pub paths_none : (edges : List EdgeRow) (begins halves : List ℕ) (paths : List (List ℕ)) → paths ≡ [] → ArePathsOf edges begins halves 0 paths
 paths_none edges begins halves paths none = record { as_many = ap length none; each = λ i row less got. absurd (omega (arith, less)) }
 
-pub paths_more : (edges : List EdgeRow) (begins halves : List ℕ) (paths more : List (List ℕ)) (k : ℕ) (row : EdgeRow) (path : List ℕ)
+pub paths_more : {edges : List EdgeRow} {begins halves : List ℕ} {paths more : List (List ℕ)} (k : ℕ) (row : EdgeRow) (path : List ℕ)
     → ArePathsOf edges begins halves k paths → slice_get edges k ≡ Some row
     → IsPathOf halves (slice_index begins k) (segment_count row) path → more ≡ paths ++ path ∷ [] → ArePathsOf edges begins halves (k + 1) more
-paths_more edges begins halves paths more k row path p at is_path is = record {
+paths_more {begins} {halves} {paths} k row path p at is_path is = record {
   as_many = ap length is ∙ length-append paths (path ∷ []) ∙ omega (arith, p.as_many);
   each = λ i other li got. subst (IsPathOf halves (slice_index begins i) (segment_count other)) (sym (ap (λ xs. slice_index_or xs i []) is))
       (elim (cases_lt i k) [

@@ -149,11 +149,11 @@ module _ (rows : Rows) (good : IsWellFormed rows) (begins halves : List ℕ) (pa
   }
 
 -- as they are read
-pub made_from : (rows : Rows) (good : IsWellFormed rows) (edges : List EdgeRow) (turns labels begins halves again : List ℕ) (paths : List (List ℕ))
-    (r : Rotation) → edges ≡ rows.edges → turns ≡ turn_images rows → labels ≡ labels_of edges
+pub made_from : (rows : Rows) (good : IsWellFormed rows) {edges : List EdgeRow} {turns labels begins halves again : List ℕ} {paths : List (List ℕ)}
+    {r : Rotation} → edges ≡ rows.edges → turns ≡ turn_images rows → labels ≡ labels_of edges
     → begins ≡ begins_from 0 rows.edges → again ≡ halves → IsMadeFrom turns halves r → AreLabelled labels halves (edge_of r)
     → ArePathsOf edges begins again (length edges) paths → ShowsRows (record { rows = rows; paths = paths }) r
-made_from rows good edges turns labels begins halves again paths r edges_are turns_are labels_are begins_are again_are made labelled are =
+made_from rows good {begins} {halves} {again} {paths} {r} edges_are turns_are labels_are begins_are again_are made labelled are =
     made_shows rows good begins halves paths r begins_are (subst (λ (l : List ℕ). IsMadeFrom l halves r) turns_are made)
     (subst (λ (l : List ℕ). AreLabelled l halves (edge_of r)) (labels_are ∙ ap labels_of edges_are) labelled)
     (subst (λ (l : List ℕ). ArePathsOf rows.edges begins l (length rows.edges) paths) again_are

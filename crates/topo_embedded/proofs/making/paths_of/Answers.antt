@@ -33,8 +33,7 @@ push-requires-clause-last c =
 
 pub loop-place-preserved : goal.loop-place-preserved
 loop-place-preserved c = record {
-  made = paths_more c.args.edges.now c.args.begins.now c.args.halves.now (values_in c.loop-place.paths) (values_in c.push.new.self) c.loop-place.place
-      c.index-edges-place.result c.in_ok-path.path c.loop-place.invariant.made
+  made = paths_more c.loop-place.place c.index-edges-place.result c.in_ok-path.path c.loop-place.invariant.made
       (slice_get-get_or c.args.edges.now c.loop-place.place c.index-edges-place.result c.loop-place-test.true ∙ ap Some (sym c.index-edges-place.is))
       (grind arith) (values_pushed c.loop-place.paths c.push.new.self _ c.in_ok-path.path c.push.ensures.entries);
   noted = ids_more c.args.edges.now c.args.limit c.requires.rise c.loop-place.place c.index-edges-place-in-loop-place.result c.loop-place.paths

@@ -33,9 +33,8 @@ invariant_of-result c =
     subst (λ (rows : Rows). IsWellFormed rows × ShowsRows (record { rows = rows; paths = values_in paths }) c.in_ok-segments.segments × AreForEdges rows paths)
     (sym c.in_ok-rows.ensures) (
       c.requires.well_formed,
-      made_from c.args.rows c.requires.well_formed c.as_slice-edges.result.now c.as_slice-images.result.now c.as_slice.result.now c.as_slice-begins.result.now
-          c.in_ok-segments.halves.items c.as_slice-2.result.now (values_in paths) c.in_ok-segments.segments
-          c.as_slice-edges.ensures (c.as_slice-images.ensures.value ∙ c.requires.turns.images) (c.as_slice.ensures.value ∙ c.in_ok-labels.ensures)
+      made_from c.args.rows c.requires.well_formed c.as_slice-edges.ensures
+          (c.as_slice-images.ensures.value ∙ c.requires.turns.images) (c.as_slice.ensures.value ∙ c.in_ok-labels.ensures)
           (c.as_slice-begins.ensures.value ∙ c.requires.turns.edge_begins) c.as_slice-2.ensures.value
           c.in_ok-segments.ensures.made c.in_ok-segments.ensures.labels c.in_ok-paths.ensures.paths,
       record {
