@@ -198,39 +198,50 @@ module _ (rows : Rows) (good : IsWellFormed rows) (u v kind : ℕ) (u_in : u < l
 pub kept_shows : (p : RowsWithPaths) (r r' : Rotation) → r'.slots ≡ r.slots → ShowsRows p r → ShowsRows p r'
 kept_shows p r r' same s = grind (arith, as_many)
 
-pub corner_alive : (p : RowsWithPaths) → IsWellFormed p.rows → (r r' : Rotation) → r'.slots ≡ r.slots → ShowsRows p r → (u v named : ℕ)
-    → u < length p.rows.rotations → v < length (rotation p.rows u) → ((c : Dart) → corner p.rows u v ≡ Some c → named ≡ half_in p c)
-    → is_live r' named ≡ true
-corner_alive p good r r' same s u v named u_in v_in is =
-    let c : Dart = end_dart p.rows u (slice_index (rotation p.rows u) v) in
-    let at : corner p.rows u v ≡ Some c = corner_is p.rows good u u_in v v_in in
-    ap (is_live r') (is c at)
-    ∙ half_alive p good r' (kept_shows p r r' same s) (half_in p c) (record { dart = c; there = corner_in p.rows good u v c at; is = refl })
+-- the half at position v of vertex u has this name
+pub record IsCornerNamed (p : RowsWithPaths) (u v named : ℕ) : Type 0 where
+  pub formed : IsWellFormed p.rows
+  pub vertex : u < length p.rows.rotations
+  pub position : v < length (rotation p.rows u)
+  pub names : (c : Dart) → corner p.rows u v ≡ Some c → named ≡ half_in p c
 
-pub grown_parts : (rows : Rows) → IsWellFormed rows → (u v kind : ℕ) → u < length rows.rotations → v < length (rotation rows u) → kind < KINDS
-    → (paths : List (List ℕ)) (r r' r'' : Rotation) → ShowsRows (record { rows = rows; paths = paths }) r → r'.slots ≡ r.slots
-    → IsEmbedding r' → (named x : ℕ) → ((c : Dart) → corner rows u v ≡ Some c → named ≡ half_in (record { rows = rows; paths = paths }) c)
-    → IsHang (turn r') (turn r'') half_limit named x → Grows r' r'' x → AddsLabel (is_live r') (edge_of r') (edge_of r'') x rows.next_edge
-    → (after : Rows) (path : List ℕ) (paths_after : List (List ℕ)) → after ≡ grown rows u v kind → path ≡ x ∷ [] → paths_after ≡ paths ++ path ∷ []
+-- a segment of this edge hangs at a half
+pub record IsHung (before after : Rotation) (named x edge : ℕ) : Type 0 where
+  pub whole : IsEmbedding before
+  pub edit : IsHang (turn before) (turn after) half_limit named x
+  pub grows : Grows before after x
+  pub label : AddsLabel (is_live before) (edge_of before) (edge_of after) x edge
+
+pub corner_alive : {p : RowsWithPaths} {u v named : ℕ} {r : Rotation} → IsCornerNamed p u v named → (r' : Rotation) → r'.slots ≡ r.slots → ShowsRows p r
+    → is_live r' named ≡ true
+corner_alive {p} {u} {v} {r} at r' same s =
+    let c : Dart = end_dart p.rows u (slice_index (rotation p.rows u) v) in
+    let here : corner p.rows u v ≡ Some c = corner_is p.rows at.formed u at.vertex v at.position in
+    ap (is_live r') (at.names c here)
+    ∙ half_alive p at.formed r' (kept_shows p r r' same s) (half_in p c) (record { dart = c; there = corner_in p.rows at.formed u v c here; is = refl })
+
+pub grown_parts : {p : RowsWithPaths} {u v named : ℕ} {r r' r'' : Rotation} {x : ℕ} {after : Rows} {path : List ℕ} {paths_after : List (List ℕ)}
+    → IsCornerNamed p u v named → (kind : ℕ) → kind < KINDS → ShowsRows p r → r'.slots ≡ r.slots → IsHung r' r'' named x p.rows.next_edge
+    → after ≡ grown p.rows u v kind → path ≡ x ∷ [] → paths_after ≡ p.paths ++ path ∷ []
     → ShowsRows (record { rows = after; paths = paths_after }) r''
-grown_parts rows good u v kind u_in v_in known paths r r' r'' s same whole named x is edit grows labels after path paths_after rows_are path_is paths_are =
-    let c : Dart = end_dart rows u (slice_index (rotation rows u) v) in
-    let at : corner rows u v ≡ Some c = corner_is rows good u u_in v v_in in
-    let shows : ShowsRows (record { rows = grown rows u v kind; paths = paths ++ (x ∷ []) ∷ [] }) r'' =
-    grown_shows rows good u v kind u_in v_in known paths r' (kept_shows (record { rows = rows; paths = paths }) r r' same s) x r'' whole named c at (is c at)
-    edit grows labels in
+grown_parts {p} {u} {v} {named} {r} {r'} {r''} {x} {after} at kind known s same hung rows_are path_is paths_are =
+    let c : Dart = end_dart p.rows u (slice_index (rotation p.rows u) v) in
+    let here : corner p.rows u v ≡ Some c = corner_is p.rows at.formed u at.vertex v at.position in
+    let shows : ShowsRows (record { rows = grown p.rows u v kind; paths = p.paths ++ (x ∷ []) ∷ [] }) r'' =
+    grown_shows p.rows at.formed u v kind at.vertex at.position known p.paths r' (kept_shows p r r' same s) x r'' hung.whole named c here (at.names c here)
+    hung.edit hung.grows hung.label in
     subst (λ (q : RowsWithPaths). ShowsRows q r'')
-    (ap (λ (rs : Rows). (let q : RowsWithPaths = record { rows = rs; paths = paths ++ (x ∷ []) ∷ [] } in q)) (sym rows_are)
+    (ap (λ (rs : Rows). (let q : RowsWithPaths = record { rows = rs; paths = p.paths ++ (x ∷ []) ∷ [] } in q)) (sym rows_are)
     ∙ ap (λ (ps : List (List ℕ)). (let q : RowsWithPaths = record { rows = after; paths = ps } in q))
-    (ap (λ (l : List ℕ). paths ++ l ∷ []) (sym path_is) ∙ sym paths_are)) shows
+    (ap (λ (l : List ℕ). p.paths ++ l ∷ []) (sym path_is) ∙ sym paths_are)) shows
 
 -- grown or not
-pub grown_formed : {A E : Type 0} (result : Result A E) (p : RowsWithPaths) (rows new : Rows) (paths : List (List ℕ))
-    → (let q : RowsWithPaths = record { rows = rows; paths = paths } in q ≡ p) → IsWellFormed rows → (u v kind : ℕ) → u < length p.rows.rotations
+pub grown_formed : {A E : Type 0} (result : Result A E) {p : RowsWithPaths} {rows new : Rows} {paths : List (List ℕ)} {u v kind : ℕ}
+    → (let q : RowsWithPaths = record { rows = rows; paths = paths } in q ≡ p) → IsWellFormed rows → u < length p.rows.rotations
     → v < length (rotation p.rows u) → kind < KINDS
     → OnOk result (new ≡ grown rows u v kind) → OnErr result (new ≡ rows) → IsWellFormed new
-grown_formed (Ok a) p rows new paths seen good u v kind u_in v_in known ok err =
+grown_formed (Ok a) {p} {rows} {u} {v} {kind} seen good u_in v_in known ok err =
     let same : p.rows ≡ rows = ap (λ (q : RowsWithPaths). q.rows) (sym seen) in
     subst IsWellFormed (sym ok) (grown_good rows u v kind good (subst (λ (rs : Rows). u < length rs.rotations) same u_in)
     (subst (λ (rs : Rows). v < length (rotation rs u)) same v_in) known)
-grown_formed (Err e) p rows new paths seen good u v kind u_in v_in known ok err = subst IsWellFormed (sym err) good
+grown_formed (Err e) seen good u_in v_in known ok err = subst IsWellFormed (sym err) good

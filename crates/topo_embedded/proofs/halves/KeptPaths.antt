@@ -157,11 +157,11 @@ pub kept_ids : (rows : Rows) (was now : Places (List ℕ)) → ids_in now ≡ id
 kept_ids rows was now ids places kept = record { ids = ids ∙ kept.ids; below = below_same rows.next_edge was.slots now.slots places kept.below }
 
 -- the paths with one more are for the rows with one more edge
-pub one_more_kept : (rows after : Rows) (was now : Places (List ℕ)) (path : List ℕ) (edge : ℕ) → edge ≡ rows.next_edge → AreForEdges rows was
-    → map (λ row. row.id) after.edges ≡ map (λ row. row.id) rows.edges ++ rows.next_edge ∷ []
+pub one_more_kept : {rows : Rows} (after : Rows) {was : Places (List ℕ)} (now : Places (List ℕ)) (path : List ℕ) (edge : ℕ) → AreForEdges rows was
+    → edge ≡ rows.next_edge → map (λ row. row.id) after.edges ≡ map (λ row. row.id) rows.edges ++ rows.next_edge ∷ []
     → after.next_edge ≡ rows.next_edge + 1 → now.slots ≡ was.slots ++ (edge, Some path) ∷ []
     → entries now ≡ entries was ++ (edge, path) ∷ [] → AreForEdges after now
-one_more_kept rows after was now path edge is kept more next slots entries_are = record {
+one_more_kept {rows} after {was} now path edge kept is more next slots entries_are = record {
   ids = ids_pushed was now edge path entries_are ∙ ap (λ (xs : List ℕ). xs ++ edge ∷ []) kept.ids
       ∙ ap (λ (n : ℕ). map (λ row. row.id) rows.edges ++ n ∷ []) is ∙ sym more;
   below = subst (λ (n : ℕ). AreBelow n now.slots) (ap (λ (n : ℕ). n + 1) is ∙ sym next) (subst (AreBelow (edge + 1)) (sym slots)

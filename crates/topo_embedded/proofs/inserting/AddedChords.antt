@@ -30,11 +30,11 @@ use Rattle.topo_embedded.proofs.inserting.Splits.{alive_still}
 -- ---- The line
 
 module _ (before now now' : Rotation) (cs : List Crossed) (end edge : ℕ) (line : List ℕ) (x : ℕ) where
-  pub chords_more : (n to : ℕ) (c : Crossed) → n < length cs → c ≡ get_or cs n c → is_live before (twin c.near) ≡ true → is_live before c.beyond ≡ true
+  pub chords_more : (n : ℕ) {to : ℕ} (c : Crossed) → n < length cs → c ≡ get_or cs n c → is_live before (twin c.near) ≡ true → is_live before c.beyond ≡ true
       → AreChordsAddedFrom before now cs (n + 1) to end edge line → IsChord (turn now) (turn now') half_limit (twin c.near) to x
       → Grows now now' x → AddsLabel (is_live now) (edge_of now) (edge_of now') x edge
       → AreChordsAddedFrom before now' cs n c.beyond end edge (set line (n + 1) x)
-  chords_more n to c less at near_alive beyond_alive from edit grows adds =
+  chords_more n {to} c less at near_alive beyond_alive from edit grows adds =
       let next : n + 1 ≡ suc n = omega arith in
       let dropped : drop n cs ≡ c ∷ drop (n + 1) cs = drop-cons cs n c less ∙ ap (λ (b : Crossed). b ∷ drop (suc n) cs) (sym at)
       ∙ ap (λ (k : ℕ). c ∷ drop k cs) (sym next) in

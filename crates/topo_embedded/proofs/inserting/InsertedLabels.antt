@@ -79,8 +79,14 @@ got_shown rows route [] y row (suc k) h = absurd (none h) where
 got_shown rows route (x ∷ edges) y row zero h = (let same : crossed_row rows route x ≡ row = cc in inl (x, refl, sym (ap (λ (e : EdgeRow). e.id) same)))
 got_shown rows route (x ∷ edges) y row (suc k) h = grind (arith, got_shown rows route edges y row k h)
 
-pub shown_labels : (rows : Rows) (u v kind : ℕ) (route : Route) (paths : List (List ℕ)) (js : List Subdivision) (line : List ℕ) (r : Rotation)
-    → length paths ≡ length rows.edges → HaveLabels r rows.edges (map (put_halves js) paths) → HaveLabel r rows.next_edge line
+-- the crossed paths of all edges have their labels, and so has the new line
+pub record AreAllLabelled (r : Rotation) (rows : Rows) (paths : List (List ℕ)) (js : List Subdivision) (line : List ℕ) : Type 0 where
+  pub as_many : length paths ≡ length rows.edges
+  pub old : HaveLabels r rows.edges (map (put_halves js) paths)
+  pub new : HaveLabel r rows.next_edge line
+
+pub shown_labels : {rows : Rows} {paths : List (List ℕ)} {js : List Subdivision} {line : List ℕ} {r : Rotation} (u v kind : ℕ) (route : Route)
+    → AreAllLabelled r rows paths js line
     → AreLabelledPaths (edge_of r) (shown rows u v kind route).edges (map (put_halves js) paths ++ line ∷ [])
-shown_labels rows u v kind route paths js line r as_many old new =
+shown_labels u v kind route labels =
     grind (arith, got_shown, got_within, length-map, get_or_append_left, labelled_path, get_or_at)

@@ -71,21 +71,21 @@ module _ (rows : Rows) (u v kind : ℕ) (route : Route) (good : IsWellFormed row
     here : number (num (forward f j)) ≡ half
     behind : number (twin (num (forward f j))) ≡ twin half
 
-  line_made : (x z : ℕ) (ds : List Dart) (e : ℕ) (is : List NewChord) (i j : ℕ) → rows.next_crossing ≤ x
+  line_made : (x z : ℕ) (ds : List Dart) (e : ℕ) (is : List NewChord) (i j : ℕ)
       → AreNumbered number (chords_of (new_chords_of rows q f u v route good h.form h.turns x z ds e)) (chords_of is) → i ≤ length ds
       → j + rows.next_crossing ≡ x + i
       → IsMade j (slice_index_or (halves_of is) i 0)
-  line_made x z [] e [] i j low a le at = absurd a
-  line_made x z [] e (l ∷ is) zero j low a le at =
+  line_made x z [] e [] i j a le at = absurd a
+  line_made x z [] e (l ∷ is) zero j a le at =
       let same : j ≡ x - rows.next_crossing = omega arith in
       record { here = ap (λ (k : ℕ). number (num (forward f k))) same ∙ a.0; behind = ap (λ (k : ℕ). number (twin (num (forward f k)))) same ∙ a.1 }
-  line_made x z [] e (l ∷ is) (suc i) j low a le at = absurd (omega arith)
-  line_made x z (d ∷ ds) e [] i j low a le at = absurd a
-  line_made x z (d ∷ ds) e (l ∷ is) zero j low a le at =
+  line_made x z [] e (l ∷ is) (suc i) j a le at = absurd (omega arith)
+  line_made x z (d ∷ ds) e [] i j a le at = absurd a
+  line_made x z (d ∷ ds) e (l ∷ is) zero j a le at =
       let same : j ≡ x - rows.next_crossing = omega arith in
       record { here = ap (λ (k : ℕ). number (num (forward f k))) same ∙ a.0; behind = ap (λ (k : ℕ). number (twin (num (forward f k)))) same ∙ a.1 }
-  line_made x z (d ∷ ds) e (l ∷ is) (suc i) j low a le at =
-      line_made (x + 1) (num (backward q x d)) ds e is i j (omega arith) a.2 (omega arith) (omega arith)
+  line_made x z (d ∷ ds) e (l ∷ is) (suc i) j a le at =
+      line_made (x + 1) (num (backward q x d)) ds e is i j a.2 (omega arith) (omega arith)
 
 module _ (p : RowsWithPaths) (r : Rotation) (u v kind : ℕ) (route : Route) (good : IsWellFormed p.rows) (h : HasInsertionPath p.rows u v kind route good)
     (js : List Subdivision) (all : AreCrossedAt p r route.crossed js) (is : List NewChord) (t : Turning) (limit : ℕ)
@@ -100,7 +100,7 @@ module _ (p : RowsWithPaths) (r : Rotation) (u v kind : ℕ) (route : Route) (go
 
   line_is : (i : ℕ) → i ≤ length route.crossed → IsMade p.rows u v kind route good h under.number i (slice_index_or (halves_of is) i 0)
   line_is i le = line_made p.rows u v kind route good h under.number p.rows.next_crossing (index_of after (lifted p.rows after h.from)) route.crossed
-      (index_of after (lifted p.rows after h.to)) is i i (omega arith) under.new_chords le (omega arith)
+      (index_of after (lifted p.rows after h.to)) is i i under.new_chords le (omega arith)
 
   pub numbers_inserted : AreInserted p u v kind route js (halves_of is) under.number
   numbers_inserted = record {

@@ -44,22 +44,28 @@ crossed_halves p good r [] (j ∷ js) a = absurd a
 crossed_halves p good r (d ∷ ds) [] a = absurd a
 crossed_halves p good r (d ∷ ds) (j ∷ js) a = (a.0.dart, a.0.near ∙ sym (half_of_number p good d a.0.there), crossed_halves p good r ds js a.1)
 
+-- the halves of these darts are split, and chords are drawn over them from one dart to another
+pub record IsDrawn (p : RowsWithPaths) (r r' : Rotation) (ds : List Dart) (from to : Dart) (js : List Subdivision) (is : List NewChord) : Type 0 where
+  pub crossed : AreCrossedAt p r ds js
+  pub along : AreAlong (subdivided_number (half_at p) js) (subdivided_number (half_at p) js (index_of p.rows from)) js (index_of p.rows to) is
+  pub middle : Turning
+  pub splits : IsRun half_limit (turning_of r) (splits_of js) middle
+  pub chords : IsRun half_limit middle (chords_of is) (turning_of r')
+
 -- the halves along the edges are then those of the crossed paths, and of the line of chords
-pub insertion_shows : (p : RowsWithPaths) (good : IsWellFormed p.rows) (r : Rotation) (s : ShowsRows p r) → IsEmbedding r → (u v kind : ℕ) (route : Route)
-    → CrossesOnce route.crossed → (h : HasInsertionPath p.rows u v kind route good)
-    → (js : List Subdivision) → AreCrossedAt p r route.crossed js → (is : List NewChord) (middle : Turning) (r' : Rotation)
-    → AreAlong (subdivided_number (half_at p) js) (subdivided_number (half_at p) js (index_of p.rows h.from)) js (index_of p.rows h.to) is
-    → IsRun half_limit (turning_of r) (splits_of js) middle → IsRun half_limit middle (chords_of is) (turning_of r')
+pub insertion_shows : {p : RowsWithPaths} {r r' : Rotation} {u v kind : ℕ} {route : Route} {good : IsWellFormed p.rows} {js : List Subdivision}
+    {is : List NewChord} → ShowsRows p r → IsEmbedding r → (h : HasInsertionPath p.rows u v kind route good) → CrossesOnce route.crossed
+    → IsDrawn p r r' route.crossed h.from h.to js is
     → AreLabelledPaths (edge_of r') (shown p.rows u v kind route).edges (map (put_halves js) p.paths ++ halves_of is ∷ [])
     → ShowsRows (record { rows = shown p.rows u v kind route; paths = map (put_halves js) p.paths ++ halves_of is ∷ [] }) r'
-insertion_shows p good r s whole u v kind route once h js all is middle r' along splits chords labels =
-    let under = inserted_slab p.rows u v kind route good h (half_at p) s.back half_limit (turning_of r) middle (turning_of r') js is s.renumbers whole.slab
-    (crossed_halves p good r route.crossed js all) along splits chords in
+insertion_shows {p} {r} {r'} {u} {v} {kind} {route} {good} {js} {is} s whole h once drawn labels =
+    let under = inserted_slab p.rows u v kind route good h (half_at p) s.back half_limit (turning_of r) drawn.middle (turning_of r') js is s.renumbers
+    whole.slab (crossed_halves p good r route.crossed js drawn.crossed) drawn.along drawn.splits drawn.chords in
     let long : length (halves_of is) ≡ length route.crossed + 1 = length-map is (λ l. l.half)
     ∙ omega (
       arith,
-      one_more (subdivided_number (half_at p) js) (subdivided_number (half_at p) js (index_of p.rows h.from)) js (index_of p.rows h.to) is along,
-      as_many p r route.crossed js all,
+      one_more (subdivided_number (half_at p) js) (subdivided_number (half_at p) js (index_of p.rows h.from)) js (index_of p.rows h.to) is drawn.along,
+      as_many p r route.crossed js drawn.crossed,
     ) in
-    inserted_shows p good r s u v kind route once h.form h.turns js all (halves_of is) long r' under.number under.back under.renumbers
-    (numbers_inserted p r u v kind route good h js all is (turning_of r') half_limit under) labels
+    inserted_shows p good r s u v kind route once h.form h.turns js drawn.crossed (halves_of is) long r' under.number under.back under.renumbers
+    (numbers_inserted p r u v kind route good h js drawn.crossed is (turning_of r') half_limit under) labels

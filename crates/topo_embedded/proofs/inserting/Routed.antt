@@ -25,25 +25,31 @@ use Rattle.topo_embedded.specs.Halves.{RowsWithPaths, ShowsRows, half_at}
 use Rattle.topo_embedded.specs.Inserting.{put_halves}
 use Rattle.topo_embedded.specs.Padding.{ArePadded}
 use Rattle.topo_embedded.proofs.inserting.AddedChords.{subdivided_is}
-use Rattle.topo_embedded.proofs.growing.Grown.{corner_alive, kept_shows}
-use Rattle.topo_embedded.proofs.inserting.InsertedLabels.{shown_labels}
-use Rattle.topo_embedded.proofs.inserting.InsertionLaw.{insertion_shows}
+use Rattle.topo_embedded.proofs.growing.Grown.{IsCornerNamed, corner_alive, kept_shows}
+use Rattle.topo_embedded.proofs.inserting.InsertedLabels.{AreAllLabelled, shown_labels}
+use Rattle.topo_embedded.proofs.inserting.InsertionLaw.{IsDrawn, insertion_shows}
 
 -- labels of paths, with more drawn
 labels_still : (r r' : Rotation) → ((id h : ℕ) → HasLabel r id h → HasLabel r' id h) → (id : ℕ) (path : List ℕ) → HaveLabel r id path → HaveLabel r' id path
 labels_still r r' keeps id [] a = tt
 labels_still r r' keeps id (h ∷ path) a = (keeps id h a.0, labels_still r r' keeps id path a.1)
 
-module _ (p : RowsWithPaths) (r : Rotation) (cs : List Crossed) (u v kind : ℕ) (route : Route) (start end : ℕ)
+module _ {p : RowsWithPaths} {r : Rotation} {cs : List Crossed} {u v kind : ℕ} {route : Route} {start end : ℕ}
     (ready : IsReadyFor p r cs u v kind route start end) (now : Rotation) (slots : now.slots ≡ r.slots) where
   shows : ShowsRows p now
   shows = kept_shows p r now slots ready.shows
 
   pub start_alive : is_live now start ≡ true
-  start_alive = corner_alive p ready.formed r now slots ready.shows u route.start start ready.insertable.u_there ready.insertable.start ready.starts
+  start_alive =
+      let at : IsCornerNamed p u route.start start =
+      record { formed = ready.formed; vertex = ready.insertable.u_there; position = ready.insertable.start; names = ready.starts } in
+      corner_alive at now slots ready.shows
 
   pub end_alive : is_live now end ≡ true
-  end_alive = corner_alive p ready.formed r now slots ready.shows v route.end end ready.insertable.v_there ready.insertable.end ready.ends
+  end_alive =
+      let at : IsCornerNamed p v route.end end =
+      record { formed = ready.formed; vertex = ready.insertable.v_there; position = ready.insertable.end; names = ready.ends } in
+      corner_alive at now slots ready.shows
 
   pub ready_now : (paths : List (List ℕ)) → ArePadded (ids_of_edges p.rows) (λ hs. hs) p.paths cs paths → IsReady p now cs paths
   ready_now paths pad = grind (arith, shows)
@@ -68,32 +74,32 @@ module _ (p : RowsWithPaths) (r : Rotation) (cs : List Crossed) (u v kind : ℕ)
       added.new_chords =
       subst (λ (z : ℕ). AreAlong (subdivided_number (half_at p) js) z js (index_of p.rows h.to) added.new_chords) first
       (added.along p.rows (subdivided_number (half_at p) js) (index_of p.rows h.to) last) in
+      let drawn : IsDrawn p now after route.crossed h.from h.to js added.new_chords =
+      record { crossed = crossed; along = along; middle = turning_of routed.middle; splits = routed.split.run; chords = added.run } in
       let labels : HaveLabels after p.rows.edges (map (put_halves js) p.paths) =
       λ k row at. labels_still routed.middle after added.keeps row.id (slice_index_or (map (put_halves js) p.paths) k []) (routed.split.labels k row at) in
+      let all_labels : AreAllLabelled after p.rows p.paths js (halves_of added.new_chords) =
+      record { as_many = shows.as_many; old = labels; new = subst (HaveLabel after p.rows.next_edge) added.halves added.labels } in
       subst (λ (l : List ℕ). ShowsRows (record { rows = shown p.rows u v kind route; paths = map (put_halves js) p.paths ++ l ∷ [] }) after) (sym added.halves)
-      (insertion_shows p ready.formed now shows whole u v kind route ready.insertable.once h js crossed added.new_chords (turning_of routed.middle)
-      after along routed.split.run added.run
-      (shown_labels p.rows u v kind route p.paths js (halves_of added.new_chords) after shows.as_many labels
-      (subst (HaveLabel after p.rows.next_edge) added.halves added.labels)))
+      (insertion_shows shows whole h ready.insertable.once drawn
+      (shown_labels u v kind route all_labels))
 
 -- as the code goes
-pub inserted_parts : (p : RowsWithPaths) (r now after : Rotation) (cs cs' : List Crossed) (u v kind : ℕ) (route : Route) (start end edge : ℕ)
-    → IsReadyFor p r cs u v kind route start end → now.slots ≡ r.slots → IsEmbedding now → crossed_darts cs' ≡ crossed_darts cs → All (IsMarked p) cs'
-    → (line : List ℕ) (rows : Rows) (lists paths : List (List ℕ)) → edge ≡ p.rows.next_edge → IsRouted p now after cs' start end edge line
+pub inserted_parts : {p : RowsWithPaths} {r now after : Rotation} {cs cs' : List Crossed} {u v kind : ℕ} {route : Route} {start end edge : ℕ} {line : List ℕ}
+    {rows : Rows} {lists paths : List (List ℕ)} → IsReadyFor p r cs u v kind route start end → now.slots ≡ r.slots → IsEmbedding now
+    → crossed_darts cs' ≡ crossed_darts cs → All (IsMarked p) cs' → edge ≡ p.rows.next_edge → IsRouted p now after cs' start end edge line
     → rows ≡ shown p.rows u v kind route → lists ≡ map (put_halves (subdivisions_of p.rows cs')) p.paths → paths ≡ lists ++ line ∷ []
     → ShowsRows (record { rows = rows; paths = paths }) after
-inserted_parts p r now after cs cs' u v kind route start end edge ready slots whole same marked line rows lists paths edge_is routed rows_are
-    lists_are paths_are =
-    let shows = routed_shows p r cs u v kind route start end ready now slots whole after cs' same marked line
+inserted_parts {p} {now} {after} {cs'} {start} {end} {line} ready slots whole same marked edge_is routed rows_are lists_are paths_are =
+    let shows = routed_shows ready now slots whole after cs' same marked line
     (subst (λ (e : ℕ). IsRouted p now after cs' start end e line) edge_is routed) in
     grind (arith, shows)
 
 -- inserted or not
-pub inserted_formed : {A E : Type 0} (result : Result A E) (p : RowsWithPaths) (rows new : Rows) (paths : List (List ℕ))
-    → (let q : RowsWithPaths = record { rows = rows; paths = paths } in q ≡ p) → IsWellFormed rows → (u v kind : ℕ) (route : Route)
-    → IsInsertable p.rows u v kind route
+pub inserted_formed : {A E : Type 0} (result : Result A E) {p : RowsWithPaths} {rows new : Rows} {paths : List (List ℕ)} {u v kind : ℕ} {route : Route}
+    → (let q : RowsWithPaths = record { rows = rows; paths = paths } in q ≡ p) → IsWellFormed rows → IsInsertable p.rows u v kind route
     → OnOk result (new ≡ shown rows u v kind route) → OnErr result (new ≡ rows) → IsWellFormed new
-inserted_formed (Ok a) p rows new paths seen good u v kind route may ok err =
+inserted_formed (Ok a) {rows} {u} {v} {kind} {route} seen good may ok err =
     subst IsWellFormed (sym ok)
     (shown_well_formed rows u v kind route good (subst (λ (rs : Rows). IsInsertable rs u v kind route) (ap (λ (q : RowsWithPaths). q.rows) (sym seen)) may))
-inserted_formed (Err e) p rows new paths seen good u v kind route may ok err = subst IsWellFormed (sym err) good
+inserted_formed (Err e) seen good may ok err = subst IsWellFormed (sym err) good

@@ -34,7 +34,7 @@ loop-n-preserved c =
     subst (λ (b : Crossed). is_live c.args.segments.now b.beyond ≡ true) (sym c.index-crossed-n.is) (c.requires.alive n cross less).1 in
     subst (λ (line : List ℕ). AreChordsAddedFrom c.args.segments.now c.chord.new.self c.args.crossed.now n cross.beyond c.args.end c.args.edge line)
     (sym c.set.ensures)
-    (chords_more c.args.segments.now c.loop-n.segments c.chord.new.self c.args.crossed.now c.args.end c.args.edge c.loop-n.line c.chord.result n c.loop-n.to
+    (chords_more c.args.segments.now c.loop-n.segments c.chord.new.self c.args.crossed.now c.args.end c.args.edge c.loop-n.line c.chord.result n
     cross less c.index-crossed-n.is alive beyond
     (subst (λ (k : ℕ). AreChordsAddedFrom c.args.segments.now c.loop-n.segments c.args.crossed.now k c.loop-n.to c.args.end c.args.edge c.loop-n.line)
     more c.loop-n.invariant)

@@ -60,16 +60,13 @@ add_route-requires g c =
     (ap (λ (q : RowsWithPaths). q.paths) (sym c.requires.0))
     (subst (λ (ids : List ℕ). ArePadded ids (λ hs. hs) (values_in c.args.self.now.paths) c.args.crossed.now (values_in c.make_room.new.paths)) ids
     c.in_ok-line.ensures.padded) in (
-      ready_now g.p c.args.self.now.segments c.args.crossed.now c.args.ends.0 c.args.ends.1 c.args.kind c.args.route.now c.args.corners.0 c.args.corners.1 ready
-          c.make_room.new.segments slots (values_in c.make_room.new.paths) padded,
+      ready_now ready c.make_room.new.segments slots (values_in c.make_room.new.paths) padded,
       (
         c.in_ok-line.ensures.room,
         (
-          start_alive g.p c.args.self.now.segments c.args.crossed.now c.args.ends.0 c.args.ends.1 c.args.kind c.args.route.now c.args.corners.0 c.args.corners.1
-              ready c.make_room.new.segments slots,
+          start_alive ready c.make_room.new.segments slots,
           (
-            end_alive g.p c.args.self.now.segments c.args.crossed.now c.args.ends.0 c.args.ends.1 c.args.kind c.args.route.now c.args.corners.0 c.args.corners.1
-                ready c.make_room.new.segments slots,
+            end_alive ready c.make_room.new.segments slots,
             (c.in_ok-line.ensures.line, c.make_room.ensures.ids ∙ ids),
           ),
         ),
@@ -90,10 +87,7 @@ returns-clause-shows g c =
     let rows : c.apply_rows.new.rows ≡ shown g.p.rows c.args.ends.0 c.args.ends.1 c.args.kind c.args.route.now =
     when_ok c.apply_rows.result (sym c.if-is_err.ensures.value) c.apply_rows.ensures.ok
     ∙ ap (λ (q : RowsWithPaths). shown q.rows c.args.ends.0 c.args.ends.1 c.args.kind c.args.route.now) (sym c.requires.0) in
-    inserted_parts g.p c.args.self.now.segments c.make_room.new.segments c.add_route.new.segments c.args.crossed.now c.add_route.new.crossed c.args.ends.0
-    c.args.ends.1 c.args.kind c.args.route.now c.args.corners.0 c.args.corners.1 c.next_edge-edge.result ready
-    c.make_room.ensures.slots c.laws.ensures c.add_route.ensures.darts c.add_route.ensures.marked c.add_route.new.line c.apply_rows.new.rows
-    (values_in c.add_route.new.paths) (values_in c.push.new.self)
+    inserted_parts ready c.make_room.ensures.slots c.laws.ensures c.add_route.ensures.darts c.add_route.ensures.marked
     (c.next_edge-edge.ensures ∙ ap (λ (q : RowsWithPaths). q.rows.next_edge) (sym c.requires.0)) c.add_route.ensures.routed rows c.add_route.ensures.paths
     (values_pushed c.add_route.new.paths c.push.new.self c.next_edge-edge.result c.add_route.new.line c.push.ensures.entries)
 
@@ -102,8 +96,7 @@ returns-clause-kept g c =
     let rows = c.args.self.now.rows in
     subst (λ (after : Rows). AreForEdges after c.push.new.self)
     (sym (when_ok c.apply_rows.result (sym c.if-is_err.ensures.value) c.apply_rows.ensures.ok))
-    (one_more_kept rows (shown rows c.args.ends.0 c.args.ends.1 c.args.kind c.args.route.now) c.add_route.new.paths c.push.new.self c.add_route.new.line
-    c.next_edge-edge.result c.next_edge-edge.ensures
+    (one_more_kept (shown rows c.args.ends.0 c.args.ends.1 c.args.kind c.args.route.now) c.push.new.self c.add_route.new.line c.next_edge-edge.result
     (kept_ids rows c.args.self.now.paths c.add_route.new.paths (c.add_route.ensures.same.0 ∙ c.make_room.ensures.ids)
     (c.add_route.ensures.same.1.0 ∙ c.make_room.ensures.places) c.requires.1.1.0)
-    (ids_shown rows c.args.ends.0 c.args.ends.1 c.args.kind c.args.route.now) refl c.push.ensures.slots c.push.ensures.entries)
+    c.next_edge-edge.ensures (ids_shown rows c.args.ends.0 c.args.ends.1 c.args.kind c.args.route.now) refl c.push.ensures.slots c.push.ensures.entries)

@@ -4,14 +4,15 @@ use Rattle.topo_map.specs.Rotation.{AddsLabel, edge_of, is_live}
 use Rattle.topo_table.specs.Places.{AreBelow, present, values_in}
 use Rattle.topo_embedded.specs.Parts.{with_paths}
 use Rattle.topo_embedded.specs.Paths.{AreForEdges}
-use Rattle.topo_embedded.proofs.growing.Grown.{corner_alive, grown_parts}
+use Rattle.topo_embedded.proofs.growing.Grown.{IsCornerNamed, IsHung, corner_alive, grown_parts}
 use Rattle.topo_embedded.proofs.halves.KeptPaths.{ids_grown, kept_same, one_more_kept, values_pushed}
 use Rattle.topo_embedded.proofs.parts.Parts.grow.Goals as goal
 
 pub hang-half-requires-clause-live : goal.hang-half-requires-clause-live
 hang-half-requires-clause-live c =
-    corner_alive (with_paths c.args.self.now) c.requires.formed c.args.self.now.segments c.reserve-2.new.self c.in_ok-reserve-2.ensures.same c.requires.shows
-    c.args.u c.args.position c.args.named c.requires.vertex c.requires.position c.requires.named
+    let at : IsCornerNamed (with_paths c.args.self.now) c.args.u c.args.position c.args.named =
+    record { formed = c.requires.formed; vertex = c.requires.vertex; position = c.requires.position; names = c.requires.named } in
+    corner_alive at c.reserve-2.new.self c.in_ok-reserve-2.ensures.same c.requires.shows
 
 pub push-requires-clause-last : goal.push-requires-clause-last
 push-requires-clause-last c = subst (λ (n : ℕ). AreBelow n c.reserve-3.new.self.slots) (sym c.next_edge-edge.ensures)
@@ -19,13 +20,17 @@ push-requires-clause-last c = subst (λ (n : ℕ). AreBelow n c.reserve-3.new.se
 
 pub returns-clause-shows : goal.returns-clause-shows
 returns-clause-shows c =
-    grown_parts c.args.self.now.rows c.requires.formed c.args.u c.args.position c.args.kind c.requires.vertex c.requires.position c.requires.known
-    (values_in c.args.self.now.paths) c.args.self.now.segments c.reserve-2.new.self c.hang-half.new.self c.requires.shows c.in_ok-reserve-2.ensures.same
-    c.laws.ensures c.args.named c.hang-half.result c.requires.named c.hang-half.ensures.edit c.hang-half.ensures.grows
-    (subst (λ (edge : ℕ). AddsLabel (is_live c.reserve-2.new.self) (edge_of c.reserve-2.new.self) (edge_of c.hang-half.new.self) c.hang-half.result edge)
-    c.next_edge-edge.ensures c.hang-half.ensures.label)
-    c.grow_rows.new.rows c.of.result (values_in c.push.new.self) c.in_ok-grow_rows.ensures.ok
-    c.of.ensures
+    let at : IsCornerNamed (with_paths c.args.self.now) c.args.u c.args.position c.args.named =
+    record { formed = c.requires.formed; vertex = c.requires.vertex; position = c.requires.position; names = c.requires.named } in
+    let hung : IsHung c.reserve-2.new.self c.hang-half.new.self c.args.named c.hang-half.result c.args.self.now.rows.next_edge = record {
+      whole = c.laws.ensures;
+      edit = c.hang-half.ensures.edit;
+      grows = c.hang-half.ensures.grows;
+      label = subst
+          (λ (edge : ℕ). AddsLabel (is_live c.reserve-2.new.self) (edge_of c.reserve-2.new.self) (edge_of c.hang-half.new.self) c.hang-half.result edge)
+          c.next_edge-edge.ensures c.hang-half.ensures.label;
+    } in
+    grown_parts at c.args.kind c.requires.known c.requires.shows c.in_ok-reserve-2.ensures.same hung c.in_ok-grow_rows.ensures.ok c.of.ensures
     (values_pushed c.reserve-3.new.self c.push.new.self c.next_edge-edge.result c.of.result c.push.ensures.entries
     ∙ ap (λ slots. map (λ e. e.1) (present slots) ++ c.of.result ∷ []) c.reserve-3.ensures.same)
 
@@ -34,5 +39,5 @@ returns-clause-kept c =
     let rows = c.args.self.now.rows in
     let was = kept_same rows c.args.self.now.paths c.reserve-3.new.self c.reserve-3.ensures.same c.requires.kept in
     subst (λ (after : Rows). AreForEdges after c.push.new.self) (sym c.in_ok-grow_rows.ensures.ok)
-    (one_more_kept rows _ c.reserve-3.new.self c.push.new.self c.of.result c.next_edge-edge.result c.next_edge-edge.ensures was
+    (one_more_kept _ c.push.new.self c.of.result c.next_edge-edge.result was c.next_edge-edge.ensures
     (ids_grown rows c.args.u c.args.position c.args.kind) refl c.push.ensures.slots c.push.ensures.entries)
