@@ -154,9 +154,9 @@ module _ (q : Rows) (e : ℕ) (p : Rows) (hq : IsWellFormed q) (hp : IsWellForme
       (λ j lj. (off d h ne j lj, subst (λ (v : ℕ). (v ≢ half j) × (v ≢ twin (half j))) (sym (at_first d h)) (off (turn (system q) d) (turn_in d h) next j lj)))
       ∙ at_first d h
 
-  over_segment : (k : ℕ) (way : Way) → k < count → (d z : Dart) → Is d → d.edge ≢ e → Is z → z.edge ≢ e
+  over_segment : (k : ℕ) (way : Way) → k < count → (d : Dart) {z : Dart} → Is d → d.edge ≢ e → Is z → z.edge ≢ e
       → turn (system q) d ≡ record { edge = e; seg = k; way = way } → turn (system q) (record { edge = e; seg = k; way = way }) ≡ z → t (num d) ≡ num z
-  over_segment k way lk d z h ne z_in z_other to from =
+  over_segment k way lk d {z} h ne z_in z_other to from =
       let b : Dart = record { edge = e; seg = k; way = way } in
       let b_in : Is b = half_in k way lk in
       over (opened_turn q e) (length (darts q)) half count steps k (num d) (num b) (num z) lk (below d h) (below b b_in) (at_first d h ∙ ap num to)

@@ -92,7 +92,7 @@ module _ (rows : Rows) (good : IsWellFormed rows) (e : ℕ) where
         (ap (λ k. b == k) (sym d_twin) ∙ number_is (back e i) b b_here inside)
         ∙ sym (opened_one_more e i (dart_numbered rows b)) in
         skips_alike whole_turn n (all.permutes 0) (or_at (or_at (is_gone i) d) (twin d)) (is_gone (suc i)) alike a (opened_turn rows e (suc i) a) l
-        (unchord_skips whole_turn (opened_turn rows e i) (opened_turn rows e (suc i)) n (is_gone i) d less less_twin (λ k. grind arith) (all.permutes i)
+        (unchord_skips less less_twin (all.permutes i)
         (gone_number i (forward e i) f_here ∙ not_opened e i) (ap (is_gone i) (sym d_twin) ∙ gone_number i (back e i) b_here ∙ not_opened e i)
         (subst (λ (k : ℕ). IsUnchord (opened_turn rows e i) (opened_turn rows e k) n d) (let one : i + 1 ≡ suc i = omega arith in one)
         (all.unchords row there i (omega arith)))

@@ -8,6 +8,7 @@ use Rattle.topo_core.specs.Rotations.{twin}
 use Rattle.topo_core.proofs.systems.NewDarts.{or_left_false, or_right_false}
 use Rattle.topo_core.proofs.systems.Orbits.{after-add, after-within, period}
 use Rattle.topo_core.proofs.systems.SystemDarts.{eqb_self}
+use Rattle.topo_perm.proofs.permutations.Faces.{twin-other}
 use Rattle.topo_perm.proofs.permutations.Splitting.{bypassed-permutation}
 
 -- b is the first after a that is not out
@@ -65,13 +66,13 @@ module _ (f g h : ℕ → ℕ) (n : ℕ) (out : ℕ → Bool) (y : ℕ) (inside 
   bypass_skips a l e = grind (arith, or_left_false, false≢true, or_right_false, eqb_self, cases_eq, onward, elsewhere)
 
 -- a segment is taken out
-pub unchord_skips : (f g h : ℕ → ℕ) (n : ℕ) (out : ℕ → Bool) (d : ℕ) → d < n → twin d < n → d ≢ twin d → IsPermutation g n → out d ≡ false
+pub unchord_skips : {f g h : ℕ → ℕ} {n : ℕ} {out : ℕ → Bool} {d : ℕ} → d < n → twin d < n → IsPermutation g n → out d ≡ false
     → out (twin d) ≡ false → IsUnchord g h n d
     → ((a : ℕ) → a < n → out a ≡ false → Skips f out a (g a)) → (a : ℕ) → a < n → or_at (or_at out d) (twin d) a ≡ false
     → Skips f (or_at (or_at out d) (twin d)) a (h a)
-unchord_skips f g h n out d inside other apart perm left other_left taken skips =
+unchord_skips {f} {g} {h} {n} {out} {d} inside other perm left other_left taken skips =
     bypass_skips f taken.half h n (or_at out d) (twin d) other (bypassed-permutation g taken.half n d perm inside taken.first)
-    (ap (λ (t : Bool). t || twin d == d) other_left ∙ ne_eqb (twin d) d (λ k. apart (sym k))) taken.second
+    (ap (λ (t : Bool). t || twin d == d) other_left ∙ ne_eqb (twin d) d (twin-other d)) taken.second
     (bypass_skips f g taken.half n out d inside perm left taken.first skips)
 
 -- another test with the same answers
