@@ -48,7 +48,7 @@ module _ (limits : Limits) (rows : Rows) (u v kind : ℕ) (r : Route) (was : IsP
   -- what an insertion along it makes of a picture is a picture, if there is room
   pub shown_is_picture : HasRoomFor limits rows r → IsPicture limits (shown rows u v kind r)
   shown_is_picture room = let a = admitted limits rows u v kind may in record {
-    lawful = insertion_keeps_lawful rows u v kind r was.lawful a.u_there a.v_there a.apart a.known simple (omega (arith, limits.crossings_in_range));
+    lawful = insertion_keeps_lawful was.lawful insertable simple (omega (arith, limits.crossings_in_range));
     vertices = let same = shown_vertices rows u v kind r in omega (arith, was.vertices);
     edges = omega (arith, a.edge_left);
     crossings = room;

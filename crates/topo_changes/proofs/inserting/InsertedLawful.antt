@@ -25,7 +25,6 @@ use Rattle.topo_core.proofs.routing.RouteDarts.{corner_in}
 use Rattle.topo_core.proofs.inserting.ShownForm.{shown_well_formed}
 use Rattle.topo_core.proofs.inserting.ShownRows.{shown_vertices}
 use Rattle.topo_core.proofs.inserting.ShownTurns.{shows_turns}
-use Rattle.topo_core.proofs.routing.SimpleRoutes.{simple_is_insertable}
 use Rattle.topo_core.proofs.systems.SystemDarts.{vertex_in}
 use Rattle.topo_core.proofs.systems.Turning.{IsDistinct, distinct_left}
 use Rattle.topo_perm.proofs.runs.Chords.{NewChord}
@@ -34,7 +33,6 @@ use Rattle.topo_perm.proofs.runs.Passing.{Passed, passed}
 use Rattle.topo_changes.proofs.inserting.InsertedPath.{IsPath, is_insertion_path, new_chords_of, name, path_subdivisions, path_chords, path_of}
 use Rattle.topo_changes.proofs.rows.Totals.{segments_total}
 use Rattle.topo_rows.proofs.Verdicts.{bare_points}
-use Rattle.topo_core.specs.declared.rows.TheConstants.{KINDS}
 
 -- ---- No vertex becomes bare
 
@@ -66,9 +64,9 @@ shown_not_bare rows u v kind r may h = grind (arith, get_or-set_other, set_not_b
 
 -- ---- The corners of two vertices are two darts
 
-corners_apart : (rows : Rows) → IsWellFormed rows → (u v i j : ℕ) (c d : Dart) → u < length rows.rotations → v < length rows.rotations → u ≢ v
+corners_apart : {rows : Rows} → IsWellFormed rows → {u v : ℕ} (i j : ℕ) {c d : Dart} → u < length rows.rotations → v < length rows.rotations → u ≢ v
     → corner rows u i ≡ Some c → corner rows v j ≡ Some d → c ≢ d
-corners_apart rows good u v i j c d lu lv apart at_u at_v same =
+corners_apart {rows} good {u} {v} i j {c} {d} lu lv apart at_u at_v same =
     apart (points_apart (around_vertex rows) (vertices rows)
     (distinct_left (darts_in (map (around_vertex rows) (vertices rows))) (darts_in (map (around_crossing rows) rows.crossings))
     (subst IsDistinct (flat_map-append (λ (around : List Dart). around) (map (around_vertex rows) (vertices rows)) (map (around_crossing rows) rows.crossings))
@@ -78,10 +76,10 @@ corners_apart rows good u v i j c d lu lv apart at_u at_v same =
 
 -- ---- The counts
 
-chords_count : (p q : Rows) (f u v : ℕ) (r : Route) (hp : IsWellFormed p) (hq : IsWellFormed q) (s : ShowsTurns p f u v r q) (x z : ℕ) (ds : List Dart) (e : ℕ)
+chords_count : {p q : Rows} {f u v : ℕ} {r : Route} (hp : IsWellFormed p) (hq : IsWellFormed q) (s : ShowsTurns p f u v r q) (x z : ℕ) (ds : List Dart) (e : ℕ)
     → length (new_chords_of p q f u v r hp hq s x z ds e) ≡ length ds + 1
-chords_count p q f u v r hp hq s x z [] e = refl
-chords_count p q f u v r hp hq s x z (d ∷ ds) e = omega (arith, chords_count p q f u v r hp hq s (x + 1) (index_of q (backward q x d)) ds e)
+chords_count hp hq s x z [] e = refl
+chords_count {q} hp hq s x z (d ∷ ds) e = omega (arith, chords_count hp hq s (x + 1) (index_of q (backward q x d)) ds e)
 
 -- the new edge is an insertion path, from the corner of the dart `from` to that of the dart `to`
 pub record HasInsertionPath (rows : Rows) (u v kind : ℕ) (r : Route) (good : IsWellFormed rows) : Type 0 where
@@ -101,11 +99,10 @@ pub record HasInsertionPath (rows : Rows) (u v kind : ℕ) (r : Route) (good : I
       (path_chords rows (shown rows u v kind r) rows.next_edge u v r good form turns (lifted rows (shown rows u v kind r) from)
       (lifted rows (shown rows u v kind r) to))
 
-pub has_insertion_path : (rows : Rows) (u v kind : ℕ) (r : Route) (good : IsWellFormed rows) → u < length rows.rotations → v < length rows.rotations → u ≢ v
-    → kind < KINDS → IsSimpleRoute rows u v r → HasInsertionPath rows u v kind r good
-has_insertion_path rows u v kind r good lu lv apart known simple =
+pub has_insertion_path : {rows : Rows} {u v kind : ℕ} {r : Route} (good : IsWellFormed rows) → IsInsertable rows u v kind r → IsSimpleRoute rows u v r
+    → HasInsertionPath rows u v kind r good
+has_insertion_path {rows} {u} {v} {kind} {r} good may simple =
     let q : Rows = shown rows u v kind r in
-    let may : IsInsertable rows u v kind r = simple_is_insertable rows u v r good lu lv apart known simple in
     let form : IsWellFormed q = shown_well_formed rows u v kind r good may in
     let s : ShowsTurns rows rows.next_edge u v r q = shows_turns rows u v kind r good may form in
     let from : Dart = simple.route.from in
@@ -114,7 +111,7 @@ has_insertion_path rows u v kind r good lu lv apart known simple =
     let to_was : has_dart (darts rows) to ≡ true = corner_in rows good v r.end to simple.route.ends in
     let path : IsPath rows q rows.next_edge u v r good form s (lifted rows q from) (lifted rows q to) =
     path_of rows q rows.next_edge u v r good form s from to simple.route.starts simple.route.ends from_was to_was
-    (corners_apart rows good u v r.start r.end from to lu lv apart simple.route.starts simple.route.ends) may.crossed may.once in
+    (corners_apart good r.start r.end may.u_there may.v_there may.ends_apart simple.route.starts simple.route.ends) may.crossed may.once in
     record {
       form = form;
       turns = s;
@@ -133,12 +130,10 @@ pub record Gains (rows : Rows) (u v kind : ℕ) (r : Route) : Type 0 where
   pub faces : face_count (shown rows u v kind r) ≡ face_count rows + (length r.crossed + 1)
   pub connected : Connected (system rows) → Connected (system (shown rows u v kind r))
 
-pub gains : (rows : Rows) (u v kind : ℕ) (r : Route) → IsWellFormed rows → u < length rows.rotations → v < length rows.rotations → u ≢ v → kind < KINDS
-    → IsSimpleRoute rows u v r → Gains rows u v kind r
-gains rows u v kind r good lu lv apart known simple =
+pub gains : {rows : Rows} {u v kind : ℕ} {r : Route} → IsWellFormed rows → IsInsertable rows u v kind r → IsSimpleRoute rows u v r → Gains rows u v kind r
+gains {rows} {u} {v} {kind} {r} good may simple =
     let q : Rows = shown rows u v kind r in
-    let may : IsInsertable rows u v kind r = simple_is_insertable rows u v r good lu lv apart known simple in
-    let h : HasInsertionPath rows u v kind r good = has_insertion_path rows u v kind r good lu lv apart known simple in
+    let h : HasInsertionPath rows u v kind r good = has_insertion_path good may simple in
     let z : Dart = lifted rows q h.from in
     let e : Dart = lifted rows q h.to in
     let new_chords : List NewChord = path_chords rows q rows.next_edge u v r good h.form h.turns z e in
@@ -148,7 +143,7 @@ gains rows u v kind r good lu lv apart known simple =
     (index_of rows h.to) new_chords h.insertion_path in
     record {
       form = h.form;
-      faces = done.faces ∙ ap (λ (k : ℕ). face_count rows + k) (chords_count rows q rows.next_edge u v r good h.form h.turns rows.next_crossing (index_of q z)
+      faces = done.faces ∙ ap (λ (k : ℕ). face_count rows + k) (chords_count good h.form h.turns rows.next_crossing (index_of q z)
           r.crossed (index_of q e));
       connected = λ c. record {
         no_bare_point = bare_points q ∙ shown_not_bare rows u v kind r may (sym (bare_points rows) ∙ c.no_bare_point);
@@ -158,12 +153,12 @@ gains rows u v kind r good lu lv apart known simple =
     }
 
 -- the picture that shows a new edge along a route that meets no face twice is lawful
-pub insertion_keeps_lawful : (rows : Rows) (u v kind : ℕ) (r : Route) → Lawful rows → u < length rows.rotations → v < length rows.rotations → u ≢ v
-    → kind < KINDS → IsSimpleRoute rows u v r
+pub insertion_keeps_lawful : {rows : Rows} {u v kind : ℕ} {r : Route} → Lawful rows → IsInsertable rows u v kind r → IsSimpleRoute rows u v r
     → rows.next_crossing + length r.crossed ≤ 4294967296 → Lawful (shown rows u v kind r)
-insertion_keeps_lawful rows u v kind r lawful lu lv apart known simple small =
+insertion_keeps_lawful {rows} {u} {v} {kind} {r} lawful may simple small =
     let q : Rows = shown rows u v kind r in
-    let g : Gains rows u v kind r = gains rows u v kind r lawful.embedding.well_formed lu lv apart known simple in
+    let good = lawful.embedding.well_formed in
+    let g : Gains rows u v kind r = gains good may simple in
     let before : sum_by segment_count rows.edges ≡ length rows.edges + 2 * length rows.crossings =
     segments_total rows lawful.embedding.well_formed (omega (arith, small)) in
     let after : sum_by segment_count q.edges ≡ length q.edges + 2 * length q.crossings = segments_total q g.form small in

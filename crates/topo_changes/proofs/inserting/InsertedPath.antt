@@ -198,32 +198,37 @@ module _ (p q : Rows) (f u v : ℕ) (r : Route) (hp : IsWellFormed p) (hq : IsWe
   newcomers_apart i j hi hj ne = segment_apart q hq (newcomer j Forward) (newcomer i Forward) (newcomer_in j Forward hj) (newcomer_in i Forward hi)
       (λ e. ne (sym (ap (λ (c : Dart). c.seg) e))) (λ e. ne (sym (ap (λ (c : Dart). c.seg) e)))
 
+  -- a dart of another edge
+  record IsOldDart (d : Dart) : Type 0 where
+    there : Is d
+    other : d.edge ≢ f
+
   -- a chord before and the chords from x on
-  chords_off_chords : (i : ℕ) (a b : Dart) → Is a → a.edge ≢ f → Is b → b.edge ≢ f → i ≤ length r.crossed → (x : ℕ) (z e : Dart) (ds : List Dart) → IsRest x ds
+  chords_off_chords : (i : ℕ) {a b : Dart} → IsOldDart a → IsOldDart b → i ≤ length r.crossed → (ds : List Dart) {x : ℕ} {z e : Dart} → IsRest x ds
       → IsStart x z e → i < x - p.next_crossing
       → AllByRecursion (AreApartChords n (record { from = num a; to = num b; half = num (newcomer i Forward) })) (new_chords_of x (num z) ds (num e))
-  chords_off_chords i a b ha na hb nb hi x z e [] h t less =
+  chords_off_chords i {a} {b} old_a old_b hi [] {x} {z} {e} h t less =
       let le : x - p.next_crossing ≤ length r.crossed = index_least x [] h in (
         record {
           half = newcomers_apart i (x - p.next_crossing) hi le (λ w. (let k = less in omega arith));
-          from = strange a ha na (x - p.next_crossing) le;
-          to = strange b hb nb (x - p.next_crossing) le;
+          from = strange a old_a.there old_a.other (x - p.next_crossing) le;
+          to = strange b old_b.there old_b.other (x - p.next_crossing) le;
           from_back = strange z t.z_in t.z_other i hi;
           to_back = strange e t.e_in t.e_other i hi;
         },
         tt,
       )
-  chords_off_chords i a b ha na hb nb hi x z e (d ∷ ds) h t less =
+  chords_off_chords i {a} {b} old_a old_b hi (d ∷ ds) {x} {z} {e} h t less =
       let le : x - p.next_crossing ≤ length r.crossed = index_least x (d ∷ ds) h in
       let there : Is (onward q x d) = (s.crossed_there x d (h.sub x d (inl refl))).0 in (
         record {
           half = newcomers_apart i (x - p.next_crossing) hi le (λ w. (let k = less in omega arith));
-          from = strange a ha na (x - p.next_crossing) le;
-          to = strange b hb nb (x - p.next_crossing) le;
+          from = strange a old_a.there old_a.other (x - p.next_crossing) le;
+          to = strange b old_b.there old_b.other (x - p.next_crossing) le;
           from_back = strange z t.z_in t.z_other i hi;
           to_back = strange (onward q x d) there (onward_other x d h.was.0) i hi;
         },
-        chords_off_chords i a b ha na hb nb hi (x + 1) (backward q x d) e ds (rest_of x d ds h) (next_start x z e d ds h t) (let k = h.from in omega arith),
+        chords_off_chords i old_a old_b hi ds (rest_of x d ds h) (next_start x z e d ds h t) (let k = h.from in omega arith),
       )
 
   are_chords : (x : ℕ) (z e : Dart) (ds : List Dart) → IsRest x ds → IsStart x z e → AreNewChords g n (new_chords_of x (num z) ds (num e))
@@ -233,8 +238,8 @@ module _ (p q : Rows) (f u v : ℕ) (r : Route) (hp : IsWellFormed p) (hq : IsWe
       let t' : IsStart (x + 1) (backward q x d) e = next_start x z e d ds h t in
       let h' : IsRest (x + 1) ds = rest_of x d ds h in (
         inner_chord x z e d ds h t,
-        chords_off_chords (x - p.next_crossing) z (onward q x d) t.z_in t.z_other there (onward_other x d h.was.0) (index_least x (d ∷ ds) h) (x + 1)
-            (backward q x d) e ds h' t' (let k = h.from in omega arith),
+        chords_off_chords (x - p.next_crossing) (record { there = t.z_in; other = t.z_other }) (record { there = there; other = onward_other x d h.was.0 })
+            (index_least x (d ∷ ds) h) ds h' t' (let k = h.from in omega arith),
         are_chords (x + 1) (backward q x d) e ds h' t',
       )
 

@@ -59,8 +59,7 @@ module _ {p : RowsWithPaths} {r : Rotation} {cs : List Crossed} {u v kind : ℕ}
       → ShowsRows (record { rows = shown p.rows u v kind route; paths = map (put_halves (subdivisions_of p.rows cs')) p.paths ++ line ∷ [] }) after
   routed_shows whole after cs' same marked line routed =
       let js : List Subdivision = subdivisions_of p.rows cs' in
-      let h : HasInsertionPath p.rows u v kind route ready.formed = has_insertion_path p.rows u v kind route ready.formed ready.insertable.u_there
-      ready.insertable.v_there ready.insertable.ends_apart ready.insertable.known ready.simple in
+      let h : HasInsertionPath p.rows u v kind route ready.formed = has_insertion_path ready.formed ready.insertable ready.simple in
       let crossed : AreCrossedAt p now route.crossed js = subst (λ (ds : List Dart). AreCrossedAt p now ds js) (same ∙ ready.darts) routed.split.crossed in
       let all : AllByRecursion (IsMarked p) cs' = recursion_from_All (IsMarked p) cs' marked in
       let from_there : has_dart (darts p.rows) h.from ≡ true = corner_in p.rows ready.formed u route.start h.from h.starts in

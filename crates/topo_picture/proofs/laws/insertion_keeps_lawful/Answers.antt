@@ -1,5 +1,7 @@
+use Rattle.topo_core.proofs.routing.SimpleRoutes.{simple_is_insertable}
 use Rattle.topo_changes.proofs.inserting.InsertedLawful.{insertion_keeps_lawful}
 use Rattle.topo_picture.proofs.laws.insertion_keeps_lawful.Goals as goal
 
 pub returns : goal.returns
-returns c = insertion_keeps_lawful
+returns c = λ rows u v kind r lawful u_in v_in apart known simple small.
+    insertion_keeps_lawful lawful (simple_is_insertable rows u v r lawful.embedding.well_formed u_in v_in apart known simple) simple small
