@@ -112,15 +112,15 @@ at_old : (first x y : ℕ) (path : List ℕ) → nat_lt y first ≡ true → cro
 at_old first x y path low = ap (λ (b : Bool). insert (y ∷ path) (cond b 0 (segment_end first 0 path + 1)) x) low
 
 -- the crossing stands behind those that are new on its segment
-pub crossed_woven : (new : ℕ → List ℕ) (first s x t g : ℕ) (path : List ℕ) → g ≡ t + s → s ≤ length path → list_all (λ y. nat_lt y first) path ≡ true
+pub crossed_woven : (new : ℕ → List ℕ) (first s x t : ℕ) {g : ℕ} (path : List ℕ) → g ≡ t + s → s ≤ length path → list_all (λ y. nat_lt y first) path ≡ true
     → ((i y : ℕ) → IsIn y (new i) → first ≤ y)
     → crossed_path first s x (woven new t path) ≡ woven (λ i. new i ++ cond (g == i) (x ∷ []) []) t path
-crossed_woven new first s x t g [] at on old high =
+crossed_woven new first s x t {g} [] at on old high =
     let here : g ≡ t = omega arith in
     ap (crossed_path first s x) (sym (append-nil (new t)))
     ∙ past_new first s x (new t) [] (high t)
     ∙ ap (λ (b : Bool). new t ++ cond b (x ∷ []) []) (sym (eq-eqb g t here))
-crossed_woven new first zero x t g (y ∷ path) at on old high =
+crossed_woven new first zero x t {g} (y ∷ path) at on old high =
     let here : g ≡ t = omega arith in
     past_new first 0 x (new t) (y ∷ woven new (t + 1) path) (high t)
     ∙ ap (λ rest. new t ++ rest) (at_old first x y (woven new (t + 1) path) (left_true (nat_lt y first) (list_all (λ y. nat_lt y first) path) old))
@@ -128,12 +128,13 @@ crossed_woven new first zero x t g (y ∷ path) at on old high =
     ∙ ap (λ (b : Bool). (new t ++ cond b (x ∷ []) []) ++ (y ∷ woven new (t + 1) path)) (sym (eq-eqb g t here))
     ∙ ap (λ rest. (new t ++ cond (g == t) (x ∷ []) []) ++ (y ∷ rest)) (woven_same new (λ i. new i ++ cond (g == i) (x ∷ []) []) (t + 1) path (λ i h.
     sym (append-nil (new i)) ∙ ap (λ (b : Bool). new i ++ cond b (x ∷ []) []) (sym (eqb_less g i (omega arith)))))
-crossed_woven new first (suc s) x t g (y ∷ path) at on old high =
+crossed_woven new first (suc s) x t {g} (y ∷ path) at on old high =
+    let next : g ≡ t + 1 + s = omega arith in
     let later : t < g = omega arith in
     past_new first (suc s) x (new t) (y ∷ woven new (t + 1) path) (high t)
     ∙ ap (λ rest. new t ++ rest) (past_old first s x y (woven new (t + 1) path) (left_true (nat_lt y first) (list_all (λ y. nat_lt y first) path) old))
     ∙ ap (λ rest. new t ++ (y ∷ rest))
-    (crossed_woven new first s x (t + 1) g path (omega arith) (omega arith) (right_true (nat_lt y first) (list_all (λ y. nat_lt y first) path) old) high)
+    (crossed_woven new first s x (t + 1) path next (omega arith) (right_true (nat_lt y first) (list_all (λ y. nat_lt y first) path) old) high)
     ∙ ap (λ front. front ++ (y ∷ woven (λ i. new i ++ cond (g == i) (x ∷ []) []) (t + 1) path))
     (sym (append-nil (new t)) ∙ ap (λ (b : Bool). new t ++ cond b (x ∷ []) []) (sym (other later))) where
       other : t < g → (g == t) ≡ false
@@ -183,11 +184,11 @@ put_out p e around old = by_place p where
   by_place (suc p) = apart (take (suc p) around) (drop (suc p) around) ∙ ap (filter low) (take-append-drop (suc p) around) ∙ kept
 
 -- put into two rotations and taken out of the first, where the second had no place for it
-pub taken_back : (rotations : List (List ℕ)) (u v p e : ℕ) (at_u at_v back : List ℕ) → u < length rotations → u ≢ v → at_u ≡ put_in p e (get_or rotations u [])
-    → at_v ≡ get_or (set rotations u at_u) v []
+pub taken_back : (rotations : List (List ℕ)) {u : ℕ} (v p e : ℕ) {at_u at_v back : List ℕ} → u < length rotations → u ≢ v
+    → at_u ≡ put_in p e (get_or rotations u []) → at_v ≡ get_or (set rotations u at_u) v []
     → back ≡ filter (λ x. nat_lt x e) (get_or (set (set rotations u at_u) v at_v) u []) → list_all (λ x. nat_lt x e) (get_or rotations u []) ≡ true
     → set (set (set rotations u at_u) v at_v) u back ≡ rotations
-taken_back rotations u v p e at_u at_v back inside apart put stays out old =
+taken_back rotations {u} v p e {at_u} {at_v} {back} inside apart put stays out old =
     let lists = set rotations u at_u in
     let unchanged : set lists v at_v ≡ lists = ap (set lists v) stays ∙ set-get_or lists v [] in
     let was : back ≡ get_or rotations u [] =

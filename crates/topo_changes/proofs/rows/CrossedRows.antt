@@ -114,7 +114,8 @@ module _ (first : ℕ) (darts : List Dart) (d : Dart) where
   path_more : (e : ℕ) (path : List ℕ) → list_all (λ y. nat_lt y first) path ≡ true → (e ≡ d.edge → d.seg ≤ length path) → (b : Bool) → (e == d.edge) ≡ b
       → cond b (crossed_path first d.seg x (woven (before e) 0 path)) (woven (before e) 0 path) ≡ woven (more e) 0 path
   path_more e path old on true is =
-      crossed_woven (before e) first d.seg x 0 d.seg path (omega arith) (on (eqb-true e d.edge is)) old (λ i y h. crossings_from first darts e i y h)
+      let at : d.seg ≡ 0 + d.seg = omega arith in
+      crossed_woven (before e) first d.seg x 0 path at (on (eqb-true e d.edge is)) old (λ i y h. crossings_from first darts e i y h)
       ∙ woven_same (λ i. before e i ++ cond (d.seg == i) (x ∷ []) []) (more e) 0 path (λ i h. sym (on_edge e i true is))
   path_more e path old on false is = woven_same (before e) (more e) 0 path (λ i h. sym (elsewhere e i is))
 

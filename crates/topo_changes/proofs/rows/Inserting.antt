@@ -44,7 +44,7 @@ module _ (rows : Rows) (good : IsWellFormed rows) where
         some_same x y e = cc
 
 -- the rows made of the three lists
-pub rows_made : (rows : Rows) (u v kind : ℕ) (r : Route) (rotations : List (List ℕ)) (edges : List EdgeRow) (crossings : List CrossRow) (path : List ℕ) (n : ℕ)
+pub rows_made : (rows : Rows) (u v kind : ℕ) (r : Route) {rotations : List (List ℕ)} {edges : List EdgeRow} {crossings : List CrossRow} {path : List ℕ} {n : ℕ}
     → path ≡ map (λ x. x.0) (enumerate_from rows.next_crossing r.crossed)
     → rotations ≡ with_end (with_end rows.rotations u r.start rows.next_edge) v r.end rows.next_edge
     → edges ≡ map (crossed_by rows.next_crossing r.crossed) rows.edges ++ record { id = rows.next_edge; a = u; b = v; kind = kind; crossings = path } ∷ []
@@ -57,4 +57,4 @@ pub rows_made : (rows : Rows) (u v kind : ℕ) (r : Route) (rotations : List (Li
       next_edge = rows.next_edge + 1;
       next_crossing = rows.next_crossing + n;
     } in made ≡ shown rows u v kind r
-rows_made rows u v kind r rotations edges crossings path n p is_rotations is_edges is_crossings is_n = cc
+rows_made rows u v kind r p is_rotations is_edges is_crossings is_n = cc

@@ -220,11 +220,11 @@ pub record AreAdded (was : Places Crossing) (darts : List Dart) (first edge i : 
   pub room : length darts ≤ i + table.room
   pub below : AreBelow (first + i) table.slots
 
-pub added_more : (was table more : Places Crossing) (darts : List Dart) (first edge i : ℕ) (d : Dart) (c : Crossing) → i < length darts
+pub added_more : {was table : Places Crossing} (more : Places Crossing) {darts : List Dart} {first edge i : ℕ} (d : Dart) (c : Crossing) → i < length darts
     → AreAdded was darts first edge i table
     → d ≡ get_or darts i d → (first + i, c) ≡ new_entry edge (first + i, d) → more.slots ≡ table.slots ++ (first + i, Some c) ∷ []
     → entries more ≡ entries table ++ (first + i, c) ∷ [] → table.room ≤ more.room + 1 → AreAdded was darts first edge (i + 1) more
-added_more was table more darts first edge i d c inside h read entry slots is room = record {
+added_more {was} {table} more {darts} {first} {edge} {i} d c inside h read entry slots is room = record {
   entries_are = is ∙ ap (λ es. es ++ (first + i, c) ∷ []) h.entries_are
       ∙ append_assoc (entries was) (map (new_entry edge) (enumerate_from first (take i darts))) ((first + i, c) ∷ [])
       ∙ ap (λ es. entries was ++ es) (ap (λ e. map (new_entry edge) (enumerate_from first (take i darts)) ++ e ∷ [])

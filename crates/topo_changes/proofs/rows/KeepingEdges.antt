@@ -92,15 +92,23 @@ pub record AreRepathed (was now : Places EdgeBody) (e : ℕ) (change : List ℕ 
   pub edges : edges_of now ≡ map (repathed e change) (edges_of was)
   pub places : KeepsPlaces was now
 
--- an edge is taken out of its place, and put back with another path
-pub repathed_there : (was taken now : Places EdgeBody) (e place : ℕ) (live : IsLiveAt e place was.slots) → IsStrictlyIncreasing (ids_of was.slots)
-    → taken.slots ≡ set_value_at was.slots place None → taken.room ≡ was.room → (b : EdgeBody) → slice_get (values_of was.slots) place ≡ Some (Some b)
-    → (change : List ℕ → List ℕ) (path : List ℕ) → path ≡ change b.crossings
-    → now.slots ≡ set_value_at taken.slots place (Some (record b { crossings = path })) → now.room ≡ taken.room → AreRepathed was now e change
-repathed_there was taken now e place live up slots room b read change path is put put_room =
-    let at = was_value was taken now e place live up slots room b read in
-    let put_in = put ∙ ap (λ (xs : List ℕ). set_value_at taken.slots place (Some (record b { crossings = xs }))) is in
-    let done = is_changed was taken now e place live up slots room (record b { crossings = change b.crossings }) put_in put_room in
+-- an edge is taken out of its place, and put back with this path
+pub record IsPutBack (was taken now : Places EdgeBody) (place : ℕ) (body : EdgeBody) (path : List ℕ) : Type 0 where
+  pub taken_out : taken.slots ≡ set_value_at was.slots place None
+  pub taken_room : taken.room ≡ was.room
+  pub read : slice_get (values_of was.slots) place ≡ Some (Some body)
+  pub put : now.slots ≡ set_value_at taken.slots place (Some (record body { crossings = path }))
+  pub put_room : now.room ≡ taken.room
+
+pub repathed_there : {was taken now : Places EdgeBody} {e place : ℕ} {b : EdgeBody} {path : List ℕ} → IsLiveAt e place was.slots
+    → IsStrictlyIncreasing (ids_of was.slots) → IsPutBack was taken now place b path → (change : List ℕ → List ℕ) → path ≡ change b.crossings
+    → AreRepathed was now e change
+repathed_there {was} {taken} {now} {e} {place} {b} live up back change is =
+    let slots = back.taken_out in
+    let room = back.taken_room in
+    let at = was_value was taken now e place live up slots room b back.read in
+    let put_in = back.put ∙ ap (λ (xs : List ℕ). set_value_at taken.slots place (Some (record b { crossings = xs }))) is in
+    let done = is_changed was taken now e place live up slots room (record b { crossings = change b.crossings }) put_in back.put_room in
     record {
       edges = ap (map edge_of) done.entries_are
           ∙ repathed_entries e b change (entries was) (Rises-from_increasing _ (EntriesRise-present was.slots up)) at;
@@ -140,10 +148,10 @@ pub edge_put : (was now : Places EdgeBody) (id : ℕ) (b : EdgeBody) → entries
 edge_put was now id b is = ap (map edge_of) is ∙ edges_of_more (entries was) ((id, b) ∷ [])
 
 -- the rows of the places so far, and of one more
-pub one_more_edge : (slots : List (ℕ × Option EdgeBody)) (i id : ℕ) (b : EdgeBody) (row : EdgeRow) (rows more : List EdgeRow)
+pub one_more_edge : (slots : List (ℕ × Option EdgeBody)) (i id : ℕ) (b : EdgeBody) {row : EdgeRow} (rows more : List EdgeRow)
     → slice_get slots i ≡ Some (id, Some b) → rows ≡ map edge_of (present (take i slots)) → row ≡ edge_of (id, b) → more ≡ rows ++ row ∷ []
     → more ≡ map edge_of (present (take (i + 1) slots))
-one_more_edge slots i id b row rows more at is made now =
+one_more_edge slots i id b {row} rows more at is made now =
     now ∙ ap (λ (r : EdgeRow). rows ++ r ∷ []) made ∙ ap (λ rows. rows ++ edge_of (id, b) ∷ []) is
     ∙ sym (ap (λ ss. map edge_of (present ss)) (more_places slots i (id, Some b) at) ∙ ap (map edge_of) (present-push id b (take i slots))
     ∙ edges_of_more (present (take i slots)) ((id, b) ∷ []))
@@ -246,10 +254,10 @@ module _ (rows : List EdgeRow) (limit : ℕ) (rise : rises_below limit (map (λ 
       }
 
   -- one more, as it is read
-  pub edges_more_read : (i : ℕ) (row : EdgeRow) (table more : Places EdgeBody) (path : List ℕ) → i < length rows → AreEdgesNoted rows i table
+  pub edges_more_read : (i : ℕ) (row : EdgeRow) (table more : Places EdgeBody) {path : List ℕ} → i < length rows → AreEdgesNoted rows i table
       → row ≡ get_or rows i row → path ≡ row.crossings
       → more.slots ≡ table.slots ++ (row.id, Some (record { a = row.a; b = row.b; kind = row.kind; crossings = path })) ∷ []
       → table.room ≤ more.room + 1 → AreEdgesNoted rows (i + 1) more
-  edges_more_read i row table more path inside h read copied is room =
+  edges_more_read i row table more {path} inside h read copied is room =
       edges_more i row table more path inside h (copied ∙ ap (λ (r : EdgeRow). r.crossings) read)
       (subst (λ (r : EdgeRow). more.slots ≡ table.slots ++ (r.id, Some (record { a = r.a; b = r.b; kind = r.kind; crossings = path })) ∷ []) read is) room

@@ -18,8 +18,7 @@ made edge x d crossed sign is way = ap (λ (n : ℕ). (x, record { crossed = n; 
     ∙ ap (λ (s : Sign). (x, record { crossed = d.edge; newcomer = edge; sign = s })) way
 
 pub loop-i-preserved : goal.loop-i-preserved
-loop-i-preserved c = added_more c.args.crossings.now c.loop-i.crossings c.push.new.self c.args.darts.now c.args.first c.args.edge c.loop-i.i
-    c.index-darts-i.result _ c.loop-i-test.true c.loop-i.invariant c.index-darts-i.is
+loop-i-preserved c = added_more c.push.new.self c.index-darts-i.result _ c.loop-i-test.true c.loop-i.invariant c.index-darts-i.is
     (made c.args.edge (c.args.first + c.loop-i.i) c.index-darts-i.result c.number.result c.sign_of.result c.number.ensures c.sign_of.ensures)
     c.push.ensures.slots c.push.ensures.entries c.push.ensures.room
 

@@ -6,7 +6,7 @@ use Rattle.topo_table.proofs.PlaceLemmas.{is_back, is_changed, is_empty}
 use Rattle.topo_changes.specs.Inserting.{crossed_path}
 use Rattle.topo_changes.specs.Keeping.{edge_of}
 use Rattle.topo_changes.proofs.rows.CrossedRows.{err_more, ok_more}
-use Rattle.topo_changes.proofs.rows.KeepingEdges.{repathed_nowhere, repathed_there}
+use Rattle.topo_changes.proofs.rows.KeepingEdges.{IsPutBack, repathed_nowhere, repathed_there}
 use Rattle.topo_changes.proofs.insertion.cross_edge.Goals as goal
 
 pub take-body-requires : goal.take-body-requires
@@ -17,10 +17,17 @@ put-requires c = is_empty c.args.edges.now c.take-body.new.self c.take-body.new.
     c.take-body.ensures.slots c.take-body.ensures.room
 
 pub returns-in-Some-clause-ok : goal.returns-in-Some-clause-ok
-returns-in-Some-clause-ok c = ok_more c.cross_path-done.result
-    (λ ok. (repathed_there c.args.edges.now c.take-body.new.self c.put.new.self c.args.e c.in-Some.place c.in-Some.ensures.there c.in-Some.ensures.rise
-    c.take-body.ensures.slots c.take-body.ensures.room c.take-body.result c.take-body.ensures.value (crossed_path c.args.first c.args.segment c.args.x)
-    c.cross_path-done.new.path ok c.put.ensures.slots c.put.ensures.room).edges) c.cross_path-done.ensures.ok
+returns-in-Some-clause-ok c =
+    let back : IsPutBack c.args.edges.now c.take-body.new.self c.put.new.self c.in-Some.place c.take-body.result c.cross_path-done.new.path = record {
+      taken_out = c.take-body.ensures.slots;
+      taken_room = c.take-body.ensures.room;
+      read = c.take-body.ensures.value;
+      put = c.put.ensures.slots;
+      put_room = c.put.ensures.room;
+    } in
+    ok_more c.cross_path-done.result
+    (λ ok. (repathed_there c.in-Some.ensures.there c.in-Some.ensures.rise back (crossed_path c.args.first c.args.segment c.args.x) ok).edges)
+    c.cross_path-done.ensures.ok
 
 pub returns-in-Some-clause-err : goal.returns-in-Some-clause-err
 returns-in-Some-clause-err c = err_more c.cross_path-done.result

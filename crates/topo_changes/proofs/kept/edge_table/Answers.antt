@@ -12,7 +12,7 @@ push-requires-clause-last c = subst (λ (row : EdgeRow). AreBelow row.id c.loop-
 
 pub loop-row-preserved : goal.loop-row-preserved
 loop-row-preserved c = edges_more_read c.args.rows.now c.args.limit c.requires c.loop-row.row-index c.row-item.result c.loop-row.table c.push.new.self
-    c.in_ok-crossings.crossings c.loop-row-test.true c.loop-row.invariant c.row-item.is (c.in_ok-crossings.ensures ∙ c.as_slice.ensures)
+    c.loop-row-test.true c.loop-row.invariant c.row-item.is (c.in_ok-crossings.ensures ∙ c.as_slice.ensures)
     c.push.ensures.slots c.push.ensures.room
 
 pub returns-clause-rows : goal.returns-clause-rows
