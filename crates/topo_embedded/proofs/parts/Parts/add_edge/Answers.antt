@@ -1,4 +1,4 @@
-use Rattle.std.proofs.Common.{arith, refl, ◌≡◌, ◌++◌, ◌∷◌, [], List, ap, subst, sym, ℕ, ◌∙◌}
+use Rattle.std.proofs.Common.{arith, refl, ◌≡◌, List, ap, subst, sym, ℕ, ◌∙◌}
 use Rattle.topo_core.specs.declared.rows.Rows.{Rows}
 use Rattle.topo_core.specs.Changes.{shown}
 use Rattle.topo_changes.proofs.rows.CrossedRows.{when_err, when_ok}

@@ -1,7 +1,7 @@
-use Rattle.std.proofs.Common.{ap, map, refl, subst, sym, ◌≡◌, ◌∙◌, ◌++◌, ◌∷◌, [], List, ℕ}
+use Rattle.std.proofs.Common.{ap, map, refl, subst, sym, ◌∙◌, ◌++◌, ◌∷◌, [], ℕ}
 use Rattle.topo_core.specs.declared.rows.Rows.{Rows}
 use Rattle.topo_map.specs.Rotation.{AddsLabel, edge_of, is_live}
-use Rattle.topo_table.specs.Places.{AreBelow, present, values_in}
+use Rattle.topo_table.specs.Places.{AreBelow, present}
 use Rattle.topo_embedded.specs.Parts.{with_paths}
 use Rattle.topo_embedded.specs.Paths.{AreForEdges}
 use Rattle.topo_embedded.proofs.growing.Grown.{IsCornerNamed, IsHung, corner_alive, grown_parts}
