@@ -131,7 +131,7 @@ rotation_pairs_push w (list ∷ lists) around =
 pub rotation_pairs_more : (rotations : List (List ℕ)) (v : ℕ) (around item : List ℕ) {before after : List ℕ} → v < length rotations → around ≡ item
     → item ≡ get_or rotations v item
     → before ≡ rotation_pairs 0 (take v rotations) → after ≡ before ++ map (λ e. pair e v) around → after ≡ rotation_pairs 0 (take (v + 1) rotations)
-rotation_pairs_more rotations v around item inside is at was put =
+rotation_pairs_more rotations v around item {before} inside is at was put =
     let place : 0 + length (take v rotations) ≡ v = omega (arith, length-take v rotations) in
     put ∙ ap (λ xs. before ++ map (λ e. pair e v) xs) is ∙ ap (λ xs. xs ++ map (λ e. pair e v) item) was
     ∙ sym (ap (rotation_pairs 0) (take_more rotations v item inside ∙ ap (λ xs. take v rotations ++ xs ∷ []) (sym at))

@@ -387,8 +387,7 @@ range_push_zero n = let e : 0 + n ≡ n = omega arith in range_push 0 n ∙ ap (
 
 -- the next crossing
 pub crossing_more : (rows : Rows) (i : ℕ) (row : CrossRow) (images : List ℕ) {now next : List ℕ} {crossings : List CrossRow} {round : List ℕ}
-    → crossings ≡ rows.crossings
-    → i < length crossings → row ≡ get_or crossings i row → round ≡ crossing_round rows row
+    → crossings ≡ rows.crossings → i < length crossings → row ≡ get_or crossings i row → round ≡ crossing_round rows row
     → now ≡ written images (flat_map (λ x. links (crossing_round rows x)) (take i crossings)) → next ≡ written now (links round)
     → next ≡ written images (flat_map (λ x. links (crossing_round rows x)) (take (i + 1) crossings))
 crossing_more rows i row images {now} {next} {crossings} same inside at is was step =

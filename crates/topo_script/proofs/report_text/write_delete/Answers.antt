@@ -1,9 +1,11 @@
+use Rattle.std.proofs.Common.{[], ◌∷◌, refl}
 use Rattle.serde_json.proofs.OnLiterals.{serde_json_on_literals}
-use Rattle.topo_script.proofs.Members.{then_member, written}
+use Rattle.topo_script.proofs.Members.{members}
 use Rattle.topo_script.proofs.report_text.write_delete.Goals as goal
 
 pub returns : goal.returns
 unfolding serde_json_on_literals
 returns c =
-    then_member c.push_str.result _ _ _ _ _ c.in_ok-write_after.ensures
-    (written c.push_str.result _ _ _ c.push_str.ensures.bytes)
+    members c.push_str.result _ (_ ∷ []) _ _ _
+    (_, c.in_ok-write_after.ensures, refl)
+    c.push_str.ensures.bytes

@@ -1,11 +1,11 @@
+use Rattle.std.proofs.Common.{[], ◌∷◌, refl}
 use Rattle.serde_json.proofs.OnLiterals.{serde_json_on_literals}
-use Rattle.topo_script.proofs.Members.{then_member, written}
+use Rattle.topo_script.proofs.Members.{members}
 use Rattle.topo_script.proofs.report_text.write_insert.Goals as goal
 
 pub returns : goal.returns
 unfolding serde_json_on_literals
 returns c =
-    then_member c.push_str.result _ _ _ _ _ c.in_ok-write_after.ensures
-    (then_member c.push_str.result _ _ _ _ _ c.in_ok-write_after-2.ensures
-    (then_member c.push_str.result _ _ _ _ _ c.in_ok-write_after-3.ensures
-    (written c.push_str.result _ _ _ c.push_str.ensures.bytes)))
+    members c.push_str.result _ (_ ∷ _ ∷ _ ∷ []) _ _ _
+    (_, c.in_ok-write_after.ensures, (_, c.in_ok-write_after-2.ensures, (_, c.in_ok-write_after-3.ensures, refl)))
+    c.push_str.ensures.bytes
