@@ -41,31 +41,68 @@ fn one_of(numbers: &mut Numbers, halves: &[Half]) -> Option<Half> {
     halves.get(place).copied()
 }
 
-/// A new segment at a half, whichever the choice is; none where there is no room.
-fn add(embedding: &mut Embedding, c: Half, d: Half, choice: u32) -> Option<Half> {
+/// A chord between two halves, where they are there and there is room.
+fn chord(embedding: &mut Embedding, c: Half, d: Half, edge: u32) -> Option<Half> {
     if !embedding.contains(c) || !embedding.contains(d) || embedding.room() == 0 {
         return None;
     }
+    Some(embedding.chord(c, d, edge))
+}
+
+/// An edge that hangs before a half, where the half is there and there is room.
+fn hang(embedding: &mut Embedding, c: Half, edge: u32) -> Option<Half> {
+    if !embedding.contains(c) || embedding.room() == 0 {
+        return None;
+    }
+    Some(embedding.hang(c, edge))
+}
+
+/// A point on a segment, where its half is there and there is room.
+fn split(embedding: &mut Embedding, h: Half) -> Option<Half> {
+    if !embedding.contains(h) || embedding.room() == 0 {
+        return None;
+    }
+    Some(embedding.split(h))
+}
+
+/// Takes a segment out, where it is there. The answer is whether it was.
+fn unchord(embedding: &mut Embedding, x: Half) -> bool {
+    if !embedding.contains(x) {
+        return false;
+    }
+    embedding.unchord(x);
+    true
+}
+
+/// Takes a point out where two halves of two segments are. The answer is whether it was.
+fn smooth(embedding: &mut Embedding, x: Half) -> bool {
+    if !embedding.contains(x) {
+        return false;
+    }
+    let other = embedding.turn(x);
+    if other == x || other == x.twin() || embedding.turn(other) != x {
+        return false;
+    }
+    embedding.smooth(x);
+    true
+}
+
+/// A new segment at a half that is there, whichever the choice is; none where there is no room.
+fn add(embedding: &mut Embedding, c: Half, d: Half, choice: u32) -> Option<Half> {
     match choice {
-        0 => Some(embedding.hang(c, 1)),
-        1 => Some(embedding.split(c)),
-        2 | 3 => Some(embedding.chord(c, d, 2)),
+        0 => hang(embedding, c, 1),
+        1 => split(embedding, c),
+        2 | 3 => chord(embedding, c, d, 2),
         _ => None,
     }
 }
 
 /// Takes a segment out, or a point where two halves are.
-fn take_out(embedding: &mut Embedding, c: Half, choice: u32) {
-    if !embedding.contains(c) {
-        return;
-    }
+fn take_out(embedding: &mut Embedding, c: Half, choice: u32) -> bool {
     if choice < 6 {
-        embedding.unchord(c);
-        return;
-    }
-    let other = embedding.turn(c);
-    if embedding.turn(other) == c && other != c && other != c.twin() {
-        embedding.smooth(c);
+        unchord(embedding, c)
+    } else {
+        smooth(embedding, c)
     }
 }
 
@@ -87,14 +124,32 @@ fn edit(
     match add(embedding, c, d, choice) {
         Some(x) => halves.extend_from_slice(&[x, x.twin()]),
         None => {
-            take_out(embedding, c, choice);
+            let _is_gone = take_out(embedding, c, choice);
             Ok(())
         }
     }
 }
 
-/// What was built from turns: at each place a half that turns to the one at the place that its turn
+/// What was built from turns, at one place: a half that turns to the one at the place that its turn
 /// names, beside its twin, on the edge of the two.
+fn is_built(
+    embedding: &Embedding,
+    halves: &[Half],
+    turns: &[u32],
+    edges: &[u32],
+    place: usize,
+) -> bool {
+    let (Some(half), Some(turn)) = (halves.get(place), turns.get(place)) else {
+        return false;
+    };
+    embedding.contains(*half)
+        && halves.get(*turn as usize).copied() == Some(embedding.turn(*half))
+        && halves.get(place ^ 1).copied() == Some(embedding.twin(*half))
+        && edges.get(place / 2).copied() == Some(embedding.edge(*half))
+        && (half.number() as usize) < embedding.limit()
+}
+
+/// The same at each place.
 fn are_built(
     rt: &impl Abort,
     embedding: &Embedding,
@@ -103,13 +158,11 @@ fn are_built(
     edges: &[u32],
 ) {
     assert!(rt; halves.len() == turns.len());
-    for (place, (half, turn)) in halves.iter().zip(turns).enumerate() {
-        assert!(rt; embedding.contains(*half));
-        let turned = halves.get(*turn as usize).copied();
-        assert!(rt; turned == Some(embedding.turn(*half)));
-        assert!(rt; halves.get(place ^ 1).copied() == Some(embedding.twin(*half)));
-        assert!(rt; edges.get(place / 2).copied() == Some(embedding.edge(*half)));
-        assert!(rt; (half.number() as usize) < embedding.limit());
+    for place in 0..turns.len() {
+        assert!(rt;
+            is_built(embedding, halves, turns, edges, place),
+            "place {place}"
+        );
     }
 }
 
@@ -130,153 +183,119 @@ fn builds_two_loops_from_turns(rt: HostRuntime) -> Result<(), Fail> {
 }
 
 /// `h` is a half of the seed: the two halves lie in one face.
-fn is_seed(rt: &impl Abort, embedding: &Embedding, h: Half) {
-    assert!(rt; embedding.contains(h));
-    assert!(rt; embedding.contains(h.twin()));
-    assert!(rt; embedding.same_face(h, h.twin()));
+fn is_seed(embedding: &Embedding, h: Half) -> bool {
+    embedding.contains(h) && embedding.contains(h.twin()) && embedding.same_face(h, h.twin())
 }
 
 /// `x` is a chord from `h` to its twin, which parts their face.
-fn is_chord(rt: &impl Abort, embedding: &Embedding, h: Half, x: Half) {
-    assert!(rt; embedding.contains(h));
-    assert!(rt; embedding.contains(h.twin()));
-    assert!(rt; embedding.contains(x));
-    assert!(rt; embedding.edge(x) == 8);
-    assert!(rt; embedding.edge(h) == 7);
-    assert!(rt; embedding.turn(h) == x);
-    assert!(rt; embedding.turn(x) == h);
-    assert!(rt; embedding.face_next(h) == embedding.twin(x));
-    assert!(rt; !embedding.same_face(h, h.twin()));
+fn is_chord(embedding: &Embedding, h: Half, x: Half) -> bool {
+    embedding.contains(h)
+        && embedding.contains(h.twin())
+        && embedding.contains(x)
+        && embedding.edge(x) == 8
+        && embedding.edge(h) == 7
+        && embedding.turn(h) == x
+        && embedding.turn(x) == h
+        && embedding.face_next(h) == embedding.twin(x)
+        && !embedding.same_face(h, h.twin())
 }
 
 /// `y` hangs between the chord `x` and `h`.
-fn is_hung(rt: &impl Abort, embedding: &Embedding, h: Half, x: Half, y: Half) {
-    assert!(rt; embedding.contains(h));
-    assert!(rt; embedding.contains(x));
-    assert!(rt; embedding.contains(y));
-    assert!(rt; embedding.turn(x) == y);
-    assert!(rt; embedding.turn(y) == h);
-    assert!(rt; embedding.degree(h) == 3);
+fn is_hung(embedding: &Embedding, h: Half, x: Half, y: Half) -> bool {
+    embedding.contains(h)
+        && embedding.contains(x)
+        && embedding.contains(y)
+        && embedding.turn(x) == y
+        && embedding.turn(y) == h
+        && embedding.degree(h) == 3
 }
 
 /// An edge that hangs has one face on both sides, a chord two.
-fn are_between_faces(rt: &impl Abort, embedding: &Embedding, x: Half, y: Half) {
-    assert!(rt; embedding.contains(x));
-    assert!(rt; embedding.contains(x.twin()));
-    assert!(rt; embedding.contains(y));
-    assert!(rt; embedding.contains(y.twin()));
-    assert!(rt; embedding.degree(y.twin()) == 1);
-    assert!(rt; embedding.same_face(y, y.twin()));
-    assert!(rt; !embedding.same_face(x, x.twin()));
-    assert!(rt; embedding.turn(x) != x.twin());
+fn are_between_faces(embedding: &Embedding, x: Half, y: Half) -> bool {
+    embedding.contains(x)
+        && embedding.contains(x.twin())
+        && embedding.contains(y)
+        && embedding.contains(y.twin())
+        && embedding.degree(y.twin()) == 1
+        && embedding.same_face(y, y.twin())
+        && !embedding.same_face(x, x.twin())
+        && embedding.turn(x) != x.twin()
 }
 
 /// The chord `x` is gone, and `y` still hangs.
-fn is_unchorded(rt: &impl Abort, embedding: &Embedding, h: Half, x: Half, y: Half) {
-    assert!(rt; !embedding.contains(x));
-    assert!(rt; embedding.contains(h));
-    assert!(rt; embedding.contains(h.twin()));
-    assert!(rt; embedding.turn(h) == y);
-    assert!(rt; embedding.turn(h.twin()) == h.twin());
+fn is_unchorded(embedding: &Embedding, h: Half, x: Half, y: Half) -> bool {
+    !embedding.contains(x)
+        && embedding.contains(h)
+        && embedding.contains(h.twin())
+        && embedding.turn(h) == y
+        && embedding.turn(h.twin()) == h.twin()
 }
 
-/// A chord from a half to its twin.
-fn chorded(rt: &impl Abort, embedding: &mut Embedding, h: Half) -> Half {
-    assert!(rt; embedding.contains(h));
-    assert!(rt; embedding.contains(h.twin()));
-    assert!(rt; embedding.room() > 0);
-    embedding.chord(h, h.twin(), 8)
+/// Hangs an edge beside the chord `x`, which is in, and takes the chord out.
+fn hang_beside(rt: &impl Abort, embedding: &mut Embedding, h: Half, x: Half) -> Result<(), Fail> {
+    let y = hang(embedding, h, 9).ok_or("an edge that hangs")?;
+    assert!(rt; is_hung(embedding, h, x, y));
+    assert!(rt; are_between_faces(embedding, x, y));
+    assert!(rt; unchord(embedding, x));
+    assert!(rt; is_unchorded(embedding, h, x, y));
+    Ok(())
 }
 
-/// An edge that hangs before a half.
-fn hung(rt: &impl Abort, embedding: &mut Embedding, h: Half) -> Half {
-    assert!(rt; embedding.contains(h));
-    assert!(rt; embedding.room() > 0);
-    embedding.hang(h, 9)
-}
-
-/// Takes a chord out.
-fn unchord(rt: &impl Abort, embedding: &mut Embedding, x: Half) {
-    assert!(rt; embedding.contains(x));
-    embedding.unchord(x);
-}
-
-/// Draws a chord and hangs an edge beside it, and takes the chord out.
-fn chord_and_hang(rt: &impl Abort, embedding: &mut Embedding, h: Half) {
+/// Draws a chord, and goes on from there. What is taken out makes room again.
+fn chord_and_hang(rt: &impl Abort, embedding: &mut Embedding, h: Half) -> Result<(), Fail> {
     let room = embedding.room();
     assert!(rt; room >= 100);
-    let x = chorded(rt, embedding, h);
+    let x = chord(embedding, h, h.twin(), 8).ok_or("a chord")?;
     assert!(rt; embedding.room() == room - 1);
-    is_chord(rt, embedding, h, x);
-    let y = hung(rt, embedding, h);
-    is_hung(rt, embedding, h, x, y);
-    are_between_faces(rt, embedding, x, y);
-    unchord(rt, embedding, x);
+    assert!(rt; is_chord(embedding, h, x));
+    hang_beside(rt, embedding, h, x)?;
     assert!(rt; embedding.room() == room - 1);
-    is_unchorded(rt, embedding, h, x, y);
+    Ok(())
 }
 
 /// The same once there is room.
-fn chord_in_room(rt: &impl Abort, embedding: &mut Embedding, h: Half) -> Result<(), AllocError> {
+fn chord_in_room(rt: &impl Abort, embedding: &mut Embedding, h: Half) -> Result<(), Fail> {
     embedding.reserve(100)?;
-    chord_and_hang(rt, embedding, h);
-    Ok(())
+    chord_and_hang(rt, embedding, h)
 }
 
 #[test]
 fn chords_and_hangs(rt: HostRuntime) -> Result<(), Fail> {
     let (mut embedding, h) = Embedding::seed(rt.alloc(), 7)?;
-    is_seed(&rt, &embedding, h);
+    assert!(rt; is_seed(&embedding, h));
     let told = chord_in_room(&rt, &mut embedding, h);
     drop(embedding);
-    Ok(told?)
+    told
 }
 
 /// `x` is the new half at the point that parts `h` from its twin.
-fn is_split(rt: &impl Abort, embedding: &Embedding, h: Half, x: Half) {
+fn is_split(embedding: &Embedding, h: Half, x: Half) -> bool {
     let t = h.twin();
-    assert!(rt; embedding.contains(x));
-    assert!(rt; embedding.contains(t));
-    assert!(rt; embedding.contains(x.twin()));
-    assert!(rt; embedding.edge(x) == 7);
-    assert!(rt; embedding.turn(x) == t);
-    assert!(rt; embedding.turn(t) == x);
-    assert!(rt; embedding.turn(x.twin()) == x.twin());
-}
-
-/// Puts a point on the seed's segment.
-fn split(rt: &impl Abort, embedding: &mut Embedding, h: Half) -> Half {
-    assert!(rt; embedding.contains(h));
-    assert!(rt; embedding.room() > 0);
-    embedding.split(h)
-}
-
-/// Takes a point with two halves out.
-fn smooth(rt: &impl Abort, embedding: &mut Embedding, x: Half) {
-    assert!(rt; embedding.contains(x));
-    let around = embedding.turn(x);
-    assert!(rt; around != x.twin());
-    assert!(rt; around != x);
-    assert!(rt; embedding.turn(around) == x);
-    embedding.smooth(x);
+    embedding.contains(x)
+        && embedding.contains(t)
+        && embedding.contains(x.twin())
+        && embedding.edge(x) == 7
+        && embedding.turn(x) == t
+        && embedding.turn(t) == x
+        && embedding.turn(x.twin()) == x.twin()
 }
 
 /// Each half of the seed is alone at its point.
-fn is_smoothed(rt: &impl Abort, embedding: &Embedding, h: Half) {
+fn is_smoothed(embedding: &Embedding, h: Half) -> bool {
     let t = h.twin();
-    assert!(rt; embedding.contains(h));
-    assert!(rt; embedding.contains(t));
-    assert!(rt; embedding.turn(h) == h);
-    assert!(rt; embedding.turn(t) == t);
+    embedding.contains(h)
+        && embedding.contains(t)
+        && embedding.turn(h) == h
+        && embedding.turn(t) == t
 }
 
 /// Puts a point on the seed's segment, once there is room, and takes it out.
-fn split_and_smooth(rt: &impl Abort, embedding: &mut Embedding, h: Half) -> Result<(), AllocError> {
+fn split_and_smooth(rt: &impl Abort, embedding: &mut Embedding, h: Half) -> Result<(), Fail> {
     embedding.reserve(1)?;
-    let x = split(rt, embedding, h);
-    is_split(rt, embedding, h, x);
-    smooth(rt, embedding, x);
-    is_smoothed(rt, embedding, h);
+    let x = split(embedding, h).ok_or("a point")?;
+    assert!(rt; is_split(embedding, h, x));
+    assert!(rt; smooth(embedding, x));
+    assert!(rt; is_smoothed(embedding, h));
     Ok(())
 }
 
@@ -285,15 +304,18 @@ fn splits_and_smooths(rt: HostRuntime) -> Result<(), Fail> {
     let (mut embedding, h) = Embedding::seed(rt.alloc(), 7)?;
     let told = split_and_smooth(&rt, &mut embedding, h);
     drop(embedding);
-    Ok(told?)
+    told
 }
 
-/// Two embeddings have these halves, with the same turn.
+/// Two embeddings have a half, with the same turn.
+fn is_alike(first: &Embedding, second: &Embedding, half: Half) -> bool {
+    first.contains(half) && second.contains(half) && second.turn(half) == first.turn(half)
+}
+
+/// The same of each of these halves.
 fn are_alike(rt: &impl Abort, first: &Embedding, second: &Embedding, halves: &[Half]) {
     for half in halves {
-        assert!(rt; first.contains(*half));
-        assert!(rt; second.contains(*half));
-        assert!(rt; second.turn(*half) == first.turn(*half));
+        assert!(rt; is_alike(first, second, *half));
     }
 }
 
@@ -316,10 +338,11 @@ fn copies(rt: HostRuntime) -> Result<(), Fail> {
 #[test]
 fn refuses_what_no_memory_holds(rt: HostRuntime) -> Result<(), Fail> {
     let (mut embedding, h) = Embedding::seed(rt.alloc(), 7)?;
-    assert!(rt; embedding.reserve(usize::MAX).is_err());
-    assert!(rt; embedding.contains(h));
-    assert!(rt; embedding.turn(h) == h);
+    let is_refused = embedding.reserve(usize::MAX).is_err();
+    let is_left = embedding.contains(h) && embedding.turn(h) == h;
     drop(embedding);
+    assert!(rt; is_refused);
+    assert!(rt; is_left);
     Ok(())
 }
 

@@ -37,22 +37,22 @@ fn a_table_keeps_the_promise(rt: HostRuntime) {
     assert!(rt; prices == [Some(5), None]);
 }
 
+/// Entries of kind 7, and whether a table takes them.
+const ENTRIES: &[(u32, bool)] = &[(0, false), (1001, false), (1, true), (1000, true)];
+
+/// Whether a table with this entry of kind 7 is made, or else refused for that kind.
+fn is_entered(entry: u32, accepted: bool) -> bool {
+    let mut prices = [Some(1); 64];
+    prices[7] = Some(entry);
+    match PriceTable::new(prices) {
+        Ok(_) => accepted,
+        Err(fault) => !accepted && fault == PriceFault::BadPrice(7),
+    }
+}
+
 #[test]
 fn tables_with_bad_entries_are_refused(rt: HostRuntime) {
-    for (kind, entry, accepted) in [
-        (7, 0, false),
-        (7, 1001, false),
-        (7, 1, true),
-        (7, 1000, true),
-    ] {
-        let mut prices = [Some(1); 64];
-        prices[kind] = Some(entry);
-        match PriceTable::new(prices) {
-            Ok(_) => assert!(rt; accepted),
-            Err(fault) => {
-                assert!(rt; !accepted);
-                assert!(rt; fault == PriceFault::BadPrice(7));
-            }
-        }
+    for (entry, accepted) in ENTRIES {
+        assert!(rt; is_entered(*entry, *accepted), "{entry}");
     }
 }
