@@ -57,43 +57,44 @@ fn ids_are_their_numbers(rt: HostRuntime) {
     assert!(rt; CrossId::new(7).number() == 7);
 }
 
-#[test]
-fn limits_have_ranges(rt: HostRuntime) {
-    let table = [
-        (2, 1, 0, true),
-        (65_536, 65_536, 1_048_576, true),
-        (1, 1, 0, false),
-        (65_537, 1, 0, false),
-        (2, 0, 0, false),
-        (2, 65_537, 0, false),
-        (2, 1, 1_048_577, false),
-    ];
-    for (vertices, edges, crossings, accepted) in table {
-        match Limits::new(vertices, edges, crossings) {
-            Ok(limits) => {
-                assert!(rt; accepted);
-                assert!(rt; limits.vertices == vertices);
-                assert!(rt; limits.edges == edges);
-                assert!(rt; limits.crossings == crossings);
-            }
-            Err(fault) => {
-                assert!(rt; !accepted);
-                assert!(rt; fault == LimitsFault::BadLimits);
-            }
+/// Limits as vertices, edges and crossings, and whether they are within their ranges.
+const LIMITS: &[(u32, u32, u32, bool)] = &[
+    (2, 1, 0, true),
+    (65_536, 65_536, 1_048_576, true),
+    (1, 1, 0, false),
+    (65_537, 1, 0, false),
+    (2, 0, 0, false),
+    (2, 65_537, 0, false),
+    (2, 1, 1_048_577, false),
+];
+
+/// Whether limits are made of these numbers, or else refused as bad ones.
+fn are_limits(vertices: u32, edges: u32, crossings: u32, accepted: bool) -> bool {
+    match Limits::new(vertices, edges, crossings) {
+        Ok(limits) => {
+            accepted
+                && limits.vertices == vertices
+                && limits.edges == edges
+                && limits.crossings == crossings
         }
+        Err(fault) => !accepted && fault == LimitsFault::BadLimits,
     }
 }
 
-/// The degrees of these rows.
-fn have_degrees(rt: &impl Abort, rows: &Rows) {
-    assert!(rt; rows.degree(0) == 0);
-    assert!(rt; rows.degree(2) == 2);
-    assert!(rt; rows.degree(3) == 0);
+#[test]
+fn limits_have_ranges(rt: HostRuntime) {
+    for limits in LIMITS {
+        let (vertices, edges, crossings, accepted) = *limits;
+        assert!(rt;
+            are_limits(vertices, edges, crossings, accepted),
+            "{limits:?}"
+        );
+    }
 }
 
 /// Degrees and edges of these rows.
 fn are_found(rt: &impl Abort, rows: &Rows) -> Result<(), Fail> {
-    have_degrees(rt, rows);
+    assert!(rt; (rows.degree(0), rows.degree(2), rows.degree(3)) == (0, 2, 0));
     assert!(rt; rows.edge(5).is_none());
     let row = rows.edge(4).ok_or("edge 4")?;
     let facts = Facts::from_row(row).ok_or("facts of edge 4")?;
@@ -111,31 +112,49 @@ fn rows_are_found_by_id(rt: HostRuntime) -> Result<(), Fail> {
     told
 }
 
-#[test]
-fn lists_give_their_items_back(rt: HostRuntime) -> Result<(), Fail> {
-    let mut listed = Listed::from_vec(vec![in rt.alloc(); 3u32]?);
+/// The list of 3 and 1.
+fn two_numbers(alloc: Global) -> Result<Listed<u32>, AllocError> {
+    let mut listed = Listed::from_vec(vec![in alloc; 3u32]?);
     listed.push(1)?;
-    assert!(rt; listed.as_slice() == [3, 1].as_slice());
-    assert!(rt; (listed.len(), listed[0], listed[1]) == (2, 3, 1));
-    assert!(rt; listed.iter().max() == Some(&3));
-    assert!(rt; listed.into_vec().as_slice() == [3, 1].as_slice());
-    Ok(())
+    Ok(listed)
+}
+
+/// Whether a list shows these items.
+fn shows_two(listed: &Listed<u32>) -> bool {
+    listed.as_slice() == [3, 1].as_slice()
+        && listed.len() == 2
+        && (listed[0], listed[1]) == (3, 1)
+        && listed.iter().max() == Some(&3)
 }
 
 #[test]
+fn lists_give_their_items_back(rt: HostRuntime) -> Result<(), Fail> {
+    let listed = two_numbers(rt.alloc())?;
+    let are_seen = shows_two(&listed);
+    let items = listed.into_vec();
+    let are_given_back = items.as_slice() == [3, 1].as_slice();
+    drop(items);
+    assert!(rt; are_seen);
+    assert!(rt; are_given_back);
+    Ok(())
+}
+
+/// The refusals with their numbers.
+const REFUSALS: &[(Refusal, u32)] = &[
+    (Refusal::NoVertex, 1),
+    (Refusal::SameEnds, 2),
+    (Refusal::NoPosition, 3),
+    (Refusal::NoEdge, 4),
+    (Refusal::BadKind, 5),
+    (Refusal::Cut(3), 6),
+    (Refusal::Full, 7),
+    (Refusal::Memory, 8),
+    (Refusal::NoRoute, 9),
+];
+
+#[test]
 fn refusals_have_numbers(rt: HostRuntime) {
-    let table = [
-        (Refusal::NoVertex, 1),
-        (Refusal::SameEnds, 2),
-        (Refusal::NoPosition, 3),
-        (Refusal::NoEdge, 4),
-        (Refusal::BadKind, 5),
-        (Refusal::Cut(3), 6),
-        (Refusal::Full, 7),
-        (Refusal::Memory, 8),
-        (Refusal::NoRoute, 9),
-    ];
-    for (refusal, number) in table {
-        assert!(rt; refusal.number() == number);
+    for (refusal, number) in REFUSALS {
+        assert!(rt; refusal.number() == *number);
     }
 }
