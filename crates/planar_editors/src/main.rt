@@ -8,6 +8,7 @@
 
 ghost use Rattle.std.specs.Prelude.{◌≡◌, Some};
 ghost use Rattle.std.specs.Arc.{arc_value};
+ghost use Rattle.topo_core.specs.declared.limits.TheConstants.{MAX_PASSES};
 ghost use Rattle.topo_price.specs.Prices.{IsPromise};
 
 mod editing;
@@ -68,7 +69,7 @@ fn share<
     R: Threads + Wait + Print + AllocGlobal + Sync,
 >(rt: &R, alloc: Global, fresh: FreshService, start: Picture, tariff: Arc<Tariff<F>>) -> Result<()>
     requires ledger { (fresh.blank.name ≡ K.name) × (fresh.blank.parts ≡ K.parts) }
-    requires parts { K.parts ≡ 16 }
+    requires parts { K.parts ≡ MAX_PASSES }
     requires list { fresh.log.seen.book ≡ K.book }
     requires start { start ≡ K.start }
     requires prices { K.closure ≡ Some (arc_value tariff) }

@@ -28,6 +28,7 @@ use crate::tokens::read_tokens;
 use serde_json::Value;
 use std::alloc::Global;
 use topo_core::calls::Command;
+use topo_core::limits::MAX_PASSES;
 use topo_core::listed::Listed;
 use topo_core::rows::Rows;
 
@@ -35,7 +36,7 @@ use topo_core::rows::Rows;
 pub const MAX_SCRIPT_BYTES: usize = 1_048_576;
 
 /// The greatest number of lists in a script.
-pub(crate) const MAX_WORKERS: usize = 16;
+pub(crate) const MAX_WORKERS: usize = MAX_PASSES as usize;
 
 impl Form for LimitRows {
     ghost form = { limits_form };

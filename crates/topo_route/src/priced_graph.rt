@@ -15,8 +15,8 @@ use crate::steps::price_at;
 use std::alloc::{AllocError, Global};
 use topo_price::tariff::{PriceFn, Tariff};
 
-/// A picture with prices. Those of the first segments are kept, by half of a dart's name; the others
-/// are asked for each time.
+/// A picture with prices. Those of the first segments are kept, by half of a dart's name; the
+/// others are asked for each time.
 #[derive(Drop)]
 pub(crate) struct PricedGraph<'a, W: FaceGraph, F: PriceFn> {
     pub graph: &'a W,

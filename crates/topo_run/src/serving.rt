@@ -7,7 +7,7 @@ ghost use Rattle.topo_core.specs.History.{IsRun};
 ghost use Rattle.topo_price.specs.Prices.{prices_of};
 ghost use Rattle.topo_run.specs.Working.{AreOpened, HaveWorked, IsOfService};
 ghost use Rattle.topo_service.specs.Commands.{commands};
-ghost use Rattle.topo_service.specs.declared.service.TheConstants.{MAX_PASSES};
+ghost use Rattle.topo_core.specs.declared.limits.TheConstants.{MAX_PASSES};
 
 use crate::alone::outcome_alone;
 use crate::outcome::{RunOutcome, outcome_of};
@@ -16,12 +16,11 @@ use std::marker::Brand;
 use std::sync::{Arc, Wait};
 use std::thread::Threads;
 use topo_core::calls::Command;
+use topo_core::limits::MAX_PASSES;
 use topo_core::listed::Listed;
 use topo_picture::Picture;
 use topo_price::tariff::{PriceFn, Tariff};
-use topo_service::{
-    EndFault, FreshService, Gate, MAX_PASSES, Pass, Service, WorkerEnd, run_workers,
-};
+use topo_service::{EndFault, FreshService, Gate, Pass, Service, WorkerEnd, run_workers};
 use topo_settings::RunFault;
 use topo_versions::{ServiceBrand, StoreReader};
 

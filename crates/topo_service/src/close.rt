@@ -8,18 +8,19 @@ ghost use Rattle.topo_price.specs.Prices.{prices_of};
 ghost use Rattle.topo_versions.specs.Versions.{entries_shown};
 ghost use Rattle.topo_service.specs.Faults.{IsEndFault};
 ghost use Rattle.topo_service.specs.Receipts.{AllAgree, AreWhole, HasNumber, receipt_count};
-ghost use Rattle.topo_service.specs.declared.service.TheConstants.{MAX_PASSES};
+ghost use Rattle.topo_core.specs.declared.limits.TheConstants.{MAX_PASSES};
 
 use crate::checks::{first_fault, gather};
 use crate::faults::EndFault;
 use crate::locked_state::LockedState;
 use crate::pass::PassOver;
-use crate::service::{MAX_PASSES, ServiceOver};
+use crate::service::ServiceOver;
 use crate::share_pool::SharePool;
 use std::alloc::{AllocError, Global};
 use std::sync::ledger::{Blank, Book as Tally};
 use std::sync::{Arc, Mutex, Wait};
 use topo_book::Book;
+use topo_core::limits::MAX_PASSES;
 use topo_picture::Picture;
 use topo_price::tariff::{PriceFn, Tariff};
 use topo_versions::{

@@ -45,5 +45,5 @@ pub use close::{CloseFault, FreshService, Service};
 pub use faults::{EndFault, PassFault, ServiceFault};
 pub use found::FoundRoute;
 pub use pass::{Pass, PassOver, Receipt, View};
-pub use service::{MAX_PASSES, ServiceOver};
+pub use service::ServiceOver;
 pub use workers::{Gate, WorkerEnd, run_workers};

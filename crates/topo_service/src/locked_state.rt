@@ -224,7 +224,8 @@ impl<F: PriceFn, K: ServiceBrand<F>, W: VersionWriter<F, K>> LockedState<F, K, W
             ≡ (if is_ok result then mine.old.amount + 1 else mine.old.amount) }
         ensures same_book { IsSameBook self.old self.new }
         ensures entered { IfOk result
-            (λ pair. self.new.history ≡ self.old.history ++ entry_of caller call pair.receipt ∷ []) }
+            (λ pair. self.new.history
+            ≡ self.old.history ++ entry_of caller call pair.receipt ∷ []) }
         ensures step { IfOk result (λ pair. Step (prices_named F.may_return K.closure)
             K.start.limits self.old.picture.rows call pair.receipt self.new.picture.rows) }
         ensures no_memory { IfOk result (λ pair. pair.receipt ≢ Refused Memory) }

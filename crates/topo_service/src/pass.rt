@@ -185,8 +185,8 @@ impl<F: PriceFn, K: ServiceBrand<F>, G: VersionReader<F, K>> PassOver<F, K, G> {
         Some(own)
     }
 
-    /// A version of the pass's own, whose picture nobody else holds: the one that it had, brought up
-    /// to what its last call has seen, and else a copy of the version of now.
+    /// A version of the pass's own, whose picture nobody else holds: the one that it had, brought
+    /// up to what its last call has seen, and else a copy of the version of now.
     #[tactic(auto, using(crate::proofs::Missed::begins_itself))]
     pub(crate) fn take_own(
         &mut self,

@@ -10,7 +10,7 @@ ghost use Rattle.topo_versions.specs.Names.{prices_named};
 ghost use Rattle.topo_versions.specs.Versions.{AreLegal};
 ghost use Rattle.topo_service.specs.Answers.{HasSeenOwn, IsAnswered, IsDueAfter};
 ghost use Rattle.topo_service.specs.Passes.{receipt_of};
-ghost use Rattle.topo_service.specs.declared.service.TheConstants.{MAX_PASSES};
+ghost use Rattle.topo_core.specs.declared.limits.TheConstants.{MAX_PASSES};
 
 use crate::faults::ServiceFault;
 use crate::found::FoundRoute;
@@ -31,9 +31,6 @@ use topo_versions::{
     LogPrefix, ReaderFactory, ServiceBrand, VersionReader, VersionWriter, wait_forever,
 };
 
-/// A service has at most so many passes.
-pub const MAX_PASSES: u32 = 16;
-
 /// One lock round a book, with the passes that were given out. Contracts see what answers its
 /// prices, how many passes it gives out at most, and how many it has given out.
 pub struct ServiceOver<F: PriceFn, K: ServiceBrand<F>, W: VersionWriter<F, K>> {
@@ -52,7 +49,7 @@ impl<F: PriceFn, K: ServiceBrand<F>, W: VersionWriter<F, K>> Model for ServiceOv
     ghost use Rattle.std.specs.Prelude.{◌≡◌, ◌≤◌, [], Some};
     ghost use Rattle.std.specs.Arc.{arc_value};
     ghost use Rattle.topo_service.specs.Passes.{ServiceState};
-    ghost use Rattle.topo_service.specs.declared.service.TheConstants.{MAX_PASSES};
+    ghost use Rattle.topo_core.specs.declared.limits.TheConstants.{MAX_PASSES};
 
     ghost Value = { ServiceState F };
 
@@ -172,9 +169,9 @@ impl<F: PriceFn, K: ServiceBrand<F>, W: VersionWriter<F, K>> ServiceOver<F, K, W
         self.call(rt, pass, Call::Insert { u, v, kind }, planned)
     }
 
-    /// As `insert` between the ends of a route that was found. The route is taken as it is if nothing
-    /// that its search has seen has changed since, as far as the entries since then are looked
-    /// through; else the route is looked for.
+    /// As `insert` between the ends of a route that was found. The route is taken as it is if the
+    /// entries since then are looked through and changed nothing that its search has seen; else
+    /// the route is looked for.
     pub fn insert_found<G: VersionReader<F, K>, R: Wait>(
         &self,
         rt: &R,

@@ -1,12 +1,12 @@
 //! The parts of the ledger that were not given out.
 
 ghost use Rattle.std.specs.Prelude.{◌≡◌, ◌+◌, IfSome};
-ghost use Rattle.topo_service.specs.declared.service.TheConstants.{MAX_PASSES};
+ghost use Rattle.topo_core.specs.declared.limits.TheConstants.{MAX_PASSES};
 
-use crate::service::MAX_PASSES;
 use std::marker::Model;
 use std::sync::Mutex;
 use std::sync::ledger::Share;
+use topo_core::limits::MAX_PASSES;
 use topo_versions::LogBrand;
 
 /// What is left, and how many parts were given out.
@@ -18,7 +18,7 @@ struct Rest<K: LogBrand> {
 
 impl<K: LogBrand> Model for Rest<K> {
     ghost use Rattle.std.specs.Prelude.{◌≡◌, ◌+◌, ℕ};
-    ghost use Rattle.topo_service.specs.declared.service.TheConstants.{MAX_PASSES};
+    ghost use Rattle.topo_core.specs.declared.limits.TheConstants.{MAX_PASSES};
 
     ghost Value = { ℕ };
 

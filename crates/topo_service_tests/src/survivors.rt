@@ -18,8 +18,8 @@ use topo_versions::ServiceBrand;
 /// The grid of the tests.
 const GRID: Grid = Grid { width: 8 };
 
-/// The route is looked for between these: from the vertex in row 1 and column 1 to the one in row 3
-/// and column 2. It crosses one edge, the one below the face to the right of and below its start.
+/// The route is looked for between these two vertices of the grid. It crosses one edge, the one
+/// below the face to the right of and below its start.
 const FROM: u32 = 9;
 
 const TO: u32 = 26;

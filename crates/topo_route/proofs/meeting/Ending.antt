@@ -93,8 +93,8 @@ module _ (price : Pricing) (g : Named) (lawful : Lawful g.rows) (has : IsNamed g
   started_both {blank} {names} {none} {others} {names'} {coming} {heights} {on_names} {waiting} {distances} {back_names} {coming'} {l} {l'} {l''} few
       empty empty' on at_target back at_start = record {
         on = narrowed price g face faces v heights on_names waiting (λ k. unreached) (λ k. reach_of l'') (reach_of l') (reach_of l'') g.size
-            (on.spreads (λ k. unreached) (blank_spreads blank names few empty.heights_are empty.as_many v (reach_of l) none empty.none_waits)) (λ k. omega arith)
-            (omega (arith, back.less));
+            (on.spreads (λ k. unreached) (blank_spreads blank names few empty.heights_are empty.as_many v (reach_of l) none empty.none_waits))
+            (λ k. omega arith) (omega (arith, back.less));
         back = narrowed price g face faces u distances back_names coming' (λ k. unreached) (λ k. reach_of l'') (reach_of l'') (reach_of l'') g.size
             (back.spreads (λ k. unreached) (blank_spreads others names' few empty'.heights_are empty'.as_many u (reach_of l') coming empty'.none_waits))
             (λ k. omega arith) (omega arith);

@@ -72,8 +72,8 @@ module _ (price : Pricing) (rows : Rows) (lawful : Lawful rows) where
   pub no_dart_there : (at left : ℕ) (d : Dart) → at < length (darts rows) → has_dart (darts rows) d ≡ false → CannotCross price rows at d left
   no_dart_there at left d l none same = absurd (false≢true (sym none ∙ face_has rows lawful (dart_of rows at) d (dart_in rows lawful at l) same))
 
-  pub crossed_to : {at k : ℕ} (left : ℕ) {next : ℕ} (rest : ℕ) {d : Dart} → at < length (darts rows) → k < length (darts rows) → dart_of rows k ≡ d → next ≡ twin k
-      → next < length (darts rows)
+  pub crossed_to : {at k : ℕ} (left : ℕ) {next : ℕ} (rest : ℕ) {d : Dart} → at < length (darts rows) → k < length (darts rows) → dart_of rows k ≡ d
+      → next ≡ twin k → next < length (darts rows)
       → SameCycle (next_of rows) at k → Payment price rows (dart_of rows k) left rest → dart_of rows (twin k) ≡ dart_twin (dart_of rows k)
       → Crossing price rows at d left next rest
   crossed_to left rest l lk is there next_in same payment lands = grind (arith, face_of_numbers)

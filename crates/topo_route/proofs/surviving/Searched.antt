@@ -118,8 +118,8 @@ module _ (price : Pricing) (promise : KeepsPromise price) (old : Rows) (lawful :
       let here : n ≡ tight.cost + level (dart_twin y) = omega (arith, level_inside y h) in
       record { cost = tight.cost; asked = tight.asked; drop = same ∙ cut_tight (m.inside (dart_twin y)) p tight.cost n (height (dart_twin y)) some low here }
 
-  first_cut : (xs : List Dart) {c : Dart} (to : Dart) {n : ℕ} → has_dart (darts old) c ≡ true → m.inside c ≡ true → Crosses (system old) c xs to → Costs price old xs n
-      → height to ≡ 0 → height c ≡ n → n ≤ p
+  first_cut : (xs : List Dart) {c : Dart} (to : Dart) {n : ℕ} → has_dart (darts old) c ≡ true → m.inside c ≡ true → Crosses (system old) c xs to
+      → Costs price old xs n → height to ≡ 0 → height c ≡ n → n ≤ p
       → TakesFirstDarts price old height c xs → TakesFirstDarts price old level c xs
   first_cut [] to h l walk cost down same low takes = tt
   first_cut (x ∷ xs) {c} to {n} h l walk cost down same low takes =

@@ -2,7 +2,7 @@ use Rattle.std.proofs.Common.{◌≡◌, ◌≤◌, ◌<◌, ◌+◌, ℕ, lengt
 use Rattle.std.specs.Prelude.{vec_len}
 use Rattle.topo_core.specs.declared.calls.Entry.{Entry}
 use Rattle.topo_core.specs.History.{IsPrefix, versions}
-use Rattle.topo_service.specs.declared.service.TheConstants.{MAX_PASSES}
+use Rattle.topo_core.specs.declared.limits.TheConstants.{MAX_PASSES}
 use Rattle.topo_service.specs.Passes.{PassState}
 use Rattle.topo_service.specs.Receipts.{AllAgree, AreFirst, AreWhole, HasNumber, receipt_count}
 use Rattle.topo_service.proofs.Matching.{first_agree}
