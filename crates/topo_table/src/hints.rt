@@ -14,6 +14,8 @@ pub struct Hints {
     places: Vec<u32>,
     // How many places the table had when it was followed last.
     known: usize,
+    // Whether each id is its own place. So it is until a value has gone, and nothing is read then.
+    is_straight: bool,
 }
 
 impl Hints {
@@ -24,15 +26,20 @@ impl Hints {
             places.resize(given as usize, 0)?;
             note_all(&mut places, table);
         }
+        let known = table.places();
         Ok(Hints {
             places,
-            known: table.places(),
+            known,
+            is_straight: known == given as usize,
         })
     }
 
     /// Where the value with an id is looked for first: at the place that is noted, and else where
     /// it would be if none had gone.
     pub fn place(&self, id: u32) -> usize {
+        if self.is_straight {
+            return id as usize;
+        }
         match self.places.as_slice().get(id as usize) {
             Some(place) => *place as usize,
             None => id as usize,
@@ -47,6 +54,8 @@ impl Hints {
     /// Follows a value that was put behind the others of a table.
     pub fn join<V>(&mut self, table: &Table<V>, id: u32) {
         self.known = table.places();
+        // The ids rise, so if the last is its own place, all are.
+        self.is_straight = id as usize == self.known.saturating_sub(1);
         if id as usize == self.places.len() {
             let last = noted(self.known.saturating_sub(1));
             let _short = self.places.push(last).is_err();
@@ -60,6 +69,7 @@ impl Hints {
             self.places.clear();
         }
         if table.places() < self.known {
+            self.is_straight = false;
             note_all(&mut self.places, table);
         }
         self.known = table.places();
