@@ -1,4 +1,4 @@
-//! Calls of a service as values, and passes in pairs.
+//! Calls of a service as values.
 
 ghost use Rattle.std.specs.Prelude.{◌≡◌, ◌++◌, ◌∷◌, [], IfOk, OnErr};
 ghost use Rattle.topo_service.specs.Passes.{receipt_of};
@@ -28,11 +28,4 @@ pub fn make<F: PriceFn + Drop, K: ServiceBrand<F>, R: Wait>(
         Call::Insert { u, v, kind } => service.insert(rt, pass, u, v, kind),
         Call::Delete { edge } => service.delete(rt, pass, edge),
     }
-}
-
-/// The first two of a list, if there are as many.
-pub fn first_two<T>(items: &mut [T]) -> Option<(&mut T, &mut T)> {
-    let (first, rest) = items.split_first_mut()?;
-    let (second, _) = rest.split_first_mut()?;
-    Some((first, second))
 }

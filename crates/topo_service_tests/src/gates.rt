@@ -1,56 +1,19 @@
 //! Two workers at one time, in an order that a gate sets.
 
-use crate::harness::{Story, TestRuntime, Work, is_told, run_work, run_work_at};
-use crate::views::edges_of;
+use crate::harness::{TestRuntime, Work, is_told, run_work};
+use crate::steps::{Play, Step, Steps, told_of_work};
 use std::alloc::{AllocError, Global};
-use std::sync::Wait;
+use std::process::Abort;
+use std::sync::atomic::AtomicU64;
 use std::test::Fail;
 use topo_core::calls::{Call, Command};
 use topo_core::rows::Facts;
 use topo_picture::Picture;
-use topo_price::tariff::PriceFn;
-use topo_service::{Gate, Pass, Service, WorkerEnd};
+use topo_service::Gate;
 use topo_service_test_support::gates::Turns;
 use topo_test_support::calls::{delete, insert, planned};
 use topo_test_support::pictures::{BIPYRAMID, greatest_limits, picture_of};
 use topo_test_support::prices::{FIVE_TWO_NINE, table_of};
-use topo_versions::ServiceBrand;
-
-/// Two workers with an insertion each.
-#[derive(Drop)]
-struct Pair<'a> {
-    turns: &'a Turns,
-}
-
-/// How many receipts each pass has, and how many edges it sees.
-fn seen_of<F: PriceFn + Drop, K: ServiceBrand<F>>(
-    alloc: Global,
-    passes: &mut [Pass<F, K>],
-) -> Result<Vec<(usize, u32)>, Fail> {
-    let mut seen = Vec::new(alloc);
-    for pass in passes {
-        let view = pass.view()?;
-        let edges = edges_of(&view);
-        drop(view);
-        seen.push((pass.receipts().len(), edges))?;
-    }
-    Ok(seen)
-}
-
-impl Story for Pair<'_> {
-    fn tell<F: PriceFn + Drop, K: ServiceBrand<F>, R: Wait>(
-        &self,
-        _rt: &R,
-        alloc: Global,
-        _service: &Service<F, K>,
-        passes: &mut Vec<Pass<F, K>>,
-        ends: &[WorkerEnd],
-    ) -> Result<String, Fail> {
-        let seen = seen_of(alloc, passes.as_mut_slice())?;
-        let late = self.turns.is_late();
-        Ok(format!(in alloc; "{late} {ends:?} {seen:?}")?)
-    }
-}
 
 /// A list for each of these commands.
 fn lists_of(alloc: Global, commands: &[Command]) -> Result<Vec<Vec<Command>>, AllocError> {
@@ -69,7 +32,13 @@ fn told_in_turn<R: TestRuntime>(
 ) -> Result<String, Fail> {
     let start = Picture::seed(rt.alloc(), greatest_limits())?;
     let work = Work::Lists(lists, turns);
-    run_work_at(rt, &table_of(Some(1), &[])?, start, work, &Pair { turns })
+    let steps: Steps<'_> = &[
+        (0, Step::Seen),
+        (0, Step::View),
+        (1, Step::Seen),
+        (1, Step::View),
+    ];
+    told_of_work(rt, &table_of(Some(1), &[])?, start, work, steps)
 }
 
 #[test]
@@ -81,12 +50,19 @@ fn workers_run_at_one_time(rt: HostRuntime) -> Result<(), Fail> {
     };
     let commands = [Command::Plain(insert(0, 1)), Command::Plain(second)];
     let lists = lists_of(rt.alloc(), &commands)?;
-    let told = told_in_turn(&rt, lists.as_slice(), &Turns::new());
+    let turns = Turns::new();
+    let told = told_in_turn(&rt, lists.as_slice(), &turns);
     drop(lists);
+    assert!(&rt; !turns.is_late());
     is_told(
         &rt,
         told,
-        "false [Done, Done] [(1, 3), (1, 3)]; 2 calls, replayed: true",
+        "[Done, Done]\n\
+         2 seen, 1 receipts\n\
+         version 2 with 3 edges\n\
+         1 seen, 1 receipts\n\
+         version 2 with 3 edges\n\
+         [(2, 3), (2, 3)]; 2 calls, replayed: true",
     )
 }
 
@@ -108,41 +84,6 @@ impl Gate for AtFirstPrice<'_> {
     }
 }
 
-/// A planned insertion between the apexes, and a deletion of the edge that the plan is to cross.
-#[derive(Drop)]
-struct PlanAndDelete<'a> {
-    turns: &'a Turns,
-}
-
-/// What the first call of the first pass was answered.
-fn first_reply<F: PriceFn + Drop, K: ServiceBrand<F>>(
-    alloc: Global,
-    passes: &[Pass<F, K>],
-) -> Result<String, Fail> {
-    let [pass, ..] = passes else {
-        return Err("no pass".into());
-    };
-    let [receipt, ..] = pass.receipts() else {
-        return Err("no receipt".into());
-    };
-    Ok(format!(in alloc; "{:?}", receipt.reply)?)
-}
-
-impl Story for PlanAndDelete<'_> {
-    fn tell<F: PriceFn + Drop, K: ServiceBrand<F>, R: Wait>(
-        &self,
-        _rt: &R,
-        alloc: Global,
-        _service: &Service<F, K>,
-        passes: &mut Vec<Pass<F, K>>,
-        ends: &[WorkerEnd],
-    ) -> Result<String, Fail> {
-        let late = self.turns.is_late();
-        let reply = first_reply(alloc, passes.as_slice())?;
-        Ok(format!(in alloc; "{late} {ends:?} {reply}")?)
-    }
-}
-
 /// The text of a run of two workers with these lists, one of whom plans while the other changes the
 /// picture.
 fn told_between<R: TestRuntime>(
@@ -158,18 +99,27 @@ fn told_between<R: TestRuntime>(
     };
     let gate = AtFirstPrice { turns };
     let work = Work::Lists(lists, &gate);
-    run_work(rt, ask, start, work, &PlanAndDelete { turns })
+    let play = Play {
+        steps: &[(0, Step::FirstReply)],
+        asked: &AtomicU64::new(0),
+    };
+    run_work(rt, ask, start, work, &play)
 }
 
 #[test]
 fn a_plan_is_made_anew_where_the_picture_changed_meanwhile(rt: HostRuntime) -> Result<(), Fail> {
     let commands = [planned(3, 4), Command::Plain(delete(1))];
     let lists = lists_of(rt.alloc(), &commands)?;
-    let told = told_between(&rt, lists.as_slice(), &Turns::new());
+    let turns = Turns::new();
+    let told = told_between(&rt, lists.as_slice(), &turns);
     drop(lists);
+    assert!(&rt; !turns.is_late());
     is_told(
         &rt,
         told,
-        "false [Done, Done] Inserted(Inserted { id: EdgeId(9), route: Route { start: 2, crossed: Listed { items: [] }, end: 2 }, price: 0 }); 2 calls, replayed: true",
+        "[Done, Done]\n\
+         Inserted(Inserted { id: EdgeId(9), route: Route { start: 2, \
+         crossed: Listed { items: [] }, end: 2 }, price: 0 })\n\
+         []; 2 calls, replayed: true",
     )
 }

@@ -70,18 +70,8 @@ pub(crate) fn is_told(rt: &impl Abort, told: Result<String, Fail>, due: &str) ->
     Ok(())
 }
 
-/// The text of the story with so many passes, and how the service ended, at the prices of a table.
-pub(crate) fn run_at<S: Story, R: TestRuntime>(
-    rt: &R,
-    table: &PriceTable,
-    start: Picture,
-    passes: usize,
-    story: &S,
-) -> Result<String, Fail> {
-    run_work_at(rt, table, start, Work::<Still>::Nothing(passes), story)
-}
-
-/// The same, where the passes have work to do before the story begins.
+/// The text of the story after the work of the passes, and how the service ended, at the prices of
+/// a table.
 pub(crate) fn run_work_at<S: Story, T: Gate, R: TestRuntime>(
     rt: &R,
     table: &PriceTable,
@@ -98,21 +88,7 @@ pub(crate) fn run_work_at<S: Story, T: Gate, R: TestRuntime>(
     )
 }
 
-/// The text of the story with so many passes, and how the service ended.
-pub(crate) fn run<F: PriceFn + Drop + Send + Sync, S: Story, R: TestRuntime>(
-    rt: &R,
-    ask: F,
-    start: Picture,
-    passes: usize,
-    story: &S,
-) -> Result<String, Fail>
-    requires callable { F.is_callable ask }
-    requires promise { IsPromise (F.may_return ask) }
-{
-    run_work(rt, ask, start, Work::<Still>::Nothing(passes), story)
-}
-
-/// The same, where the passes have work to do before the story begins.
+/// The same at the prices of a closure.
 pub(crate) fn run_work<F: PriceFn + Drop + Send + Sync, S: Story, T: Gate, R: TestRuntime>(
     rt: &R,
     ask: F,

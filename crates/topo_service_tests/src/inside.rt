@@ -1,20 +1,19 @@
 //! Sixteen workers who are inside their gates at one time, and the numbers that a gate is called
 //! with.
 
-use crate::harness::{Story, TestRuntime, Work, is_told, run_work_at};
+use crate::harness::{TestRuntime, Work, is_told};
+use crate::steps::told_of_work;
 use std::alloc::{AllocError, Global};
-use std::sync::Wait;
+use std::process::Abort;
 use std::sync::atomic::{AtomicBool, AtomicUsize, Ordering};
 use std::test::Fail;
 use std::thread;
 use topo_core::calls::Command;
 use topo_picture::Picture;
-use topo_price::tariff::PriceFn;
-use topo_service::{Gate, Pass, Service, WorkerEnd};
+use topo_service::Gate;
 use topo_test_support::calls::insert;
 use topo_test_support::pictures::greatest_limits;
 use topo_test_support::prices::table_of;
-use topo_versions::ServiceBrand;
 
 /// How often a worker looks for the others at most.
 const LOOKS: u32 = 2_000_000;
@@ -97,24 +96,6 @@ impl Gate for Counted {
     }
 }
 
-/// How many lists were carried out.
-#[derive(Drop)]
-struct Lists;
-
-impl Story for Lists {
-    fn tell<F: PriceFn + Drop, K: ServiceBrand<F>, R: Wait>(
-        &self,
-        _rt: &R,
-        alloc: Global,
-        _service: &Service<F, K>,
-        _passes: &mut Vec<Pass<F, K>>,
-        ends: &[WorkerEnd],
-    ) -> Result<String, Fail> {
-        let done = ends.iter().filter(|end| **end == WorkerEnd::Done).count();
-        Ok(format!(in alloc; "{done} done")?)
-    }
-}
-
 /// So many lists of so many insertions.
 fn lists_of(alloc: Global, lists: usize, commands: usize) -> Result<Vec<Vec<Command>>, AllocError> {
     let mut made = Vec::new(alloc);
@@ -132,7 +113,7 @@ fn told_of<T: Gate, R: TestRuntime>(
 ) -> Result<String, Fail> {
     let start = Picture::seed(rt.alloc(), greatest_limits())?;
     let work = Work::Lists(lists, gate);
-    run_work_at(rt, &table_of(Some(1), &[])?, start, work, &Lists)
+    told_of_work(rt, &table_of(Some(1), &[])?, start, work, &[])
 }
 
 #[test]
@@ -141,7 +122,12 @@ fn sixteen_workers_are_inside_at_one_time(rt: HostRuntime) -> Result<(), Fail> {
     let gate = Meeting::new();
     let told = told_of(&rt, lists.as_slice(), &gate);
     drop(lists);
-    is_told(&rt, told, "16 done; 16 calls, replayed: true")?;
+    is_told(
+        &rt,
+        told,
+        "[Done, Done, Done, Done, Done, Done, Done, Done, \
+         Done, Done, Done, Done, Done, Done, Done, Done]\n[]; 16 calls, replayed: true",
+    )?;
     assert!(rt; !gate.late.load(Ordering::SeqCst));
     Ok(())
 }
@@ -152,7 +138,7 @@ fn a_gate_is_called_before_and_after_each_command(rt: HostRuntime) -> Result<(),
     let gate = Counted::new();
     let told = told_of(&rt, lists.as_slice(), &gate);
     drop(lists);
-    is_told(&rt, told, "2 done; 6 calls, replayed: true")?;
+    is_told(&rt, told, "[Done, Done]\n[]; 6 calls, replayed: true")?;
     assert!(rt; !gate.is_amiss.load(Ordering::SeqCst));
     for calls in &gate.calls {
         assert_eq!(rt; calls.load(Ordering::SeqCst), 6);

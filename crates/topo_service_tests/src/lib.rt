@@ -2,8 +2,6 @@
 #![tactic(auto)]
 
 #[cfg(test)]
-mod closed;
-#[cfg(test)]
 mod crowds;
 #[cfg(test)]
 mod faults;
@@ -17,6 +15,8 @@ mod inside;
 mod long_lists;
 #[cfg(test)]
 mod plans;
+#[cfg(test)]
+mod steps;
 #[cfg(test)]
 mod survivors;
 #[cfg(test)]

@@ -1,19 +1,14 @@
 //! Routes that were found before other calls changed the picture.
 
-use crate::harness::{Still, Story, TestRuntime, Work, run, run_work};
+use crate::harness::{Still, TestRuntime, Work};
+use crate::steps::{Step, told_of_steps, told_of_work};
 use std::alloc::{AllocError, Global};
-use std::sync::Wait;
-use std::sync::atomic::{AtomicU64, Ordering};
+use std::process::Abort;
 use std::test::Fail;
 use topo_core::calls::{Call, Command};
-use topo_core::rows::Facts;
-use topo_price::tariff::PriceFn;
-use topo_service::{FoundRoute, Pass, Service, WorkerEnd};
-use topo_service_test_support::calls::{first_two, make};
 use topo_test_support::calls::{delete, grow, insert, planned};
 use topo_test_support::grids::Grid;
 use topo_test_support::prices::table_of;
-use topo_versions::ServiceBrand;
 
 /// The grid of the tests.
 const GRID: Grid = Grid { width: 8 };
@@ -42,82 +37,33 @@ fn at(row: u8, column: u8) -> u32 {
     GRID.at(row, column)
 }
 
-/// A route that one pass found, an insertion along it after calls of another pass, and how many
-/// prices that insertion asked for.
-#[derive(Drop)]
-struct Late<'a> {
-    asked: &'a AtomicU64,
-    between: &'a [Call],
-}
-
-impl Late<'_> {
-    /// The calls, and then an insertion along the route: whether it asked for a price, and its
-    /// reply.
-    fn insert_late<F: PriceFn + Drop, K: ServiceBrand<F>, R: Wait>(
-        &self,
-        rt: &R,
-        alloc: Global,
-        service: &Service<F, K>,
-        (early, late): (&mut Pass<F, K>, &mut Pass<F, K>),
-        found: &FoundRoute<F, K>,
-    ) -> Result<String, Fail> {
-        for call in self.between {
-            drop(make(rt, service, early, *call)?);
-        }
-        let before = self.asked.load(Ordering::SeqCst);
-        let reply = service.insert_found(rt, late, 0, found)?;
-        let is_known = self.asked.load(Ordering::SeqCst) == before;
-        drop(reply);
-        Ok(format!(in alloc; "{is_known}")?)
-    }
-}
-
-impl Story for Late<'_> {
-    fn tell<F: PriceFn + Drop, K: ServiceBrand<F>, R: Wait>(
-        &self,
-        rt: &R,
-        alloc: Global,
-        service: &Service<F, K>,
-        passes: &mut Vec<Pass<F, K>>,
-        _ends: &[WorkerEnd],
-    ) -> Result<String, Fail> {
-        let Some((early, late)) = first_two(passes.as_mut_slice()) else {
-            return Err("two passes".into());
-        };
-        let Ok(found) = late.find(alloc, service.tariff(), FROM, TO) else {
-            return Err("no route".into());
-        };
-        let told = self.insert_late(rt, alloc, service, (early, late), &found);
-        drop(found);
-        told
-    }
-}
-
-/// What an insertion along a route tells that was found before these calls.
+/// What is told of a route that one pass finds, of these calls of another, and of an insertion along
+/// the route.
 fn told_after<R: TestRuntime>(rt: &R, between: &[Call]) -> Result<String, Fail> {
-    let asked = AtomicU64::new(0);
-    let table = table_of(Some(1), &[])?;
     let start = GRID.picture(rt.alloc())?;
-    let ask = |facts: &Facts| {
-        let _ = asked.fetch_add(1, Ordering::SeqCst);
-        table.price(facts.kind)
-    };
-    let story = Late {
-        asked: &asked,
-        between,
-    };
-    run(rt, ask, start, 2, &story)
+    let mut steps = vec![in rt.alloc(); (1, Step::Find(FROM, TO))]?;
+    for call in between {
+        steps.push((0, Step::Make(*call)))?;
+    }
+    for step in [Step::Asked, Step::InsertFound(0), Step::Asked] {
+        steps.push((1, step))?;
+    }
+    told_of_steps(rt, &table_of(Some(1), &[])?, start, steps.as_slice())
 }
 
-/// Each row says what is called between, whether the route is then taken with no price asked, and
-/// how many calls there are in all.
+/// Each row says what is called between, and whether the route is then taken with no price asked.
 fn are_told<R: TestRuntime>(rt: &R, rows: &[&[Call]], is_known: bool) -> Result<(), Fail> {
     for between in rows {
         let told = told_after(rt, between)?;
         let calls = between.len() + 1;
-        let due = format!(in rt.alloc(); "{is_known}; {calls} calls, replayed: true")?;
-        assert_eq!(rt; told.as_str(), due.as_str());
-        drop((told, due));
+        let end = format!(in rt.alloc(); "times\n[]; {calls} calls, replayed: true")?;
+        let known = format!(in rt.alloc(); "asked 0 {end}")?;
+        assert!(rt; told.as_str().ends_with(end.as_str()), "{told}");
+        assert!(rt;
+            told.as_str().ends_with(known.as_str()) == is_known,
+            "{told}"
+        );
+        drop((told, end, known));
     }
     Ok(())
 }
@@ -161,37 +107,17 @@ fn a_route_is_looked_for_again_if_its_region_changed(rt: HostRuntime) -> Result<
     )
 }
 
-/// How many prices the workers' lists asked for, and how they ended.
-#[derive(Drop)]
-struct Prices<'a> {
-    asked: &'a AtomicU64,
-}
-
-impl Story for Prices<'_> {
-    fn tell<F: PriceFn + Drop, K: ServiceBrand<F>, R: Wait>(
-        &self,
-        _rt: &R,
-        alloc: Global,
-        _service: &Service<F, K>,
-        _passes: &mut Vec<Pass<F, K>>,
-        ends: &[WorkerEnd],
-    ) -> Result<String, Fail> {
-        let asked = self.asked.load(Ordering::SeqCst);
-        Ok(format!(in alloc; "{asked} {ends:?}")?)
-    }
-}
-
-/// What one worker's list tells.
+/// How many prices one worker's list asks for, and how it ends.
 fn told_of_list<R: TestRuntime>(rt: &R, lists: &[Vec<Command>]) -> Result<String, Fail> {
-    let asked = AtomicU64::new(0);
-    let table = table_of(Some(1), &[])?;
     let start = GRID.picture(rt.alloc())?;
-    let ask = |facts: &Facts| {
-        let _ = asked.fetch_add(1, Ordering::SeqCst);
-        table.price(facts.kind)
-    };
     let work = Work::Lists(lists, &Still);
-    run_work(rt, ask, start, work, &Prices { asked: &asked })
+    told_of_work(
+        rt,
+        &table_of(Some(1), &[])?,
+        start,
+        work,
+        &[(0, Step::Asked)],
+    )
 }
 
 /// One list with an insertion between each two ends, of which some have the greater number first,
