@@ -51,9 +51,10 @@ pub(crate) enum Step<'a> {
 /// Steps with the numbers of the passes that take them.
 pub(crate) type Steps<'a> = &'a [(usize, Step<'a>)];
 
-/// What the steps of a story have kept.
+/// What the steps of a story have kept, and how many prices were asked for since that was told.
 #[derive(Drop)]
-struct Kept<F: PriceFn, K: ServiceBrand<F>> {
+struct Kept<'a, F: PriceFn, K: ServiceBrand<F>> {
+    asked: &'a AtomicU64,
     views: Vec<Version<F, K>>,
     routes: Vec<FoundRoute<F, K>>,
     plans: Vec<Plan>,
@@ -127,7 +128,7 @@ fn is_checked<F: PriceFn + Drop, K: ServiceBrand<F>>(
     are_ends(frozen, u, v) && check(frozen, service.tariff(), u, v, plan).is_ok()
 }
 
-impl<F: PriceFn + Drop, K: ServiceBrand<F>> Kept<F, K> {
+impl<F: PriceFn + Drop, K: ServiceBrand<F>> Kept<'_, F, K> {
     /// Takes a view.
     fn view(&mut self, alloc: Global, pass: &mut Pass<F, K>) -> Result<String, Fail> {
         let view = pass.view()?;
@@ -234,12 +235,15 @@ impl<F: PriceFn + Drop, K: ServiceBrand<F>> Kept<F, K> {
             Step::InsertBy(u, v, plan) => {
                 Ok(text_of(alloc, service.insert_planned(rt, pass, u, v, 0, plan)?)?)
             }
-            Step::Asked => Ok(String::new(alloc)),
+            Step::Asked => {
+                let asked = self.asked.swap(0, Ordering::SeqCst);
+                Ok(format!(in alloc; "asked {asked} times")?)
+            }
         }
     }
 }
 
-/// The steps of a story, and how many prices were asked for since that was told.
+/// The steps of a story, and a count of the prices that are asked for.
 #[derive(Drop)]
 pub(crate) struct Play<'a> {
     pub steps: Steps<'a>,
@@ -255,7 +259,7 @@ impl Play<'_> {
         alloc: Global,
         service: &Service<F, K>,
         passes: &mut [Pass<F, K>],
-        kept: &mut Kept<F, K>,
+        kept: &mut Kept<'_, F, K>,
         ends: &[WorkerEnd],
     ) -> Result<String, Fail> {
         let mut text = text_of_ends(alloc, ends)?;
@@ -264,31 +268,12 @@ impl Play<'_> {
             let Some(pass) = passes.get_mut(number) else {
                 return Err("a pass".into());
             };
-            let told = self.take(rt, alloc, service, pass, kept, step)?;
+            let told = kept.take(rt, alloc, service, pass, step)?;
             text.push_str(told.as_str())?;
             text.push_str("\n")?;
         }
         text.push_str(kept.text_of_views(alloc)?.as_str())?;
         Ok(text)
-    }
-
-    /// Takes a step, and tells what came of it.
-    fn take<F: PriceFn + Drop, K: ServiceBrand<F>, R: Wait>(
-        &self,
-        rt: &R,
-        alloc: Global,
-        service: &Service<F, K>,
-        pass: &mut Pass<F, K>,
-        kept: &mut Kept<F, K>,
-        step: Step<'_>,
-    ) -> Result<String, Fail> {
-        match step {
-            Step::Asked => {
-                let asked = self.asked.swap(0, Ordering::SeqCst);
-                Ok(format!(in alloc; "asked {asked} times")?)
-            }
-            _ => kept.take(rt, alloc, service, pass, step),
-        }
     }
 }
 
@@ -302,6 +287,7 @@ impl Story for Play<'_> {
         ends: &[WorkerEnd],
     ) -> Result<String, Fail> {
         let mut kept = Kept {
+            asked: self.asked,
             views: Vec::new(alloc),
             routes: Vec::new(alloc),
             plans: Vec::new(alloc),
