@@ -1,7 +1,7 @@
 //! Deletion on plain rows. It takes no memory, so it cannot fail.
 
 ghost use Rattle.std.specs.Prelude.{Some, ◌&&◌, ◌≡◌, ◌≢◌, ◌<◌, ◌≤◌, ◌==◌, ℕ, true};
-ghost use Rattle.std.specs.Prelude.{not, filter, find, is_some, length, map};
+ghost use Rattle.std.specs.Prelude.{not, filter, find, fold, is_some, length, map, min};
 ghost use Rattle.std.specs.Prelude.{slice_index, slice_index_or, slice_set, [], ◌∷◌};
 ghost use Rattle.std.specs.List.{position_or_len};
 ghost use Rattle.topo_core.specs.Changes.{from_least, uncrossed_row, without};
@@ -25,29 +25,26 @@ fn take_id(list: &mut Listed<u32>, id: u32)
     list.as_vec_mut().retain(|y| *y != id);
 }
 
-/// The first place of the least number.
-fn place_of_least(ids: &[u32]) -> usize
-    ensures within { result ≤ length ids.now }
-    ensures inside { 0 < length ids.now → result < length ids.now }
-    ensures least { (k : ℕ) → k < length ids.now
-        → slice_index ids.now result ≤ slice_index ids.now k }
-    ensures first { (k : ℕ) → k < result → slice_index ids.now result < slice_index ids.now k }
+/// The least of a number and those of a list.
+fn least_of(first: u32, ids: &[u32]) -> u32
+    ensures { result ≡ fold min first ids.now }
 {
-    let mut place = 0;
-    for i in 0..ids.len() {
-        if ids[i] < ids[place] {
-            place = i;
-        }
+    let mut least = first;
+    for id in ids {
+        least = least.min(*id);
     }
-    place
+    least
 }
 
 /// Lists the same cycle from its least id on.
 fn begin_at_least(ids: &mut [u32])
     ensures { ids.new ≡ from_least ids.old }
 {
-    let place = place_of_least(ids);
-    ids.rotate_left(place);
+    if let Some(first) = ids.first() {
+        let least = least_of(*first, ids);
+        let place = place_of(ids, least);
+        ids.rotate_left(place);
+    }
 }
 
 /// The place of an id in a list; its length where it is not there.

@@ -150,6 +150,10 @@ impl FaceGraph for Frozen {
         self.as_numbered().face(dart)
     }
 
+    fn step(&self, dart: u32) -> (u32, u32) {
+        self.as_numbered().step(dart)
+    }
+
     ghost lawful = { λ f. lawful_again f.rows f.lawful };
 
     ghost has_names = { λ f. names_again f.rows f.lawful };

@@ -181,6 +181,10 @@ impl FaceGraph for Numbered<'_> {
         self.lists.face(dart)
     }
 
+    fn step(&self, dart: u32) -> (u32, u32) {
+        (self.lists.next(dart), self.lists.face(twin_of(dart)))
+    }
+
     ghost lawful = { λ d. lawful_again d.rows d.lawful };
 
     ghost has_names = { λ d. names_again d.rows d.lawful };

@@ -177,6 +177,11 @@ impl FaceGraph for EmbeddedRows<'_> {
         self.segments.face(Half::numbered(dart))
     }
 
+    fn step(&self, dart: u32) -> (u32, u32) {
+        let (next, beyond) = self.segments.step(Half::numbered(dart));
+        (next.number(), beyond)
+    }
+
     ghost lawful = { λ w. lawful_again w.embedded.rows w.lawful };
 
     ghost has_names = { names_apart };

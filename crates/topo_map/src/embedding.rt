@@ -15,7 +15,7 @@ use crate::build::{isolated_halves, join_turns};
 use crate::faces::{HALF_LIMIT, attach, detach, label_faces};
 use crate::half::Half;
 use crate::segments::{
-    self, Segment, face, insert_isolated, next, put_before, remove_isolated, take_out,
+    self, Segment, around, face, insert_isolated, next, put_before, remove_isolated, take_out,
 };
 use slab::Slab;
 use std::alloc::{AllocError, Global};
@@ -186,6 +186,17 @@ impl Embedding {
         ensures { result ≡ face_of self.now h }
     {
         face(&self.segments, h)
+    }
+
+    /// The next half along the face on the left of `h`, and the label of the face on its right, in
+    /// one look.
+    pub fn step(&self, h: Half) -> (Half, u32)
+        requires { is_live self.now h ≡ true }
+        ensures next { result.0 ≡ face_next (turn self.now) h }
+        ensures live { is_live self.now result.0 ≡ true }
+        ensures beyond { result.1 ≡ face_of self.now (twin h) }
+    {
+        around(&self.segments, h.twin())
     }
 
     /// A length for lists by the label of a face: above the labels of all faces. It is at most

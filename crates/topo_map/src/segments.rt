@@ -112,6 +112,19 @@ pub(crate) fn face(segments: &Slab<Segment>, at: Half) -> u32
     }
 }
 
+/// The next half clockwise, and the label of the face on the left, in one look.
+pub(crate) fn around(segments: &Slab<Segment>, at: Half) -> (Half, u32)
+    requires { holds segments.now at ≡ true }
+    ensures next { result.0 ≡ next_in segments.now at }
+    ensures face { result.1 ≡ face_in segments.now at }
+{
+    let segment = &segments[at.key()];
+    match at.way() {
+        Way::Forward => (segment.forward.next, segment.forward.face),
+        Way::Back => (segment.back.next, segment.back.face),
+    }
+}
+
 /// The face on the left of a half has this label.
 pub(crate) fn set_face(segments: &mut Slab<Segment>, at: Half, label: u32)
     requires { holds segments.old at ≡ true }

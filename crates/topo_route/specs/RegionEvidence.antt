@@ -1,5 +1,5 @@
 -- Regions that a change keeps and that a change does not keep, computed on the hexagon.
-use Rattle.std.specs.Prelude.{[], ◌∷◌, false, true}
+use Rattle.std.specs.Prelude.{[], ◌∷◌}
 use Rattle.topo_core.specs.declared.calls.Call.TheVariants.{Delete, Grow, Insert}
 use Rattle.topo_core.specs.declared.calls.Refusal.TheVariants.{NoRoute}
 use Rattle.topo_core.specs.declared.calls.Reply.TheVariants.{Deleted, Grown, Refused}

@@ -2,7 +2,7 @@
 use Rattle.std.specs.Prelude.{◌≡◌, ℕ, ◌+◌, ◌-◌, ◌<◌, ◌≤◌, true, List, slice_index}
 use Rattle.topo_core.specs.declared.routes.Route.{Route}
 use Rattle.topo_core.specs.RouteLaws.{IsFirstByHeights}
-use Rattle.topo_core.specs.Routes.{Pricing, unreached}
+use Rattle.topo_core.specs.Routes.{Pricing}
 use Rattle.topo_route.specs.FaceHeights.{AreLabelled}
 use Rattle.topo_route.specs.Meeting.{HasMet}
 use Rattle.topo_route.specs.Names.{IsName, Named, dart_named, height_of}

@@ -81,6 +81,13 @@ pub trait FaceGraph {
         requires { IsName (named self.now) dart }
         ensures { result ≡ face_of self.now dart };
 
+    /// The next dart along the face on the left, and the label of the face on the other side, which
+    /// a walk round a face asks of each dart.
+    fn step(&self, dart: u32) -> (u32, u32)
+        requires { IsName (named self.now) dart }
+        ensures next { result.0 ≡ next_name (named self.now) dart }
+        ensures beyond { result.1 ≡ face_of self.now (twin_name (named self.now) dart) };
+
     /// What it shows is lawful.
     ghost lawful: { (picture : Self) → Lawful (named picture).rows };
 

@@ -1,13 +1,13 @@
 //! Heights spread from one end over the picture.
 
 ghost use Rattle.std.specs.Prelude.{◌≡◌, ◌≢◌, ◌+◌, ◌<◌, ◌≤◌, ◌^◌, [], ℕ, IfOk};
-ghost use Rattle.std.specs.Prelude.{IfSome, MatchOption, OnOk, false, length};
+ghost use Rattle.std.specs.Prelude.{◌↔◌, IfSome, IsTrue, MatchOption, OnOk, false, length};
 ghost use Rattle.std.specs.Prelude.{min, replicate, slice_index, slice_set, true};
 ghost use Rattle.topo_core.specs.Picture.{darts};
 ghost use Rattle.topo_price.specs.Prices.{prices_of};
 ghost use Rattle.topo_core.specs.Routes.{unreached};
 ghost use Rattle.topo_route.specs.FaceHeights.{dart_heights};
-ghost use Rattle.topo_route.specs.Names.{IsName, height_of};
+ghost use Rattle.topo_route.specs.Names.{IsName, height_of, twin_name};
 ghost use Rattle.topo_route.specs.Plans.{AreHeights, IsZeroAt};
 ghost use Rattle.topo_route.specs.Settling.{AreCosts, AreFaceCosts, AreLowered, ArePrices};
 ghost use Rattle.topo_route.specs.Settling.{AreSums, IsCrossed, IsReached, IsSettled, Relaxes};
@@ -19,7 +19,7 @@ use crate::bucket_queue::{BucketQueue, dart_of_item, item_of, least_height};
 use crate::face_graph::FaceGraph;
 use crate::priced_graph::PricedGraph;
 use crate::stamped_array::StampedArray;
-use crate::steps::{across, corner_at, face_at, next_along};
+use crate::steps::{across, corner_at, face_at, step};
 use std::alloc::{AllocError, Global};
 use topo_price::tariff::PriceFn;
 
@@ -58,6 +58,16 @@ impl Labels {
         Ok(())
     }
 
+    /// Whether a height brings a face down, and not above the least sum.
+    fn is_lowered_by(&self, least: u64, face: u32, height: u64) -> bool
+        requires within { face < length self.now.heights }
+        requires fits { height < span }
+        ensures { IsTrue result
+            ↔ height < min (slice_index self.now.heights face) (reach_of least) }
+    {
+        height <= least && self.heights.is_above(face, height)
+    }
+
     /// Gives a face a height, and names a dart of it. With the height above the other end it may be
     /// the least sum.
     fn lower(
@@ -87,9 +97,9 @@ impl Labels {
         Ok(())
     }
 
-    /// Crosses a dart backwards: the face of its twin reaches the end over it. A height that this
-    /// lowers, and brings down to the least sum, waits. The price is not asked where not even 1
-    /// would do so.
+    /// Crosses a dart backwards: the face beyond, which is that of its twin, reaches the end over
+    /// it. A height that this lowers, and brings down to the least sum, waits. The price is not
+    /// asked where not even 1 would do so.
     fn relax_twin<W: FaceGraph, F: PriceFn>(
         &mut self,
         priced: &PricedGraph<W, F>,
@@ -97,8 +107,12 @@ impl Labels {
         least: &mut u64,
         v: u32,
         dart: u32,
+        face: u32,
         height: u64,
     ) -> Result<(), AllocError>
+        requires beyond { face
+            ≡ W.face_of priced.now.graph.now (twin_name (W.named priced.now.graph.now) dart) }
+        requires within { face < W.face_bound priced.now.graph.now }
         requires right { ArePrices (prices_of (F.may_return priced.now.tariff.now))
             (W.named priced.now.graph.now) priced.now.prices.items }
         requires costs { AreFaceCosts (prices_of (F.may_return priced.now.tariff.now))
@@ -128,16 +142,14 @@ impl Labels {
             (W.face_of priced.now.graph.now) self.new.heights) dart ≡ height) }
     {
         let twin = across(priced.graph, dart);
-        let face = face_at(priced.graph, twin);
-        let high = self.heights.get(face).min((*least).saturating_add(1));
-        if high.saturating_sub(height) <= 1 {
+        if !self.is_lowered_by(*least, face, height + 1) {
             return Ok(());
         }
         match priced.price(dart) {
             Some(price) => {
                 let price = price as u64;
-                if height < high.saturating_sub(price) {
-                    let lowered = height + price;
+                let lowered = height + price;
+                if self.is_lowered_by(*least, face, lowered) {
                     self.lower(other, least, face, twin, lowered)?;
                     self.waiting.push(lowered, item_of(twin, lowered))?;
                 }
@@ -180,8 +192,9 @@ impl Labels {
     {
         let mut at = dart;
         for _steps in 0..priced.graph.size() {
-            self.relax_twin(priced, other, least, v, at, height)?;
-            at = next_along(priced.graph, at);
+            let (next, face) = step(priced.graph, at);
+            self.relax_twin(priced, other, least, v, at, face, height)?;
+            at = next;
             if at == dart {
                 return Ok(());
             }

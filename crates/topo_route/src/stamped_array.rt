@@ -1,6 +1,6 @@
 //! A list of numbers that is blank again in one step.
 
-ghost use Rattle.std.specs.Prelude.{◌≡◌, ◌≢◌, ◌<◌, ◌≤◌, [], ℕ, IfOk, OnOk, length};
+ghost use Rattle.std.specs.Prelude.{◌≡◌, ◌≢◌, ◌<◌, ◌≤◌, ◌↔◌, [], ℕ, IfOk, IsTrue, OnOk, length};
 ghost use Rattle.std.specs.Prelude.{replicate, slice_index, slice_set, true};
 ghost use Rattle.topo_core.specs.Items.{has_id};
 ghost use Rattle.topo_core.specs.Routes.{unreached};
@@ -84,6 +84,15 @@ impl StampedArray {
     {
         let number = self.words[place] - self.base;
         if number < SPAN { number } else { u64::MAX }
+    }
+
+    /// Whether the number at a place is above this one. It is not read off for that.
+    pub(crate) fn is_above(&self, place: u32, number: u64) -> bool
+        requires within { place < length self.now }
+        requires fits { number < span }
+        ensures { IsTrue result ↔ number < slice_index self.now place }
+    {
+        self.words[place as usize] > self.base + number
     }
 
     /// The number at a place, and the greatest past the end.

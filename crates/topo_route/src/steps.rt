@@ -42,6 +42,17 @@ pub(crate) fn face_at<W: FaceGraph>(graph: &W, dart: u32) -> u32
     graph.face(dart)
 }
 
+/// The next dart along the face on the left, and the label of the face on the other side.
+pub(crate) fn step<W: FaceGraph>(graph: &W, dart: u32) -> (u32, u32)
+    requires { IsName (W.named graph.now) dart }
+    ensures next { result.0 ≡ next_name (W.named graph.now) dart }
+    ensures name { IsName (W.named graph.now) result.0 }
+    ensures beyond { result.1 ≡ W.face_of graph.now (twin_name (W.named graph.now) dart) }
+    ensures within { result.1 < W.face_bound graph.now }
+{
+    graph.step(dart)
+}
+
 /// The height of the face on the left of a dart, in a list that has one for each label.
 pub(crate) fn height_at<W: FaceGraph>(graph: &W, heights: &StampedArray, dart: u32) -> u64
     requires one_each { length heights.now ≡ W.face_bound graph.now }

@@ -1,5 +1,5 @@
 -- An edge that is taken out of a slab segment by segment: what is known on the way.
-use Rattle.std.proofs.Common.{◌≡◌, ◌≢◌, ℕ, suc, ◌+◌, ◌<◌, ◌≤◌, Bool, true, false, inl, inr, refl, sym, ◌∙◌, ap, arith, length}
+use Rattle.std.proofs.Common.{◌≡◌, ◌≢◌, ℕ, suc, ◌+◌, ◌<◌, ◌≤◌, Bool, true, false, inl, inr, refl, sym, ◌∙◌, ap, arith}
 use Rattle.std.specs.Prelude.{◌&&◌, nat_lt, Some}
 use Rattle.std.proofs.lemmas.Bool.{cases_Bool, eq-eqb, ltb-true}
 use Rattle.topo_core.specs.declared.darts.Dart.{Dart}
@@ -24,7 +24,7 @@ use Rattle.topo_perm.proofs.runs.DeletionSteps.{left_after, segment_left}
 use Rattle.topo_changes.proofs.deleting.DeletedLawful.{good_p, hides}
 use Rattle.topo_changes.proofs.deleting.DeletedOpening.{back_alone, left_dart, left_turn, turns_on}
 use Rattle.topo_changes.proofs.deleting.DeletedMids.{across, carried_across, crossings, first_of, is_even, mid, mid_opened, path_mids}
-use Rattle.topo_changes.proofs.deleting.DeletedSlab.{Middle, half, left, midway, n, name, onto, opened, opening, rank, shut_slab}
+use Rattle.topo_changes.proofs.deleting.DeletedSlab.{half, midway, n, opened, opening, shut_slab}
 use Rattle.topo_changes.proofs.inserting.InsertedNumbers.{even_count, number_less}
 
 module _ (rows : Rows) (good : IsWellFormed rows) (e : ℕ) (row : EdgeRow) (known : edge_row rows e ≡ Some row) (connected : Connected (system rows))

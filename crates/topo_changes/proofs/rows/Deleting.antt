@@ -1,5 +1,5 @@
 -- What a deletion takes out of the rows, part by part, is the picture without the edge.
-use Rattle.std.proofs.Common.{◌≡◌, ◌≢◌, ℕ, zero, suc, ◌<◌, ◌≤◌, Bool, true, false, cond, not, ◌||◌, ◌&&◌, List, [], ◌∷◌}
+use Rattle.std.proofs.Common.{◌≡◌, ◌≢◌, ℕ, zero, suc, ◌<◌, ◌≤◌, Bool, true, false, cond, not, ◌||◌, List, [], ◌∷◌}
 use Rattle.std.proofs.Common.{◌++◌, length, get_or, set, refl, sym, ap, subst, ◌∙◌, arith, inl, inr, eqb, Option, Some}
 use Rattle.std.specs.Prelude.{◌⊎◌, ◌==◌, filter, find, is_some, map, nat_le, unwrap_or}
 use Rattle.std.specs.List.{list_all, remove}
@@ -20,13 +20,13 @@ use Rattle.topo_core.proofs.numbering.Members.{found, left_true, right_true, tes
 use Rattle.topo_core.proofs.numbering.Standing.{good_crossing, good_rotation}
 use Rattle.topo_core.proofs.systems.SystemDarts.{crossing_there, edge_at_row, path_facts, row_id, row_in, some_of, vertex_in}
 use Rattle.topo_core.proofs.inserting.Weaving.{in_filter}
-use Rattle.topo_core.proofs.deleting.WithoutRows.{filter_passes, find_passing, has_id_in, in_has_id, left_apart, rises_passing}
+use Rattle.topo_core.proofs.deleting.WithoutRows.{filter_passes, find_passing, has_id_in, rises_passing}
 use Rattle.topo_core.proofs.inserting.WovenPaths.{counted_in}
 use Rattle.topo_core.proofs.inserting.UndoneInsertions.{filter_whole}
 use Rattle.topo_changes.specs.Deleting.{IsCrossed, left_by, other_edge, rotation_without}
 use Rattle.topo_rows.specs.Ids.{IdsRise, IsPlaceOf}
 use Rattle.topo_rows.proofs.Begins.{edge_ids_climb}
-use Rattle.topo_changes.proofs.rows.Leaving.{filter_alike, least_first, place_named, removed_is}
+use Rattle.topo_changes.proofs.rows.Leaving.{least_first, place_named, removed_is}
 use Rattle.topo_changes.proofs.rows.CrossedRows.{in_at}
 
 -- ---- The other edge of a crossing

@@ -15,7 +15,7 @@ use Rattle.topo_core.specs.declared.rows.Rows.{Rows}
 use Rattle.topo_core.specs.Picture.{edge_row}
 use Rattle.topo_core.specs.Changes.{uncrossed_row}
 use Rattle.topo_core.specs.Items.{has_id, IsIn, rises_below}
-use Rattle.topo_table.specs.Places.{AreBelow, EntriesRise, IsLiveAt, KeepsPlaces, Places, entries}
+use Rattle.topo_table.specs.Places.{AreBelow, IsLiveAt, KeepsPlaces, Places, entries}
 use Rattle.topo_table.specs.Places.{entry_at, ids_in, ids_of, present, value_of, with_value, without_id}
 use Rattle.topo_table.proofs.PlaceLemmas.{EntriesRise-present, IsBelowAll, Rises, Rises-from_increasing, is_changed, present-push}
 use Rattle.topo_table.proofs.PlaceLemmas.{value_of-below, was_value, with_value-below}
@@ -23,7 +23,7 @@ use Rattle.topo_changes.specs.declared.kept.EdgeBody.{EdgeBody}
 use Rattle.topo_changes.specs.Inserting.{repathed}
 use Rattle.topo_changes.specs.Keeping.{edge_of, edges_of}
 use Rattle.topo_changes.proofs.rows.CrossedRows.{none_repathed, repathed_other}
-use Rattle.topo_changes.proofs.rows.Keeping.{all_below, below_more, more_places, rises_before}
+use Rattle.topo_changes.proofs.rows.Keeping.{all_below, more_places, rises_before}
 use Rattle.topo_changes.proofs.rows.Leaving.{out_of_one, unchanged}
 
 -- ---- What is found

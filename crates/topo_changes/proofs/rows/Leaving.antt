@@ -1,7 +1,7 @@
 -- What a deletion does to lists: a row found by its id, an id taken out, and a list begun again at its least id.
 use Rattle.std.proofs.Common.{◌≡◌, ◌≢◌, ℕ, zero, suc, ◌+◌, ◌<◌, ◌≤◌, Bool, true, false, cond, not, ◌||◌, ◌&&◌, List, []}
 use Rattle.std.proofs.Common.{◌∷◌, ◌++◌, length, take, drop, get_or, set, refl, sym, ap, subst, ◌∙◌, arith, inl, inr, Some}
-use Rattle.std.specs.Prelude.{◌==◌, filter, find, fold, is_some, map, min, slice_index}
+use Rattle.std.specs.Prelude.{◌==◌, filter, find, fold, is_some, map, min, slice_get, slice_index}
 use Rattle.std.specs.List.{position_or_len, remove}
 use Rattle.std.specs.List.Sorted.{IsStrictlyIncreasing}
 use Rattle.std.proofs.lemmas.Bool.{cases_Bool, eq-eqb, eqb-true, false≢true}
@@ -96,6 +96,22 @@ least_first (x ∷ xs) i within inside least first =
     (λ k before. let more = first k before in eqb_symm (get_or (x ∷ xs) k 0) m ∙ apart m (get_or (x ∷ xs) k 0) (omega arith))
     (λ _. eq-eqb (get_or (x ∷ xs) i 0) m same) in
     ap (λ n. drop n (x ∷ xs) ++ take n (x ∷ xs)) (sym place)
+
+-- the place of the least item is one, and the list from there on is the one from its least item on
+pub from_its_place : (xs : List ℕ) (x : ℕ) → slice_get xs 0 ≡ Some x
+    → (position_or_len (λ y. y == fold min x xs) xs ≤ length xs)
+    × (drop (position_or_len (λ y. y == fold min x xs) xs) xs ++ take (position_or_len (λ y. y == fold min x xs) xs) xs ≡ from_least xs)
+from_its_place [] x is = absurd (false≢true (ap is_some is))
+from_its_place (y ∷ ys) x is =
+    let first : y ≡ x = get_or_from_slice_get (y ∷ ys) 0 x 0 is in
+    let both : min x y ≡ y = omega (arith, first) in
+    let same : fold min x (y ∷ ys) ≡ fold min y ys = ap (λ (n : ℕ). fold min n ys) both in
+    let stands = at_its_place (fold min y ys) (y ∷ ys) (least_in y ys) in
+    let place : position_or_len (λ z. z == fold min x (y ∷ ys)) (y ∷ ys) ≡ position_or_len (λ z. z == fold min y ys) (y ∷ ys) =
+    ap (λ (m : ℕ). position_or_len (λ z. z == m) (y ∷ ys)) same in (
+      omega (arith, stands.0, place),
+      ap (λ (n : ℕ). drop n (y ∷ ys) ++ take n (y ∷ ys)) place,
+    )
 
 -- ---- Paths that a crossing is taken out of
 

@@ -1,5 +1,5 @@
 -- A rotation that an edge is taken out of in one move.
-use Rattle.std.proofs.Common.{◌≡◌, ◌≢◌, ℕ, zero, suc, ◌+◌, ◌<◌, ◌≤◌, ◌&&◌, ◌||◌, Bool, Some, true, false}
+use Rattle.std.proofs.Common.{◌≡◌, ◌≢◌, ℕ, suc, ◌+◌, ◌<◌, ◌≤◌, ◌&&◌, ◌||◌, Bool, Some, true, false}
 use Rattle.std.proofs.Common.{cond, not, List, [], ◌∷◌, length, get_or, refl, sym, ap, ◌∙◌, arith, inl, inr}
 use Rattle.std.specs.Prelude.{◌==◌, filter, nat_le}
 use Rattle.std.specs.List.{list_all, position_or_len, remove}
@@ -9,7 +9,7 @@ use Rattle.std.proofs.lemmas.List.Sums.{sum_by-cons}
 use Rattle.topo_core.specs.declared.rows.EdgeRow.{EdgeRow}
 use Rattle.topo_core.specs.declared.rows.Rows.{Rows}
 use Rattle.topo_core.specs.Changes.{from_least}
-use Rattle.topo_core.specs.Items.{IsIn, has_id, occurrences}
+use Rattle.topo_core.specs.Items.{has_id, occurrences}
 use Rattle.topo_core.specs.Lawful.{has_good_rotation, IsWellFormed}
 use Rattle.topo_core.specs.Picture.{edge_row, rotation, vertices}
 use Rattle.topo_core.proofs.numbering.Counting.{at_most_one, counted_any, one, path_place_here, path_place_later}

@@ -1,5 +1,5 @@
 -- A search from both ends: its steps, and what it knows where it ends.
-use Rattle.std.proofs.Common.{◌≡◌, ℕ, ◌+◌, ◌-◌, ◌*◌, ◌^◌, ◌<◌, ◌≤◌, List, [], length, replicate, inl, inr, ap, refl, sym, subst, arith, ◌∙◌}
+use Rattle.std.proofs.Common.{◌≡◌, ℕ, ◌+◌, ◌-◌, ◌^◌, ◌<◌, ◌≤◌, List, [], length, replicate, inl, inr, ap, refl, sym, subst, arith, ◌∙◌}
 use Rattle.std.specs.Prelude.{max, min, slice_index}
 use Rattle.std.proofs.lemmas.Bool.{cases_lt, false≢true}
 use Rattle.std.proofs.lemmas.List.{get_or-replicate, get_or_past, length-replicate}
@@ -7,7 +7,7 @@ use Rattle.topo_core.specs.Lawful.{Lawful}
 use Rattle.topo_core.specs.Routes.{HasNoRoute, IsPricedRoute, KeepsPromise, Pricing, unreached}
 use Rattle.topo_route.specs.Descents.{AreHeightsFor, HasNoStart}
 use Rattle.topo_route.specs.Meeting.{HasMet, Meets, SpreadsBoth}
-use Rattle.topo_route.specs.FaceHeights.{AreLabelled, dart_heights}
+use Rattle.topo_route.specs.FaceHeights.{dart_heights}
 use Rattle.topo_route.specs.Names.{HasFaces, IsName, IsNamed, Named, dart_named, height_of}
 use Rattle.topo_route.specs.Plans.{IsZeroAt}
 use Rattle.topo_route.specs.Settling.{AreCosts, AreFaceCosts, AreLowered, AreSums, IsSettled, Relaxes}

@@ -2,7 +2,6 @@
 use Rattle.std.proofs.Common.{◌≡◌, ◌≢◌, ◌∙◌, ◌<◌, ◌≤◌, ◌+◌, ◌-◌, ◌∷◌, ◌++◌, ◌||◌, ◌==◌, ◌⊎◌, [], ℕ, suc, zero, Bool, false, true, List}
 use Rattle.std.proofs.Common.{ap, arith, eq-eqb, get_or-set_other, get_or-set_same, inl, inr, length, refl, replicate, sym, take}
 use Rattle.std.proofs.Math.Bool.{or-false}
-use Rattle.std.proofs.Math.Dec.{ltb}
 use Rattle.std.proofs.Math.ListN.{set}
 use Rattle.std.proofs.lemmas.Bool.{cases_eq, cases_lt, eqb-true, le-ltb, lt-ltb}
 use Rattle.std.proofs.lemmas.List.{length-set}
@@ -20,6 +19,17 @@ reads_number base word h = ap (λ (b : Bool). cond {A = ℕ} b (word - base) unr
 -- one of an earlier epoch says nothing
 pub reads_blank : (base word : ℕ) → span ≤ word - base → read_from base word ≡ unreached
 reads_blank base word h = ap (λ (b : Bool). cond {A = ℕ} b (word - base) unreached) (le-ltb (word - base) span h)
+
+-- a word that lies above the base by more than a number says more than the number
+pub reads_more : (base word number : ℕ) → number < span → base + number < word → number < read_from base word
+reads_more base word number fits more = elim (cases_lt (word - base) span) [
+  | inl less ↦ let is = reads_number base word less in omega arith
+  | inr past ↦ let is = reads_blank base word past in omega arith
+]
+
+-- and no other does
+pub reads_no_more : (base word number : ℕ) → number < span → word ≤ base + number → read_from base word ≤ number
+reads_no_more base word number fits low = let is = reads_number base word (omega arith) in omega arith
 
 pub all_long : (base len : ℕ) (words : List ℕ) → len ≤ length words → length (read_all base len words) ≡ len
 all_long base zero words many = refl

@@ -1,5 +1,5 @@
 -- A dart of the face in hand is crossed backwards, and lowers the face of its twin.
-use Rattle.std.proofs.Common.{◌≡◌, ◌≢◌, ℕ, ◌+◌, ◌*◌, ◌^◌, ◌<◌, ◌≤◌, ◌||◌, ◌==◌, ◌∙◌, List, length, arith, ap, refl, sym, subst}
+use Rattle.std.proofs.Common.{◌≡◌, ℕ, ◌+◌, ◌*◌, ◌^◌, ◌<◌, ◌≤◌, ◌||◌, ◌==◌, ◌∙◌, List, length, arith, ap, refl, sym, subst}
 use Rattle.std.specs.Prelude.{min, slice_index}
 use Rattle.std.proofs.Math.ListN.{set}
 use Rattle.topo_core.specs.Lawful.{Lawful}
@@ -7,7 +7,7 @@ use Rattle.topo_core.specs.Routes.{KeepsPromise, Price, Pricing, Reaches}
 use Rattle.topo_core.proofs.routing.Certificates.{single_price}
 use Rattle.topo_route.specs.FaceHeights.{dart_heights}
 use Rattle.topo_route.specs.Names.{HasFaces, IsName, IsNamed, Named, dart_named, twin_name}
-use Rattle.topo_route.specs.Settling.{AreCosts, AreFaceCosts, IsCrossed, IsReached, Spreads, is_waiting, item_of, reached}
+use Rattle.topo_route.specs.Settling.{AreFaceCosts, IsCrossed, IsReached, Spreads, is_waiting, item_of, reached}
 use Rattle.topo_route.proofs.spreading.FaceHeights.{face_lowered, face_other, one_height}
 use Rattle.topo_route.proofs.spreading.Reaching.{reaches_twin}
 use Rattle.topo_route.proofs.spreading.Settled.{has_face, lowered_costs, lowered_waits, near_dart}

@@ -1,8 +1,7 @@
 -- Heights of faces and of darts: what a list by labels says of the darts by their names, and how that changes where a face is lowered.
-use Rattle.std.proofs.Common.{◌≡◌, ◌≢◌, ℕ, ◌+◌, ◌-◌, ◌<◌, ◌≤◌, ◌==◌, ◌&&◌, Bool, true, false, cond, List, [], length}
-use Rattle.std.proofs.Common.{inl, inr, ◌⊎◌, refl, sym, ap, subst, ◌∙◌, arith, get_or-set_same, get_or-set_other}
-use Rattle.std.specs.Prelude.{max, map, slice_index, slice_index_or}
-use Rattle.std.specs.List.{range_with_len}
+use Rattle.std.proofs.Common.{◌≡◌, ◌≢◌, ℕ, ◌+◌, ◌-◌, ◌<◌, ◌≤◌, ◌==◌, ◌&&◌, Bool, true, false, cond, List, length}
+use Rattle.std.proofs.Common.{inl, inr, sym, ap, ◌∙◌, arith, get_or-set_same, get_or-set_other}
+use Rattle.std.specs.Prelude.{max, slice_index}
 use Rattle.std.proofs.Math.ListN.{set}
 use Rattle.std.proofs.lemmas.Bool.{cases_Bool, cases_eq, cases_lt, eqb-true, eq-eqb, false≢true}
 use Rattle.std.proofs.lemmas.Grind.{get_or_default_zero}
@@ -13,7 +12,7 @@ use Rattle.topo_core.specs.Routes.{unreached}
 use Rattle.topo_core.specs.Systems.{has_dart}
 use Rattle.topo_core.proofs.numbering.Members.{left_true, right_true}
 use Rattle.topo_route.specs.FaceHeights.{dart_heights, height_at, is_name}
-use Rattle.topo_route.specs.Names.{HasFaces, IsName, IsNamed, Named, dart_named}
+use Rattle.topo_route.specs.Names.{IsName, IsNamed, Named, dart_named}
 use Rattle.topo_route.specs.Settling.{number_at, top_of}
 use Rattle.topo_route.proofs.names.Names.{name_below}
 

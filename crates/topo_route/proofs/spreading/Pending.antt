@@ -1,6 +1,6 @@
 -- Items that are taken out and passed over.
-use Rattle.std.proofs.Common.{◌≡◌, ◌≢◌, ℕ, ◌+◌, ◌-◌, ◌*◌, ◌/◌, ◌%◌, ◌^◌, ◌<◌, ◌≤◌, ◌||◌, ◌==◌, Bool, true, false, List, sym, ap, ◌∙◌, arith}
-use Rattle.std.specs.Prelude.{max, min, slice_index}
+use Rattle.std.proofs.Common.{◌≡◌, ◌≢◌, ℕ, ◌+◌, ◌/◌, ◌^◌, ◌<◌, ◌≤◌, ◌||◌, ◌==◌, Bool, List, sym, ap, ◌∙◌, arith}
+use Rattle.std.specs.Prelude.{min, slice_index}
 use Rattle.std.proofs.lemmas.Bool.{ne_eqb}
 use Rattle.topo_core.specs.Routes.{unreached}
 use Rattle.topo_route.specs.Settling.{dart_of_item, is_pending, is_waiting, item_of, number_at, top_of}

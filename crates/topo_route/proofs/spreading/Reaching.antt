@@ -1,17 +1,15 @@
 -- Walks to the target, step by step, and what heights are once nothing waits.
-use Rattle.std.proofs.Common.{◌≡◌, ◌≢◌, ℕ, zero, suc, ◌+◌, ◌*◌, ◌^◌, ◌<◌, ◌≤◌, ◌==◌, Bool, true, cond}
-use Rattle.std.proofs.Common.{List, [], ◌∷◌, length, inl, inr, refl, sym, ap, subst, ◌∙◌, arith}
+use Rattle.std.proofs.Common.{◌≡◌, ◌≢◌, ℕ, ◌+◌, ◌≤◌, true}
+use Rattle.std.proofs.Common.{List, [], ◌∷◌, inl, inr, refl, sym, ap, subst, arith}
 use Rattle.std.specs.Prelude.{slice_index}
-use Rattle.std.proofs.lemmas.Bool.{cases_Bool, cases_eq}
-use Rattle.std.proofs.lemmas.List.Sums.{sum_by-cons}
+use Rattle.std.proofs.lemmas.Bool.{cases_eq}
 use Rattle.topo_core.specs.declared.darts.Dart.{Dart}
-use Rattle.topo_core.specs.declared.rows.Rows.{Rows}
-use Rattle.topo_core.specs.Cycles.{SameCycle, after}
+use Rattle.topo_core.specs.Cycles.{SameCycle}
 use Rattle.topo_core.specs.Darts.{dart_twin}
 use Rattle.topo_core.specs.Lawful.{Lawful}
 use Rattle.topo_core.specs.Picture.{darts, system}
 use Rattle.topo_core.specs.Routes.{Costs, Crosses, IsCertificate, IsHeight, KeepsPromise, Price, Pricing, Reaches, unreached}
-use Rattle.topo_core.specs.Systems.{SameFace, face_step, has_dart}
+use Rattle.topo_core.specs.Systems.{SameFace, has_dart}
 use Rattle.topo_core.proofs.routing.Certificates.{face_height, face_in, height_bounds}
 use Rattle.topo_core.proofs.numbering.DartLaws.{twin-twin}
 use Rattle.topo_core.proofs.numbering.Numbering.{twin_in}

@@ -10,7 +10,7 @@ use Rattle.topo_core.specs.Picture.{corner}
 use Rattle.topo_core.specs.Routes.{KeepsPromise, Price, Pricing, Reaches}
 use Rattle.topo_route.specs.FaceHeights.{dart_heights}
 use Rattle.topo_route.specs.Names.{HasFaces, IsName, IsNamed, Named, dart_named, height_of, next_name, twin_name}
-use Rattle.topo_route.specs.Settling.{AreFaceCosts, AreLowered, AreSums, IsCrossed, IsReached, IsSettled}
+use Rattle.topo_route.specs.Settling.{AreFaceCosts, AreLowered, AreSums, IsCrossed, IsReached}
 use Rattle.topo_route.specs.Settling.{Relaxes, Spreads, is_pending, is_waiting, item_of, number_at, reach_of}
 use Rattle.topo_route.proofs.spreading.Crossings.{twin_costs, twin_waits}
 use Rattle.topo_route.proofs.spreading.FaceHeights.{face_less, face_lowered, one_height}

@@ -11,7 +11,7 @@ use Rattle.topo_core.proofs.numbering.NumberOrder.{either}
 use Rattle.topo_route.specs.FaceHeights.{AreLabelled, dart_heights}
 use Rattle.topo_route.specs.Names.{HasFaces, IsName, IsNamed, Named, dart_named, height_of, next_name, twin_name}
 use Rattle.topo_route.specs.Plans.{IsZeroAt}
-use Rattle.topo_route.specs.Settling.{AreCosts, AreFaceCosts, AreLowered, IsCrossed, IsReached, IsSettled}
+use Rattle.topo_route.specs.Settling.{AreCosts, AreFaceCosts, AreLowered, IsReached, IsSettled}
 use Rattle.topo_route.specs.Settling.{Spreads, dart_of_item, effort, is_pending, is_waiting, item_of, reached}
 use Rattle.topo_route.proofs.spreading.FaceHeights.{dart_capped, face_less, face_lowered, face_other, height_by_face, one_for_each, one_height, reached_named}
 use Rattle.topo_route.proofs.spreading.FaceWalks.{crosses_from}

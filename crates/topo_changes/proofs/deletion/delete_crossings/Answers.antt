@@ -1,5 +1,4 @@
 use Rattle.std.proofs.Common.{arith}
-use Rattle.std.proofs.lemmas.List.{take_all}
 use Rattle.topo_changes.proofs.rows.Keeping.{out_all, out_more, out_none}
 use Rattle.topo_changes.proofs.deletion.delete_crossings.Goals as goal
 

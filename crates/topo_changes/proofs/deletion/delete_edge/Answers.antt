@@ -1,5 +1,5 @@
-use Rattle.std.proofs.Common.{ap, is_some, List, not, Some, subst, sym, true, ◌≡◌, ◌∙◌, ℕ}
-use Rattle.std.specs.Prelude.{filter, find, map, ◌==◌}
+use Rattle.std.proofs.Common.{ap, is_some, List, not, subst, sym, true, ◌≡◌, ◌∙◌, ℕ}
+use Rattle.std.specs.Prelude.{filter, map, ◌==◌}
 use Rattle.topo_core.specs.declared.rows.EdgeRow.{EdgeRow}
 use Rattle.topo_core.specs.declared.rows.Rows.{Rows}
 use Rattle.topo_core.specs.Changes.{uncrossed_row}
@@ -8,7 +8,6 @@ use Rattle.topo_table.proofs.PlaceLemmas.{below_same}
 use Rattle.topo_changes.specs.Keeping.{edges_of, rows_of}
 use Rattle.topo_changes.proofs.rows.Deleting.{crossed_read}
 use Rattle.topo_changes.proofs.rows.KeepingEdges.{edges_without, no_edge_kept, taken_row}
-use Rattle.topo_changes.proofs.deletion.delete_edge.Given as given
 use Rattle.topo_changes.proofs.deletion.delete_edge.Goals as goal
 
 pub unreachable-requires : goal.unreachable-requires

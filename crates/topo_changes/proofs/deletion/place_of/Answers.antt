@@ -1,4 +1,4 @@
-use Rattle.std.proofs.Common.{◌≤◌, arith, eqb, get_or, length, sym}
+use Rattle.std.proofs.Common.{arith, eqb, get_or, length, sym}
 use Rattle.std.proofs.lemmas.Bool.{eq-eqb}
 use Rattle.std.proofs.lemmas.List.Sums.{position_or_len_is}
 use Rattle.topo_changes.proofs.rows.Rotating.{others_more}

@@ -1,4 +1,4 @@
-use Rattle.std.proofs.Common.{List, Some, ap, refl, sym, ℕ, ◌∙◌}
+use Rattle.std.proofs.Common.{List, Some, ap, refl, ℕ, ◌∙◌}
 use Rattle.std.specs.Prelude.{map}
 use Rattle.indexmap.specs.IndexMap.{set_value_at}
 use Rattle.topo_table.specs.Places.{present}

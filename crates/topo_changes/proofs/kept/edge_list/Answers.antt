@@ -1,4 +1,4 @@
-use Rattle.std.proofs.Common.{arith, ap, ◌∙◌}
+use Rattle.std.proofs.Common.{arith}
 use Rattle.std.proofs.lemmas.List.{take_all}
 use Rattle.topo_changes.proofs.rows.KeepingEdges.{no_more_edge, one_more_edge}
 use Rattle.topo_changes.proofs.kept.edge_list.Goals as goal

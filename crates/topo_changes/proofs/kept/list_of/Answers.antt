@@ -1,4 +1,4 @@
-use Rattle.std.proofs.Common.{arith, ap, ◌∙◌}
+use Rattle.std.proofs.Common.{arith}
 use Rattle.std.proofs.lemmas.List.{take_all}
 use Rattle.topo_changes.proofs.rows.Keeping.{no_more_row, one_more_row}
 use Rattle.topo_changes.proofs.kept.list_of.Goals as goal

@@ -1,4 +1,4 @@
-use Rattle.std.proofs.Common.{◌-◌, ◌<◌, ◌^◌, ◌≡◌, ◌≤◌, arith, ℕ}
+use Rattle.std.proofs.Common.{◌-◌, ◌<◌, ◌≡◌, ◌≤◌, arith, ℕ}
 use Rattle.std.specs.Prelude.{max, min, slice_index}
 use Rattle.topo_core.specs.Routes.{unreached}
 use Rattle.topo_price.specs.Prices.{prices_of}

@@ -1,5 +1,4 @@
-use Rattle.std.proofs.Common.{◌≡◌, ◌+◌, ◌<◌, ◌∙◌, ◌++◌, ◌∷◌, [], List, ℕ, ap, arith, length, sym, take}
-use Rattle.std.specs.Prelude.{slice_index}
+use Rattle.std.proofs.Common.{◌≡◌, ◌<◌, ◌∙◌, ◌++◌, ◌∷◌, [], List, ℕ, ap, arith, length, sym, take}
 use Rattle.std.proofs.lemmas.List.{take_all, take_more}
 use Rattle.topo_core.specs.Picture.{darts}
 use Rattle.topo_route.specs.FaceHeights.{dart_heights}

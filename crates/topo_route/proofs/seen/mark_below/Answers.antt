@@ -1,8 +1,7 @@
-use Rattle.std.proofs.Common.{◌+◌, ◌≡◌, ◌≢◌, ◌<◌, ◌∙◌, ap, arith, length, subst, sym}
+use Rattle.std.proofs.Common.{◌+◌, ◌≡◌, ◌<◌, ◌∙◌, ap, arith, length, subst, sym}
 use Rattle.std.specs.Prelude.{slice_index}
 use Rattle.std.proofs.lemmas.Grind.{get_or_default_zero}
-use Rattle.topo_core.specs.Routes.{unreached}
-use Rattle.topo_route.specs.Names.{IsName, dart_named}
+use Rattle.topo_route.specs.Names.{IsName}
 use Rattle.topo_route.specs.Regions.{IsRegionOf, RegionState}
 use Rattle.topo_route.specs.Seen.{HoldsMore}
 use Rattle.topo_route.proofs.surviving.Marking.{HoldsFirst, holds_below, holds_next, listed_index, more_on, no_more}

@@ -1,12 +1,12 @@
-use Rattle.std.proofs.Common.{◌≡◌, ◌≢◌, ◌+◌, ◌^◌, ◌<◌, ◌≤◌, ◌∙◌, ◌||◌, ◌==◌, ℕ, ap, arith, eq-eqb, length, refl, subst, sym, true}
+use Rattle.std.proofs.Common.{◌≡◌, ◌+◌, ◌<◌, ◌∙◌, ◌||◌, ◌==◌, ℕ, ap, arith, eq-eqb, length, refl, subst, sym, true}
 use Rattle.std.specs.Prelude.{slice_index}
 use Rattle.std.proofs.Math.Bool.{or-true}
 use Rattle.std.proofs.lemmas.Bool.{false≢true, lt-ltb}
 use Rattle.topo_route.specs.FaceHeights.{dart_heights}
 use Rattle.topo_route.specs.Names.{IsName}
-use Rattle.topo_route.specs.Settling.{dart_of_item, is_waiting, item_of, number_at}
+use Rattle.topo_route.specs.Settling.{is_waiting, item_of, number_at}
 use Rattle.topo_route.proofs.spreading.FaceHeights.{height_by_face, number_by_name}
-use Rattle.topo_route.proofs.spreading.Pending.{not_low, other_height, too_high}
+use Rattle.topo_route.proofs.spreading.Pending.{not_low, other_height}
 use Rattle.topo_route.proofs.spread.next_pending.Goals as goal
 use Rattle.topo_route.proofs.spread.next_pending.Goals.{then-height-level, else-height-level}
 use Rattle.topo_route.proofs.spread.next_pending.Goals.{else-is_low-via-then-is_low+else-item_of-item, else-is_low-via-else-is_low}

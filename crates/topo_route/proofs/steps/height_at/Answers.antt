@@ -1,4 +1,4 @@
-use Rattle.std.proofs.Common.{◌<◌, ◌≡◌, ◌∙◌, ap, arith, length, sym}
+use Rattle.std.proofs.Common.{◌<◌, ◌∙◌, ap, arith, length, sym}
 use Rattle.std.specs.Prelude.{slice_index}
 use Rattle.topo_route.proofs.spreading.FaceHeights.{height_by_face}
 use Rattle.topo_route.proofs.steps.height_at.Goals as goal

@@ -1,11 +1,9 @@
-use Rattle.std.proofs.Common.{◌≡◌, ◌≢◌, ◌+◌, ◌<◌, ◌∙◌, ℕ, ap, arith, refl, sym}
-use Rattle.std.specs.Prelude.{slice_index}
+use Rattle.std.proofs.Common.{◌≡◌, ◌+◌, ◌∙◌, ℕ, ap, arith, refl, sym}
 use Rattle.topo_core.specs.Cycles.{after}
-use Rattle.topo_core.specs.Routes.{unreached}
 use Rattle.topo_price.specs.Prices.{prices_of}
 use Rattle.topo_route.specs.FaceHeights.{dart_heights}
-use Rattle.topo_route.specs.Names.{IsName, next_name}
-use Rattle.topo_route.specs.Settling.{IsCrossed, IsReached, reach_of}
+use Rattle.topo_route.specs.Names.{next_name}
+use Rattle.topo_route.specs.Settling.{IsCrossed, reach_of}
 use Rattle.topo_route.proofs.spreading.FaceHeights.{one_height}
 use Rattle.topo_route.proofs.spreading.FaceWalks.{face_after, face_home, face_whole}
 use Rattle.topo_route.proofs.spreading.Relaxing.{at_height, both_steps, crossed_on, no_step, put_down_relaxes, same_hand}
@@ -87,14 +85,14 @@ loop-steps-preserved g c =
     let l' = c.relax_twin.new.least in
     let inside : face at ≡ face dart = ap face was.place ∙ face_after named lawful has face faces has_faces i dart there in
     let on = same_hand price named lawful has face faces has_faces v others dart at there was.name inside step.relaxes in
-    let place : c.next_along-at.result ≡ after (next_name named) (i + 1) dart = c.next_along-at.ensures.next ∙ ap (next_name named) was.place
+    let place : c.step-next.result.0 ≡ after (next_name named) (i + 1) dart = c.step-next.ensures.next ∙ ap (next_name named) was.place
     ∙ sym (after-one (next_name named) i dart) in
     let crossed = crossed_on price named lawful has face faces has_faces v others i there was.place
     (record { lower = step.relaxes.lower; less = step.relaxes.less; same = step.same ∙ sym was.same }) was.crossed step.crossed in
     record {
       relaxes = both_steps price named lawful has face faces has_faces v others was.relaxes on;
       place = place;
-      name = c.next_along-at.ensures.name;
+      name = c.step-next.ensures.name;
       same = one_height named face hs' has dart at there was.name (sym inside) ∙ step.same;
       crossed = crossed;
     }
@@ -124,7 +122,7 @@ returns-then-at-dart g c =
     let l' = c.relax_twin.new.least in
     let inside : face at ≡ face dart = ap face was.place ∙ face_after named lawful has face faces has_faces i dart there in
     let on = same_hand price named lawful has face faces has_faces v others dart at there was.name inside step.relaxes in
-    let place : c.next_along-at.result ≡ after (next_name named) (i + 1) dart = c.next_along-at.ensures.next ∙ ap (next_name named) was.place
+    let place : c.step-next.result.0 ≡ after (next_name named) (i + 1) dart = c.step-next.ensures.next ∙ ap (next_name named) was.place
     ∙ sym (after-one (next_name named) i dart) in
     let crossed = crossed_on price named lawful has face faces has_faces v others i there was.place
     (record { lower = step.relaxes.lower; less = step.relaxes.less; same = step.same ∙ sym was.same }) was.crossed step.crossed in

@@ -1,6 +1,6 @@
-use Rattle.std.proofs.Common.{◌≡◌, ◌+◌, ◌^◌, ◌<◌, ◌∙◌, ◌==◌, ◌||◌, List, ℕ, ap, arith, length, subst, sym}
+use Rattle.std.proofs.Common.{◌≡◌, ◌+◌, ◌≤◌, ◌∙◌, ◌==◌, ◌||◌, List, ℕ, ap, arith, length, subst, sym}
 use Rattle.std.proofs.Math.ListN.{set}
-use Rattle.std.specs.Prelude.{slice_index}
+use Rattle.std.specs.Prelude.{min, slice_index}
 use Rattle.topo_price.specs.Prices.{prices_of}
 use Rattle.topo_route.specs.FaceHeights.{dart_heights}
 use Rattle.topo_route.specs.Settling.{IsCrossed, Relaxes, is_waiting, item_of, number_at, reach_of}
@@ -34,18 +34,18 @@ returns-in_ok-push-in-Some g c =
     let dart = c.args.dart in
     let twin = c.across-twin.result in
     let there = c.across-twin.ensures.name in
-    let label : c.face_at-face.result ≡ face twin = c.face_at-face.ensures.face in
+    let label : c.args.face ≡ face twin = c.requires.beyond ∙ ap face (sym c.across-twin.ensures.twin) in
     let x : ℕ = slice_index (dart_heights named face heights) dart + c.in-Some.price in
-    let at : slice_index (dart_heights named face heights) twin ≡ slice_index heights c.face_at-face.result =
+    let at : slice_index (dart_heights named face heights) twin ≡ slice_index heights c.args.face =
     of_face price named has face faces has_faces v heights names c.requires.costs twin there ∙ ap (slice_index heights) (sym label) in
     let hs : c.lower.new.self.heights ≡ set heights (face twin) x =
-    c.in_ok-lower-in-Some.ensures.heights ∙ ap (λ (h : ℕ). set heights c.face_at-face.result (h + c.in-Some.price)) c.requires.height
+    c.in_ok-lower-in-Some.ensures.heights ∙ ap (λ (h : ℕ). set heights c.args.face (h + c.in-Some.price)) c.requires.height
     ∙ ap (λ (f : ℕ). set heights f x) label in
     let ns : c.lower.new.self.names.items ≡ set names (face twin) twin = c.in_ok-lower-in-Some.ensures.names ∙ ap (λ (f : ℕ). set names f twin) label in
     let item : c.item_of.result ≡ item_of twin x = c.item_of.ensures ∙ ap (λ (h : ℕ). item_of twin (h + c.in-Some.price)) c.requires.height in
     let longer : length c.push.new.self ≡ length waiting + 1 = c.in_ok-push-in-Some.ensures.len
     ∙ ap (λ (ws : List ℕ). length ws + 1) c.in_ok-lower-in-Some.ensures.waiting in
-    let number : number_at others c.face_at-face.result ≡ number_at others (face twin) = ap (number_at others) label in
+    let number : number_at others c.args.face ≡ number_at others (face twin) = ap (number_at others) label in
     record {
       relaxes = subst (λ (xs : List ℕ). Relaxes price named face faces v others heights names waiting c.args.least.now dart xs c.lower.new.self.names.items
           c.push.new.self c.lower.new.least dart) (sym hs)
@@ -68,8 +68,8 @@ returns-in_ok-push-in-Some g c =
           c.across-twin.ensures.twin there (omega arith) ∙ sym c.requires.height);
     }
 
-pub returns-else-height-saturating_sub-clause-crossed : goal.returns-else-height-saturating_sub-clause-crossed
-returns-else-height-saturating_sub-clause-crossed g c =
+pub returns-else-is_lowered_by-clause-crossed : goal.returns-else-is_lowered_by-clause-crossed
+returns-else-is_lowered_by-clause-crossed g c =
     let price = prices_of (g.F.PriceFn.may_return c.args.priced.now.tariff.now) in
     let graph = c.args.priced.now.graph.now in
     let named = g.W.FaceGraph.named graph in
@@ -80,17 +80,18 @@ returns-else-height-saturating_sub-clause-crossed g c =
     let has_faces = g.met.W.FaceGraph.has_faces graph in
     let heights = c.args.self.now.heights in
     let twin = c.across-twin.result in
-    let at : slice_index (dart_heights named face heights) twin ≡ slice_index heights c.face_at-face.result =
+    let at : slice_index (dart_heights named face heights) twin ≡ slice_index heights c.args.face =
     of_face price named has face faces has_faces c.args.v heights c.args.self.now.names.items c.requires.costs twin c.across-twin.ensures.name
-    ∙ ap (slice_index heights) (sym c.face_at-face.ensures.face) in
+    ∙ ap (slice_index heights) (sym (c.requires.beyond ∙ ap face (sym c.across-twin.ensures.twin))) in
+    let low : min (slice_index heights c.args.face) (reach_of c.args.least.now) ≤ c.args.height + c.in-Some.price = grind arith in
     crossed_low named (reach_of c.args.least.now) (dart_heights named face heights) c.args.dart c.in-Some.ensures.promise c.in-Some.ensures.price
-    c.across-twin.ensures.twin (omega arith)
+    c.across-twin.ensures.twin (omega (arith, low))
 
 pub returns-in-None-clause-crossed : goal.returns-in-None-clause-crossed
 returns-in-None-clause-crossed g c p asked = absurd (c.in-None.ensures.price p asked)
 
-pub returns-then-saturating_sub-le1-clause-crossed : goal.returns-then-saturating_sub-le1-clause-crossed
-returns-then-saturating_sub-le1-clause-crossed g c =
+pub returns-then-not-is_lowered_by-clause-crossed : goal.returns-then-not-is_lowered_by-clause-crossed
+returns-then-not-is_lowered_by-clause-crossed g c =
     let price = prices_of (g.F.PriceFn.may_return c.args.priced.now.tariff.now) in
     let graph = c.args.priced.now.graph.now in
     let named = g.W.FaceGraph.named graph in
@@ -101,8 +102,9 @@ returns-then-saturating_sub-le1-clause-crossed g c =
     let has_faces = g.met.W.FaceGraph.has_faces graph in
     let heights = c.args.self.now.heights in
     let twin = c.across-twin.result in
-    let at : slice_index (dart_heights named face heights) twin ≡ slice_index heights c.face_at-face.result =
+    let at : slice_index (dart_heights named face heights) twin ≡ slice_index heights c.args.face =
     of_face price named has face faces has_faces c.args.v heights c.args.self.now.names.items c.requires.costs twin c.across-twin.ensures.name
-    ∙ ap (slice_index heights) (sym c.face_at-face.ensures.face) in
+    ∙ ap (slice_index heights) (sym (c.requires.beyond ∙ ap face (sym c.across-twin.ensures.twin))) in
+    let low : min (slice_index heights c.args.face) (reach_of c.args.least.now) ≤ c.args.height + 1 = grind arith in
     crossed_already price named (reach_of c.args.least.now) (dart_heights named face heights) c.args.dart twin
-    (c.requires.right.promise (name_some named c.args.dart c.requires.in_hand.0)) c.across-twin.ensures.twin (omega arith)
+    (c.requires.right.promise (name_some named c.args.dart c.requires.in_hand.0)) c.across-twin.ensures.twin (omega (arith, low))

@@ -1,6 +1,5 @@
 use Rattle.std.proofs.Common.{◌<◌, ◌^◌, arith, refl}
 use Rattle.topo_price.specs.Prices.{prices_of}
-use Rattle.topo_route.specs.FaceHeights.{dart_heights}
 use Rattle.topo_route.specs.Settling.{reach_of}
 use Rattle.topo_route.proofs.names.Names.{name_below}
 use Rattle.topo_route.proofs.spreading.Relaxing.{taken_relaxes}

@@ -1,4 +1,4 @@
-use Rattle.std.proofs.Common.{◌∙◌, ◌≡◌, ◌≤◌, ◌+◌, ◌-◌, ◌++◌, List, ℕ, arith, length, replicate, subst, sym, take}
+use Rattle.std.proofs.Common.{◌≡◌, ◌≤◌, ◌+◌, ◌-◌, List, ℕ, arith, replicate, subst, sym}
 use Rattle.std.specs.Vec.{vec_len}
 use Rattle.topo_core.specs.Routes.{unreached}
 use Rattle.topo_route.proofs.spreading.Blank.{all_blank, filled, filled_up}
