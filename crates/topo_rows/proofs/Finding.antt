@@ -10,7 +10,8 @@ use Rattle.std.proofs.lemmas.Option.{get_or_from_slice_get, slice_get-get_or}
 use Rattle.topo_core.specs.declared.rows.CrossRow.{CrossRow}
 use Rattle.topo_core.specs.declared.rows.EdgeRow.{EdgeRow}
 use Rattle.topo_core.specs.declared.rows.Rows.{Rows}
-use Rattle.topo_core.specs.Lawful.{has_good_crossings, has_good_path, has_good_paths, is_good_crossing}
+use Rattle.topo_core.specs.Items.{rises_below}
+use Rattle.topo_core.specs.Lawful.{has_good_path, has_good_paths}
 use Rattle.topo_core.specs.Picture.{edge_row}
 use Rattle.topo_core.proofs.numbering.Members.{found, left_true}
 use Rattle.topo_rows.specs.Ids.{IdsRise, IsPlaceOf, NoneBefore, NoneFrom}
@@ -76,15 +77,14 @@ module _ {X : Type 0} (key : X → ℕ) (xs : List X) (id : ℕ) (rise : IdsRise
 
 -- ---- Edges and crossings of rows
 
--- the ids of good paths and of good crossings rise
+-- the ids of good paths rise, and those of crossings where the test says so
 pub edges_rise : (rows : Rows) (edges : List EdgeRow) → has_good_paths rows ≡ true → edges ≡ rows.edges → IdsRise (map (λ row. row.id) edges)
 edges_rise rows edges paths same =
     subst (λ (es : List EdgeRow). IdsRise (map (λ row. row.id) es)) (sym same) (rows.next_edge, left_true _ (list_all (has_good_path rows) rows.edges) paths)
 
-pub crossings_rise : (rows : Rows) (crossings : List CrossRow) → has_good_crossings rows ≡ true → crossings ≡ rows.crossings
-    → IdsRise (map (λ row. row.id) crossings)
-crossings_rise rows crossings good same = subst (λ (cs : List CrossRow). IdsRise (map (λ row. row.id) cs)) (sym same)
-    (rows.next_crossing, left_true _ (list_all (is_good_crossing rows) rows.crossings) good)
+pub ids_rise : (rows : Rows) (crossings : List CrossRow) → rises_below rows.next_crossing (map (λ x. x.id) rows.crossings) ≡ true
+    → crossings ≡ rows.crossings → IdsRise (map (λ row. row.id) crossings)
+ids_rise rows crossings rises same = subst (λ (cs : List CrossRow). IdsRise (map (λ row. row.id) cs)) (sym same) (rows.next_crossing, rises)
 
 -- what is read at the place of an edge
 pub at_edge_place : (rows : Rows) (e place : ℕ) (row : EdgeRow) (edges : List EdgeRow) → edges ≡ rows.edges → IsPlaceOf edges (λ row. row.id) e place

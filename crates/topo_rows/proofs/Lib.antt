@@ -1,5 +1,6 @@
 pub mod AroundPoints
 pub mod Begins
+pub mod Filling
 pub mod Finding
 pub mod Linking
 pub mod Noting

@@ -53,7 +53,7 @@ low_below : (k : ℕ) → low k < 4294967296
 low_below k = omega arith
 
 -- one end or the other, where the ends are different
-one_end : (a b v : ℕ) → eqb a b ≡ false → one (a == v) + one (b == v) ≡ one (a == v || b == v)
+pub one_end : (a b v : ℕ) → eqb a b ≡ false → one (a == v) + one (b == v) ≡ one (a == v || b == v)
 one_end a b v apart = elim (cases_Bool (a == v)) [
   | inl e ↦ grind (arith, cases_Bool, eqb-true, false≢true, eq-eqb, one)
   | inr e ↦ ap (λ (t : Bool). one t + one (b == v)) e ∙ zero_plus (one (b == v)) ∙ sym (ap (λ (t : Bool). one (t || b == v)) e)
@@ -68,7 +68,7 @@ module _ (rows : Rows) (paths : has_good_paths rows ≡ true) (small : rows.next
   edges_rise : rises_below rows.next_edge (map (λ row. row.id) rows.edges) ≡ true
   edges_rise = left_true _ (list_all (has_good_path rows) rows.edges) paths
 
-  id_small : (x : CrossRow) → IsIn x rows.crossings → x.id < 4294967296
+  pub id_small : (x : CrossRow) → IsIn x rows.crossings → x.id < 4294967296
   id_small x h = let less = below_limit rows.next_crossing (map (λ x. x.id) rows.crossings) rises x.id (in_map (λ x. x.id) x rows.crossings h) in omega arith
 
   there : (row : EdgeRow) → IsIn row rows.edges → (y : ℕ) → IsIn y row.crossings → (x : CrossRow) × (cross_row rows y ≡ Some x)
@@ -192,6 +192,10 @@ pub crossings_refused : (rows : Rows)
     → (rises_below rows.next_crossing (map (λ x. x.id) rows.crossings) && list_all (λ x. not (x.crossed == x.newcomer)) rows.crossings) ≡ false
     → false ≡ has_good_crossings rows
 crossings_refused rows fails = grind (arith, cases_Bool, left_true, all_from, good_crossing, false≢true)
+
+-- good crossings are of two edges each
+pub crossings_differ : (rows : Rows) → has_good_crossings rows ≡ true → list_all (λ x. not (x.crossed == x.newcomer)) rows.crossings ≡ true
+crossings_differ rows good = all_from (λ x. not (x.crossed == x.newcomer)) rows.crossings (λ x h. ap not (good_crossing rows good x h).apart)
 
 -- two pairs for each crossing
 pub two_pairs_each : (crossings : List CrossRow) → length (crossing_pairs crossings) ≡ 2 * length crossings

@@ -18,7 +18,7 @@ use Rattle.topo_core.specs.declared.rows.CrossRow.{CrossRow}
 use Rattle.topo_core.specs.declared.rows.EdgeRow.{EdgeRow}
 use Rattle.topo_core.specs.declared.rows.Rows.{Rows}
 use Rattle.topo_core.specs.Items.{IsIn, occurrences, rises_below}
-use Rattle.topo_core.specs.Lawful.{has_good_path, is_good_crossing, IsWellFormed}
+use Rattle.topo_core.specs.Lawful.{has_good_path, has_good_paths, is_good_crossing, IsWellFormed}
 use Rattle.topo_core.specs.Picture.{ahead, around_crossing, around_vertex, behind, clockwise, cross_row}
 use Rattle.topo_core.specs.Picture.{darts, edge_row, end_dart, index_of, place_on, rotation, system}
 use Rattle.topo_core.specs.Systems.{darts_in}
@@ -336,10 +336,15 @@ module _ (rows : Rows) (good : IsWellFormed rows) where
         yes true = refl
         yes false = refl
 
-  -- what a path names is known
-  pub paths_known : list_all (λ row. list_all (λ x. is_some (cross_row rows x)) row.crossings) rows.edges ≡ true
-  paths_known = all_from (λ row. list_all (λ x. is_some (cross_row rows x)) row.crossings) rows.edges
-      (λ row h. all_from (λ x. is_some (cross_row rows x)) row.crossings (λ x k. crossing_there rows good.paths row h x k))
+-- what a path names is known
+pub paths_named : (rows : Rows) → has_good_paths rows ≡ true → (crossings : List CrossRow) (edges : List EdgeRow) → crossings ≡ rows.crossings
+    → edges ≡ rows.edges → list_all (λ row. list_all (λ x. is_some (find (λ (c : CrossRow). c.id == x) crossings)) row.crossings) edges ≡ true
+paths_named rows paths crossings edges is_crossings is_edges =
+    ap (λ (es : List EdgeRow). list_all (λ row. list_all (λ x. is_some (find (λ (c : CrossRow). c.id == x) crossings)) row.crossings) es) is_edges
+    ∙ ap (λ (cs : List CrossRow). list_all (λ (row : EdgeRow). list_all (λ x. is_some (find (λ (c : CrossRow). c.id == x) cs)) row.crossings) rows.edges)
+    is_crossings
+    ∙ all_from (λ row. list_all (λ x. is_some (cross_row rows x)) row.crossings) rows.edges
+    (λ row h. all_from (λ x. is_some (cross_row rows x)) row.crossings (λ x k. crossing_there rows paths row h x k))
 
 -- ---- Steps of loops
 

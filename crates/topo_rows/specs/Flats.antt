@@ -63,6 +63,12 @@ pub record AreAhead (rows : Rows) (numbers : List ℕ) : Type 0 where
   pub crossed : (p : ℕ) (x : CrossRow) → slice_get rows.crossings p ≡ Some x → slice_index numbers (2 * p) ≡ index_of rows (ahead rows x.crossed x.id)
   pub newcomer : (p : ℕ) (x : CrossRow) → slice_get rows.crossings p ≡ Some x → slice_index numbers (2 * p + 1) ≡ index_of rows (ahead rows x.newcomer x.id)
 
+-- the numbers are what is noted of the paths, written over some list
+pub record AreNoted (rows : Rows) (numbers : List ℕ) : Type 0 where
+  pub before : List ℕ
+  pub as_many : length before ≡ 2 * length rows.crossings
+  pub noted : numbers ≡ written before (notes_from rows.crossings 0 rows.edges)
+
 -- the lists hold what they should of how the darts of the rows turn: where the darts of each edge begin, and the images of the turn
 pub record AreTurnsOf (rows : Rows) (begins turns : List ℕ) : Type 0 where
   pub edge_begins : begins ≡ begins_from 0 rows.edges

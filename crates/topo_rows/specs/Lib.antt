@@ -3,6 +3,7 @@ pub mod FaultTexts
 pub mod Flats
 pub mod Ids
 pub mod Loading
+pub mod Notes
 pub mod Pairs
 pub mod Recovering
 pub mod Shown

@@ -1,19 +1,20 @@
 //! The tests of rows that say whether they are an embedding, each in little more than linear time.
 
 ghost use Rattle.std.specs.Prelude.{◌≡◌, ◌*◌, ◌^◌, ◌<◌, ◌==◌, ◌&&◌, ◌↔◌, ℕ};
-ghost use Rattle.std.specs.Prelude.{IfOk, IsTrue, true, not, length, map};
+ghost use Rattle.std.specs.Prelude.{IfOk, IsTrue, true, not, length, map, sum_by};
 ghost use Rattle.std.specs.List.{list_any, list_all};
 ghost use Rattle.std.specs.List.Sorted.{IsNonDecreasing, IsPermutation};
 ghost use Rattle.topo_core.specs.Items.{occurrences, rises_below};
 ghost use Rattle.topo_core.specs.Lawful.{has_good_paths, has_good_crossings, has_good_rotations};
+ghost use Rattle.topo_core.specs.Picture.{segment_count};
+ghost use Rattle.topo_rows.specs.Flats.{AreNoted};
 ghost use Rattle.topo_rows.specs.Loading.{fits};
-ghost use Rattle.topo_rows.specs.Pairs.{begins_with_least, crossing_pairs, end_pairs};
+ghost use Rattle.topo_rows.specs.Pairs.{begins_with_least, end_pairs};
 ghost use Rattle.topo_rows.specs.Pairs.{is_valid_edge, path_pairs, rotation_pairs};
 
+use crate::flat::note_all;
 use crate::id_index::IdIndex;
-use crate::pairs::{
-    PairKey, crossing_pairs, end_pairs, is_same_multiset, path_pairs, rotation_pairs,
-};
+use crate::pairs::{end_pairs, is_same_multiset, rotation_pairs};
 use std::alloc::{AllocError, Global};
 use topo_core::limits::Limits;
 use topo_core::listed::Listed;
@@ -41,25 +42,30 @@ fn rise_below(limit: u32, ids: &[u32]) -> bool
     true
 }
 
-/// Whether x is one of the numbers, which are in order.
-fn has_number(numbers: &[u32], x: u32) -> bool
+/// Whether x is one of the numbers, which are in order. One look finds it where it is expected; else
+/// a binary search does.
+fn has_number(numbers: &[u32], expected: usize, x: u32) -> bool
     requires { IsNonDecreasing numbers.now }
     ensures { result ≡ list_any (λ y. y == x) numbers.now }
 {
+    if expected < numbers.len() && numbers[expected] == x {
+        return true;
+    }
     numbers.binary_search(&x).is_ok()
 }
 
 /// Whether each number is one of those of the first list, which are in order.
-fn has_numbers(numbers: &[u32], xs: &[u32]) -> bool
+fn has_numbers(numbers: &[u32], hints: &IdIndex, xs: &[u32]) -> bool
     requires { IsNonDecreasing numbers.now }
     ensures { result ≡ list_all (λ x. list_any (λ y. y == x) numbers.now) xs.now }
 {
-    xs.iter().all(|x| has_number(numbers, *x))
+    xs.iter()
+        .all(|x| has_number(numbers, hints.crossing(*x), *x))
 }
 
 /// Whether an edge has two vertices for its ends, a kind that is known, and a path of crossings
 /// that are there.
-fn is_valid_edge(vertices: usize, ids: &[u32], row: &EdgeRow) -> bool
+fn is_valid_edge(vertices: usize, ids: &[u32], hints: &IdIndex, row: &EdgeRow) -> bool
     requires { IsNonDecreasing ids.now }
     ensures { result ≡ is_valid_edge vertices ids.now row.now }
 {
@@ -67,15 +73,17 @@ fn is_valid_edge(vertices: usize, ids: &[u32], row: &EdgeRow) -> bool
         && (row.b as usize) < vertices
         && row.a != row.b
         && (row.kind as usize) < KINDS
-        && has_numbers(ids, row.crossings.as_slice())
+        && has_numbers(ids, hints, row.crossings.as_slice())
 }
 
 /// Whether that holds of each edge.
-fn are_valid_edges(vertices: usize, ids: &[u32], edges: &[EdgeRow]) -> bool
+fn are_valid_edges(vertices: usize, ids: &[u32], hints: &IdIndex, edges: &[EdgeRow]) -> bool
     requires { IsNonDecreasing ids.now }
     ensures { result ≡ list_all (is_valid_edge vertices ids.now) edges.now }
 {
-    edges.iter().all(|row| is_valid_edge(vertices, ids, row))
+    edges
+        .iter()
+        .all(|row| is_valid_edge(vertices, ids, hints, row))
 }
 
 /// The ids of edges.
@@ -113,7 +121,11 @@ fn sorted_ids(alloc: Global, crossings: &[CrossRow]) -> Result<Vec<u32>, AllocEr
 }
 
 /// Whether the paths are good.
-pub(crate) fn are_paths_good(alloc: Global, rows: &Rows) -> Result<bool, AllocError>
+pub(crate) fn are_paths_good(
+    alloc: Global,
+    rows: &Rows,
+    hints: &IdIndex,
+) -> Result<bool, AllocError>
     ensures { IfOk result (λ yes. yes ≡ has_good_paths rows.now) }
 {
     if !edge_ids_rise(alloc, rows)? {
@@ -121,7 +133,7 @@ pub(crate) fn are_paths_good(alloc: Global, rows: &Rows) -> Result<bool, AllocEr
     }
     let ids = sorted_ids(alloc, rows.crossings.as_slice())?;
     let vertices = rows.rotations.as_slice().len();
-    Ok(are_valid_edges(vertices, ids.as_slice(), rows.edges.as_slice()))
+    Ok(are_valid_edges(vertices, ids.as_slice(), hints, rows.edges.as_slice()))
 }
 
 /// Whether each crossing is of two different edges.
@@ -142,29 +154,12 @@ fn rise_and_differ(alloc: Global, rows: &Rows) -> Result<bool, AllocError>
     Ok(rise_below(rows.next_crossing, ids.as_slice()) && differ(crossings))
 }
 
-/// Whether the paths have just the crossings that the crossings want.
-fn paths_agree(
-    alloc: Global,
-    edges: &[EdgeRow],
-    crossings: &[CrossRow],
-    hints: &IdIndex,
-) -> Result<bool, AllocError>
-    ensures same { IfOk result
-        (λ yes. IsTrue yes ↔ ((k : ℕ)
-        → occurrences k (path_pairs edges.now) ≡ occurrences k (crossing_pairs crossings.now))) }
-    ensures as_many { IfOk result
-        (λ yes. IsTrue yes → length (path_pairs edges.now)
-        ≡ length (crossing_pairs crossings.now)) }
-{
-    let mut expected = crossing_pairs(alloc, crossings)?;
-    let mut found = path_pairs(alloc, edges, expected.len())?;
-    Ok(is_same_multiset(&mut found, &mut expected, hints, PairKey::Crossing))
-}
-
 /// Whether the crossings are good, where the paths are. If they are, there is a path entry for each
-/// end of an edge at a crossing, so there are two for each crossing.
+/// end of an edge at a crossing, so there are two for each crossing, and the numbers of the darts
+/// ahead of them are noted in a list, over what it held.
 pub(crate) fn are_crossings_good(
     alloc: Global,
+    ahead: &mut Vec<u32>,
     rows: &Rows,
     hints: &IdIndex,
 ) -> Result<bool, AllocError>
@@ -172,14 +167,16 @@ pub(crate) fn are_crossings_good(
     ensures good { IfOk result (λ yes. yes ≡ has_good_crossings rows.now) }
     ensures two_each { IfOk result
         (λ yes. IsTrue yes → length (path_pairs rows.now.edges) ≡ 2 * length rows.now.crossings) }
+    ensures noted { IfOk result
+        (λ yes. IsTrue yes → 2 * sum_by segment_count rows.now.edges < 2 ^ 32
+        → AreNoted rows.now ahead.new.items) }
 {
     // For the proof: what the type keeps.
     let _next = rows.next_crossing;
     if !rise_and_differ(alloc, rows)? {
         return Ok(false);
     }
-    let crossings = rows.crossings.as_slice();
-    let is_same = paths_agree(alloc, rows.edges.as_slice(), crossings, hints)?;
+    let is_same = note_all(ahead, rows, hints)?;
     Ok(is_same)
 }
 
@@ -217,7 +214,7 @@ fn rotations_agree(
 {
     let mut expected = end_pairs(alloc, edges)?;
     let mut found = rotation_pairs(alloc, rotations, expected.len())?;
-    Ok(is_same_multiset(&mut found, &mut expected, hints, PairKey::Edge))
+    Ok(is_same_multiset(&mut found, &mut expected, hints))
 }
 
 /// Whether the rotations are good, where the paths are.

@@ -1,16 +1,19 @@
 //! The flat lists of a well-formed picture: its darts as numbers in canonical order.
 
-ghost use Rattle.std.specs.Prelude.{◌≡◌, ◌+◌, ◌*◌, ◌<◌, ◌≤◌, ◌^◌, ◌++◌, ◌==◌, ℕ, true};
-ghost use Rattle.std.specs.Prelude.{IfOk, OnOk, IsTrue, ◌↔◌, find, length, map};
-ghost use Rattle.std.specs.Prelude.{flat_map, replicate, sum_by, is_some, slice_index};
+ghost use Rattle.std.specs.Prelude.{◌≡◌, ◌+◌, ◌*◌, ◌<◌, ◌≤◌, ◌^◌, ◌++◌, ◌==◌, ℕ, true, false};
+ghost use Rattle.std.specs.Prelude.{IfOk, OnOk, IfSome, IfNone, MatchOption, IsTrue, ◌↔◌, find, length, map};
+ghost use Rattle.std.specs.Prelude.{flat_map, replicate, sum_by, is_some, slice_index, not};
 ghost use Rattle.std.specs.List.{list_all};
+ghost use Rattle.topo_core.specs.Items.{occurrences, rises_below};
 ghost use Rattle.topo_core.specs.Lawful.{IsWellFormed, has_good_paths};
 ghost use Rattle.topo_core.specs.Picture.{segment_count, index_of, end_dart, edge_row};
 ghost use Rattle.topo_core.specs.Picture.{darts, rotation, vertices, turn_images};
 ghost use Rattle.topo_rows.specs.Ids.{IdsRise};
 ghost use Rattle.topo_rows.specs.Flats.{begins_from, written, links, note_place};
 ghost use Rattle.topo_rows.specs.Flats.{path_notes, notes_from, vertex_round};
-ghost use Rattle.topo_rows.specs.Flats.{crossing_round, round_ahead, AreAhead, AreTurnsOf};
+ghost use Rattle.topo_rows.specs.Flats.{crossing_round, round_ahead, AreAhead, AreNoted, AreTurnsOf};
+ghost use Rattle.topo_rows.specs.Notes.{Fills, IsNotePlace, IsOfOthers, IsOverfull};
+ghost use Rattle.topo_rows.specs.Pairs.{crossing_pairs, pair, path_pairs};
 
 use crate::by_id::{place_of_crossing, place_of_edge};
 use crate::id_index::IdIndex;
@@ -60,24 +63,27 @@ fn link_round(images: &mut [u32], round: &[u32])
     }
 }
 
-/// Where the dart ahead of crossing `x` on edge `e` is noted.
-fn note_place(crossings: &[CrossRow], hints: &IdIndex, e: u32, x: u32) -> usize
+/// Where the dart ahead of crossing `x` on edge `e` is noted; none where the crossing is of two
+/// other edges.
+fn note_place(crossings: &[CrossRow], hints: &IdIndex, e: u32, x: u32) -> Option<usize>
     requires rise { IdsRise (map (λ c. c.id) crossings.now) }
     requires there { is_some (find (λ c. c.id == x) crossings.now) ≡ true }
     requires few { length crossings.now < 2 ^ 32 }
-    ensures place { result ≡ note_place crossings.now e x }
-    ensures within { result < 2 * length crossings.now }
+    ensures { MatchOption result (IsOfOthers crossings.now e x) (IsNotePlace crossings.now e x) }
 {
     let place = place_of_crossing(crossings, hints, x);
     if e == crossings[place].crossed {
-        2 * place
+        Some(2 * place)
+    } else if e == crossings[place].newcomer {
+        Some(2 * place + 1)
     } else {
-        2 * place + 1
+        None
     }
 }
 
 /// Notes for each crossing of a path the number of the dart ahead, where the path's first dart has
-/// the number `begin`.
+/// the number `begin`. Answers the number that follows those of the path. It stops, and answers
+/// none, at a crossing that is of two other edges or that the edge has met before.
 fn note_path(
     ahead: &mut [u32],
     crossings: &[CrossRow],
@@ -85,53 +91,129 @@ fn note_path(
     e: u32,
     begin: u32,
     path: &[u32],
-)
+) -> Option<u32>
     requires rise { IdsRise (map (λ c. c.id) crossings.now) }
     requires known { list_all (λ x. is_some (find (λ c. c.id == x) crossings.now)) path.now ≡ true }
     requires few { length crossings.now < 2 ^ 32 }
-    requires fits { begin + 2 * (length path.now + 1) < 2 ^ 32 }
     requires room { length ahead.old ≡ 2 * length crossings.now }
-    ensures { ahead.new ≡ written ahead.old (path_notes crossings.now e begin path.now) }
+    ensures filled { IfSome result
+        (λ _. Fills crossings.now ahead.old ahead.new (map (pair e) path.now)) }
+    ensures noted { IfSome result (λ next. begin + 2 * (length path.now + 1) < 2 ^ 32
+        → (next ≡ begin + 2 * (length path.now + 1))
+        × (ahead.new ≡ written ahead.old (path_notes crossings.now e begin path.now))) }
+    ensures overfull { IfNone result
+        (IsOverfull crossings.now ahead.old (map (pair e) path.now)) }
 {
+    let mut number = begin;
     for s in 0..path.len() {
-        ahead[note_place(crossings, hints, e, path[s])] = begin + 2 * s as u32 + 2;
+        let Some(place) = note_place(crossings, hints, e, path[s]) else {
+            return None;
+        };
+        if ahead[place] != 0 {
+            return None;
+        }
+        number = number.saturating_add(2);
+        ahead[place] = number;
     }
+    Some(number.saturating_add(2))
 }
 
-/// Notes that for each path.
-fn note_paths(ahead: &mut [u32], crossings: &[CrossRow], hints: &IdIndex, edges: &[EdgeRow])
+/// Notes that for each path. Answers whether each crossing of each path is of the path's edge and
+/// once on it, and stops at the first path where it is not so.
+fn note_paths(ahead: &mut [u32], crossings: &[CrossRow], hints: &IdIndex, edges: &[EdgeRow]) -> bool
     requires rise { IdsRise (map (λ c. c.id) crossings.now) }
     requires known { list_all (λ row. list_all (λ x. is_some (find (λ c. c.id == x) crossings.now))
         row.crossings) edges.now ≡ true }
     requires few { length crossings.now < 2 ^ 32 }
-    requires fits { 2 * sum_by segment_count edges.now < 2 ^ 32 }
     requires room { length ahead.old ≡ 2 * length crossings.now }
-    ensures { ahead.new ≡ written ahead.old (notes_from crossings.now 0 edges.now) }
+    ensures filled { IsTrue result
+        → Fills crossings.now ahead.old ahead.new (path_pairs edges.now) }
+    ensures noted { IsTrue result → 2 * sum_by segment_count edges.now < 2 ^ 32
+        → ahead.new ≡ written ahead.old (notes_from crossings.now 0 edges.now) }
+    ensures overfull { result ≡ false
+        → IsOverfull crossings.now ahead.old (path_pairs edges.now) }
 {
     let mut begin = 0;
     for row in edges {
         let path = row.crossings.as_slice();
-        let next = begin + 2 * (path.len() as u32 + 1);
-        note_path(ahead, crossings, hints, row.id, begin, path);
-        begin = next;
+        match note_path(ahead, crossings, hints, row.id, begin, path) {
+            Some(next) => begin = next,
+            None => return false,
+        }
     }
+    true
 }
 
-/// Writes for each crossing the numbers of the darts ahead of it, on the crossed edge and on the
-/// newcomer, over what the list held.
+/// Whether there is a number at each place.
+fn is_full(ahead: &[u32]) -> bool
+    ensures { result ≡ list_all (λ n. not (n == 0)) ahead.now }
+{
+    ahead.iter().all(|number| *number != 0)
+}
+
+/// Notes the numbers of the darts ahead of crossings where none is noted yet. Answers whether the
+/// paths have just the crossings that the crossings want.
+fn note_blank(ahead: &mut [u32], rows: &Rows, hints: &IdIndex) -> bool
+    requires paths { has_good_paths rows.now ≡ true }
+    requires rise { rises_below rows.now.next_crossing (map (λ x. x.id) rows.now.crossings)
+        ≡ true }
+    requires differ { list_all (λ x. not (x.crossed == x.newcomer)) rows.now.crossings ≡ true }
+    requires room { length ahead.old ≡ 2 * length rows.now.crossings }
+    requires blank { (i : ℕ) → i < length ahead.old → slice_index ahead.old i ≡ 0 }
+    ensures same { IsTrue result ↔ ((k : ℕ) → occurrences k (path_pairs rows.now.edges)
+        ≡ occurrences k (crossing_pairs rows.now.crossings)) }
+    ensures noted { IsTrue result → 2 * sum_by segment_count rows.now.edges < 2 ^ 32
+        → AreNoted rows.now ahead.new }
+{
+    // For the proof: what the type keeps.
+    let _next = rows.next_crossing;
+    let crossings = rows.crossings.as_slice();
+    let edges = rows.edges.as_slice();
+    if !note_paths(ahead, crossings, hints, edges) {
+        return false;
+    }
+    is_full(ahead)
+}
+
+/// Notes for each crossing the numbers of the darts ahead of it, on the crossed edge and on the
+/// newcomer, over what the list held. Answers whether the paths have just the crossings that the
+/// crossings want; where they have others, the list may lack some.
+pub(crate) fn note_all(
+    ahead: &mut Vec<u32>,
+    rows: &Rows,
+    hints: &IdIndex,
+) -> Result<bool, AllocError>
+    requires paths { has_good_paths rows.now ≡ true }
+    requires rise { rises_below rows.now.next_crossing (map (λ x. x.id) rows.now.crossings)
+        ≡ true }
+    requires differ { list_all (λ x. not (x.crossed == x.newcomer)) rows.now.crossings ≡ true }
+    ensures same { IfOk result
+        (λ yes. IsTrue yes ↔ ((k : ℕ) → occurrences k (path_pairs rows.now.edges)
+        ≡ occurrences k (crossing_pairs rows.now.crossings))) }
+    ensures noted { IfOk result
+        (λ yes. IsTrue yes → 2 * sum_by segment_count rows.now.edges < 2 ^ 32
+        → AreNoted rows.now ahead.new.items) }
+{
+    ahead.clear();
+    ahead.resize(2 * rows.crossings.as_slice().len(), 0)?;
+    let is_same = note_blank(ahead, rows, hints);
+    Ok(is_same)
+}
+
+/// Writes for each crossing of well-formed rows the numbers of the darts ahead of it.
 fn fill_ahead(ahead: &mut Vec<u32>, rows: &Rows, hints: &IdIndex) -> Result<(), AllocError>
     requires well_formed { IsWellFormed rows.now }
     requires few { 2 * sum_by segment_count rows.now.edges < 2 ^ 32 }
     requires crossings { length rows.now.crossings < 2 ^ 32 }
     ensures { OnOk result (AreAhead rows.now ahead.new.items) }
 {
-    let crossings = rows.crossings.as_slice();
-    if crossings.is_empty() {
+    // For the proof: what the type keeps.
+    let _next = rows.next_crossing;
+    if rows.crossings.as_slice().is_empty() {
         ahead.clear();
         return Ok(());
     }
-    ahead.resize(2 * crossings.len(), 0)?;
-    note_paths(ahead, crossings, hints, rows.edges.as_slice());
+    note_all(ahead, rows, hints)?;
     Ok(())
 }
 
@@ -242,6 +324,27 @@ pub(crate) fn dart_count(rows: &Rows, begins: &[u32]) -> usize
     begins[last] as usize
 }
 
+/// Writes the images of the turn in canonical numbers, over what the list held, from the numbers of
+/// the darts ahead of the crossings.
+fn fill_images(
+    images: &mut Vec<u32>,
+    rows: &Rows,
+    begins: &[u32],
+    hints: &IdIndex,
+    ahead: &[u32],
+) -> Result<(), AllocError>
+    requires well_formed { IsWellFormed rows.now }
+    requires begins { begins.now ≡ begins_from 0 rows.now.edges }
+    requires vertices { length rows.now.rotations < 2 ^ 32 }
+    requires crossings { length rows.now.crossings < 2 ^ 32 }
+    requires ahead { AreAhead rows.now ahead.now }
+    ensures { OnOk result (images.new.items ≡ turn_images rows.now) }
+{
+    images.resize(dart_count(rows, begins), 0)?;
+    link_points(images, rows, begins, hints, ahead);
+    Ok(())
+}
+
 /// Writes the images of the turn in canonical numbers, where the darts of the edges begin as said,
 /// over what the list held. Another list is for the numbers of the darts ahead of the crossings.
 pub fn fill_turns(
@@ -259,9 +362,7 @@ pub fn fill_turns(
     ensures { OnOk result (turns.new.items ≡ turn_images rows.now) }
 {
     fill_ahead(ahead, rows, hints)?;
-    turns.resize(dart_count(rows, begins), 0)?;
-    link_points(turns, rows, begins, hints, ahead.as_slice());
-    Ok(())
+    fill_images(turns, rows, begins, hints, ahead.as_slice())
 }
 
 /// How the darts of rows turn, in canonical numbers.
@@ -282,20 +383,33 @@ pub fn turns_of(alloc: Global, rows: &Rows) -> Result<Turns, AllocError>
     ensures { IfOk result (λ turns. AreTurnsOf rows.now turns.begins.items turns.images.items) }
 {
     let hints = IdIndex::of(alloc, rows)?;
-    hinted_turns(alloc, rows, &hints)
+    let mut ahead = Vec::new(alloc);
+    fill_ahead(&mut ahead, rows, &hints)?;
+    turns_from(alloc, rows, &hints, ahead)
 }
 
-/// The same, where hints are made already.
-pub(crate) fn hinted_turns(alloc: Global, rows: &Rows, hints: &IdIndex) -> Result<Turns, AllocError>
+/// The same, from the numbers of the darts ahead of the crossings.
+pub(crate) fn turns_from(
+    alloc: Global,
+    rows: &Rows,
+    hints: &IdIndex,
+    ahead: Vec<u32>,
+) -> Result<Turns, AllocError>
     requires well_formed { IsWellFormed rows.now }
     requires few { 2 * sum_by segment_count rows.now.edges < 2 ^ 32 }
     requires vertices { length rows.now.rotations < 2 ^ 32 }
     requires crossings { length rows.now.crossings < 2 ^ 32 }
+    requires ahead { AreAhead rows.now ahead.items }
     ensures { IfOk result (λ turns. AreTurnsOf rows.now turns.begins.items turns.images.items) }
 {
     let begins = begins_of(alloc, rows.edges.as_slice())?;
-    let mut ahead = Vec::new(alloc);
     let mut images = Vec::new(alloc);
-    fill_turns(&mut images, &mut ahead, rows, begins.as_slice(), hints)?;
+    fill_images(
+        &mut images,
+        rows,
+        begins.as_slice(),
+        hints,
+        ahead.as_slice(),
+    )?;
     Ok(Turns { images, begins })
 }

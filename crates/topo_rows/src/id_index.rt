@@ -53,13 +53,14 @@ fn noted(place: usize) -> u32 {
     }
 }
 
-/// The places of rows by their ids, of which so many were given.
+/// The places of rows by their ids, of which so many were given. Where there are as many rows, each
+/// id is expected at its own place, and no place is noted.
 fn places_by_id<T: Identified>(
     alloc: Global,
     rows: &[T],
     given: u32,
 ) -> Result<Vec<u32>, AllocError> {
-    if given as usize / MAX_IDS_PER_ROW > rows.len() {
+    if given as usize == rows.len() || given as usize / MAX_IDS_PER_ROW > rows.len() {
         return Ok(Vec::new(alloc));
     }
     let mut places = vec![in alloc; 0; given as usize]?;

@@ -1,7 +1,7 @@
 //! Rows that are handed in: the first test that they fail.
 
 use crate::faults::{are_crossings_good, are_paths_good, are_rotations_good, within_limits};
-use crate::flat::{Turns, hinted_turns};
+use crate::flat::{Turns, turns_from};
 use crate::id_index::IdIndex;
 use std::alloc::{AllocError, Global};
 use std::fmt;
@@ -159,17 +159,18 @@ pub fn judge(
     if !within_limits(limits, rows) {
         return Ok(Err(LoadFault::TooMany));
     }
-    if !are_paths_good(alloc, rows)? {
+    let hints = IdIndex::of(alloc, rows)?;
+    if !are_paths_good(alloc, rows, &hints)? {
         return Ok(Err(LoadFault::BadPath));
     }
-    let hints = IdIndex::of(alloc, rows)?;
-    if !are_crossings_good(alloc, rows, &hints)? {
+    let mut ahead = Vec::new(alloc);
+    if !are_crossings_good(alloc, &mut ahead, rows, &hints)? {
         return Ok(Err(LoadFault::BadCrossing));
     }
     if !are_rotations_good(alloc, rows, &hints)? {
         return Ok(Err(LoadFault::BadRotation));
     }
-    let turns = hinted_turns(alloc, rows, &hints)?;
+    let turns = turns_from(alloc, rows, &hints, ahead)?;
     if !is_whole(alloc, rows, &turns.images)? {
         return Ok(Err(LoadFault::NotConnected));
     }

@@ -1,23 +1,21 @@
-use Rattle.std.proofs.Common.{ap, arith, List, ◌∙◌}
-use Rattle.std.specs.Prelude.{find, is_some, ◌==◌}
-use Rattle.std.specs.List.{list_all}
-use Rattle.topo_core.specs.declared.rows.CrossRow.{CrossRow}
-use Rattle.topo_core.specs.declared.rows.EdgeRow.{EdgeRow}
-use Rattle.std.proofs.lemmas.Grind.{common_steps}
-use Rattle.topo_rows.proofs.Finding.{crossings_rise}
-use Rattle.topo_rows.proofs.Rounds.{are_ahead, paths_known}
+use Rattle.std.proofs.Common.{◌≤◌, arith, subst, sym}
+use Rattle.topo_core.proofs.numbering.Members.{left_true}
+use Rattle.topo_rows.specs.Flats.{AreAhead}
+use Rattle.topo_rows.proofs.PairTests.{crossings_differ, same_from_good}
+use Rattle.topo_rows.proofs.Rounds.{are_ahead}
 use Rattle.topo_rows.proofs.flat.fill_ahead.Goals as goal
 
-pub note_paths-requires-clause-rise : goal.note_paths-requires-clause-rise
-note_paths-requires-clause-rise c = crossings_rise c.args.rows.now c.as_slice-crossings.result.now c.requires.well_formed.crossings c.as_slice-crossings.ensures
+pub note_all-requires-clause-rise : goal.note_all-requires-clause-rise
+note_all-requires-clause-rise c = left_true _ _ c.requires.well_formed.crossings
 
-pub note_paths-requires-clause-known : goal.note_paths-requires-clause-known
-note_paths-requires-clause-known c =
-    ap (λ (edges : List EdgeRow). list_all (λ row. list_all (λ x. is_some (find (λ (c : CrossRow). c.id == x) c.as_slice-crossings.result.now)) row.crossings)
-    edges) c.as_slice.ensures
-    ∙ ap (λ (crossings : List CrossRow). list_all (λ (row : EdgeRow). list_all (λ x. is_some (find (λ (c : CrossRow). c.id == x) crossings)) row.crossings)
-    c.args.rows.now.edges) c.as_slice-crossings.ensures
-    ∙ paths_known c.args.rows.now c.requires.well_formed
+pub note_all-requires-clause-differ : goal.note_all-requires-clause-differ
+note_all-requires-clause-differ c = crossings_differ c.args.rows.now c.requires.well_formed.crossings
 
 pub returns : goal.returns
-returns c = grind (arith, common_steps, are_ahead)
+returns c =
+    let rows = c.args.rows.now in
+    let good = c.requires.well_formed in
+    let small : rows.next_crossing ≤ 4294967296 = omega arith in
+    let yes = c.in_ok-note_all.ensures.same.1 (same_from_good rows good.paths small (left_true _ _ good.crossings) good.crossings) in
+    let noted = c.in_ok-note_all.ensures.noted yes c.requires.few in
+    subst (AreAhead rows) (sym noted.noted) (are_ahead rows good noted.before noted.as_many)

@@ -1,9 +1,7 @@
-use Rattle.std.proofs.Common.{◌+◌, ◌*◌, arith, get_or, sym}
-use Rattle.std.specs.Prelude.{slice_index}
+use Rattle.std.proofs.Common.{arith, get_or, sym}
 use Rattle.std.proofs.lemmas.List.{get_or_default}
 use Rattle.topo_core.specs.declared.darts.Sign.TheVariants.{LeftToRight}
 use Rattle.topo_core.specs.declared.rows.CrossRow.{CrossRow}
-use Rattle.topo_rows.specs.Flats.{round_ahead}
 use Rattle.topo_rows.proofs.Rounds.{crossing_more, crossing_read}
 use Rattle.topo_rows.proofs.flat.link_crossings.Goals as goal
 

@@ -1,16 +1,31 @@
-use Rattle.std.proofs.Common.{sym, ◌∙◌}
+use Rattle.std.proofs.Common.{subst, sym, ◌∙◌}
+use Rattle.topo_core.specs.Lawful.{IsWellFormed}
+use Rattle.topo_rows.specs.Flats.{AreAhead}
+use Rattle.topo_rows.proofs.Rounds.{are_ahead}
 use Rattle.topo_rows.proofs.Verdicts.{is_small}
 use Rattle.topo_rows.proofs.load.judge.Goals as goal
 
-pub hinted_turns-requires-clause-few : goal.hinted_turns-requires-clause-few
-hinted_turns-requires-clause-few c =
+pub turns_from-requires-clause-few : goal.turns_from-requires-clause-few
+turns_from-requires-clause-few c =
     (is_small c.args.limits.now c.args.rows.now (sym c.if-not-within_limits.ensures) (sym c.in_ok-are_paths_good.ensures ∙ c.if-not-branch.false)
     (sym c.in_ok-are_crossings_good.ensures.good ∙ c.if-not-branch-2.false) (c.in_ok-are_crossings_good.ensures.two_each c.if-not-branch-2.false)).segments
 
-pub hinted_turns-requires-clause-crossings : goal.hinted_turns-requires-clause-crossings
-hinted_turns-requires-clause-crossings c =
+pub turns_from-requires-clause-crossings : goal.turns_from-requires-clause-crossings
+turns_from-requires-clause-crossings c =
     (is_small c.args.limits.now c.args.rows.now (sym c.if-not-within_limits.ensures) (sym c.in_ok-are_paths_good.ensures ∙ c.if-not-branch.false)
     (sym c.in_ok-are_crossings_good.ensures.good ∙ c.if-not-branch-2.false) (c.in_ok-are_crossings_good.ensures.two_each c.if-not-branch-2.false)).crossings
+
+pub turns_from-requires-clause-ahead : goal.turns_from-requires-clause-ahead
+turns_from-requires-clause-ahead c =
+    let rows = c.args.rows.now in
+    let paths = sym c.in_ok-are_paths_good.ensures ∙ c.if-not-branch.false in
+    let crossings = sym c.in_ok-are_crossings_good.ensures.good ∙ c.if-not-branch-2.false in
+    let rotations = sym c.in_ok-are_rotations_good.ensures ∙ c.if-not-branch-3.false in
+    let good : IsWellFormed rows = record { paths = paths; crossings = crossings; rotations = rotations } in
+    let small = is_small c.args.limits.now rows (sym c.if-not-within_limits.ensures) paths crossings
+    (c.in_ok-are_crossings_good.ensures.two_each c.if-not-branch-2.false) in
+    let noted = c.in_ok-are_crossings_good.ensures.noted c.if-not-branch-2.false small.segments in
+    subst (AreAhead rows) (sym noted.noted) (are_ahead rows good noted.before noted.as_many)
 
 pub has_genus_zero-requires-clause-few : goal.has_genus_zero-requires-clause-few
 has_genus_zero-requires-clause-few c =

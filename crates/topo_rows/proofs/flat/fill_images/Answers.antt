@@ -1,5 +1,5 @@
 use Rattle.std.proofs.Common.{arith}
-use Rattle.topo_rows.proofs.flat.fill_turns.Goals as goal
+use Rattle.topo_rows.proofs.flat.fill_images.Goals as goal
 
 pub link_points-requires-clause-room : goal.link_points-requires-clause-room
 link_points-requires-clause-room c =
