@@ -14,7 +14,7 @@ pub struct Hints {
     places: Vec<u32>,
     // How many places the table had when it was followed last.
     known: usize,
-    // Whether each id is its own place. So it is until a value has gone, and nothing is read then.
+    // Whether each id is its own place. So it is until the table closes up, and nothing is read.
     is_straight: bool,
 }
 
