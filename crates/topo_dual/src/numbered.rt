@@ -182,7 +182,7 @@ impl FaceGraph for Numbered<'_> {
     }
 
     fn step(&self, dart: u32) -> (u32, u32) {
-        (self.lists.next(dart), self.lists.face(twin_of(dart)))
+        (self.next(dart), self.lists.face(self.twin(dart)))
     }
 
     ghost lawful = { λ d. lawful_again d.rows d.lawful };
