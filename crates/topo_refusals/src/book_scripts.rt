@@ -1,55 +1,80 @@
-//! Stories of books on the named pictures.
+//! Scripts for the named pictures: changes of a picture, and then the story of a book.
 
 ghost use Rattle.topo_price.specs.Prices.{IsPromise};
 
-use crate::book_calls::{Step, book_of, print_new, shared, take};
+use crate::book_calls::{Step, book_of, shared, take_step};
 use crate::book_replays::replay_from;
-use crate::picture_reads::planned;
+use crate::picture_changes::change;
+use crate::picture_reads::{planned, read};
+use crate::printed::book_state;
+use crate::retry::Console;
 use anyhow::Result;
-use std::sync::Arc;
 use topo_book::Book;
 use topo_core::calls::Call;
 use topo_core::rows::Facts;
 use topo_picture::Picture;
-use topo_price::tariff::{PriceFn, Tariff};
+use topo_price::tariff::PriceFn;
 use topo_route::plan::Plan;
 use topo_test_support::prices::{Entries, FIVE_TWO_NINE, table_of};
 
-/// Prices of kinds other than 1, the ends of a planned edge, and the calls.
+/// Prices of kinds other than 1, the changes of a picture, the ends of a planned edge, and the
+/// calls of a book.
 pub(crate) struct BookScript {
     prices: Entries,
+    changes: &'static [Call],
     ends: (u32, u32),
     steps: &'static [Step],
 }
 
-/// From apex to apex: each way to insert, with a plan that passes the check and one that does not.
+/// An edge between the apexes of the bipyramid.
+pub(crate) const JOIN: Call = Call::Insert {
+    u: 3,
+    v: 4,
+    kind: 0,
+};
+
+/// An edge that leaves the triangle across its base and comes back.
+const ACROSS: Call = Call::Insert {
+    u: 4,
+    v: 5,
+    kind: 0,
+};
+
+/// A chord of the hexagon.
+const CHORD: Call = Call::Insert {
+    u: 2,
+    v: 5,
+    kind: 0,
+};
+
+/// From apex to apex: an edge is put in and taken out of the picture, and a vertex grown. The book
+/// inserts in each way, with a plan that passes the check and one that does not.
 pub(crate) const APEXES: BookScript = BookScript {
     prices: FIVE_TWO_NINE,
+    changes: &[
+        JOIN,
+        Call::Delete { edge: 9 },
+        Call::Delete { edge: 9 },
+        Call::Grow {
+            u: 3,
+            position: 1,
+            kind: 7,
+        },
+        Call::Grow {
+            u: 3,
+            position: 9,
+            kind: 7,
+        },
+    ],
     ends: (3, 4),
     steps: &[
-        Step::Made(Call::Insert {
-            u: 3,
-            v: 4,
-            kind: 0,
-        }),
+        Step::Made(JOIN),
         Step::Made(Call::Delete { edge: 9 }),
-        Step::Planned {
-            u: 3,
-            v: 4,
-            kind: 0,
-        },
-        Step::Planned {
-            u: 3,
-            v: 4,
-            kind: 0,
-        },
+        Step::Planned(JOIN),
+        Step::Planned(JOIN),
         Step::Made(Call::Delete { edge: 10 }),
         Step::Ready(Call::Delete { edge: 11 }),
-        Step::ReadyPlanned {
-            u: 3,
-            v: 4,
-            kind: 0,
-        },
+        Step::ReadyPlanned(JOIN),
         Step::Ready(Call::Insert {
             u: 3,
             v: 3,
@@ -58,23 +83,26 @@ pub(crate) const APEXES: BookScript = BookScript {
     ],
 };
 
-/// Out across the base of the triangle and back in; the edge across the base is a cut.
+/// Out across the base of the triangle and back in; the edge across the base is a cut, and is not
+/// taken out.
 pub(crate) const BASE: BookScript = BookScript {
     prices: &[(1, Some(9))],
-    ends: (4, 5),
-    steps: &[
-        Step::Ready(Call::Insert {
+    changes: &[
+        ACROSS,
+        Call::Delete { edge: 6 },
+        Call::Delete { edge: 3 },
+        Call::Grow {
             u: 4,
-            v: 5,
-            kind: 0,
-        }),
-        Step::Made(Call::Delete { edge: 6 }),
-        Step::Made(Call::Delete { edge: 3 }),
-        Step::ReadyPlanned {
-            u: 4,
-            v: 5,
+            position: 0,
             kind: 0,
         },
+    ],
+    ends: (4, 5),
+    steps: &[
+        Step::Ready(ACROSS),
+        Step::Made(Call::Delete { edge: 6 }),
+        Step::Made(Call::Delete { edge: 3 }),
+        Step::ReadyPlanned(ACROSS),
         Step::Ready(Call::Grow {
             u: 4,
             position: 1,
@@ -86,13 +114,10 @@ pub(crate) const BASE: BookScript = BookScript {
 /// The third chord crosses an edge of the ring. The plan is refused once a vertex has grown.
 pub(crate) const CHORDS: BookScript = BookScript {
     prices: &[],
+    changes: &[],
     ends: (2, 5),
     steps: &[
-        Step::Made(Call::Insert {
-            u: 2,
-            v: 5,
-            kind: 0,
-        }),
+        Step::Made(CHORD),
         Step::Made(Call::Delete { edge: 8 }),
         Step::Made(Call::Grow {
             u: 2,
@@ -100,74 +125,70 @@ pub(crate) const CHORDS: BookScript = BookScript {
             kind: 0,
         }),
         Step::Made(Call::Delete { edge: 9 }),
-        Step::Planned {
-            u: 2,
-            v: 5,
-            kind: 0,
-        },
+        Step::Planned(CHORD),
     ],
 };
 
-/// The steps of a story by a plan, and replays.
-fn tell_by<R: Print + Eprint + AllocGlobal, F: PriceFn>(
+/// Takes one step of a book after the other by a plan, prints the book after each, and replays it.
+fn tell_by<R: Console, F: PriceFn>(
     rt: &R,
-    story: &BookScript,
+    script: &BookScript,
     start: &Picture,
     book: &mut Book<F>,
     plan: &Plan,
 ) -> Result<()> {
-    take(rt, book, plan, story.steps)?;
+    let mut state = book_state(rt, book)?;
+    for step in script.steps {
+        take_step(rt, book, plan, step, state.as_str())?;
+        state = book_state(rt, book)?;
+        println!(rt; "the book:{state}")?;
+    }
     replay_from(rt, book, start)?;
     replay_from(rt, book, book.picture())
 }
 
-/// A story of a book that begins with a picture.
-fn tell_of<R: Print + Eprint + AllocGlobal, F: PriceFn>(
+/// The story of a book that begins with a picture.
+fn tell_of<R: Console, F: PriceFn>(
     rt: &R,
-    story: &BookScript,
+    script: &BookScript,
     start: &Picture,
     book: &mut Book<F>,
 ) -> Result<()> {
-    print_new(rt, book)?;
-    let (u, v) = story.ends;
+    let state = book_state(rt, book)?;
+    println!(rt; "new book:{state}")?;
+    let (u, v) = script.ends;
     let plan = planned(rt, start, book.tariff(), u, v)?;
-    let told = tell_by(rt, story, start, book, &plan);
+    let told = tell_by(rt, script, start, book, &plan);
     drop(plan);
     told
 }
 
-/// A story with the prices of a tariff.
-fn tell_at<R: Print + Eprint + AllocGlobal, F: PriceFn + Drop>(
+/// A script with the prices of a closure.
+fn run_with<R: Console, F: PriceFn + Drop>(
     rt: &R,
-    story: &BookScript,
-    start: &Picture,
-    tariff: Arc<Tariff<F>>,
-) -> Result<()> {
-    let mut book = book_of(rt, start, &tariff)?;
-    let told = tell_of(rt, story, start, &mut book);
-    drop(book);
-    told
-}
-
-/// A story with the prices of a closure.
-fn tell_with<R: Print + Eprint + AllocGlobal, F: PriceFn + Drop>(
-    rt: &R,
-    story: &BookScript,
+    script: &BookScript,
     start: &Picture,
     ask: F,
 ) -> Result<()>
     requires callable { F.is_callable ask }
     requires promise { IsPromise (F.may_return ask) }
 {
-    tell_at(rt, story, start, shared(rt, ask)?)
+    let tariff = shared(rt, ask)?;
+    change(rt, start, &tariff, script.changes)?;
+    let mut book = book_of(rt, start, &tariff)?;
+    let told = tell_of(rt, script, start, &mut book);
+    drop(book);
+    told
 }
 
-/// A story on a picture.
-pub(crate) fn run_book_script<R: Print + Eprint + AllocGlobal>(
+/// A picture of this name is read, and its script is run.
+pub(crate) fn run_script<R: Console>(
     rt: &R,
-    story: &BookScript,
+    name: &str,
+    script: &BookScript,
     start: &Picture,
 ) -> Result<()> {
-    let table = table_of(Some(1), story.prices)?;
-    tell_with(rt, story, start, |facts: &Facts| table.price(facts.kind))
+    read(rt, name, start)?;
+    let table = table_of(Some(1), script.prices)?;
+    run_with(rt, script, start, |facts: &Facts| table.price(facts.kind))
 }

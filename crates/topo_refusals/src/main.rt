@@ -16,7 +16,6 @@ mod book_calls;
 mod book_replays;
 mod book_scripts;
 mod embeddings;
-mod found_routes;
 mod picture_changes;
 mod picture_reads;
 mod prepared_calls;
@@ -27,46 +26,26 @@ mod service_views;
 mod services;
 mod worker_lists;
 
-use book_scripts::{APEXES, BASE, BookScript, CHORDS, run_book_script};
+use book_scripts::{APEXES, BASE, BookScript, CHORDS, run_script};
 use embeddings::embed;
-use picture_changes::{Changes, change};
-use picture_reads::{loaded, read};
+use picture_reads::loaded;
+use retry::Console;
 use services::serve;
-use topo_picture::Picture;
 use topo_test_support::pictures::{BARRIER, BIPYRAMID, HEXAGON, Named};
 
-/// The calls on a picture.
-fn call<R: Print + Eprint + AllocGlobal>(
-    rt: &R,
-    picture: &Picture,
-    changes: Option<Changes>,
-    story: &BookScript,
-) -> Result<()> {
-    read(rt, picture)?;
-    if let Some(changes) = changes {
-        change(rt, changes, picture)?;
-    }
-    run_book_script(rt, story, picture)
-}
-
 /// Loads a named picture, and makes the calls on it.
-fn run_on<R: Print + Eprint + AllocGlobal>(
-    rt: &R,
-    named: &Named,
-    changes: Option<Changes>,
-    story: &BookScript,
-) -> Result<()> {
+fn run_on<R: Console>(rt: &R, named: &Named, script: &BookScript) -> Result<()> {
     let picture = loaded(rt, named)?;
-    let told = call(rt, &picture, changes, story);
+    let told = run_script(rt, named.name, script, &picture);
     drop(picture);
     told
 }
 
 /// The calls on one picture after the other, those of an embedding, and those of a service.
-fn run<R: Threads + Wait + Print + Eprint + AllocGlobal + Sync>(rt: &R) -> Result<()> {
-    run_on(rt, &BIPYRAMID, Some(Changes::OfBipyramid), &APEXES)?;
-    run_on(rt, &BARRIER, Some(Changes::OfBarrier), &BASE)?;
-    run_on(rt, &HEXAGON, None, &CHORDS)?;
+fn run<R: Threads + Wait + Console + Sync>(rt: &R) -> Result<()> {
+    run_on(rt, &BIPYRAMID, &APEXES)?;
+    run_on(rt, &BARRIER, &BASE)?;
+    run_on(rt, &HEXAGON, &CHORDS)?;
     embed(rt)?;
     serve(rt)
 }

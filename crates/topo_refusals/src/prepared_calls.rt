@@ -4,8 +4,9 @@ ghost use Rattle.std.specs.Prelude.{IfOk};
 ghost use Rattle.topo_price.specs.Prices.{prices_of};
 ghost use Rattle.topo_book.specs.Books.{CanFollow};
 
-use crate::book_calls::{CALLER, compare_book};
-use crate::printed::{book_state, compare, picture_state};
+use crate::book_calls::CALLER;
+use crate::printed::{book_state, picture_state};
+use crate::retry::{Console, compare, refused};
 use anyhow::Result;
 use std::alloc::{AllocError, Global};
 use topo_book::{Book, Next};
@@ -30,20 +31,13 @@ fn prepared<F: PriceFn>(
     }
 }
 
-/// What the call that makes ready is named.
-fn name_of(plan: Option<&Plan>) -> &'static str {
-    match plan {
-        Some(_) => "Book::prepare_planned",
-        None => "Book::prepare",
-    }
-}
-
 /// Makes a call ready, again if that is out of memory.
-fn ready<R: Print + Eprint + AllocGlobal, F: PriceFn>(
+fn ready<R: Console, F: PriceFn>(
     rt: &R,
     book: &mut Book<F>,
     call: Call,
     plan: Option<&Plan>,
+    name: &str,
     before: &str,
 ) -> Result<Next>
     ensures ready { IfOk result (CanFollow (prices_of (F.may_return book.new.tariff)) book.new) }
@@ -51,32 +45,27 @@ fn ready<R: Print + Eprint + AllocGlobal, F: PriceFn>(
     match prepared(rt.alloc(), book, call, plan) {
         Ok(next) => Ok(next),
         Err(_) => {
-            compare_book(rt, name_of(plan), before, book)?;
+            refused(rt, name, before, book_state(rt, book)?)?;
             Ok(prepared(rt.alloc(), book, call, plan)?)
         }
     }
 }
 
-/// Prints a call that is ready, with the picture after it.
-fn print_ready<R: Print + Eprint + AllocGlobal>(rt: &R, next: &Next) -> Result<()> {
-    let entry = next.entry();
-    println!(rt; "ready: {entry:?}")?;
-    if let Some(picture) = next.picture() {
-        let state = picture_state(rt, picture)?;
-        println!(rt; "to come:{state}")?;
-    }
-    Ok(())
-}
-
-/// Prints a call that is ready, and compares the book with its state before.
-fn show_ready<R: Print + Eprint + AllocGlobal, F: PriceFn>(
+/// Prints a call that is ready, with the picture after it, and compares the book with its state
+/// before.
+fn show_ready<R: Console, F: PriceFn>(
     rt: &R,
     book: &Book<F>,
     next: &Next,
     name: &str,
     before: &str,
 ) -> Result<()> {
-    print_ready(rt, next)?;
+    let entry = next.entry();
+    println!(rt; "ready: {entry:?}")?;
+    if let Some(picture) = next.picture() {
+        let state = picture_state(rt, picture)?;
+        println!(rt; "to come:{state}")?;
+    }
     let after = book_state(rt, book)?;
     compare(rt, name, before, after.as_str())?;
     Ok(())
@@ -84,15 +73,19 @@ fn show_ready<R: Print + Eprint + AllocGlobal, F: PriceFn>(
 
 /// Makes a call ready, again if it is out of memory, and enters it. Until it is entered nothing has
 /// changed.
-pub(crate) fn enter_ready<R: Print + Eprint + AllocGlobal, F: PriceFn>(
+pub(crate) fn enter_ready<R: Console, F: PriceFn>(
     rt: &R,
     book: &mut Book<F>,
     call: Call,
     plan: Option<&Plan>,
     before: &str,
 ) -> Result<()> {
-    let next = ready(rt, book, call, plan, before)?;
-    let shown = show_ready(rt, book, &next, name_of(plan), before);
+    let name = match plan {
+        Some(_) => "Book::prepare_planned",
+        None => "Book::prepare",
+    };
+    let next = ready(rt, book, call, plan, name, before)?;
+    let shown = show_ready(rt, book, &next, name, before);
     book.commit(next);
     shown
 }

@@ -1,62 +1,35 @@
-//! Calls that are made once more if they are out of memory. In a run where only one allocation
-//! fails, the second time has what it wants.
+//! What is told and compared where a call is out of memory. It is then made once more. In a run
+//! where only one allocation fails, the second time has what it wants.
 
-use crate::printed::{compare, picture_state};
-use anyhow::Result;
-use std::alloc::AllocError;
-use topo_picture::Picture;
+use std::io;
+
+/// What a call is given that takes memory, prints, and says what was out of memory.
+pub(crate) trait Console: Print + Eprint + AllocGlobal {}
+
+impl<R: Print + Eprint + AllocGlobal> Console for R {}
 
 /// Says on standard error which call was out of memory.
 pub(crate) fn tell<R: Eprint>(rt: &R, call: &str) {
     let _ = eprintln!(rt; "out of memory: {call}");
 }
 
-/// What a call of the program's own bookkeeping answers, which is made once more if it is out of
-/// memory.
-pub(crate) fn again<R: Eprint, T, F: Fn() -> Result<T, AllocError>>(
-    rt: &R,
-    call: F,
-) -> Result<T, AllocError>
-    requires { F.IsAlwaysCallable call }
-{
-    match call() {
-        Ok(answer) => Ok(answer),
-        Err(_) => {
-            tell(rt, "bookkeeping");
-            call()
-        }
+/// Prints a line that begins with `changed:` where what is seen after a call is not what was seen
+/// before it.
+pub(crate) fn compare<R: Print>(rt: &R, call: &str, before: &str, after: &str) -> io::Result<()> {
+    if before == after {
+        Ok(())
+    } else {
+        println!(rt; "changed: {call}: {before}\n  became{after}")
     }
 }
 
-/// Compares a picture with its state before a call that is out of memory.
-pub(crate) fn compare_picture<R: Print + Eprint + AllocGlobal>(
+/// Says which call was out of memory, and compares what is seen after it with what was seen before.
+pub(crate) fn refused<R: Print + Eprint>(
     rt: &R,
     call: &str,
     before: &str,
-    picture: &Picture,
-) -> Result<()> {
+    after: String,
+) -> io::Result<()> {
     tell(rt, call);
-    let after = picture_state(rt, picture)?;
-    compare(rt, call, before, after.as_str())?;
-    Ok(())
-}
-
-/// What a call answers that only reads a picture. If it is out of memory, the picture is compared
-/// with its state before, and the call is made once more.
-pub(crate) fn reading<R: Print + Eprint + AllocGlobal, T, F: Fn() -> Result<T, AllocError>>(
-    rt: &R,
-    name: &str,
-    before: &str,
-    picture: &Picture,
-    call: F,
-) -> Result<T>
-    requires { F.IsAlwaysCallable call }
-{
-    match call() {
-        Ok(answer) => Ok(answer),
-        Err(_) => {
-            compare_picture(rt, name, before, picture)?;
-            Ok(call()?)
-        }
-    }
+    compare(rt, call, before, after.as_str())
 }

@@ -1,10 +1,9 @@
 //! Calls of a service: each is made once more if it is out of memory, and the service is printed.
 
-use crate::found_routes::insert_by_search;
+use crate::book_scripts::JOIN;
 use crate::printed::picture_state;
-use crate::service_views::{
-    CALLER, LOOKER, PLANNER, ServiceView, compare_planning, compare_service, look, show,
-};
+use crate::retry::Console;
+use crate::service_views::{CALLER, LOOKER, PLANNER, compare_service, look, show};
 use crate::worker_lists::{Watch, work};
 use anyhow::{Result, bail};
 use std::alloc::AllocError;
@@ -13,19 +12,12 @@ use std::thread::Threads;
 use topo_core::calls::{Call, Refusal, Reply};
 use topo_price::tariff::PriceFn;
 use topo_route::plan::Plan;
-use topo_service::{Pass, PassFault, Service};
+use topo_service::{FoundRoute, Pass, PassFault, Service};
 use topo_service_test_support::calls;
-use topo_versions::{ServiceBrand, Version};
+use topo_versions::ServiceBrand;
 
 /// The ends of the edges that are put in: the apexes.
-pub(crate) const ENDS: (u32, u32) = (3, 4);
-
-/// An edge between the apexes.
-pub(crate) const JOIN: Call = Call::Insert {
-    u: 3,
-    v: 4,
-    kind: 0,
-};
+const ENDS: (u32, u32) = (3, 4);
 
 /// An edge that crosses another, a vertex on an edge that cannot be taken out, and an edge for
 /// which there is no way to end.
@@ -44,180 +36,145 @@ const FIRST: [Call; 4] = [
     },
 ];
 
+/// A route between the apexes that is known before an insertion.
+#[derive(Drop)]
+enum KnownRoute<F: PriceFn, K: ServiceBrand<F>> {
+    /// That of a plan. It is taken where the plan passes the check.
+    Planned(Plan),
+    /// One that was found on a version. It is taken as it was found, or after a change looked for
+    /// again.
+    Found(FoundRoute<F, K>),
+}
+
 /// What the call is named.
-fn name_of(call: Call, plan: Option<&Plan>) -> &'static str {
-    match (call, plan) {
+fn name_of<F: PriceFn, K: ServiceBrand<F>>(
+    call: Call,
+    known: Option<&KnownRoute<F, K>>,
+) -> &'static str {
+    match (call, known) {
         (Call::Grow { .. }, _) => "Service::grow",
         (Call::Insert { .. }, None) => "Service::insert",
-        (Call::Insert { .. }, Some(_)) => "Service::insert_planned",
+        (Call::Insert { .. }, Some(KnownRoute::Planned(_))) => "Service::insert_planned",
+        (Call::Insert { .. }, Some(KnownRoute::Found(_))) => "Service::insert_found",
         (Call::Delete { .. }, _) => "Service::delete",
     }
 }
 
-/// Makes a call.
-fn made<F: PriceFn + Drop, K: ServiceBrand<F>, R: Wait>(
+/// Makes a call with the pass that calls, an insertion by the route if one is known.
+fn made<'a, F: PriceFn + Drop, K: ServiceBrand<F>, R: Wait>(
     rt: &R,
-    service: &Service<F, K>,
-    pass: &mut Pass<F, K>,
+    service: &'a Service<F, K>,
+    passes: &mut [Pass<F, K>],
     call: Call,
-    plan: Option<&Plan>,
+    known: Option<&'a KnownRoute<F, K>>,
 ) -> Result<Reply, AllocError> {
-    match (call, plan) {
-        (Call::Insert { u, v, kind }, Some(plan)) => {
+    let Some(pass) = passes.get_mut(CALLER) else {
+        return Err(AllocError);
+    };
+    match (call, known) {
+        (Call::Insert { u, v, kind }, Some(KnownRoute::Planned(plan))) => {
             service.insert_planned(rt, pass, u, v, kind, plan)
+        }
+        (Call::Insert { kind, .. }, Some(KnownRoute::Found(found))) => {
+            service.insert_found(rt, pass, kind, found)
         }
         _ => calls::make(rt, service, pass, call),
     }
 }
 
-/// Makes a call with the pass that calls.
-fn called<F: PriceFn + Drop, K: ServiceBrand<F>, R: Wait>(
+/// Makes a call, once more if it is out of memory. The service is printed.
+fn make<'a, F: PriceFn + Drop, K: ServiceBrand<F>, R: Wait + Console>(
     rt: &R,
-    service: &Service<F, K>,
+    service: &'a Service<F, K>,
     passes: &mut [Pass<F, K>],
     call: Call,
-    plan: Option<&Plan>,
-) -> Result<Reply, AllocError> {
-    match passes.get_mut(CALLER) {
-        Some(pass) => made(rt, service, pass, call, plan),
-        None => Err(AllocError),
-    }
-}
-
-/// Prints what a call was answered.
-fn print_reply<R: Print>(rt: &R, name: &str, call: Call, reply: &Reply) -> Result<()> {
-    println!(rt; "{name} {call:?}: {reply:?}")?;
-    Ok(())
-}
-
-/// What a call is answered, which is made once more if it is out of memory.
-fn answered<F: PriceFn + Drop, K: ServiceBrand<F>, R: Wait + Print + Eprint + AllocGlobal>(
-    rt: &R,
-    service: &Service<F, K>,
-    passes: &mut [Pass<F, K>],
-    call: Call,
-    plan: Option<&Plan>,
-) -> Result<Reply> {
-    let before = look(rt, passes)?;
-    answered_from(rt, service, passes, &before, call, plan)
-}
-
-/// The same of a service that was so before.
-fn answered_from<F: PriceFn + Drop, K: ServiceBrand<F>, R: Wait + Print + Eprint + AllocGlobal>(
-    rt: &R,
-    service: &Service<F, K>,
-    passes: &mut [Pass<F, K>],
-    before: &ServiceView,
-    call: Call,
-    plan: Option<&Plan>,
-) -> Result<Reply> {
-    match called(rt, service, passes, call, plan) {
-        Ok(reply) => Ok(reply),
-        Err(_) => {
-            compare_service(rt, name_of(call, plan), before, passes)?;
-            Ok(called(rt, service, passes, call, plan)?)
-        }
-    }
-}
-
-/// Makes a call. The service is printed.
-fn make<F: PriceFn + Drop, K: ServiceBrand<F>, R: Wait + Print + Eprint + AllocGlobal>(
-    rt: &R,
-    service: &Service<F, K>,
-    passes: &mut [Pass<F, K>],
-    call: Call,
-    plan: Option<&Plan>,
+    known: Option<&'a KnownRoute<F, K>>,
 ) -> Result<()> {
-    let reply = answered(rt, service, passes, call, plan)?;
-    let told = print_reply(rt, name_of(call, plan), call, &reply);
+    let name = name_of(call, known);
+    let before = look(rt, passes)?;
+    let reply = match made(rt, service, passes, call, known) {
+        Ok(reply) => reply,
+        Err(_) => {
+            compare_service(rt, name, &before, passes, false)?;
+            made(rt, service, passes, call, known)?
+        }
+    };
+    let told = match known {
+        Some(KnownRoute::Found(_)) => println!(rt; "{name}: Ok({reply:?})"),
+        _ => println!(rt; "{name} {call:?}: {reply:?}"),
+    };
     drop(reply);
     told?;
     show(rt, passes)
 }
 
-/// What the pass that plans is answered.
-fn plan_with<F: PriceFn + Drop, K: ServiceBrand<F>, R: AllocGlobal>(
+/// What the pass that plans is answered, if it asks for a plan or else for a route.
+fn known_with<F: PriceFn + Drop, K: ServiceBrand<F>, R: AllocGlobal>(
     rt: &R,
     service: &Service<F, K>,
     passes: &mut [Pass<F, K>],
-) -> Result<Plan, PassFault> {
+    is_plan: bool,
+) -> Result<KnownRoute<F, K>, PassFault> {
     let (u, v) = ENDS;
-    match passes.get_mut(PLANNER) {
-        Some(pass) => pass.plan(rt.alloc(), service.tariff(), u, v),
-        None => Err(PassFault::NoView),
+    let Some(pass) = passes.get_mut(PLANNER) else {
+        return Err(PassFault::NoView);
+    };
+    if is_plan {
+        let plan = pass.plan(rt.alloc(), service.tariff(), u, v)?;
+        Ok(KnownRoute::Planned(plan))
+    } else {
+        let found = pass.find(rt.alloc(), service.tariff(), u, v)?;
+        Ok(KnownRoute::Found(found))
     }
 }
 
-/// Prints a plan.
-fn print_plan<R: Print>(rt: &R, plan: &Plan) -> Result<()> {
-    println!(rt; "Pass::plan: {plan:?}")?;
-    Ok(())
-}
-
-/// The plan that was answered, which is printed.
-fn plan_of<R: Print>(rt: &R, answer: Result<Plan, PassFault>) -> Result<Plan> {
-    match answer {
-        Ok(plan) => match print_plan(rt, &plan) {
-            Ok(()) => Ok(plan),
-            Err(error) => {
-                drop(plan);
-                Err(error)
-            }
-        },
-        Err(fault) => bail!("no plan: {fault:?}"),
-    }
-}
-
-/// A plan, which is made once more if it is out of memory.
-fn planned<F: PriceFn + Drop, K: ServiceBrand<F>, R: Print + Eprint + AllocGlobal>(
+/// A plan or a route, for which the pass asks once more if that is out of memory.
+fn known<F: PriceFn + Drop, K: ServiceBrand<F>, R: Console>(
     rt: &R,
     service: &Service<F, K>,
     passes: &mut [Pass<F, K>],
-) -> Result<Plan> {
+    is_plan: bool,
+) -> Result<KnownRoute<F, K>> {
+    let name = if is_plan { "Pass::plan" } else { "Pass::find" };
     let before = look(rt, passes)?;
-    match plan_with(rt, service, passes) {
+    match known_with(rt, service, passes, is_plan) {
         Err(PassFault::Refused(Refusal::Memory)) => {
-            compare_planning(rt, "Pass::plan", &before, passes)?;
-            plan_of(rt, plan_with(rt, service, passes))
+            compare_service(rt, name, &before, passes, true)?;
+            Ok(known_with(rt, service, passes, is_plan)?)
         }
-        answer => plan_of(rt, answer),
+        answer => Ok(answer?),
     }
 }
 
-/// The first calls.
-fn make_first<F: PriceFn + Drop, K: ServiceBrand<F>, R: Wait + Print + Eprint + AllocGlobal>(
+/// Two insertions by one route, which is printed. It suits the first.
+fn insert_twice<F: PriceFn + Drop, K: ServiceBrand<F>, R: Wait + Console>(
     rt: &R,
     service: &Service<F, K>,
     passes: &mut [Pass<F, K>],
+    known: &KnownRoute<F, K>,
 ) -> Result<()> {
-    show(rt, passes)?;
-    for call in FIRST {
-        make(rt, service, passes, call, None)?;
+    match known {
+        KnownRoute::Planned(plan) => println!(rt; "Pass::plan: {plan:?}")?,
+        KnownRoute::Found(found) => {
+            let ((u, v), first) = (found.ends(), found.first());
+            println!(rt; "Pass::find {u} {v}: {first:?}")?;
+        }
     }
-    Ok(())
-}
-
-/// Two insertions by one plan, which suits the first.
-fn insert_twice<F: PriceFn + Drop, K: ServiceBrand<F>, R: Wait + Print + Eprint + AllocGlobal>(
-    rt: &R,
-    service: &Service<F, K>,
-    passes: &mut [Pass<F, K>],
-    plan: &Plan,
-) -> Result<()> {
     show(rt, passes)?;
-    make(rt, service, passes, JOIN, Some(plan))?;
-    make(rt, service, passes, JOIN, Some(plan))
+    make(rt, service, passes, JOIN, Some(known))?;
+    make(rt, service, passes, JOIN, Some(known))
 }
 
-/// A plan, and two insertions by it.
-fn insert_by_plan<F: PriceFn + Drop, K: ServiceBrand<F>, R: Wait + Print + Eprint + AllocGlobal>(
+/// A plan, or a route that is found, and two insertions by it.
+fn insert_known<F: PriceFn + Drop, K: ServiceBrand<F>, R: Wait + Console>(
     rt: &R,
     service: &Service<F, K>,
     passes: &mut [Pass<F, K>],
+    is_plan: bool,
 ) -> Result<()> {
-    let plan = planned(rt, service, passes)?;
-    let told = insert_twice(rt, service, passes, &plan);
-    drop(plan);
+    let known = known(rt, service, passes, is_plan)?;
+    let told = insert_twice(rt, service, passes, &known);
+    drop(known);
     told
 }
 
@@ -226,40 +183,33 @@ fn insert_by_plan<F: PriceFn + Drop, K: ServiceBrand<F>, R: Wait + Print + Eprin
 fn make_all<
     F: PriceFn + Drop + Send + Sync,
     K: ServiceBrand<F> + Send + Sync,
-    R: Threads + Wait + Print + Eprint + AllocGlobal + Sync,
+    R: Threads + Wait + Console + Sync,
 >(rt: &R, service: &Service<F, K>, passes: &mut [Pass<F, K>], watch: &Watch) -> Result<()> {
-    make_first(rt, service, passes)?;
-    insert_by_plan(rt, service, passes)?;
+    show(rt, passes)?;
+    for call in FIRST {
+        make(rt, service, passes, call, None)?;
+    }
+    insert_known(rt, service, passes, true)?;
     make(rt, service, passes, Call::Delete { edge: 1 }, None)?;
     work(rt, service, passes, watch)?;
-    insert_by_search(rt, service, passes)
+    insert_known(rt, service, passes, false)
 }
 
-/// Prints a version that was kept from before the first call on.
-fn show_kept<F: PriceFn + Drop, K: ServiceBrand<F>, R: Print + Eprint + AllocGlobal>(
-    rt: &R,
-    told: Result<()>,
-    kept: &Version<F, K>,
-) -> Result<()> {
-    told?;
-    let state = picture_state(rt, kept.picture())?;
-    let number = kept.number();
-    println!(rt; "the version that was kept: {number}{state}")?;
-    Ok(())
-}
-
-/// The calls, while a version is kept, so that its picture cannot be carried on.
+/// The calls, while a version from before them is kept, so that its picture cannot be carried on.
 pub(crate) fn make_service_calls<
     F: PriceFn + Drop + Send + Sync,
     K: ServiceBrand<F> + Send + Sync,
-    R: Threads + Wait + Print + Eprint + AllocGlobal + Sync,
+    R: Threads + Wait + Console + Sync,
 >(rt: &R, service: &Service<F, K>, passes: &mut [Pass<F, K>], watch: &Watch) -> Result<()> {
     let Some(looker) = passes.get_mut(LOOKER) else {
         bail!("no pass");
     };
     let kept = looker.view()?;
     let told = make_all(rt, service, passes, watch);
-    let shown = show_kept(rt, told, &kept);
+    let (number, state) = (kept.number(), picture_state(rt, kept.picture()));
     drop(kept);
-    shown
+    told?;
+    let state = state?;
+    println!(rt; "the version that was kept: {number}{state}")?;
+    Ok(())
 }

@@ -9,7 +9,7 @@ use crate::book_calls::shared;
 use crate::book_replays::replay_from;
 use crate::picture_reads::loaded;
 use crate::printed::{book_state, copied, picture_state};
-use crate::retry::{compare_picture, tell};
+use crate::retry::{Console, refused, tell};
 use crate::service_calls::make_service_calls;
 use crate::worker_lists::Watch;
 use anyhow::{Result, bail};
@@ -30,7 +30,7 @@ use topo_versions::{ServiceBrand, StoreReader};
 const PASSES: usize = 3;
 
 /// A service that begins with the bipyramid.
-pub(crate) fn serve<R: Threads + Wait + Print + Eprint + AllocGlobal + Sync>(rt: &R) -> Result<()> {
+pub(crate) fn serve<R: Threads + Wait + Console + Sync>(rt: &R) -> Result<()> {
     let table = table_of(Some(1), FIVE_TWO_NINE)?;
     let start = loaded(rt, &BIPYRAMID)?;
     let watch = Watch::new();
@@ -44,10 +44,12 @@ pub(crate) fn serve<R: Threads + Wait + Print + Eprint + AllocGlobal + Sync>(rt:
 }
 
 /// A service with the prices of a closure.
-fn serve_with<
-    F: PriceFn + Drop + Send + Sync,
-    R: Threads + Wait + Print + Eprint + AllocGlobal + Sync,
->(rt: &R, start: &Picture, ask: F, watch: &Watch) -> Result<()>
+fn serve_with<F: PriceFn + Drop + Send + Sync, R: Threads + Wait + Console + Sync>(
+    rt: &R,
+    start: &Picture,
+    ask: F,
+    watch: &Watch,
+) -> Result<()>
     requires callable { F.is_callable ask }
     requires promise { IsPromise (F.may_return ask) }
 {
@@ -55,16 +57,26 @@ fn serve_with<
     serve_at(rt, start, &tariff, watch)
 }
 
-/// A service with the prices of a tariff. If it is out of memory, it is begun once more.
-fn serve_at<
-    F: PriceFn + Drop + Send + Sync,
-    R: Threads + Wait + Print + Eprint + AllocGlobal + Sync,
->(rt: &R, start: &Picture, tariff: &Arc<Tariff<F>>, watch: &Watch) -> Result<()> {
+/// A service that begins with a picture, which is printed. If it is out of memory, it is begun once
+/// more.
+fn serve_at<F: PriceFn + Drop + Send + Sync, R: Threads + Wait + Console + Sync>(
+    rt: &R,
+    start: &Picture,
+    tariff: &Arc<Tariff<F>>,
+    watch: &Watch,
+) -> Result<()> {
+    let (name, counts) = (BIPYRAMID.name, start.counts());
     let before = picture_state(rt, start)?;
+    println!(rt; "load {name}: {counts:?}{before}")?;
     if begun(rt, start, tariff, watch)? {
         return Ok(());
     }
-    compare_picture(rt, "Service::new", before.as_str(), start)?;
+    refused(
+        rt,
+        "Service::new",
+        before.as_str(),
+        picture_state(rt, start)?,
+    )?;
     if begun(rt, start, tariff, watch)? {
         return Ok(());
     }
@@ -72,7 +84,7 @@ fn serve_at<
 }
 
 /// Whether a service began, which is then used and closed.
-fn begun<F: PriceFn + Drop + Send + Sync, R: Threads + Wait + Print + Eprint + AllocGlobal + Sync>(
+fn begun<F: PriceFn + Drop + Send + Sync, R: Threads + Wait + Console + Sync>(
     rt: &R,
     start: &Picture,
     tariff: &Arc<Tariff<F>>,
@@ -87,7 +99,7 @@ fn begun<F: PriceFn + Drop + Send + Sync, R: Threads + Wait + Print + Eprint + A
 fn named<
     F: PriceFn + Drop + Send + Sync,
     K: ServiceBrand<F> + Send + Sync,
-    R: Threads + Wait + Print + Eprint + AllocGlobal + Sync,
+    R: Threads + Wait + Console + Sync,
 >(
     rt: &R,
     fresh: FreshService,
@@ -101,10 +113,10 @@ fn named<
     requires start { start ≡ K.start }
     requires prices { K.closure ≡ Some (arc_value tariff) }
 {
-    let Ok(service) = Service::<F, K>::new(rt.alloc(), fresh, start, tariff) else {
-        return Ok(false);
-    };
-    use_and_close(rt, service, watch)
+    match Service::<F, K>::new(rt.alloc(), fresh, start, tariff) {
+        Ok(service) => use_and_close(rt, service, watch),
+        Err(_) => Ok(false),
+    }
 }
 
 /// Uses a service and closes it. The service and its passes are owned here alone, and nothing
@@ -112,20 +124,10 @@ fn named<
 fn use_and_close<
     F: PriceFn + Drop + Send + Sync,
     K: ServiceBrand<F> + Send + Sync,
-    R: Threads + Wait + Print + Eprint + AllocGlobal + Sync,
+    R: Threads + Wait + Console + Sync,
 >(rt: &R, mut service: Service<F, K>, watch: &Watch) -> Result<bool> {
     let mut passes = Vec::new(rt.alloc());
     let told = use_passes(rt, &mut service, &mut passes, watch);
-    close(rt, service, passes, told)
-}
-
-/// Closes a service with its passes. Prints only where the calls before were printed too.
-fn close<F: PriceFn + Drop, K: ServiceBrand<F>, R: Wait + Print + Eprint + AllocGlobal>(
-    rt: &R,
-    service: Service<F, K>,
-    passes: Vec<Pass<F, K>>,
-    told: Result<()>,
-) -> Result<bool> {
     let end = service.close(rt, passes);
     let finished = finish(rt, told, &end);
     drop(end);
@@ -136,7 +138,7 @@ fn close<F: PriceFn + Drop, K: ServiceBrand<F>, R: Wait + Print + Eprint + Alloc
 fn use_passes<
     F: PriceFn + Drop + Send + Sync,
     K: ServiceBrand<F> + Send + Sync,
-    R: Threads + Wait + Print + Eprint + AllocGlobal + Sync,
+    R: Threads + Wait + Console + Sync,
 >(rt: &R, service: &mut Service<F, K>, passes: &mut Vec<Pass<F, K>>, watch: &Watch) -> Result<()> {
     if passes.reserve(PASSES).is_err() {
         tell(rt, "bookkeeping");
@@ -148,48 +150,28 @@ fn use_passes<
     make_service_calls(rt, &*service, passes.as_mut_slice(), watch)
 }
 
-/// The next pass, which is asked for again if it is out of memory.
+/// The next pass, which is asked for again if it is out of memory. It is printed and kept.
 fn give_out<F: PriceFn + Drop, K: ServiceBrand<F>, R: Print + Eprint>(
     rt: &R,
     service: &mut Service<F, K>,
     passes: &mut Vec<Pass<F, K>>,
 ) -> Result<()> {
-    if let Ok(pass) = service.pass() {
-        return keep(rt, passes, pass);
-    }
-    tell(rt, "Service::pass");
-    match service.pass() {
-        Ok(pass) => keep(rt, passes, pass),
-        Err(fault) => bail!("{fault:?}"),
-    }
-}
-
-/// Prints a new pass.
-fn print_pass<R: Print>(rt: &R, number: u32, receipts: usize, seen: u64) -> Result<()> {
+    let pass: Pass<F, K> = match service.pass() {
+        Ok(pass) => pass,
+        Err(_) => {
+            tell(rt, "Service::pass");
+            service.pass()?
+        }
+    };
+    let (number, receipts, seen) = (pass.number(), pass.receipts().len(), pass.seen());
+    passes.push(pass)?;
     println!(rt; "pass {number}: {receipts} receipts, has seen {seen}")?;
     Ok(())
 }
 
-/// Prints a new pass and keeps it.
-fn keep<F: PriceFn + Drop, K: ServiceBrand<F>, R: Print>(
-    rt: &R,
-    passes: &mut Vec<Pass<F, K>>,
-    pass: Pass<F, K>,
-) -> Result<()> {
-    let (number, receipts, seen) = (pass.number(), pass.receipts().len(), pass.seen());
-    passes.push(pass)?;
-    print_pass(rt, number, receipts, seen)
-}
-
-/// Prints the book of a service that ended well, and replays its history.
-fn print_closed<R: Print + Eprint + AllocGlobal, F: PriceFn>(rt: &R, book: &Book<F>) -> Result<()> {
-    let state = book_state(rt, book)?;
-    println!(rt; "closed:{state}")?;
-    replay_from(rt, book, book.start())
-}
-
-/// The book of a service that ended well is printed, and its history replayed.
-fn finish<F: PriceFn + Drop, K: ServiceBrand<F>, R: Print + Eprint + AllocGlobal>(
+/// The book of a service that ended well is printed, and its history replayed, if the calls before
+/// were printed too.
+fn finish<F: PriceFn + Drop, K: ServiceBrand<F>, R: Console>(
     rt: &R,
     told: Result<()>,
     end: &Result<Book<F>, CloseFault<F, K, StoreReader<F, K>>>,
@@ -197,7 +179,9 @@ fn finish<F: PriceFn + Drop, K: ServiceBrand<F>, R: Print + Eprint + AllocGlobal
     told?;
     match end {
         Ok(book) => {
-            print_closed(rt, book)?;
+            let state = book_state(rt, book)?;
+            println!(rt; "closed:{state}")?;
+            replay_from(rt, book, book.start())?;
             Ok(true)
         }
         Err(end) => bail!("{:?}", end.fault),

@@ -1,8 +1,8 @@
 //! A list that a worker carries out. If a command is out of memory, the rest of the list is run
 //! after it.
 
-use crate::retry::{again, tell};
-use crate::service_calls::JOIN;
+use crate::book_scripts::JOIN;
+use crate::retry::{Console, tell};
 use crate::service_views::{CALLER, compare_service, look, show};
 use anyhow::{Result, bail};
 use std::alloc::{AllocError, Global};
@@ -65,27 +65,6 @@ impl Watch {
     pub(crate) fn ask(&self) {
         let _ = self.asked.fetch_add(1, Ordering::SeqCst);
     }
-
-    /// Begins anew with a list.
-    fn clear(&self) {
-        self.begun.store(0, Ordering::SeqCst);
-        self.ended.store(0, Ordering::SeqCst);
-        self.is_amiss.store(false, Ordering::SeqCst);
-    }
-
-    /// Notes whether a call of the gate was the one due.
-    fn note(&self, is_due: bool) {
-        if !is_due {
-            self.is_amiss.store(true, Ordering::SeqCst);
-        }
-    }
-
-    /// Whether so many commands were begun and ended, in order.
-    fn has_seen(&self, commands: usize) -> bool {
-        self.begun.load(Ordering::SeqCst) == commands
-            && self.ended.load(Ordering::SeqCst) == commands
-            && !self.is_amiss.load(Ordering::SeqCst)
-    }
 }
 
 impl Gate for Watch {
@@ -93,13 +72,17 @@ impl Gate for Watch {
         self.asked.store(0, Ordering::SeqCst);
         let begun = self.begun.fetch_add(1, Ordering::SeqCst);
         let ended = self.ended.load(Ordering::SeqCst);
-        self.note(worker == 0 && begun == index && ended == index);
+        if worker != 0 || begun != index || ended != index {
+            self.is_amiss.store(true, Ordering::SeqCst);
+        }
     }
 
     fn after(&self, worker: usize, index: usize) {
         let ended = self.ended.fetch_add(1, Ordering::SeqCst);
         let begun = self.begun.load(Ordering::SeqCst);
-        self.note(worker == 0 && ended == index && begun == index.wrapping_add(1));
+        if worker != 0 || ended != index || begun != index.wrapping_add(1) {
+            self.is_amiss.store(true, Ordering::SeqCst);
+        }
     }
 }
 
@@ -111,20 +94,11 @@ fn list_of(alloc: Global, commands: &[Command]) -> Result<Vec<Vec<Command>>, All
     Ok(lists)
 }
 
-/// The same, which is made once more if it is out of memory.
-fn listed<R: Eprint + AllocGlobal>(
-    rt: &R,
-    commands: &[Command],
-) -> Result<Vec<Vec<Command>>, AllocError> {
-    let alloc = rt.alloc();
-    again(rt, || list_of(alloc, commands))
-}
-
-/// How many receipts the pass has whose list is run.
-fn receipts<F: PriceFn + Drop, K: ServiceBrand<F>>(passes: &[Pass<F, K>]) -> usize {
+/// The receipts of the pass whose list is run.
+fn receipts<F: PriceFn + Drop, K: ServiceBrand<F>>(passes: &[Pass<F, K>]) -> &[Receipt] {
     match passes.get(CALLER) {
-        Some(pass) => pass.receipts().len(),
-        None => 0,
+        Some(pass) => pass.receipts(),
+        None => &[],
     }
 }
 
@@ -140,7 +114,9 @@ fn run_list<
     watch: &Watch,
     lists: &[Vec<Command>],
 ) -> Result<WorkerEnd, AllocError> {
-    watch.clear();
+    watch.begun.store(0, Ordering::SeqCst);
+    watch.ended.store(0, Ordering::SeqCst);
+    watch.is_amiss.store(false, Ordering::SeqCst);
     let Some(workers) = passes.get_mut(CALLER..CALLER + 1) else {
         return Err(AllocError);
     };
@@ -154,19 +130,12 @@ fn run_list<
     }
 }
 
-/// Prints a line that begins with `changed:` where there is not one receipt more for each command
-/// before a place.
-fn compare_receipts<R: Print>(rt: &R, had: usize, has: usize, at: usize) -> Result<()> {
-    if has != had.wrapping_add(at) {
-        println!(rt; "changed: run_workers: {had} receipts became {has} before command {at}")?;
-    }
-    Ok(())
-}
-
 /// Prints a line that begins with `changed:` where the gate did not see so many commands of a list
-/// begin and end.
+/// begin and end, in order.
 fn compare_gate<R: Print>(rt: &R, watch: &Watch, commands: usize) -> Result<()> {
-    if !watch.has_seen(commands) {
+    let begun = watch.begun.load(Ordering::SeqCst);
+    let ended = watch.ended.load(Ordering::SeqCst);
+    if begun != commands || ended != commands || watch.is_amiss.load(Ordering::SeqCst) {
         println!(rt;
             "changed: run_workers: the gate did not see {commands} commands begin and end"
         )?;
@@ -174,139 +143,104 @@ fn compare_gate<R: Print>(rt: &R, watch: &Watch, commands: usize) -> Result<()> 
     Ok(())
 }
 
-/// Prints such a line where the list ended with a search outside the lock that was out of memory:
-/// the route is then looked for once more, under the lock. So a list that ends at this command has
-/// asked for all its prices.
-fn compare_search<R: Print>(rt: &R, watch: &Watch, command: Option<&Command>) -> Result<()> {
+/// Prints lines that begin with `changed:` for a list that ended at a place, out of memory: where
+/// there is not one receipt more for each command before it, and where the command's search outside
+/// the lock was out of memory. The route is then looked for once more, under the lock. So a list
+/// that ends at this command has asked for all its prices.
+fn compare_end<R: Print>(rt: &R, watch: &Watch, had: usize, has: usize, at: usize) -> Result<()> {
+    if has != had.wrapping_add(at) {
+        println!(rt; "changed: run_workers: {had} receipts became {has} before command {at}")?;
+    }
     let asked = watch.asked.load(Ordering::SeqCst);
-    if command == Some(&CROSSING) && asked < SEARCHED {
+    if COMMANDS.get(at) == Some(&CROSSING) && asked < SEARCHED {
         println!(rt;
             "changed: run_workers: a search outside the lock ended the list after {asked} prices"
         )?;
     }
-    Ok(())
+    compare_gate(rt, watch, at.wrapping_add(1))
 }
 
-/// The commands from a place on.
-fn rest_of(at: usize) -> Result<&'static [Command]> {
-    match COMMANDS.get(at..) {
-        Some(rest) => Ok(rest),
-        None => bail!("no command {at}"),
-    }
-}
-
-/// Runs the rest of the list after a command that was out of memory, of which there is a receipt of
-/// each one before it.
-fn run_rest<
-    F: PriceFn + Drop + Send + Sync,
-    K: ServiceBrand<F> + Send + Sync,
-    R: Threads + Wait + Print + Eprint + AllocGlobal + Sync,
->(
-    rt: &R,
-    service: &Service<F, K>,
-    passes: &mut [Pass<F, K>],
-    watch: &Watch,
-    had: usize,
-    at: usize,
-) -> Result<()> {
-    tell(rt, "a command of run_workers");
-    compare_receipts(rt, had, receipts(passes), at)?;
-    compare_gate(rt, watch, at.wrapping_add(1))?;
-    compare_search(rt, watch, COMMANDS.get(at))?;
-    let lists = listed(rt, rest_of(at)?)?;
-    let told = run_whole(rt, service, passes, watch, lists.as_slice());
-    drop(lists);
-    told
-}
-
-/// How many commands the one list has.
-fn length_of(lists: &[Vec<Command>]) -> usize {
-    match lists.first() {
-        Some(list) => list.len(),
-        None => 0,
-    }
-}
-
-/// Runs a list to its end.
-fn run_whole<
-    F: PriceFn + Drop + Send + Sync,
-    K: ServiceBrand<F> + Send + Sync,
-    R: Threads + Wait + Print + AllocGlobal + Sync,
->(
-    rt: &R,
-    service: &Service<F, K>,
-    passes: &mut [Pass<F, K>],
-    watch: &Watch,
-    lists: &[Vec<Command>],
-) -> Result<()> {
-    match run_list(rt, service, passes, watch, lists)? {
-        WorkerEnd::Done => compare_gate(rt, watch, length_of(lists)),
-        WorkerEnd::OutOfMemory(at) => bail!("the list ended at command {at}"),
-    }
-}
-
-/// Prints a receipt.
-fn print_receipt<R: Print>(rt: &R, receipt: &Receipt) -> Result<()> {
-    let (call, reply) = (receipt.call, &receipt.reply);
-    println!(rt; "  {call:?}: {reply:?}")?;
-    Ok(())
-}
-
-/// Prints the receipts of a list that was run.
-fn print_all<R: Print>(rt: &R, receipts: &[Receipt]) -> Result<()> {
-    println!(rt; "run_workers:")?;
-    for receipt in receipts {
-        print_receipt(rt, receipt)?;
-    }
-    Ok(())
-}
-
-/// Prints the receipts of the pass whose list was run.
-fn print_receipts<F: PriceFn + Drop, K: ServiceBrand<F>, R: Print>(
-    rt: &R,
-    passes: &[Pass<F, K>],
-) -> Result<()> {
-    match passes.get(CALLER) {
-        Some(pass) => print_all(rt, pass.receipts()),
-        None => bail!("no pass"),
-    }
-}
-
-/// Runs a list. Where the room for the answer is refused, no call was made, and the whole list is
-/// run once more.
+/// How a worker ended with these commands, or that the room for the answer is refused.
 fn run<
     F: PriceFn + Drop + Send + Sync,
     K: ServiceBrand<F> + Send + Sync,
-    R: Threads + Wait + Print + Eprint + AllocGlobal + Sync,
+    R: Threads + Wait + Console + Sync,
 >(
     rt: &R,
     service: &Service<F, K>,
     passes: &mut [Pass<F, K>],
     watch: &Watch,
-    lists: &[Vec<Command>],
-) -> Result<()> {
-    let before = look(rt, passes)?;
-    let had = receipts(passes);
-    match run_list(rt, service, passes, watch, lists) {
-        Ok(WorkerEnd::Done) => compare_gate(rt, watch, length_of(lists)),
-        Ok(WorkerEnd::OutOfMemory(at)) => run_rest(rt, service, passes, watch, had, at),
+    commands: &[Command],
+) -> Result<Result<WorkerEnd, AllocError>> {
+    let lists = match list_of(rt.alloc(), commands) {
+        Ok(lists) => lists,
         Err(_) => {
-            compare_service(rt, "run_workers", &before, passes)?;
-            run_whole(rt, service, passes, watch, lists)
+            tell(rt, "bookkeeping");
+            list_of(rt.alloc(), commands)?
+        }
+    };
+    let end = run_list(rt, service, passes, watch, lists.as_slice());
+    drop(lists);
+    if matches!(end, Ok(WorkerEnd::Done)) {
+        compare_gate(rt, watch, commands.len())?;
+    }
+    Ok(end)
+}
+
+/// Runs the list, and gives what is left of it: the rest after a command that was out of memory. If
+/// the room for the answer is refused, no call was made, and the whole list is left.
+fn run_first<
+    F: PriceFn + Drop + Send + Sync,
+    K: ServiceBrand<F> + Send + Sync,
+    R: Threads + Wait + Console + Sync,
+>(
+    rt: &R,
+    service: &Service<F, K>,
+    passes: &mut [Pass<F, K>],
+    watch: &Watch,
+) -> Result<&'static [Command]> {
+    let before = look(rt, passes)?;
+    let had = receipts(passes).len();
+    match run(rt, service, passes, watch, COMMANDS)? {
+        Ok(WorkerEnd::Done) => Ok(&[]),
+        Ok(WorkerEnd::OutOfMemory(at)) => {
+            tell(rt, "a command of run_workers");
+            compare_end(rt, watch, had, receipts(passes).len(), at)?;
+            match COMMANDS.get(at..) {
+                Some(rest) => Ok(rest),
+                None => bail!("no command {at}"),
+            }
+        }
+        Err(_) => {
+            compare_service(rt, "run_workers", &before, passes, false)?;
+            Ok(COMMANDS)
         }
     }
+}
+
+/// Prints the receipts of a list that was run.
+fn print_receipts<R: Print>(rt: &R, receipts: &[Receipt]) -> Result<()> {
+    println!(rt; "run_workers:")?;
+    for receipt in receipts {
+        let (call, reply) = (receipt.call, &receipt.reply);
+        println!(rt; "  {call:?}: {reply:?}")?;
+    }
+    Ok(())
 }
 
 /// A worker carries out the list.
 pub(crate) fn work<
     F: PriceFn + Drop + Send + Sync,
     K: ServiceBrand<F> + Send + Sync,
-    R: Threads + Wait + Print + Eprint + AllocGlobal + Sync,
+    R: Threads + Wait + Console + Sync,
 >(rt: &R, service: &Service<F, K>, passes: &mut [Pass<F, K>], watch: &Watch) -> Result<()> {
-    let lists = listed(rt, COMMANDS)?;
-    let told = run(rt, service, passes, watch, lists.as_slice());
-    drop(lists);
-    told?;
-    print_receipts(rt, passes)?;
+    let rest = run_first(rt, service, passes, watch)?;
+    if !rest.is_empty() {
+        match run(rt, service, passes, watch, rest)? {
+            Ok(WorkerEnd::Done) => {}
+            end => bail!("the list ended with {end:?}"),
+        }
+    }
+    print_receipts(rt, receipts(passes))?;
     show(rt, passes)
 }
