@@ -182,7 +182,7 @@ impl FaceGraph for Numbered<'_> {
     }
 
     fn step(&self, dart: u32) -> (u32, u32) {
-        (self.next(dart), self.lists.face(self.twin(dart)))
+        (self.next(dart), self.face(self.twin(dart)))
     }
 
     ghost lawful = { λ d. lawful_again d.rows d.lawful };

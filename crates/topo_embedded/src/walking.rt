@@ -1,11 +1,14 @@
 //! Rows with their embedding as a search walks on them.
 
-ghost use Rattle.std.specs.Prelude.{◌≡◌, ◌==◌, ◌↔◌, ◌<◌, ◌^◌, IsTrue, length, slice_index_or};
+ghost use Rattle.std.specs.Prelude.{◌≡◌, ◌==◌, ◌↔◌, ◌<◌, ◌^◌, IsTrue, length, slice_index_or, true};
 ghost use Rattle.std.specs.declared.cmp.Ordering.TheVariants.{Less};
 ghost use Rattle.topo_changes.specs.Keeping.{viewed_row};
 ghost use Rattle.topo_core.specs.Darts.{dart_cmp};
 ghost use Rattle.topo_core.specs.Lawful.{Lawful};
-ghost use Rattle.topo_embedded.specs.Halves.{by_way};
+ghost use Rattle.topo_core.specs.Picture.{darts, system};
+ghost use Rattle.topo_core.specs.Rotations.{twin};
+ghost use Rattle.topo_core.specs.Systems.{face_step, has_dart};
+ghost use Rattle.topo_embedded.specs.Halves.{IsHalf, by_way, half_in};
 ghost use Rattle.topo_embedded.specs.Walking.{IsOnPath, end_seg, end_way, named_in};
 ghost use Rattle.topo_map.specs.Rotation.{turn_in};
 ghost use Rattle.topo_route.specs.Names.{HasFaces, IsNamed};
@@ -74,6 +77,7 @@ pub struct EmbeddedRows<'a> {
 impl<'a> Model for EmbeddedRows<'a> {
     ghost use Rattle.std.specs.Prelude.{◌<◌, ◌^◌, length};
     ghost use Rattle.topo_core.specs.Picture.{darts};
+    ghost use Rattle.topo_embedded.specs.Halves.{ShowsRows};
     ghost use Rattle.topo_embedded.specs.Walking.{AreLive, FaceGraphRows};
 
     ghost Value = { FaceGraphRows };
@@ -89,7 +93,8 @@ impl<'a> Model for EmbeddedRows<'a> {
     } };
 
     ghost invariant = { λ d. (length (darts d.embedded.now.rows) < 2 ^ 32)
-        × (length d.embedded.now.rows.rotations < 2 ^ 32) × AreLive d.embedded.now d.segments.now };
+        × (length d.embedded.now.rows.rotations < 2 ^ 32) × AreLive d.embedded.now d.segments.now
+        × ShowsRows d.embedded.now d.segments.now };
 }
 
 impl<'a> EmbeddedRows<'a> {
@@ -110,6 +115,18 @@ impl<'a> EmbeddedRows<'a> {
             size,
             labels,
         }
+    }
+
+    /// The half of the next dart along the face on the left, and the label of the face on the right,
+    /// in one look.
+    fn step_from(&self, half: Half) -> (Half, u32)
+        requires { IsHalf self.now.embedded half }
+        ensures next { (d : Dart) → has_dart (darts self.now.embedded.rows) d ≡ true
+            → half_in self.now.embedded d ≡ half
+            → result.0 ≡ half_in self.now.embedded (face_step (system self.now.embedded.rows) d) }
+        ensures beyond { result.1 ≡ turn_in self.now.faces (twin half) }
+    {
+        self.segments.step(half)
     }
 }
 
@@ -178,7 +195,7 @@ impl FaceGraph for EmbeddedRows<'_> {
     }
 
     fn step(&self, dart: u32) -> (u32, u32) {
-        let (next, beyond) = self.segments.step(Half::numbered(dart));
+        let (next, beyond) = self.step_from(Half::numbered(dart));
         (next.number(), beyond)
     }
 

@@ -17,4 +17,5 @@ invariant_of-result-2 c = (
   (let many = c.size-size.ensures.many in let few = c.size-size.type_inv in omega (arith, many, few)),
   c.requires.vertices,
   are_live c.args.embedded.now c.requires.lawful.embedding.well_formed c.segments-segments.result.now c.segments-segments.ensures,
+  c.segments-segments.ensures,
 )
