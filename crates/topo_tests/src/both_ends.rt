@@ -2,21 +2,23 @@
 
 ghost use Rattle.topo_price.specs.Prices.{IsPromise};
 
-use crate::first_routes::{are_ends, is_planned};
-use crate::generated::{Numbers, next_call, next_ids};
-use std::alloc::{AllocError, Global};
+use crate::generated::{ENTRIES, Numbers, next_call};
+use crate::searches::are_ends;
+use crate::stories::{Story, tell_at};
+use std::alloc::Global;
 use std::process::Abort;
+use std::sync::atomic::AtomicU32;
 use std::test::Fail;
 use topo_book::Book;
-use topo_core::calls::Call;
 use topo_core::limits::Limits;
 use topo_core::rows::Facts;
 use topo_picture::{Frozen, Picture};
 use topo_price::tariff::{PriceFn, Tariff};
-use topo_route::search::first_route;
+use topo_route::plan::{Plan, PricedRoute};
+use topo_route::search::{first_route, search};
 use topo_route::workspace::Workspace;
-use topo_test_support::books::{book_of, make};
-use topo_test_support::pictures::{SEED, picture_within};
+use topo_test_support::books::make;
+use topo_test_support::plans::are_ends as are_ends_of;
 use topo_test_support::prices::{Entries, table_of};
 
 /// The price of all kinds but some, and of those.
@@ -37,26 +39,44 @@ const PAIRS: usize = 8;
 /// How many calls lead from the first picture of a run to its last.
 const CALLS: u32 = 40;
 
-/// How many runs each test has, with numbers of their own. With all pairs these are 25,600
-/// insertions a test.
+/// How many runs there are for each number of hubs, with numbers of their own. With all pairs these
+/// are 25,600 insertions.
 const RUNS: u32 = 16;
 
-/// The two searches of a pair find the same.
-fn is_agreed<F: PriceFn>(
+/// Whether both searches found the same: the same route at the same price, or none.
+fn is_same(found: &Option<PricedRoute>, plan: &Option<Plan>) -> bool {
+    match (found, plan) {
+        (Some(found), Some(plan)) => found.price == plan.price && found.route.equals(&plan.route),
+        (None, None) => true,
+        _ => false,
+    }
+}
+
+/// The two searches of a pair find the same, with the prices of a closure.
+fn is_agreed<F: PriceFn + Drop>(
     rt: &impl Abort,
     alloc: Global,
-    picture: &Picture,
-    frozen: &Frozen,
-    tariff: &Tariff<F>,
+    pictures: (&Picture, &Frozen),
+    ask: F,
     ends: (u32, u32),
     work: &mut Workspace,
-) -> Result<(), Fail> {
-    let (u, v) = ends;
+) -> Result<(), Fail>
+    requires callable { F.is_callable ask }
+    requires promise { IsPromise (F.may_return ask) }
+{
+    let ((picture, frozen), (u, v)) = (pictures, ends);
     assert!(rt; are_ends(picture, u, v));
-    let found = first_route(alloc, &picture.embedded(), tariff, u, v, work)?;
-    let same = is_planned(rt, alloc, frozen, tariff, ends, &found);
+    assert!(rt; are_ends_of(frozen, u, v));
+    let tariff = Tariff::new(ask);
+    let plan = search(alloc, frozen, &tariff, u, v);
+    let found = first_route(alloc, &picture.embedded(), &tariff, u, v, work);
+    let same = match (&found, &plan) {
+        (Ok(found), Ok(plan)) => is_same(found, plan),
+        _ => false,
+    };
     drop(found);
-    assert!(rt; same?, "{ends:?}");
+    drop(plan);
+    assert!(rt; same, "{ends:?}");
     Ok(())
 }
 
@@ -68,54 +88,20 @@ fn two_of(numbers: &mut Numbers, vertices: u32) -> (u32, u32) {
     (u, v.checked_rem(vertices).unwrap_or(0))
 }
 
-/// So do those of some pairs.
-fn are_agreed<F: PriceFn>(
+/// So do those of some pairs, with each of the prices.
+fn are_agreed(
     rt: &impl Abort,
     alloc: Global,
-    picture: &Picture,
-    frozen: &Frozen,
-    tariff: &Tariff<F>,
+    pictures: (&Picture, &Frozen),
     numbers: &mut Numbers,
     work: &mut Workspace,
 ) -> Result<(), Fail> {
-    let vertices = picture.counts().vertices;
-    for _pair in 0..PAIRS {
-        let ends = two_of(numbers, vertices);
-        is_agreed(rt, alloc, picture, frozen, tariff, ends, work)?;
-    }
-    Ok(())
-}
-
-/// The same with the prices of a closure.
-fn are_agreed_at<F: PriceFn + Drop>(
-    rt: &impl Abort,
-    alloc: Global,
-    picture: &Picture,
-    frozen: &Frozen,
-    ask: F,
-    numbers: &mut Numbers,
-    work: &mut Workspace,
-) -> Result<(), Fail>
-    requires callable { F.is_callable ask }
-    requires promise { IsPromise (F.may_return ask) }
-{
-    let tariff = Tariff::new(ask);
-    are_agreed(rt, alloc, picture, frozen, &tariff, numbers, work)
-}
-
-/// The same with each of the prices.
-fn are_agreed_on(
-    rt: &impl Abort,
-    alloc: Global,
-    picture: &Picture,
-    frozen: &Frozen,
-    numbers: &mut Numbers,
-    work: &mut Workspace,
-) -> Result<(), Fail> {
-    for (rest, entries) in PRICES {
+    let vertices = pictures.0.counts().vertices;
+    for turn in 0..PRICES.len().saturating_mul(PAIRS) {
+        let (rest, entries) = PRICES.get(turn / PAIRS).ok_or("prices")?;
         let table = table_of(*rest, *entries)?;
         let ask = |facts: &Facts| table.price(facts.kind);
-        are_agreed_at(rt, alloc, picture, frozen, ask, numbers, work)?;
+        is_agreed(rt, alloc, pictures, ask, two_of(numbers, vertices), work)?;
     }
     Ok(())
 }
@@ -129,86 +115,55 @@ fn is_searched(
     work: &mut Workspace,
 ) -> Result<(), Fail> {
     let frozen = picture.freeze(alloc)?;
-    let told = are_agreed_on(rt, alloc, picture, &frozen, numbers, work);
+    let told = are_agreed(rt, alloc, (picture, &frozen), numbers, work);
     drop(frozen);
     told
 }
 
-/// A call that may lead an edge to one of a few vertices, or to a near one.
-fn call_to(numbers: &mut Numbers, vertices: u32, edges: u32, hubs: u32) -> Call {
-    let kind = numbers.below(4);
-    if numbers.below(2) == 0 {
-        return next_call(numbers, vertices, edges);
-    }
-    Call::Insert {
-        u: numbers.below(vertices),
-        v: numbers.below(hubs),
-        kind,
-    }
-}
-
-/// One call more.
-fn go_on<F: PriceFn>(
-    alloc: Global,
-    book: &mut Book<F>,
-    numbers: &mut Numbers,
+/// Random calls, most of whose new edges end at so many vertices.
+#[derive(Drop)]
+struct Run<'a> {
+    state: u32,
     hubs: u32,
-) -> Result<(), AllocError> {
-    let vertices = book.picture().counts().vertices;
-    let (edges, _crossings) = next_ids(alloc, book.picture())?;
-    let call = call_to(numbers, vertices, edges, hubs);
-    let reply = make(alloc, book, 0, call)?;
-    drop(reply);
-    Ok(())
+    work: &'a mut Workspace,
 }
 
-/// The two searches agree on each picture of a run.
-fn run<F: PriceFn>(
-    rt: &impl Abort,
-    alloc: Global,
-    book: &mut Book<F>,
-    run: (u32, u32),
-    work: &mut Workspace,
-) -> Result<(), Fail> {
-    let (state, hubs) = run;
-    let mut numbers = Numbers { state };
-    for _ in 0..CALLS {
-        go_on(alloc, book, &mut numbers, hubs)?;
-        is_searched(rt, alloc, book.picture(), &mut numbers, work)?;
+impl Story for Run<'_> {
+    /// The two searches agree on each picture.
+    fn tell<F: PriceFn + Drop, R: Abort>(
+        &mut self,
+        rt: &R,
+        alloc: Global,
+        book: &mut Book<F>,
+        _asked: &AtomicU32,
+    ) -> Result<(), Fail> {
+        let mut numbers = Numbers { state: self.state };
+        for _ in 0..CALLS {
+            let call = next_call(alloc, &mut numbers, book.picture(), Some(self.hubs))?;
+            drop(make(alloc, book, 0, call)?);
+            is_searched(rt, alloc, book.picture(), &mut numbers, &mut *self.work)?;
+        }
+        Ok(())
     }
-    Ok(())
 }
 
-/// The run of a book that begins with the seed.
-fn run_from_seed<F: PriceFn + Drop>(
-    rt: &impl Abort,
-    alloc: Global,
-    of: (u32, u32),
-    ask: F,
-    work: &mut Workspace,
-) -> Result<(), Fail>
-    requires callable { F.is_callable ask }
-    requires promise { IsPromise (F.may_return ask) }
-{
-    let start = picture_within(alloc, &SEED, Limits::new(40, 1_000, 2_000)?)?;
-    let mut book = book_of(alloc, start, ask)?;
-    let told = run(rt, alloc, &mut book, of, work);
-    drop(book);
-    told
-}
-
-/// All runs in which most new edges end at so many vertices.
-fn run_all(rt: &impl Abort, alloc: Global, hubs: u32, work: &mut Workspace) -> Result<(), Fail> {
+/// All runs with so many hubs, on one workspace.
+fn run_all<R: Abort>(rt: &R, alloc: Global, hubs: u32, work: &mut Workspace) -> Result<(), Fail> {
+    let table = table_of(Some(1), ENTRIES)?;
     for state in 0..RUNS {
-        let table = table_of(Some(1), &[(1, Some(5)), (2, Some(2)), (3, None)])?;
-        let ask = |facts: &Facts| table.price(facts.kind);
-        run_from_seed(rt, alloc, (state, hubs), ask, work)?;
+        let mut run = Run {
+            state,
+            hubs,
+            work: &mut *work,
+        };
+        let start = Picture::seed(alloc, Limits::new(40, 1_000, 2_000)?);
+        tell_at(rt, alloc, start, &table, &mut run)?;
     }
     Ok(())
 }
 
 /// The same with a new workspace.
-fn run_anew(rt: &impl Abort, alloc: Global, hubs: u32) -> Result<(), Fail> {
+fn run_anew<R: Abort>(rt: &R, alloc: Global, hubs: u32) -> Result<(), Fail> {
     let mut work = Workspace::new(alloc)?;
     let told = run_all(rt, alloc, hubs, &mut work);
     drop(work);

@@ -1,54 +1,14 @@
 //! The plain types: each call once, with values worked out by hand.
 
-use std::alloc::{AllocError, Global};
 use std::process::Abort;
 use std::test::Fail;
-use topo_core::calls::Refusal;
 use topo_core::ids::{CrossId, EdgeId, VertexId};
 use topo_core::limits::{Limits, LimitsFault};
 use topo_core::listed::Listed;
-use topo_core::rows::{EdgeRow, Facts, Rows};
-
-fn edge_row(alloc: Global, id: u32, kind: u32) -> EdgeRow {
-    EdgeRow {
-        id,
-        a: 2,
-        b: 1,
-        kind,
-        crossings: Listed::new(alloc),
-    }
-}
-
-/// The edges round each of three vertices.
-const ROTATIONS: &[&[u32]] = &[&[], &[4, 6], &[4, 6]];
-
-fn rotations(alloc: Global) -> Result<Listed<Listed<u32>>, AllocError> {
-    let mut lists = Vec::new(alloc);
-    for ids in ROTATIONS {
-        lists.push(Listed::from_vec(Vec::from_slice(alloc, *ids)?))?;
-    }
-    Ok(Listed::from_vec(lists))
-}
-
-fn edges(alloc: Global) -> Result<Listed<EdgeRow>, AllocError> {
-    let mut rows = Vec::new(alloc);
-    for (id, kind) in [(4, 63), (6, 64)] {
-        rows.push(edge_row(alloc, id, kind))?;
-    }
-    Ok(Listed::from_vec(rows))
-}
-
-/// Three vertices, and the edges 4 and 6 from vertex 2 to vertex 1.
-fn two_edges(alloc: Global) -> Result<Rows, AllocError> {
-    let rotations = rotations(alloc)?;
-    Ok(Rows {
-        rotations,
-        edges: edges(alloc)?,
-        crossings: Listed::new(alloc),
-        next_edge: 7,
-        next_crossing: 0,
-    })
-}
+use topo_core::rows::{Facts, Rows};
+use topo_price::table::PriceFault;
+use topo_test_support::pictures::{Named, rows_of};
+use topo_test_support::prices::table_of;
 
 #[test]
 fn ids_are_their_numbers(rt: HostRuntime) {
@@ -68,29 +28,46 @@ const LIMITS: &[(u32, u32, u32, bool)] = &[
     (2, 1, 1_048_577, false),
 ];
 
-/// Whether limits are made of these numbers, or else refused as bad ones.
-fn are_limits(vertices: u32, edges: u32, crossings: u32, accepted: bool) -> bool {
-    match Limits::new(vertices, edges, crossings) {
-        Ok(limits) => {
-            accepted
-                && limits.vertices == vertices
-                && limits.edges == edges
-                && limits.crossings == crossings
-        }
-        Err(fault) => !accepted && fault == LimitsFault::BadLimits,
-    }
-}
-
 #[test]
 fn limits_have_ranges(rt: HostRuntime) {
     for limits in LIMITS {
         let (vertices, edges, crossings, accepted) = *limits;
-        assert!(rt;
-            are_limits(vertices, edges, crossings, accepted),
-            "{limits:?}"
-        );
+        let is_right = match Limits::new(vertices, edges, crossings) {
+            Ok(made) => {
+                accepted
+                    && (made.vertices, made.edges, made.crossings) == (vertices, edges, crossings)
+            }
+            Err(fault) => !accepted && fault == LimitsFault::BadLimits,
+        };
+        assert!(rt; is_right, "{limits:?}");
     }
 }
+
+/// Entries of kind 7, and why a table does not take them.
+const ENTRIES: &[(u32, Option<PriceFault>)] = &[
+    (0, Some(PriceFault::BadPrice(7))),
+    (1001, Some(PriceFault::BadPrice(7))),
+    (1, None),
+    (1000, None),
+];
+
+#[test]
+fn tables_with_bad_entries_are_refused(rt: HostRuntime) {
+    for (entry, due) in ENTRIES {
+        let fault = table_of(Some(1), &[(7, Some(*entry))]).err();
+        assert!(rt; fault == *due, "{entry}: {fault:?}");
+    }
+}
+
+/// Three vertices, and the edges 4 and 6 from vertex 2 to vertex 1.
+const TWO_EDGES: Named = Named {
+    name: "two edges",
+    rotations: &[&[], &[4, 6], &[4, 6]],
+    edges: &[(4, 2, 1, 63, &[]), (6, 2, 1, 64, &[])],
+    crossings: &[],
+    next_edge: 7,
+    next_crossing: 0,
+};
 
 /// Degrees and edges of these rows.
 fn are_found(rt: &impl Abort, rows: &Rows) -> Result<(), Fail> {
@@ -106,55 +83,22 @@ fn are_found(rt: &impl Abort, rows: &Rows) -> Result<(), Fail> {
 
 #[test]
 fn rows_are_found_by_id(rt: HostRuntime) -> Result<(), Fail> {
-    let rows = two_edges(rt.alloc())?;
+    let rows = rows_of(rt.alloc(), &TWO_EDGES)?;
     let told = are_found(&rt, &rows);
     drop(rows);
     told
 }
 
-/// The list of 3 and 1.
-fn two_numbers(alloc: Global) -> Result<Listed<u32>, AllocError> {
-    let mut listed = Listed::from_vec(vec![in alloc; 3u32]?);
-    listed.push(1)?;
-    Ok(listed)
-}
-
-/// Whether a list shows these items.
-fn shows_two(listed: &Listed<u32>) -> bool {
-    listed.as_slice() == [3, 1].as_slice()
-        && listed.len() == 2
-        && (listed[0], listed[1]) == (3, 1)
-        && listed.iter().max() == Some(&3)
-}
-
 #[test]
 fn lists_give_their_items_back(rt: HostRuntime) -> Result<(), Fail> {
-    let listed = two_numbers(rt.alloc())?;
-    let are_seen = shows_two(&listed);
+    let mut listed = Listed::from_vec(vec![in rt.alloc(); 3u32]?);
+    let is_pushed = listed.push(1).is_ok();
+    assert!(rt; is_pushed && listed.as_slice() == [3, 1].as_slice());
+    assert!(rt; listed.len() == 2 && listed.iter().max() == Some(&3));
+    assert!(rt; (listed[0], listed[1]) == (3, 1));
     let items = listed.into_vec();
     let are_given_back = items.as_slice() == [3, 1].as_slice();
     drop(items);
-    assert!(rt; are_seen);
     assert!(rt; are_given_back);
     Ok(())
-}
-
-/// The refusals with their numbers.
-const REFUSALS: &[(Refusal, u32)] = &[
-    (Refusal::NoVertex, 1),
-    (Refusal::SameEnds, 2),
-    (Refusal::NoPosition, 3),
-    (Refusal::NoEdge, 4),
-    (Refusal::BadKind, 5),
-    (Refusal::Cut(3), 6),
-    (Refusal::Full, 7),
-    (Refusal::Memory, 8),
-    (Refusal::NoRoute, 9),
-];
-
-#[test]
-fn refusals_have_numbers(rt: HostRuntime) {
-    for (refusal, number) in REFUSALS {
-        assert!(rt; refusal.number() == *number);
-    }
 }

@@ -1,10 +1,74 @@
 //! The five edits of an embedding, and what is read off it.
 
 use crate::generated::Numbers;
-use std::alloc::AllocError;
+use std::alloc::{AllocError, Global};
 use std::process::Abort;
 use std::test::Fail;
 use topo_map::{Embedding, Half};
+
+/// An edit at a half. A new segment has the number of its edge.
+#[derive(Clone, Copy, Debug)]
+enum Edit {
+    /// An edge that hangs before it.
+    Hang(u32),
+    /// A point on its segment.
+    Split,
+    /// A chord to another half.
+    Chord(u32),
+    /// Its segment is taken out.
+    Unchord,
+    /// The point where it is one of two halves is taken out.
+    Smooth,
+}
+
+/// A new segment from `c`, where `c` and `d` are there and there is room; none for another edit.
+fn add(embedding: &mut Embedding, c: Half, d: Half, edit: Edit) -> Option<Half> {
+    if !embedding.contains(c) || !embedding.contains(d) || embedding.room() == 0 {
+        return None;
+    }
+    match edit {
+        Edit::Hang(edge) => Some(embedding.hang(c, edge)),
+        Edit::Split => Some(embedding.split(c)),
+        Edit::Chord(edge) => Some(embedding.chord(c, d, edge)),
+        Edit::Unchord | Edit::Smooth => None,
+    }
+}
+
+/// Takes a point out where two halves of two segments are. The answer is whether it was.
+fn smooth(embedding: &mut Embedding, x: Half) -> bool {
+    if !embedding.contains(x) {
+        return false;
+    }
+    let other = embedding.turn(x);
+    if other == x || other == x.twin() || embedding.turn(other) != x {
+        return false;
+    }
+    embedding.smooth(x);
+    true
+}
+
+/// Makes an edit where it can be made, and takes a segment out where there is no room for a new
+/// one. The answer is whether it was made. The halves of a new segment are added to the list.
+fn make(
+    embedding: &mut Embedding,
+    halves: &mut Vec<Half>,
+    c: Half,
+    d: Half,
+    edit: Edit,
+) -> Result<bool, AllocError> {
+    if let Some(x) = add(embedding, c, d, edit) {
+        halves.extend_from_slice(&[x, x.twin()])?;
+        return Ok(true);
+    }
+    if !embedding.contains(c) || !embedding.contains(d) {
+        return Ok(false);
+    }
+    if let Edit::Smooth = edit {
+        return Ok(smooth(embedding, c));
+    }
+    embedding.unchord(c);
+    Ok(true)
+}
 
 /// Whether a walk round the face of `a` meets `b`.
 fn is_met(embedding: &Embedding, a: Half, b: Half) -> bool {
@@ -41,93 +105,37 @@ fn one_of(numbers: &mut Numbers, halves: &[Half]) -> Option<Half> {
     halves.get(place).copied()
 }
 
-/// A chord between two halves, where they are there and there is room.
-fn chord(embedding: &mut Embedding, c: Half, d: Half, edge: u32) -> Option<Half> {
-    if !embedding.contains(c) || !embedding.contains(d) || embedding.room() == 0 {
-        return None;
-    }
-    Some(embedding.chord(c, d, edge))
-}
+/// The edits that are made at random, some more often than others.
+const EDITS: [Edit; 7] = [
+    Edit::Hang(1),
+    Edit::Split,
+    Edit::Chord(2),
+    Edit::Chord(2),
+    Edit::Unchord,
+    Edit::Unchord,
+    Edit::Smooth,
+];
 
-/// An edge that hangs before a half, where the half is there and there is room.
-fn hang(embedding: &mut Embedding, c: Half, edge: u32) -> Option<Half> {
-    if !embedding.contains(c) || embedding.room() == 0 {
-        return None;
-    }
-    Some(embedding.hang(c, edge))
-}
-
-/// A point on a segment, where its half is there and there is room.
-fn split(embedding: &mut Embedding, h: Half) -> Option<Half> {
-    if !embedding.contains(h) || embedding.room() == 0 {
-        return None;
-    }
-    Some(embedding.split(h))
-}
-
-/// Takes a segment out, where it is there. The answer is whether it was.
-fn unchord(embedding: &mut Embedding, x: Half) -> bool {
-    if !embedding.contains(x) {
-        return false;
-    }
-    embedding.unchord(x);
-    true
-}
-
-/// Takes a point out where two halves of two segments are. The answer is whether it was.
-fn smooth(embedding: &mut Embedding, x: Half) -> bool {
-    if !embedding.contains(x) {
-        return false;
-    }
-    let other = embedding.turn(x);
-    if other == x || other == x.twin() || embedding.turn(other) != x {
-        return false;
-    }
-    embedding.smooth(x);
-    true
-}
-
-/// A new segment at a half that is there, whichever the choice is; none where there is no room.
-fn add(embedding: &mut Embedding, c: Half, d: Half, choice: u32) -> Option<Half> {
-    match choice {
-        0 => hang(embedding, c, 1),
-        1 => split(embedding, c),
-        2 | 3 => chord(embedding, c, d, 2),
-        _ => None,
-    }
-}
-
-/// Takes a segment out, or a point where two halves are.
-fn take_out(embedding: &mut Embedding, c: Half, choice: u32) -> bool {
-    if choice < 6 {
-        unchord(embedding, c)
-    } else {
-        smooth(embedding, c)
-    }
-}
-
-/// One edit, where it can be made. The halves of a new segment are added to the list.
-fn edit(
-    numbers: &mut Numbers,
+/// Makes so many edits, and looks at the labels after every third.
+fn edit_often(
+    rt: &impl Abort,
     embedding: &mut Embedding,
     halves: &mut Vec<Half>,
+    edits: u32,
 ) -> Result<(), AllocError> {
-    let c = one_of(numbers, halves.as_slice());
-    let d = one_of(numbers, halves.as_slice());
-    let choice = numbers.below(7);
-    let (Some(c), Some(d)) = (c, d) else {
-        return Ok(());
-    };
-    if !embedding.contains(d) {
-        return Ok(());
-    }
-    match add(embedding, c, d, choice) {
-        Some(x) => halves.extend_from_slice(&[x, x.twin()]),
-        None => {
-            let _is_gone = take_out(embedding, c, choice);
-            Ok(())
+    let mut numbers = Numbers { state: 1 };
+    for step in 0..edits {
+        let c = one_of(&mut numbers, halves.as_slice());
+        let d = one_of(&mut numbers, halves.as_slice());
+        let edit = EDITS.get(numbers.below(7) as usize);
+        if let (Some(c), Some(d), Some(edit)) = (c, d, edit) {
+            let _is_made = make(embedding, halves, c, d, *edit)?;
+        }
+        if step % 3 == 0 {
+            are_labelled(rt, embedding, halves.as_slice());
         }
     }
+    Ok(())
 }
 
 /// What was built from turns, at one place: a half that turns to the one at the place that its turn
@@ -149,7 +157,7 @@ fn is_built(
         && (half.number() as usize) < embedding.limit()
 }
 
-/// The same at each place.
+/// The same at each place, and the labels.
 fn are_built(
     rt: &impl Abort,
     embedding: &Embedding,
@@ -161,239 +169,217 @@ fn are_built(
     for place in 0..turns.len() {
         assert!(rt;
             is_built(embedding, halves, turns, edges, place),
-            "place {place}"
+            "{turns:?}, place {place}"
         );
     }
+    are_labelled(rt, embedding, halves);
 }
 
-#[test]
-fn builds_a_segment_from_turns(rt: HostRuntime) -> Result<(), Fail> {
-    let (embedding, halves) = Embedding::from_turns(rt.alloc(), &[0, 1], &[5])?;
-    are_built(&rt, &embedding, halves.as_slice(), &[0, 1], &[5]);
-    drop(embedding);
-    Ok(())
-}
-
-#[test]
-fn builds_two_loops_from_turns(rt: HostRuntime) -> Result<(), Fail> {
-    let (embedding, halves) = Embedding::from_turns(rt.alloc(), &[2, 3, 1, 0], &[3, 4])?;
-    are_built(&rt, &embedding, halves.as_slice(), &[2, 3, 1, 0], &[3, 4]);
-    drop(embedding);
-    Ok(())
-}
-
-/// `h` is a half of the seed: the two halves lie in one face.
-fn is_seed(embedding: &Embedding, h: Half) -> bool {
-    embedding.contains(h) && embedding.contains(h.twin()) && embedding.same_face(h, h.twin())
-}
-
-/// `x` is a chord from `h` to its twin, which parts their face.
-fn is_chord(embedding: &Embedding, h: Half, x: Half) -> bool {
-    embedding.contains(h)
-        && embedding.contains(h.twin())
-        && embedding.contains(x)
-        && embedding.edge(x) == 8
-        && embedding.edge(h) == 7
-        && embedding.turn(h) == x
-        && embedding.turn(x) == h
-        && embedding.face_next(h) == embedding.twin(x)
-        && !embedding.same_face(h, h.twin())
-}
-
-/// `y` hangs between the chord `x` and `h`.
-fn is_hung(embedding: &Embedding, h: Half, x: Half, y: Half) -> bool {
-    embedding.contains(h)
-        && embedding.contains(x)
-        && embedding.contains(y)
-        && embedding.turn(x) == y
-        && embedding.turn(y) == h
-        && embedding.degree(h) == 3
-}
-
-/// An edge that hangs has one face on both sides, a chord two.
-fn are_between_faces(embedding: &Embedding, x: Half, y: Half) -> bool {
-    embedding.contains(x)
-        && embedding.contains(x.twin())
-        && embedding.contains(y)
-        && embedding.contains(y.twin())
-        && embedding.degree(y.twin()) == 1
-        && embedding.same_face(y, y.twin())
-        && !embedding.same_face(x, x.twin())
-        && embedding.turn(x) != x.twin()
-}
-
-/// The chord `x` is gone, and `y` still hangs.
-fn is_unchorded(embedding: &Embedding, h: Half, x: Half, y: Half) -> bool {
-    !embedding.contains(x)
-        && embedding.contains(h)
-        && embedding.contains(h.twin())
-        && embedding.turn(h) == y
-        && embedding.turn(h.twin()) == h.twin()
-}
-
-/// Hangs an edge beside the chord `x`, which is in, and takes the chord out.
-fn hang_beside(rt: &impl Abort, embedding: &mut Embedding, h: Half, x: Half) -> Result<(), Fail> {
-    let y = hang(embedding, h, 9).ok_or("an edge that hangs")?;
-    assert!(rt; is_hung(embedding, h, x, y));
-    assert!(rt; are_between_faces(embedding, x, y));
-    assert!(rt; unchord(embedding, x));
-    assert!(rt; is_unchorded(embedding, h, x, y));
-    Ok(())
-}
-
-/// Draws a chord, and goes on from there. What is taken out makes room again.
-fn chord_and_hang(rt: &impl Abort, embedding: &mut Embedding, h: Half) -> Result<(), Fail> {
-    let room = embedding.room();
-    assert!(rt; room >= 100);
-    let x = chord(embedding, h, h.twin(), 8).ok_or("a chord")?;
-    assert!(rt; embedding.room() == room - 1);
-    assert!(rt; is_chord(embedding, h, x));
-    hang_beside(rt, embedding, h, x)?;
-    assert!(rt; embedding.room() == room - 1);
-    Ok(())
-}
-
-/// The same once there is room.
-fn chord_in_room(rt: &impl Abort, embedding: &mut Embedding, h: Half) -> Result<(), Fail> {
-    embedding.reserve(100)?;
-    chord_and_hang(rt, embedding, h)
-}
-
-#[test]
-fn chords_and_hangs(rt: HostRuntime) -> Result<(), Fail> {
-    let (mut embedding, h) = Embedding::seed(rt.alloc(), 7)?;
-    assert!(rt; is_seed(&embedding, h));
-    let told = chord_in_room(&rt, &mut embedding, h);
-    drop(embedding);
-    told
-}
-
-/// `x` is the new half at the point that parts `h` from its twin.
-fn is_split(embedding: &Embedding, h: Half, x: Half) -> bool {
-    let t = h.twin();
-    embedding.contains(x)
-        && embedding.contains(t)
-        && embedding.contains(x.twin())
-        && embedding.edge(x) == 7
-        && embedding.turn(x) == t
-        && embedding.turn(t) == x
-        && embedding.turn(x.twin()) == x.twin()
-}
-
-/// Each half of the seed is alone at its point.
-fn is_smoothed(embedding: &Embedding, h: Half) -> bool {
-    let t = h.twin();
-    embedding.contains(h)
-        && embedding.contains(t)
-        && embedding.turn(h) == h
-        && embedding.turn(t) == t
-}
-
-/// Puts a point on the seed's segment, once there is room, and takes it out.
-fn split_and_smooth(rt: &impl Abort, embedding: &mut Embedding, h: Half) -> Result<(), Fail> {
-    embedding.reserve(1)?;
-    let x = split(embedding, h).ok_or("a point")?;
-    assert!(rt; is_split(embedding, h, x));
-    assert!(rt; smooth(embedding, x));
-    assert!(rt; is_smoothed(embedding, h));
-    Ok(())
-}
-
-#[test]
-fn splits_and_smooths(rt: HostRuntime) -> Result<(), Fail> {
-    let (mut embedding, h) = Embedding::seed(rt.alloc(), 7)?;
-    let told = split_and_smooth(&rt, &mut embedding, h);
-    drop(embedding);
-    told
-}
-
-/// Two embeddings have a half, with the same turn.
-fn is_alike(first: &Embedding, second: &Embedding, half: Half) -> bool {
-    first.contains(half) && second.contains(half) && second.turn(half) == first.turn(half)
-}
-
-/// The same of each of these halves.
-fn are_alike(rt: &impl Abort, first: &Embedding, second: &Embedding, halves: &[Half]) {
-    for half in halves {
-        assert!(rt; is_alike(first, second, *half));
-    }
-}
-
-/// A copy is as what it is a copy of.
-fn is_copied(rt: &impl Abort, embedding: &Embedding, halves: &[Half]) -> Result<(), AllocError> {
-    let copy = embedding.copy()?;
-    are_alike(rt, embedding, &copy, halves);
-    drop(copy);
-    Ok(())
-}
-
-#[test]
-fn copies(rt: HostRuntime) -> Result<(), Fail> {
-    let (embedding, halves) = Embedding::from_turns(rt.alloc(), &[2, 3, 1, 0], &[3, 4])?;
-    let told = is_copied(&rt, &embedding, halves.as_slice());
-    drop(embedding);
-    Ok(told?)
-}
-
-#[test]
-fn refuses_what_no_memory_holds(rt: HostRuntime) -> Result<(), Fail> {
-    let (mut embedding, h) = Embedding::seed(rt.alloc(), 7)?;
-    let is_refused = embedding.reserve(usize::MAX).is_err();
-    let is_left = embedding.contains(h) && embedding.turn(h) == h;
-    drop(embedding);
-    assert!(rt; is_refused);
-    assert!(rt; is_left);
-    Ok(())
-}
-
-/// Makes so many edits, and looks at the labels after every third.
-fn edit_often(
-    rt: &impl Abort,
-    embedding: &mut Embedding,
-    halves: &mut Vec<Half>,
-) -> Result<(), AllocError> {
-    let mut numbers = Numbers { state: 1 };
-    for step in 0..300 {
-        edit(&mut numbers, embedding, halves)?;
-        if step % 3 == 0 {
-            are_labelled(rt, embedding, halves.as_slice());
-        }
-    }
-    Ok(())
-}
-
-/// The labels of a copy.
-fn are_labelled_in_copy(
-    rt: &impl Abort,
-    embedding: &Embedding,
-    halves: &[Half],
-) -> Result<(), AllocError> {
-    let copy = embedding.copy()?;
-    are_labelled(rt, &copy, halves);
-    drop(copy);
-    Ok(())
-}
-
-/// The labels of an embedding, while it is edited, and of its copy.
+/// What was built from turns is right, and so is a copy. The labels follow so many edits, also
+/// those of a copy.
 fn labels_follow(
     rt: &impl Abort,
     embedding: &mut Embedding,
     halves: &mut Vec<Half>,
+    turns: &[u32],
+    edges: &[u32],
+    edits: u32,
 ) -> Result<(), AllocError> {
-    are_labelled(rt, embedding, halves.as_slice());
+    are_built(rt, embedding, halves.as_slice(), turns, edges);
+    let copy = embedding.copy()?;
+    are_built(rt, &copy, halves.as_slice(), turns, edges);
+    drop(copy);
     embedding.reserve(12)?;
-    edit_often(rt, embedding, halves)?;
-    are_labelled_in_copy(rt, embedding, halves.as_slice())
+    edit_often(rt, embedding, halves, edits)?;
+    let copy = embedding.copy()?;
+    are_labelled(rt, &copy, halves.as_slice());
+    drop(copy);
+    Ok(())
+}
+
+/// The same of what was made.
+fn are_right(
+    rt: &impl Abort,
+    made: Result<(Embedding, Vec<Half>), AllocError>,
+    turns: &[u32],
+    edges: &[u32],
+    edits: u32,
+) -> Result<(), AllocError> {
+    let (mut embedding, mut halves) = made?;
+    let told = labels_follow(rt, &mut embedding, &mut halves, turns, edges, edits);
+    drop(embedding);
+    told
 }
 
 #[test]
-fn labels_follow_all_edits(rt: HostRuntime) -> Result<(), Fail> {
-    let (mut embedding, mut halves) = Embedding::from_turns(
-        rt.alloc(),
-        &[2, 3, 4, 5, 0, 1],
-        &[3, 4, 5],
-    )?;
-    let told = labels_follow(&rt, &mut embedding, &mut halves);
-    drop(embedding);
-    Ok(told?)
+fn labels_follow_all_edits_of_what_was_built_from_turns(rt: HostRuntime) -> Result<(), Fail> {
+    // a segment
+    let made = Embedding::from_turns(rt.alloc(), &[0, 1], &[5]);
+    are_right(&rt, made, &[0, 1], &[5], 0)?;
+    // two loops at one point
+    let made = Embedding::from_turns(rt.alloc(), &[2, 3, 1, 0], &[3, 4]);
+    are_right(&rt, made, &[2, 3, 1, 0], &[3, 4], 0)?;
+    // three segments side by side
+    let made = Embedding::from_turns(rt.alloc(), &[2, 3, 4, 5, 0, 1], &[3, 4, 5]);
+    are_right(&rt, made, &[2, 3, 4, 5, 0, 1], &[3, 4, 5], 300)?;
+    Ok(())
+}
+
+/// What is read off a half. Other halves are named by their places in the list.
+#[derive(Clone, Copy, Debug)]
+enum Fact {
+    /// It is not there.
+    Gone,
+    /// It turns to this one.
+    Turn(usize),
+    /// This one is the next along its face.
+    Next(usize),
+    /// It is on this edge.
+    Edge(u32),
+    /// There are so many halves at its point.
+    Degree(u64),
+    /// Whether it lies in one face with this one.
+    OneFace(usize, bool),
+}
+
+/// A step of a story. Halves are named by their places in the list: the two of the seed come first,
+/// and then the two of each new segment.
+#[derive(Clone, Copy, Debug)]
+enum Step {
+    /// An edit at a half, with the one that a chord leads to.
+    Make(Edit, usize, usize),
+    /// A fact of a half.
+    Is(usize, Fact),
+    /// There is so much less room than at the beginning.
+    Taken(usize),
+}
+
+/// Whether a fact of a half holds.
+fn holds(embedding: &Embedding, halves: &[Half], half: Half, fact: Fact) -> bool {
+    if !embedding.contains(half) {
+        return matches!(fact, Fact::Gone);
+    }
+    match fact {
+        Fact::Gone => false,
+        Fact::Turn(other) => halves.get(other).copied() == Some(embedding.turn(half)),
+        Fact::Next(other) => halves.get(other).copied() == Some(embedding.face_next(half)),
+        Fact::Edge(edge) => embedding.edge(half) == edge,
+        Fact::Degree(degree) => embedding.degree(half) == degree,
+        Fact::OneFace(other, due) => match halves.get(other) {
+            Some(other) => embedding.contains(*other) && embedding.same_face(half, *other) == due,
+            None => false,
+        },
+    }
+}
+
+/// Whether a step could be taken, or says the truth.
+fn take(
+    embedding: &mut Embedding,
+    halves: &mut Vec<Half>,
+    room: usize,
+    step: Step,
+) -> Result<bool, AllocError> {
+    match step {
+        Step::Make(edit, c, d) => {
+            let c = halves.as_slice().get(c).copied();
+            let d = halves.as_slice().get(d).copied();
+            match (c, d) {
+                (Some(c), Some(d)) => make(embedding, halves, c, d, edit),
+                _ => Ok(false),
+            }
+        }
+        Step::Is(half, fact) => match halves.as_slice().get(half) {
+            Some(half) => Ok(holds(embedding, halves.as_slice(), *half, fact)),
+            None => Ok(false),
+        },
+        Step::Taken(less) => Ok(room.checked_sub(less) == Some(embedding.room())),
+    }
+}
+
+/// How much room is reserved for a seed on edge 7, whether it is granted, and steps.
+type Story = (usize, bool, &'static [Step]);
+
+const STORIES: &[Story] = &[
+    // a chord parts the seed's face; an edge hangs beside it, with one face on both sides; the
+    // chord is taken out, which makes room again
+    (
+        100,
+        true,
+        &[
+            Step::Is(0, Fact::OneFace(1, true)),
+            Step::Make(Edit::Chord(8), 0, 1),
+            Step::Taken(1),
+            Step::Is(2, Fact::Edge(8)),
+            Step::Is(0, Fact::Edge(7)),
+            Step::Is(0, Fact::Turn(2)),
+            Step::Is(2, Fact::Turn(0)),
+            Step::Is(3, Fact::Turn(1)),
+            Step::Is(0, Fact::Next(3)),
+            Step::Is(0, Fact::OneFace(1, false)),
+            Step::Make(Edit::Hang(9), 0, 0),
+            Step::Is(4, Fact::Edge(9)),
+            Step::Is(2, Fact::Turn(4)),
+            Step::Is(4, Fact::Turn(0)),
+            Step::Is(0, Fact::Degree(3)),
+            Step::Is(5, Fact::Degree(1)),
+            Step::Is(4, Fact::OneFace(5, true)),
+            Step::Is(2, Fact::OneFace(3, false)),
+            Step::Make(Edit::Unchord, 2, 2),
+            Step::Is(2, Fact::Gone),
+            Step::Is(0, Fact::Turn(4)),
+            Step::Is(1, Fact::Turn(1)),
+            Step::Taken(1),
+        ],
+    ),
+    // a point parts the seed, and is taken out
+    (
+        1,
+        true,
+        &[
+            Step::Make(Edit::Split, 0, 0),
+            Step::Is(2, Fact::Edge(7)),
+            Step::Is(2, Fact::Turn(1)),
+            Step::Is(1, Fact::Turn(2)),
+            Step::Is(3, Fact::Turn(3)),
+            Step::Make(Edit::Smooth, 2, 2),
+            Step::Is(0, Fact::Turn(0)),
+            Step::Is(1, Fact::Turn(1)),
+        ],
+    ),
+    // no memory holds so many
+    (usize::MAX, false, &[Step::Is(0, Fact::Turn(0))]),
+];
+
+/// Reserves the room of a story, and takes its steps from the seed, one of whose halves is `h`.
+fn play(
+    rt: &impl Abort,
+    alloc: Global,
+    embedding: &mut Embedding,
+    h: Half,
+    story: &Story,
+) -> Result<(), AllocError> {
+    let (more, granted, steps) = *story;
+    assert!(rt;
+        embedding.reserve(more).is_ok() == granted,
+        "room for {more}"
+    );
+    let room = embedding.room();
+    assert!(rt; room >= more || !granted, "room for {more}: {room}");
+    let mut halves = Vec::from_slice(alloc, &[h, h.twin()])?;
+    for (index, step) in steps.iter().enumerate() {
+        let is_taken = take(embedding, &mut halves, room, *step)?;
+        assert!(rt; is_taken, "room for {more}, step {index}: {step:?}");
+    }
+    Ok(())
+}
+
+#[test]
+fn edits_of_the_seed(rt: HostRuntime) -> Result<(), Fail> {
+    for story in STORIES {
+        let (mut embedding, h) = Embedding::seed(rt.alloc(), 7)?;
+        let told = play(&rt, rt.alloc(), &mut embedding, h, story);
+        drop(embedding);
+        told?;
+    }
+    Ok(())
 }

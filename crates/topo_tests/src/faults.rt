@@ -15,12 +15,6 @@ use topo_rows::LoadFault;
 use topo_settings::RunFault;
 use topo_test_support::errors::text_of_error;
 
-/// A text begins with a number and a space.
-fn begins(alloc: Global, text: &str, number: u32) -> Result<bool, Fail> {
-    let front = format!(in alloc; "{number} ")?;
-    Ok(text.starts_with(front.as_str()))
-}
-
 /// A fault that `?` has made an error of any kind is printed as this text.
 fn check_error<E: Error>(rt: &impl Abort, alloc: Global, fault: E, text: &str) -> Result<(), Fail> {
     let printed = text_of_error(alloc, fault)?;
@@ -28,9 +22,9 @@ fn check_error<E: Error>(rt: &impl Abort, alloc: Global, fault: E, text: &str) -
     Ok(())
 }
 
-/// A fault is printed as this text, which begins with its number, and so is the error of any kind
-/// that `?` makes of it.
-fn check_fault<E: Error + Copy>(
+/// A fault is printed as this text, which begins with its number and a space, and so is the error
+/// of any kind that `?` makes of it.
+fn check_number<E: Error + Copy>(
     rt: &impl Abort,
     alloc: Global,
     fault: E,
@@ -39,54 +33,128 @@ fn check_fault<E: Error + Copy>(
 ) -> Result<(), Fail> {
     let printed = format!(in alloc; "{fault}")?;
     assert!(rt; printed.as_str() == text, "{printed}");
-    assert!(rt; begins(alloc, text, number)?, "{printed}");
+    let front = format!(in alloc; "{number} ")?;
+    assert!(rt; text.starts_with(front.as_str()), "{number}: {printed}");
     check_error(rt, alloc, fault, text)
 }
 
-/// The faults of commands that name no path, as they are printed.
-const FAULTS: &[(RunFault, &str)] = &[
-    (RunFault::Memory, "8 Memory"),
-    (RunFault::Price(PriceFault::BadPrice(7)), "10 BadPrice 7"),
-    (RunFault::BadLimits, "11 BadLimits"),
-    (RunFault::Load(LoadFault::TooMany), "20 TooMany"),
-    (RunFault::Load(LoadFault::BadPath), "21 BadPath"),
-    (RunFault::Load(LoadFault::BadCrossing), "22 BadCrossing"),
-    (RunFault::Load(LoadFault::BadRotation), "23 BadRotation"),
-    (RunFault::Load(LoadFault::NotConnected), "24 NotConnected"),
-    (RunFault::Load(LoadFault::NotPlanar), "25 NotPlanar"),
-    (RunFault::Load(LoadFault::Memory), "8 Memory"),
-    (RunFault::Script(ScriptFault::NotJson), "50 NotJson"),
-    (RunFault::Script(ScriptFault::TooLong), "51 TooLong"),
+/// A fault of a command, or what it may come of.
+#[derive(Clone, Copy)]
+enum Fault {
+    Run(RunFault),
+    Script(ScriptFault),
+    Load(LoadFault),
+    Price(PriceFault),
+    Limits(LimitsFault),
+    Replay(ReplayFault),
+    Plan(PlanFault),
+    Refused(Refusal),
+}
+
+/// A fault is printed as this text. That of a command has status 3 where memory ran out, and else
+/// 1.
+fn check_fault(rt: &impl Abort, alloc: Global, fault: Fault, text: &str) -> Result<(), Fail> {
+    match fault {
+        Fault::Run(fault) => {
+            let status = if text.ends_with("Memory") { 3 } else { 1 };
+            assert!(rt; fault.status() == status, "{text}");
+            check_number(rt, alloc, fault, fault.number(), text)
+        }
+        Fault::Script(fault) => check_error(rt, alloc, fault, text),
+        Fault::Load(fault) => check_error(rt, alloc, fault, text),
+        Fault::Price(fault) => check_error(rt, alloc, fault, text),
+        Fault::Limits(fault) => check_error(rt, alloc, fault, text),
+        Fault::Replay(fault) => check_number(rt, alloc, fault, fault.number(), text),
+        Fault::Plan(fault) => check_number(rt, alloc, fault, fault.number(), text),
+        Fault::Refused(why) => check_number(rt, alloc, why, why.number(), text),
+    }
+}
+
+/// Faults that name no path, as they are printed.
+const FAULTS: &[(Fault, &str)] = &[
+    (Fault::Run(RunFault::Memory), "8 Memory"),
     (
-        RunFault::Script(ScriptFault::BadShape(Path::WHOLE)),
+        Fault::Run(RunFault::Price(PriceFault::BadPrice(7))),
+        "10 BadPrice 7",
+    ),
+    (Fault::Run(RunFault::BadLimits), "11 BadLimits"),
+    (Fault::Run(RunFault::Load(LoadFault::TooMany)), "20 TooMany"),
+    (Fault::Run(RunFault::Load(LoadFault::BadPath)), "21 BadPath"),
+    (
+        Fault::Run(RunFault::Load(LoadFault::BadCrossing)),
+        "22 BadCrossing",
+    ),
+    (
+        Fault::Run(RunFault::Load(LoadFault::BadRotation)),
+        "23 BadRotation",
+    ),
+    (
+        Fault::Run(RunFault::Load(LoadFault::NotConnected)),
+        "24 NotConnected",
+    ),
+    (
+        Fault::Run(RunFault::Load(LoadFault::NotPlanar)),
+        "25 NotPlanar",
+    ),
+    (Fault::Run(RunFault::Load(LoadFault::Memory)), "8 Memory"),
+    (
+        Fault::Run(RunFault::Script(ScriptFault::NotJson)),
+        "50 NotJson",
+    ),
+    (
+        Fault::Run(RunFault::Script(ScriptFault::TooLong)),
+        "51 TooLong",
+    ),
+    (
+        Fault::Run(RunFault::Script(ScriptFault::BadShape(Path::WHOLE))),
         "52 BadShape $",
     ),
-    (RunFault::Script(ScriptFault::BadVersion), "53 BadVersion"),
-    (RunFault::Script(ScriptFault::Memory), "8 Memory"),
-    (RunFault::ReadFault, "55 ReadFault"),
-    (RunFault::WriteFault, "56 WriteFault"),
-    (RunFault::NoSeat, "41 NoSeat"),
-    (RunFault::Mismatch(1, 2), "40 Mismatch 1 2"),
-    (RunFault::WrongReply(17), "60 WrongReply 17"),
-    (RunFault::WrongPicture, "61 WrongPicture"),
+    (
+        Fault::Run(RunFault::Script(ScriptFault::BadVersion)),
+        "53 BadVersion",
+    ),
+    (
+        Fault::Run(RunFault::Script(ScriptFault::Memory)),
+        "8 Memory",
+    ),
+    (Fault::Run(RunFault::ReadFault), "55 ReadFault"),
+    (Fault::Run(RunFault::WriteFault), "56 WriteFault"),
+    (Fault::Run(RunFault::NoSeat), "41 NoSeat"),
+    (Fault::Run(RunFault::Mismatch(1, 2)), "40 Mismatch 1 2"),
+    (Fault::Run(RunFault::WrongReply(17)), "60 WrongReply 17"),
+    (Fault::Run(RunFault::WrongPicture), "61 WrongPicture"),
+    (Fault::Script(ScriptFault::BadVersion), "53 BadVersion"),
+    (Fault::Load(LoadFault::NotPlanar), "25 NotPlanar"),
+    (Fault::Price(PriceFault::BadPrice(63)), "10 BadPrice 63"),
+    (Fault::Limits(LimitsFault::BadLimits), "11 BadLimits"),
+    (
+        Fault::Replay(ReplayFault::WrongReply(17)),
+        "60 WrongReply 17",
+    ),
+    (Fault::Replay(ReplayFault::Memory), "8 Memory"),
+    (Fault::Plan(PlanFault::WrongLength), "30 WrongLength"),
+    (Fault::Plan(PlanFault::UnevenFace), "31 UnevenFace"),
+    (Fault::Plan(PlanFault::TooSteep), "32 TooSteep"),
+    (Fault::Plan(PlanFault::TargetNotZero), "33 TargetNotZero"),
+    (Fault::Plan(PlanFault::NotARoute), "34 NotARoute"),
+    (Fault::Plan(PlanFault::NotLeast), "35 NotLeast"),
+    (Fault::Plan(PlanFault::NotFirst), "36 NotFirst"),
+    (Fault::Refused(Refusal::NoVertex), "1 NoVertex"),
+    (Fault::Refused(Refusal::SameEnds), "2 SameEnds"),
+    (Fault::Refused(Refusal::NoPosition), "3 NoPosition"),
+    (Fault::Refused(Refusal::NoEdge), "4 NoEdge"),
+    (Fault::Refused(Refusal::BadKind), "5 BadKind"),
+    (Fault::Refused(Refusal::Cut(3)), "6 Cut 3"),
+    (Fault::Refused(Refusal::Full), "7 Full"),
+    (Fault::Refused(Refusal::Memory), "8 Memory"),
+    (Fault::Refused(Refusal::NoRoute), "9 NoRoute"),
 ];
 
 #[test]
-fn faults_of_commands(rt: HostRuntime) -> Result<(), Fail> {
+fn faults_are_errors_that_print_their_numbers(rt: HostRuntime) -> Result<(), Fail> {
     for (fault, text) in FAULTS {
-        check_fault(&rt, rt.alloc(), *fault, fault.number(), text)?;
-        let wanted = if text.ends_with("Memory") { 3 } else { 1 };
-        assert!(rt; fault.status() == wanted);
+        check_fault(&rt, rt.alloc(), *fault, *text)?;
     }
-    Ok(())
-}
-
-/// A fault of a script that names a path is printed as this text.
-fn check_path(rt: &impl Abort, alloc: Global, fault: ScriptFault, text: &str) -> Result<(), Fail> {
-    check_error(rt, alloc, fault, text)?;
-    let fault = RunFault::Script(fault);
-    check_fault(rt, alloc, fault, fault.number(), text)?;
-    assert!(rt; fault.status() == 1);
     Ok(())
 }
 
@@ -95,80 +163,19 @@ fn faults_at_paths(rt: HostRuntime) -> Result<(), Fail> {
     let workers = Path::WHOLE.member(Key::Workers);
     let deep = workers.element(0).element(3).element(1);
     let sixth = deep.member(Key::Call).member(Key::NextEdge);
-    let shape = ScriptFault::BadShape(workers);
-    check_path(&rt, rt.alloc(), shape, "52 BadShape $/workers")?;
-    let number = ScriptFault::BadNumber(deep);
-    check_path(&rt, rt.alloc(), number, "54 BadNumber $/workers/0/3/1")?;
-    let number = ScriptFault::BadNumber(sixth);
-    check_path(
-        &rt,
-        rt.alloc(),
-        number,
-        "54 BadNumber $/workers/0/3/1/call/next_edge",
-    )
-}
-
-/// The faults of replays, as they are printed.
-const REPLAY_FAULTS: &[(ReplayFault, &str)] = &[
-    (ReplayFault::WrongReply(17), "60 WrongReply 17"),
-    (ReplayFault::Memory, "8 Memory"),
-];
-
-#[test]
-fn faults_of_replays(rt: HostRuntime) -> Result<(), Fail> {
-    for (fault, text) in REPLAY_FAULTS {
-        check_fault(&rt, rt.alloc(), *fault, fault.number(), text)?;
+    let faults = [
+        (ScriptFault::BadShape(workers), "52 BadShape $/workers"),
+        (ScriptFault::BadNumber(deep), "54 BadNumber $/workers/0/3/1"),
+        (
+            ScriptFault::BadNumber(sixth),
+            "54 BadNumber $/workers/0/3/1/call/next_edge",
+        ),
+    ];
+    for (fault, text) in faults {
+        check_fault(&rt, rt.alloc(), Fault::Script(fault), text)?;
+        check_fault(&rt, rt.alloc(), Fault::Run(RunFault::Script(fault)), text)?;
     }
     Ok(())
-}
-
-/// The faults of plans, as they are printed.
-const PLAN_FAULTS: &[(PlanFault, &str)] = &[
-    (PlanFault::WrongLength, "30 WrongLength"),
-    (PlanFault::UnevenFace, "31 UnevenFace"),
-    (PlanFault::TooSteep, "32 TooSteep"),
-    (PlanFault::TargetNotZero, "33 TargetNotZero"),
-    (PlanFault::NotARoute, "34 NotARoute"),
-    (PlanFault::NotLeast, "35 NotLeast"),
-    (PlanFault::NotFirst, "36 NotFirst"),
-];
-
-#[test]
-fn faults_of_plans(rt: HostRuntime) -> Result<(), Fail> {
-    for (fault, text) in PLAN_FAULTS {
-        check_fault(&rt, rt.alloc(), *fault, fault.number(), text)?;
-    }
-    Ok(())
-}
-
-/// The refusals, as they are printed.
-const REFUSALS: &[(Refusal, &str)] = &[
-    (Refusal::NoVertex, "1 NoVertex"),
-    (Refusal::SameEnds, "2 SameEnds"),
-    (Refusal::NoPosition, "3 NoPosition"),
-    (Refusal::NoEdge, "4 NoEdge"),
-    (Refusal::BadKind, "5 BadKind"),
-    (Refusal::Cut(3), "6 Cut 3"),
-    (Refusal::Full, "7 Full"),
-    (Refusal::Memory, "8 Memory"),
-    (Refusal::NoRoute, "9 NoRoute"),
-];
-
-#[test]
-fn refusals_are_errors(rt: HostRuntime) -> Result<(), Fail> {
-    for (why, text) in REFUSALS {
-        check_fault(&rt, rt.alloc(), *why, why.number(), text)?;
-    }
-    Ok(())
-}
-
-#[test]
-fn faults_below_commands(rt: HostRuntime) -> Result<(), Fail> {
-    let alloc = rt.alloc();
-    check_error(&rt, alloc, LimitsFault::BadLimits, "11 BadLimits")?;
-    check_error(&rt, alloc, PriceFault::BadPrice(63), "10 BadPrice 63")?;
-    check_error(&rt, alloc, LoadFault::NotPlanar, "25 NotPlanar")?;
-    check_error(&rt, alloc, ScriptFault::BadVersion, "53 BadVersion")
 }
 
 /// The room that the program has for the line of a fault.

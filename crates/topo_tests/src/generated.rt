@@ -1,28 +1,30 @@
 //! A long run of calls that a small generator makes.
 
-ghost use Rattle.topo_price.specs.Prices.{IsPromise};
-
 use crate::picture_rows::falls_apart;
+use crate::stories::{Story, tell_at};
 use std::alloc::{AllocError, Global};
 use std::process::Abort;
+use std::sync::atomic::AtomicU32;
 use std::test::Fail;
 use topo_book::{Book, replay};
 use topo_check::replay_io;
 use topo_core::calls::{Call, Entry, Refusal, Reply};
 use topo_core::limits::Limits;
 use topo_core::listed::Listed;
-use topo_core::rows::{Facts, Rows};
+use topo_core::rows::Rows;
 use topo_forms::{LimitRows, Report};
 use topo_picture::Picture;
 use topo_price::tariff::PriceFn;
 use topo_script::report;
-use topo_test_support::books::{book_of, make};
+use topo_test_support::books::make;
 use topo_test_support::lawful::{is_loaded_again, shows};
-use topo_test_support::pictures::{SEED, picture_within};
-use topo_test_support::prices::table_of;
+use topo_test_support::prices::{Entries, table_of};
 
 /// The prices of kinds 0 to 3, which are those that the calls have.
 const PRICES: [Option<u32>; 4] = [Some(1), Some(5), Some(2), None];
+
+/// The same but for kind 0.
+pub(crate) const ENTRIES: Entries = &[(1, Some(5)), (2, Some(2)), (3, None)];
 
 /// The numbers of a linear congruence modulo 2^32.
 #[derive(Drop)]
@@ -41,49 +43,47 @@ impl Numbers {
     }
 }
 
-/// A growth, an edge between vertices whose numbers are near, or a deletion.
-pub(crate) fn next_call(numbers: &mut Numbers, vertices: u32, edges: u32) -> Call {
-    let kind = numbers.below(4);
-    let u = numbers.below(vertices);
-    let near = numbers.below(5);
-    let edge = numbers.below(edges);
-    match numbers.below(6) {
-        0 => Call::Grow {
-            u,
-            position: near,
-            kind,
-        },
-        1 => Call::Grow {
-            u,
-            position: 0,
-            kind,
-        },
-        2 => Call::Delete { edge },
-        _ => Call::Insert {
-            u,
-            v: u.wrapping_add(near),
-            kind,
-        },
-    }
-}
-
 /// The ids that the next edge and the next crossing of a picture get.
-pub(crate) fn next_ids(alloc: Global, picture: &Picture) -> Result<(u32, u32), AllocError> {
+fn next_ids(alloc: Global, picture: &Picture) -> Result<(u32, u32), AllocError> {
     let rows = picture.rows(alloc)?;
     let ids = (rows.next_edge, rows.next_crossing);
     drop(rows);
     Ok(ids)
 }
 
-/// Whether an edge can be taken out, and these rows are left.
-fn is_deleted(
+/// A growth, an edge between vertices whose numbers are near, or a deletion. Where there are hubs,
+/// half of the calls lead an edge to one of so many vertices.
+pub(crate) fn next_call(
     alloc: Global,
-    picture: &mut Picture,
-    edge: u32,
-    wanted: &Rows,
-) -> Result<bool, AllocError> {
-    let deleted = picture.delete(edge).is_ok();
-    Ok(shows(alloc, picture, wanted)? && deleted)
+    numbers: &mut Numbers,
+    picture: &Picture,
+    hubs: Option<u32>,
+) -> Result<Call, AllocError> {
+    let (edges, _crossings) = next_ids(alloc, picture)?;
+    let vertices = picture.counts().vertices;
+    if let Some(hubs) = hubs {
+        let kind = numbers.below(4);
+        if numbers.below(2) != 0 {
+            let (u, v) = (numbers.below(vertices), numbers.below(hubs));
+            return Ok(Call::Insert { u, v, kind });
+        }
+    }
+    let kind = numbers.below(4);
+    let u = numbers.below(vertices);
+    let near = numbers.below(5);
+    let edge = numbers.below(edges);
+    let choice = numbers.below(6);
+    Ok(match choice {
+        0 | 1 => {
+            let position = if choice == 0 { near } else { 0 };
+            Call::Grow { u, position, kind }
+        }
+        2 => Call::Delete { edge },
+        _ => {
+            let v = u.wrapping_add(near);
+            Call::Insert { u, v, kind }
+        }
+    })
 }
 
 /// Whether the rows are those from before an insertion once its edge is taken out of a copy, but
@@ -96,9 +96,10 @@ fn is_taken_back(
 ) -> Result<bool, AllocError> {
     (before.next_edge, before.next_crossing) = next_ids(alloc, picture)?;
     let mut copy = picture.copy(alloc)?;
-    let deleted = is_deleted(alloc, &mut copy, edge, before);
+    let deleted = copy.delete(edge).is_ok();
+    let same = shows(alloc, &copy, before);
     drop(copy);
-    deleted
+    Ok(same? && deleted)
 }
 
 /// Whether the picture is what the reply says, where that is seen without knowing the routes. A cut
@@ -129,31 +130,18 @@ fn is_right(
     alloc: Global,
     picture: &Picture,
     call: Call,
-    reply: &Reply,
+    reply: &Result<Reply, AllocError>,
     before: &mut Rows,
 ) -> Result<(), Fail> {
+    let Ok(reply) = reply else {
+        return Err("memory".into());
+    };
     assert!(rt; is_loaded_again(alloc, picture)?, "{call:?}: {reply:?}");
     assert!(rt;
         is_meant(alloc, picture, call, reply, before)?,
         "{call:?}: {reply:?}"
     );
     Ok(())
-}
-
-/// Makes one call on a picture that shows these rows, and looks at what comes of it.
-fn go_on_from<F: PriceFn>(
-    rt: &impl Abort,
-    alloc: Global,
-    book: &mut Book<F>,
-    numbers: &mut Numbers,
-    before: &mut Rows,
-) -> Result<(), Fail> {
-    let vertices = book.picture().counts().vertices;
-    let call = next_call(numbers, vertices, before.next_edge);
-    let reply = make(alloc, book, 0, call)?;
-    let told = is_right(rt, alloc, book.picture(), call, &reply, before);
-    drop(reply);
-    told
 }
 
 /// Makes one call, and looks at what comes of it.
@@ -163,8 +151,11 @@ fn go_on<F: PriceFn>(
     book: &mut Book<F>,
     numbers: &mut Numbers,
 ) -> Result<(), Fail> {
+    let call = next_call(alloc, numbers, book.picture(), None)?;
     let mut before = book.picture().rows(alloc)?;
-    let told = go_on_from(rt, alloc, book, numbers, &mut before);
+    let reply = make(alloc, book, 0, call);
+    let told = is_right(rt, alloc, book.picture(), call, &reply, &mut before);
+    drop(reply);
     drop(before);
     told
 }
@@ -185,12 +176,15 @@ fn is_of(reply: &Reply, sort: u32) -> bool {
     }
 }
 
-/// How many replies of a sort a history has.
-fn count_of(history: &[Entry], sort: u32) -> usize {
-    history
-        .iter()
-        .filter(|entry| is_of(&entry.reply, sort))
-        .count()
+/// There are replies of each sort.
+fn has_each_sort(rt: &impl Abort, history: &[Entry]) {
+    for sort in 0..6 {
+        let had = history
+            .iter()
+            .filter(|entry| is_of(&entry.reply, sort))
+            .count();
+        assert!(rt; had >= 3, "sort {sort}: {had}");
+    }
 }
 
 /// Copies of entries.
@@ -202,148 +196,75 @@ fn copies_of(alloc: Global, entries: &[Entry]) -> Result<Listed<Entry>, AllocErr
     Ok(Listed::from_vec(copies))
 }
 
-/// The limits of a picture.
-fn limits_of(picture: &Picture) -> LimitRows {
-    let limits = picture.limits();
-    LimitRows {
-        vertices: limits.vertices,
-        edges: limits.edges,
-        crossings: limits.crossings,
-    }
-}
-
-/// The report that a book is, of which the first and the last picture are read off.
-fn report_between<F: PriceFn>(
-    alloc: Global,
-    book: &Book<F>,
-    start: Rows,
-    picture: Rows,
-) -> Result<Report, AllocError> {
+/// The report that a book is.
+fn report_of<F: PriceFn>(alloc: Global, book: &Book<F>) -> Result<Report, AllocError> {
+    let limits = book.start().limits();
     Ok(Report {
-        limits: limits_of(book.start()),
+        limits: LimitRows {
+            vertices: limits.vertices,
+            edges: limits.edges,
+            crossings: limits.crossings,
+        },
         prices: Listed::from_vec(Vec::from_slice(alloc, &PRICES)?),
-        start,
+        start: book.start().rows(alloc)?,
         history: copies_of(alloc, book.history())?,
-        picture,
+        picture: book.picture().rows(alloc)?,
     })
 }
 
-/// The report that a book is.
-fn report_of<F: PriceFn>(alloc: Global, book: &Book<F>) -> Result<Report, AllocError> {
-    let start = book.start().rows(alloc)?;
-    let picture = book.picture().rows(alloc)?;
-    report_between(alloc, book, start, picture)
-}
-
-/// The text of that report.
-fn text_of<F: PriceFn>(alloc: Global, book: &Book<F>) -> Result<String, AllocError> {
+/// The report that a book is passes the command `replay`, which counts its calls.
+fn is_reported<F: PriceFn>(rt: &impl Abort, alloc: Global, book: &Book<F>) -> Result<(), Fail> {
     let made = report_of(alloc, book)?;
     let text = report(alloc, &made);
     drop(made);
-    text
-}
-
-/// A picture is like another, in which no vertex is missing.
-fn is_alike(
-    rt: &impl Abort,
-    alloc: Global,
-    picture: &Picture,
-    wanted: &Picture,
-) -> Result<(), AllocError> {
-    let rows = wanted.rows(alloc)?;
-    let same = shows(alloc, picture, &rows);
-    drop(rows);
-    assert!(rt; same?);
-    assert!(rt; picture.counts().vertices == 40);
+    let text = text?;
+    let mut written: Vec<u8> = Vec::new(alloc);
+    replay_io(alloc, &mut text.as_str().as_bytes(), &mut written)?;
+    assert!(rt; written.as_slice() == "replayed 250 calls\n".as_bytes());
     Ok(())
 }
 
-/// The replay of a book's history is its picture.
+/// The replay of a book's history is its picture, in which no vertex is missing.
 fn is_replayed<F: PriceFn>(rt: &impl Abort, alloc: Global, book: &Book<F>) -> Result<(), Fail> {
     let again = replay(alloc, book.start(), book.history(), book.tariff())?;
-    let told = is_alike(rt, alloc, &again, book.picture());
+    let rows = book.picture().rows(alloc);
+    let same = match &rows {
+        Ok(rows) => shows(alloc, &again, rows),
+        Err(_) => Ok(false),
+    };
+    let vertices = again.counts().vertices;
+    drop(rows);
     drop(again);
-    Ok(told?)
-}
-
-/// There are replies of each sort.
-fn has_each_sort(rt: &impl Abort, history: &[Entry]) {
-    for sort in 0..6 {
-        let had = count_of(history, sort);
-        assert!(rt; had >= 3, "sort {sort}: {had}");
-    }
-}
-
-/// The line that counts calls was written.
-fn is_line(rt: &impl Abort, alloc: Global, written: &[u8], calls: u32) -> Result<(), AllocError> {
-    let wanted = format!(in alloc; "replayed {calls} calls\n")?;
-    assert!(rt; written == wanted.as_bytes());
+    assert!(rt; same?);
+    assert!(rt; vertices == 40);
     Ok(())
-}
-
-/// A report passes the command `replay`, which counts its calls.
-fn passes(rt: &impl Abort, alloc: Global, text: &str, calls: u32) -> Result<(), Fail> {
-    let mut written: Vec<u8> = Vec::new(alloc);
-    replay_io(alloc, &mut text.as_bytes(), &mut written)?;
-    is_line(rt, alloc, written.as_slice(), calls)?;
-    Ok(())
-}
-
-/// The report that a book is passes.
-fn is_reported<F: PriceFn>(
-    rt: &impl Abort,
-    alloc: Global,
-    book: &Book<F>,
-    calls: u32,
-) -> Result<(), Fail> {
-    let text = text_of(alloc, book)?;
-    passes(rt, alloc, text.as_str(), calls)
 }
 
 /// A run of calls, its replay, and the replay of its report.
-fn run<F: PriceFn>(
-    rt: &impl Abort,
-    alloc: Global,
-    book: &mut Book<F>,
-    state: u32,
-    calls: u32,
-) -> Result<(), Fail> {
-    let mut numbers = Numbers { state };
-    for _ in 0..calls {
-        go_on(rt, alloc, book, &mut numbers)?;
-    }
-    is_replayed(rt, alloc, book)?;
-    has_each_sort(rt, book.history());
-    is_reported(rt, alloc, book, calls)
-}
+#[derive(Drop)]
+struct Run;
 
-/// The run of a book that begins with the seed.
-fn run_from_seed<F: PriceFn + Drop>(
-    rt: &impl Abort,
-    alloc: Global,
-    state: u32,
-    calls: u32,
-    ask: F,
-) -> Result<(), Fail>
-    requires callable { F.is_callable ask }
-    requires promise { IsPromise (F.may_return ask) }
-{
-    let start = picture_within(alloc, &SEED, Limits::new(40, 1_000, 2_000)?)?;
-    let mut book = book_of(alloc, start, ask)?;
-    let told = run(rt, alloc, &mut book, state, calls);
-    drop(book);
-    told
+impl Story for Run {
+    fn tell<F: PriceFn + Drop, R: Abort>(
+        &mut self,
+        rt: &R,
+        alloc: Global,
+        book: &mut Book<F>,
+        _asked: &AtomicU32,
+    ) -> Result<(), Fail> {
+        let mut numbers = Numbers { state: 7 };
+        for _ in 0..250 {
+            go_on(rt, alloc, book, &mut numbers)?;
+        }
+        is_replayed(rt, alloc, book)?;
+        has_each_sort(rt, book.history());
+        is_reported(rt, alloc, book)
+    }
 }
 
 #[test]
 fn a_run_of_generated_calls(rt: HostRuntime) -> Result<(), Fail> {
-    let entries = [(1, PRICES[1]), (2, PRICES[2]), (3, PRICES[3])];
-    let table = table_of(PRICES[0], &entries)?;
-    run_from_seed(
-        &rt,
-        rt.alloc(),
-        7,
-        250,
-        |facts: &Facts| table.price(facts.kind),
-    )
+    let table = table_of(PRICES[0], ENTRIES)?;
+    let start = Picture::seed(rt.alloc(), Limits::new(40, 1_000, 2_000)?);
+    tell_at(&rt, rt.alloc(), start, &table, &mut Run)
 }

@@ -10,19 +10,15 @@ mod both_ends;
 #[cfg(test)]
 mod core_types;
 #[cfg(test)]
+mod duals;
+#[cfg(test)]
 mod embeddings;
 #[cfg(test)]
 mod faults;
 #[cfg(test)]
-mod first_routes;
-#[cfg(test)]
 mod full_pictures;
 #[cfg(test)]
 mod generated;
-#[cfg(test)]
-mod long_routes;
-#[cfg(test)]
-mod numbered;
 #[cfg(test)]
 mod permutations;
 #[cfg(test)]
@@ -30,14 +26,12 @@ mod picture_rows;
 #[cfg(test)]
 mod plans;
 #[cfg(test)]
-mod prices;
-#[cfg(test)]
 mod readers;
-#[cfg(test)]
-mod regions;
 #[cfg(test)]
 mod replicas;
 #[cfg(test)]
 mod searches;
 #[cfg(test)]
 mod stopping;
+#[cfg(test)]
+mod stories;

@@ -9,42 +9,18 @@ use topo_core::rows::{CrossRow, EdgeRow, Rows};
 use topo_picture::Picture;
 use topo_rows::LoadFault;
 
-/// The ids of a list that are not among the others.
-fn kept(alloc: Global, ids: &[u32], gone: &[u32]) -> Result<Listed<u32>, AllocError> {
-    let mut left = Vec::new(alloc);
-    for id in ids {
-        if !gone.contains(id) {
-            left.push(*id)?;
-        }
-    }
-    Ok(Listed::from_vec(left))
-}
-
-/// The ids from this one on, and then those before it.
-fn turned_to(alloc: Global, ids: &[u32], first: u32) -> Result<Listed<u32>, AllocError> {
-    let place = ids.iter().position(|id| *id == first).unwrap_or(0);
-    let (before, after) = ids.split_at(place);
-    let mut turned = Vec::from_slice(alloc, after)?;
-    turned.extend_from_slice(before)?;
-    Ok(Listed::from_vec(turned))
-}
-
 /// The edges round a vertex but one, from the least on.
 fn turned_to_least(alloc: Global, around: &[u32], e: u32) -> Result<Listed<u32>, AllocError> {
-    let left = kept(alloc, around, &[e])?;
-    let ids = left.as_slice();
-    turned_to(alloc, ids, ids.iter().copied().min().unwrap_or(0))
-}
-
-/// The ids of the crossings of an edge.
-fn crossings_of(alloc: Global, crossings: &[CrossRow], e: u32) -> Result<Vec<u32>, AllocError> {
-    let mut ids = Vec::new(alloc);
-    for row in crossings {
-        if row.crossed == e || row.newcomer == e {
-            ids.push(row.id)?;
+    let least = around.iter().copied().filter(|id| *id != e).min();
+    let place = around.iter().position(|id| Some(*id) == least).unwrap_or(0);
+    let (before, after) = around.split_at(place);
+    let mut turned = Vec::new(alloc);
+    for id in after.iter().chain(before) {
+        if *id != e {
+            turned.push(*id)?;
         }
     }
-    Ok(ids)
+    Ok(Listed::from_vec(turned))
 }
 
 /// The edges round each vertex without one.
@@ -60,71 +36,64 @@ fn rotations_without(
     Ok(Listed::from_vec(left))
 }
 
-/// The edges but one, without crossings that are gone.
-fn edges_without(
-    alloc: Global,
-    edges: &[EdgeRow],
-    e: u32,
-    gone: &[u32],
-) -> Result<Listed<EdgeRow>, AllocError> {
-    let mut left = Vec::new(alloc);
-    for row in edges {
-        if row.id != e {
-            left.push(EdgeRow {
-                id: row.id,
-                a: row.a,
-                b: row.b,
-                kind: row.kind,
-                crossings: kept(alloc, row.crossings.as_slice(), gone)?,
-            })?;
-        }
-    }
-    Ok(Listed::from_vec(left))
-}
-
-/// The crossings but those that are gone.
+/// The crossings that are not on an edge.
 fn crossings_without(
     alloc: Global,
     crossings: &[CrossRow],
-    gone: &[u32],
+    e: u32,
 ) -> Result<Listed<CrossRow>, AllocError> {
     let mut left = Vec::new(alloc);
     for row in crossings {
-        if !gone.contains(&row.id) {
+        if row.crossed != e && row.newcomer != e {
             left.push(*row)?;
         }
     }
     Ok(Listed::from_vec(left))
 }
 
-/// The rows without an edge, of which the edges and the crossings are left.
-fn with_lists(
-    alloc: Global,
-    rows: &Rows,
-    e: u32,
-    edges: Listed<EdgeRow>,
-    crossings: Listed<CrossRow>,
-) -> Result<Rows, AllocError> {
-    Ok(Rows {
-        rotations: rotations_without(alloc, rows.rotations.as_slice(), e)?,
-        edges,
-        crossings,
-        next_edge: rows.next_edge,
-        next_crossing: rows.next_crossing,
-    })
+/// The crossings of a path that are left.
+fn path_of(alloc: Global, path: &[u32], left: &[CrossRow]) -> Result<Listed<u32>, AllocError> {
+    let mut ids = Vec::new(alloc);
+    for id in path {
+        if left.iter().any(|row| row.id == *id) {
+            ids.push(*id)?;
+        }
+    }
+    Ok(Listed::from_vec(ids))
 }
 
-/// The rows without an edge and the crossings that are gone with it.
-fn without_crossings(alloc: Global, rows: &Rows, e: u32, gone: &[u32]) -> Result<Rows, AllocError> {
-    let edges = edges_without(alloc, rows.edges.as_slice(), e, gone)?;
-    let crossings = crossings_without(alloc, rows.crossings.as_slice(), gone)?;
-    with_lists(alloc, rows, e, edges, crossings)
+/// The edges but one, with the crossings that are left.
+fn edges_without(
+    alloc: Global,
+    edges: &[EdgeRow],
+    e: u32,
+    left: &[CrossRow],
+) -> Result<Listed<EdgeRow>, AllocError> {
+    let mut rows = Vec::new(alloc);
+    for row in edges {
+        if row.id != e {
+            rows.push(EdgeRow {
+                id: row.id,
+                a: row.a,
+                b: row.b,
+                kind: row.kind,
+                crossings: path_of(alloc, row.crossings.as_slice(), left)?,
+            })?;
+        }
+    }
+    Ok(Listed::from_vec(rows))
 }
 
 /// The rows without an edge and its crossings.
 fn without(alloc: Global, rows: &Rows, e: u32) -> Result<Rows, AllocError> {
-    let gone = crossings_of(alloc, rows.crossings.as_slice(), e)?;
-    without_crossings(alloc, rows, e, gone.as_slice())
+    let crossings = crossings_without(alloc, rows.crossings.as_slice(), e)?;
+    Ok(Rows {
+        rotations: rotations_without(alloc, rows.rotations.as_slice(), e)?,
+        edges: edges_without(alloc, rows.edges.as_slice(), e, crossings.as_slice())?,
+        crossings,
+        next_edge: rows.next_edge,
+        next_crossing: rows.next_crossing,
+    })
 }
 
 /// Whether the rows without an edge are refused as not connected.

@@ -41,20 +41,23 @@ fn report_rewritten(alloc: Global, text: &str) -> Result<String, Fail> {
     Ok(text?)
 }
 
-#[test]
-fn pictures_of_other_layouts(rt: HostRuntime) -> Result<(), Fail> {
-    for text in [JOINED, OTHERWISE] {
-        let read = rewritten(rt.alloc(), text)?;
-        assert!(rt; read.as_str() == JOINED, "{read}");
-    }
-    Ok(())
-}
+/// Texts, what is written of them, and whether they are reports.
+const TEXTS: &[(&str, &str, bool)] = &[
+    (JOINED, JOINED, false),
+    (OTHERWISE, JOINED, false),
+    (EACH_FIELD, EACH_FIELD, true),
+    (EACH_OTHERWISE, EACH_FIELD, true),
+];
 
 #[test]
-fn reports_of_other_layouts(rt: HostRuntime) -> Result<(), Fail> {
-    for text in [EACH_FIELD, EACH_OTHERWISE] {
-        let read = report_rewritten(rt.alloc(), text)?;
-        assert!(rt; read.as_str() == EACH_FIELD, "{read}");
+fn pictures_and_reports_of_other_layouts(rt: HostRuntime) -> Result<(), Fail> {
+    for (text, wanted, is_report) in TEXTS {
+        let read = if *is_report {
+            report_rewritten(rt.alloc(), *text)?
+        } else {
+            rewritten(rt.alloc(), *text)?
+        };
+        assert!(rt; read.as_str() == *wanted, "{text}: {read}");
     }
     Ok(())
 }
