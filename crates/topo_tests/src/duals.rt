@@ -104,14 +104,21 @@ fn holds<D: Dual>(dual: &D, fact: Fact) -> bool {
                 && dual.index(dart(edge, seg, way)) == Some(number)
         }
         Fact::NoDart(edge, seg, way) => dual.index(dart(edge, seg, way)) == None,
-        Fact::Twin(number, twin) => has_number(dual, number) && dual.twin(number) == twin,
+        Fact::Twin(number, twin) => {
+            has_number(dual, number)
+                && has_number(dual, twin)
+                && dual.twin(number) == twin
+                && dual.step(number).1 == dual.face(twin)
+        }
         Fact::Starts(number, vertex) => {
             has_number(dual, number) && dual.tail(number) == Point::Vertex(VertexId::new(vertex))
         }
         Fact::StartsAtCrossing(number, id) => {
             has_number(dual, number) && dual.tail(number) == Point::Crossing(CrossId::new(id))
         }
-        Fact::Next(number, next) => has_number(dual, number) && dual.next(number) == next,
+        Fact::Next(number, next) => {
+            has_number(dual, number) && dual.next(number) == next && dual.step(number).0 == next
+        }
         Fact::Precedes(number, later) => {
             has_number(dual, number)
                 && has_number(dual, later)

@@ -262,7 +262,12 @@ fn holds(embedding: &Embedding, halves: &[Half], half: Half, fact: Fact) -> bool
     match fact {
         Fact::Gone => false,
         Fact::Turn(other) => halves.get(other).copied() == Some(embedding.turn(half)),
-        Fact::Next(other) => halves.get(other).copied() == Some(embedding.face_next(half)),
+        Fact::Next(other) => {
+            let (next, beyond) = embedding.step(half);
+            halves.get(other).copied() == Some(next)
+                && next == embedding.face_next(half)
+                && beyond == embedding.face(embedding.twin(half))
+        }
         Fact::Edge(edge) => embedding.edge(half) == edge,
         Fact::Degree(degree) => embedding.degree(half) == degree,
         Fact::OneFace(other, due) => match halves.get(other) {
