@@ -1,6 +1,8 @@
 //! Many workers, with calls that meet one another.
 
-use crate::harness::{Still, Story, TestRuntime, Work, is_told, run_work_at};
+use crate::gates::Round;
+use crate::harness::{Start, Work, is_told, lists_of, told_of};
+use crate::steps::Step;
 use std::alloc::{AllocError, Global};
 use std::process::Abort;
 use std::sync::Wait;
@@ -12,81 +14,39 @@ use topo_core::calls::{Call, Command};
 use topo_core::limits::Limits;
 use topo_picture::Picture;
 use topo_price::tariff::PriceFn;
-use topo_service::{Pass, Service, WorkerEnd};
+use topo_service::{Pass, Service};
 use topo_service_test_support::calls::make;
 use topo_test_support::calls::{delete, grow, insert, planned};
 use topo_test_support::lawful::is_loaded_again;
-use topo_test_support::pictures::{BIPYRAMID, picture_of};
-use topo_test_support::prices::table_of;
-use topo_versions::{ServiceBrand, Version};
+use topo_versions::ServiceBrand;
 
-/// Whether all workers came to their ends, and whether at least so many calls were accepted.
-#[derive(Drop)]
-struct Workers {
-    accepted: u64,
-}
-
-/// How many calls are accepted, as the first pass sees it.
-fn accepted_by<F: PriceFn + Drop, K: ServiceBrand<F>>(
-    passes: &mut [Pass<F, K>],
-) -> Result<u64, Fail> {
-    match passes.first_mut() {
-        Some(pass) => {
-            let view = pass.view()?;
-            let number = view.number();
-            drop(view);
-            Ok(number)
-        }
-        None => Ok(0),
-    }
-}
-
-impl Story for Workers {
-    fn tell<F: PriceFn + Drop, K: ServiceBrand<F>, R: Wait>(
-        &self,
-        _rt: &R,
-        alloc: Global,
-        _service: &Service<F, K>,
-        passes: &mut Vec<Pass<F, K>>,
-        ends: &[WorkerEnd],
-    ) -> Result<String, Fail> {
-        let done = ends.iter().all(|end| *end == WorkerEnd::Done);
-        let many = accepted_by(passes.as_mut_slice())? >= self.accepted;
-        Ok(format!(in alloc; "{} ended, all done: {done}, accepted: {many}", ends.len())?)
-    }
-}
-
-/// Four lists, each of an insertion between the apexes with a plan and the deletion of an edge.
-fn four_lists(alloc: Global) -> Result<Vec<Vec<Command>>, AllocError> {
-    let mut lists = Vec::new(alloc);
-    for i in 0..4 {
-        lists.push(vec![in alloc; planned(3, 4), Command::Plain(delete(i))]?)?;
-    }
-    Ok(lists)
-}
-
-/// The text of a run of four workers with these lists.
-fn told_of_four<R: TestRuntime>(rt: &R, lists: &[Vec<Command>]) -> Result<String, Fail> {
-    let start = picture_of(rt.alloc(), &BIPYRAMID)?;
-    let work = Work::Lists(lists, &Still);
-    run_work_at(
-        rt,
-        &table_of(Some(1), &[])?,
-        start,
-        work,
-        &Workers { accepted: 8 },
-    )
-}
-
+/// Each list is an insertion between the apexes with a plan and the deletion of an edge.
 #[test]
 fn four_workers_plan_between_the_apexes(rt: HostRuntime) -> Result<(), Fail> {
-    let lists = four_lists(rt.alloc())?;
-    let told = told_of_four(&rt, lists.as_slice());
+    let join = planned(3, 4);
+    let lists = lists_of(
+        rt.alloc(),
+        &[
+            &[join, Command::Plain(delete(0))],
+            &[join, Command::Plain(delete(1))],
+            &[join, Command::Plain(delete(2))],
+            &[join, Command::Plain(delete(3))],
+        ],
+    )?;
+    let told = told_of(
+        &rt,
+        Start::Bipyramid,
+        (Some(1), &[]),
+        Work::Lists(lists.as_slice(), &Round::Still),
+        &[(0, Step::Accepted(8))],
+    );
     drop(lists);
     is_told(
         &rt,
         told,
-        "4 ended, all done: true, accepted: true; 8 calls, replayed: true",
+        "[Done, Done, Done, Done]\n\
+         accepted: true\n\
+         []; 8 calls, replayed: true",
     )
 }
 
@@ -110,7 +70,7 @@ fn command_of(place: u32, x: u32) -> Command {
 }
 
 /// The seed with two hundred vertices more.
-fn tree(rt: &impl Abort, alloc: Global) -> Result<Picture, AllocError> {
+pub(crate) fn tree(rt: &impl Abort, alloc: Global) -> Result<Picture, AllocError> {
     let limits = Limits::new(65_536, 65_536, 65_536).expect(rt, "limits");
     let mut picture = Picture::seed(alloc, limits)?;
     for i in 0..200u32 {
@@ -135,40 +95,11 @@ pub(crate) struct Watch {
     failed: AtomicU32,
 }
 
-impl Watch {
-    fn new() -> Watch {
-        Watch {
-            views: AtomicU32::new(0),
-            unlawful: AtomicU32::new(0),
-            fallen: AtomicU32::new(0),
-            failed: AtomicU32::new(0),
-        }
-    }
-}
-
 /// Adds one where it is so.
 fn count_where(counter: &AtomicU32, is_so: bool) {
     if is_so {
         let _ = counter.fetch_add(1, Ordering::SeqCst);
     }
-}
-
-/// Whether a picture is lawful.
-fn is_lawful(alloc: Global, picture: &Picture) -> bool {
-    matches!(is_loaded_again(alloc, picture), Ok(true))
-}
-
-/// Looks at a version, and answers its number.
-fn look_at<F: PriceFn + Drop, K: ServiceBrand<F>>(
-    alloc: Global,
-    view: &Version<F, K>,
-    before: u64,
-    watch: &Watch,
-) -> u64 {
-    count_where(&watch.views, true);
-    count_where(&watch.fallen, view.number() < before);
-    count_where(&watch.unlawful, !is_lawful(alloc, view.picture()));
-    view.number()
 }
 
 /// Takes a view, and looks at it. It answers the number of the last view.
@@ -178,47 +109,41 @@ fn look<F: PriceFn + Drop, K: ServiceBrand<F>>(
     before: u64,
     watch: &Watch,
 ) -> u64 {
-    match pass.view() {
-        Ok(view) => {
-            let number = look_at(alloc, &view, before, watch);
-            drop(view);
-            number
-        }
-        Err(_) => before,
-    }
+    let Ok(view) = pass.view() else {
+        return before;
+    };
+    let number = view.number();
+    let is_lawful = matches!(is_loaded_again(alloc, view.picture()), Ok(true));
+    drop(view);
+    count_where(&watch.views, true);
+    count_where(&watch.fallen, number < before);
+    count_where(&watch.unlawful, !is_lawful);
+    number
 }
 
-/// Whether a command was carried out.
+/// Whether a command was carried out. A planned insertion is made along the route that the pass
+/// finds, and without one where it finds none.
 fn is_made<F: PriceFn + Drop, K: ServiceBrand<F>, R: Wait>(
-    rt: &R,
-    service: &Service<F, K>,
-    pass: &mut Pass<F, K>,
-    call: Call,
-) -> bool {
-    let answer = make(rt, service, pass, call);
-    let is_made = answer.is_ok();
-    drop(answer);
-    is_made
-}
-
-/// The same of a planned insertion.
-fn is_planned<F: PriceFn + Drop, K: ServiceBrand<F>, R: Wait>(
     rt: &R,
     alloc: Global,
     service: &Service<F, K>,
     pass: &mut Pass<F, K>,
-    (u, v, kind): (u32, u32, u32),
+    command: Command,
 ) -> bool {
-    match pass.find(alloc, service.tariff(), u, v) {
-        Ok(found) => {
-            let answer = service.insert_found(rt, pass, kind, &found);
-            drop(found);
-            let is_made = answer.is_ok();
-            drop(answer);
-            is_made
-        }
-        Err(_) => is_made(rt, service, pass, Call::Insert { u, v, kind }),
-    }
+    let answer = match command {
+        Command::Plain(call) => make(rt, service, pass, call),
+        Command::Planned { u, v, kind } => match pass.find(alloc, service.tariff(), u, v) {
+            Ok(found) => {
+                let answer = service.insert_found(rt, pass, kind, &found);
+                drop(found);
+                answer
+            }
+            Err(_) => make(rt, service, pass, Call::Insert { u, v, kind }),
+        },
+    };
+    let is_made = answer.is_ok();
+    drop(answer);
+    is_made
 }
 
 /// Makes two thousand calls, and takes a view after each hundred.
@@ -234,10 +159,8 @@ fn work_and_look<F: PriceFn + Drop, K: ServiceBrand<F>, R: Wait>(
     let mut number = 0;
     for turn in 0..2_000u32 {
         x = stir(x);
-        let made = match command_of(turn.wrapping_mul(16).wrapping_add(worker), x) {
-            Command::Plain(call) => is_made(rt, service, pass, call),
-            Command::Planned { u, v, kind } => is_planned(rt, alloc, service, pass, (u, v, kind)),
-        };
+        let command = command_of(turn.wrapping_mul(16).wrapping_add(worker), x);
+        let made = is_made(rt, alloc, service, pass, command);
         count_where(&watch.failed, !made);
         if turn % 100 == 99 {
             number = look(alloc, pass, number, watch);
@@ -263,36 +186,26 @@ pub(crate) fn work_all<
     );
 }
 
-/// The text of a run of sixteen workers who are watched.
-fn told_of_sixteen<R: TestRuntime>(rt: &R, watch: &Watch) -> Result<String, Fail> {
-    let start = tree(rt, rt.alloc())?;
-    let work = Work::<Still>::Crowd(16, watch);
-    run_work_at(
-        rt,
-        &table_of(Some(1), &[])?,
-        start,
-        work,
-        &Workers { accepted: 1_000 },
-    )
-}
-
-/// Sixteen workers took all views, and nothing was amiss.
-fn is_well(rt: &impl Abort, watch: &Watch) {
+/// The workers take all views, and nothing is amiss.
+#[test]
+fn sixteen_workers_make_thousands_of_calls(rt: HostRuntime) -> Result<(), Fail> {
+    let watch = Watch {
+        views: AtomicU32::new(0),
+        unlawful: AtomicU32::new(0),
+        fallen: AtomicU32::new(0),
+        failed: AtomicU32::new(0),
+    };
+    let told = told_of(
+        &rt,
+        Start::Tree,
+        (Some(1), &[]),
+        Work::Crowd(16, &watch),
+        &[(0, Step::Accepted(1_000))],
+    );
+    is_told(&rt, told, "accepted: true\n[]; 32000 calls, replayed: true")?;
     assert!(rt; watch.views.load(Ordering::SeqCst) == 320);
     assert!(rt; watch.unlawful.load(Ordering::SeqCst) == 0);
     assert!(rt; watch.fallen.load(Ordering::SeqCst) == 0);
     assert!(rt; watch.failed.load(Ordering::SeqCst) == 0);
-}
-
-#[test]
-fn sixteen_workers_make_thousands_of_calls(rt: HostRuntime) -> Result<(), Fail> {
-    let watch = Watch::new();
-    let told = told_of_sixteen(&rt, &watch);
-    is_told(
-        &rt,
-        told,
-        "0 ended, all done: true, accepted: true; 32000 calls, replayed: true",
-    )?;
-    is_well(&rt, &watch);
     Ok(())
 }

@@ -1,44 +1,70 @@
-//! Two workers at one time, in an order that a gate sets.
+//! What is done round each command, and two workers at one time in an order that a gate sets.
 
-use crate::harness::{TestRuntime, Work, is_told, run_work};
-use crate::steps::{Play, Step, Steps, told_of_work};
-use std::alloc::{AllocError, Global};
+use crate::harness::{Start, Work, is_told, lists_of, told_of};
+use crate::inside::{Counted, Meeting};
+use crate::steps::Step;
 use std::process::Abort;
-use std::sync::atomic::AtomicU64;
+use std::sync::atomic::Ordering;
 use std::test::Fail;
 use topo_core::calls::{Call, Command};
-use topo_core::rows::Facts;
-use topo_picture::Picture;
 use topo_service::Gate;
 use topo_service_test_support::gates::Turns;
 use topo_test_support::calls::{delete, insert, planned};
-use topo_test_support::pictures::{BIPYRAMID, greatest_limits, picture_of};
-use topo_test_support::prices::{FIVE_TWO_NINE, table_of};
+use topo_test_support::prices::FIVE_TWO_NINE;
 
-/// A list for each of these commands.
-fn lists_of(alloc: Global, commands: &[Command]) -> Result<Vec<Vec<Command>>, AllocError> {
-    let mut lists = Vec::new(alloc);
-    for command in commands {
-        lists.push(vec![in alloc; *command]?)?;
-    }
-    Ok(lists)
+/// What is done round each command.
+#[derive(Drop)]
+pub(crate) enum Round {
+    /// Nothing.
+    Still,
+    /// The first call of worker 1 comes between the beginning and the end of that of worker 0.
+    InTurn(Turns),
+    /// The same, but worker 0 begins with the first price that its search asks for.
+    FromFirstPrice(Turns),
+    /// Each worker waits before its call until all are there.
+    Together(Meeting),
+    /// The calls of the gate are counted.
+    Counted(Counted),
 }
 
-/// The text of a run of two workers with these lists, one of whom waits for the other.
-fn told_in_turn<R: TestRuntime>(
-    rt: &R,
-    lists: &[Vec<Command>],
-    turns: &Turns,
-) -> Result<String, Fail> {
-    let start = Picture::seed(rt.alloc(), greatest_limits())?;
-    let work = Work::Lists(lists, turns);
-    let steps: Steps<'_> = &[
-        (0, Step::Seen),
-        (0, Step::View),
-        (1, Step::Seen),
-        (1, Step::View),
-    ];
-    told_of_work(rt, &table_of(Some(1), &[])?, start, work, steps)
+impl Round {
+    /// Whether no worker waited in vain, and each call came in its order.
+    pub(crate) fn is_well(&self) -> bool {
+        match self {
+            Round::Still => true,
+            Round::InTurn(turns) => !turns.is_late(),
+            Round::FromFirstPrice(turns) => !turns.is_late(),
+            Round::Together(meeting) => !meeting.late.load(Ordering::SeqCst),
+            Round::Counted(counted) => !counted.is_amiss.load(Ordering::SeqCst),
+        }
+    }
+}
+
+impl Gate for Round {
+    fn before(&self, worker: usize, index: usize) {
+        match self {
+            Round::Still => {}
+            Round::InTurn(turns) => turns.before(worker, index),
+            Round::FromFirstPrice(turns) => {
+                if worker == 1 {
+                    turns.before(worker, index);
+                }
+            }
+            Round::Together(meeting) => meeting.look_for_all(),
+            Round::Counted(counted) => counted.note(worker, index.wrapping_mul(2)),
+        }
+    }
+
+    fn after(&self, worker: usize, index: usize) {
+        match self {
+            Round::InTurn(turns) => turns.after(worker, index),
+            Round::FromFirstPrice(turns) => turns.after(worker, index),
+            Round::Counted(counted) => {
+                counted.note(worker, index.wrapping_mul(2).wrapping_add(1));
+            }
+            Round::Still | Round::Together(_) => {}
+        }
+    }
 }
 
 #[test]
@@ -48,12 +74,25 @@ fn workers_run_at_one_time(rt: HostRuntime) -> Result<(), Fail> {
         v: 1,
         kind: 1,
     };
-    let commands = [Command::Plain(insert(0, 1)), Command::Plain(second)];
-    let lists = lists_of(rt.alloc(), &commands)?;
-    let turns = Turns::new();
-    let told = told_in_turn(&rt, lists.as_slice(), &turns);
+    let lists = lists_of(
+        rt.alloc(),
+        &[&[Command::Plain(insert(0, 1))], &[Command::Plain(second)]],
+    )?;
+    let round = Round::InTurn(Turns::new());
+    let told = told_of(
+        &rt,
+        Start::Seed,
+        (Some(1), &[]),
+        Work::Lists(lists.as_slice(), &round),
+        &[
+            (0, Step::Seen),
+            (0, Step::View),
+            (1, Step::Seen),
+            (1, Step::View),
+        ],
+    );
     drop(lists);
-    assert!(&rt; !turns.is_late());
+    assert!(&rt; round.is_well());
     is_told(
         &rt,
         told,
@@ -66,54 +105,23 @@ fn workers_run_at_one_time(rt: HostRuntime) -> Result<(), Fail> {
     )
 }
 
-/// The same, but worker 0 begins with the first price that its search asks for.
-#[derive(Drop)]
-struct AtFirstPrice<'a> {
-    turns: &'a Turns,
-}
-
-impl Gate for AtFirstPrice<'_> {
-    fn before(&self, worker: usize, index: usize) {
-        if worker == 1 {
-            self.turns.before(worker, index);
-        }
-    }
-
-    fn after(&self, worker: usize, index: usize) {
-        self.turns.after(worker, index);
-    }
-}
-
-/// The text of a run of two workers with these lists, one of whom plans while the other changes the
-/// picture.
-fn told_between<R: TestRuntime>(
-    rt: &R,
-    lists: &[Vec<Command>],
-    turns: &Turns,
-) -> Result<String, Fail> {
-    let start = picture_of(rt.alloc(), &BIPYRAMID)?;
-    let table = table_of(Some(1), FIVE_TWO_NINE)?;
-    let ask = |facts: &Facts| {
-        turns.begin();
-        table.price(facts.kind)
-    };
-    let gate = AtFirstPrice { turns };
-    let work = Work::Lists(lists, &gate);
-    let play = Play {
-        steps: &[(0, Step::FirstReply)],
-        asked: &AtomicU64::new(0),
-    };
-    run_work(rt, ask, start, work, &play)
-}
-
+/// One worker plans while the other changes the picture.
 #[test]
 fn a_plan_is_made_anew_where_the_picture_changed_meanwhile(rt: HostRuntime) -> Result<(), Fail> {
-    let commands = [planned(3, 4), Command::Plain(delete(1))];
-    let lists = lists_of(rt.alloc(), &commands)?;
-    let turns = Turns::new();
-    let told = told_between(&rt, lists.as_slice(), &turns);
+    let lists = lists_of(
+        rt.alloc(),
+        &[&[planned(3, 4)], &[Command::Plain(delete(1))]],
+    )?;
+    let round = Round::FromFirstPrice(Turns::new());
+    let told = told_of(
+        &rt,
+        Start::Bipyramid,
+        (Some(1), FIVE_TWO_NINE),
+        Work::Lists(lists.as_slice(), &round),
+        &[(0, Step::FirstReply)],
+    );
     drop(lists);
-    assert!(&rt; !turns.is_late());
+    assert!(&rt; round.is_well());
     is_told(
         &rt,
         told,

@@ -1,19 +1,14 @@
-//! Stories of one thread, as lists of steps.
+//! What passes do after their work, as lists of steps of one thread.
 
-use crate::harness::{Still, Story, TestRuntime, Work, run_work};
+use crate::harness::{TestRuntime, Work};
 use std::alloc::{AllocError, Global};
-use std::sync::Wait;
 use std::sync::atomic::{AtomicU64, Ordering};
 use std::test::Fail;
-use topo_core::calls::{Call, Reply};
-use topo_core::rows::Facts;
-use topo_dual::Frozen;
-use topo_picture::Picture;
-use topo_price::table::PriceTable;
+use topo_core::calls::Call;
 use topo_price::tariff::PriceFn;
 use topo_route::check::check;
 use topo_route::plan::Plan;
-use topo_service::{FoundRoute, Gate, Pass, Service, WorkerEnd};
+use topo_service::{FoundRoute, Pass, Service};
 use topo_service_test_support::calls::make;
 use topo_test_support::plans::are_ends;
 use topo_versions::{ServiceBrand, Version};
@@ -30,6 +25,8 @@ pub(crate) enum Step<'a> {
     FirstReply,
     /// It takes a view, which is kept.
     View,
+    /// It tells whether the version that it sees has at least so many accepted calls.
+    Accepted(u64),
     /// It tells the rows of the picture that it sees.
     Rows,
     /// It finds a route, which is kept.
@@ -51,100 +48,34 @@ pub(crate) enum Step<'a> {
 /// Steps with the numbers of the passes that take them.
 pub(crate) type Steps<'a> = &'a [(usize, Step<'a>)];
 
-/// What the steps of a story have kept, and how many prices were asked for since that was told.
+/// What the steps have kept.
 #[derive(Drop)]
-struct Kept<'a, F: PriceFn, K: ServiceBrand<F>> {
-    asked: &'a AtomicU64,
-    views: Vec<Version<F, K>>,
-    routes: Vec<FoundRoute<F, K>>,
-    plans: Vec<Plan>,
+pub(crate) struct Kept<F: PriceFn, K: ServiceBrand<F>> {
+    pub views: Vec<Version<F, K>>,
+    pub routes: Vec<FoundRoute<F, K>>,
+    pub plans: Vec<Plan>,
 }
 
-/// The text of a reply.
-fn text_of(alloc: Global, reply: Reply) -> Result<String, AllocError> {
-    let text = format!(in alloc; "{reply:?}");
-    drop(reply);
-    text
-}
-
-/// How the workers' lists ended, if there are any.
-fn text_of_ends(alloc: Global, ends: &[WorkerEnd]) -> Result<String, AllocError> {
-    if ends.is_empty() {
-        return Ok(String::new(alloc));
-    }
-    format!(in alloc; "{ends:?}\n")
-}
-
-/// The text of a view.
-fn text_of_view<F: PriceFn + Drop, K: ServiceBrand<F>>(
-    alloc: Global,
-    view: &Version<F, K>,
-) -> Result<String, AllocError> {
-    let (number, edges) = (view.number(), view.picture().counts().edges);
-    format!(in alloc; "version {number} with {edges} edges")
-}
-
-/// The rows of the newest version, as text.
-fn rows_of<F: PriceFn + Drop, K: ServiceBrand<F>>(
-    alloc: Global,
-    pass: &mut Pass<F, K>,
-) -> Result<String, Fail> {
-    let view = pass.view()?;
-    let rows = view.picture().rows(alloc);
-    drop(view);
-    let rows = rows?;
-    let text = format!(in alloc; "{rows:?}");
-    drop(rows);
-    Ok(text?)
-}
-
-/// What the first call of a pass was answered.
-fn first_reply<F: PriceFn + Drop, K: ServiceBrand<F>>(
-    alloc: Global,
-    pass: &Pass<F, K>,
-) -> Result<String, Fail> {
-    let receipt = pass.receipts().first().ok_or("a receipt")?;
-    Ok(format!(in alloc; "{:?}", receipt.reply)?)
-}
-
-/// The picture of the newest version, frozen.
-fn frozen_of<F: PriceFn + Drop, K: ServiceBrand<F>>(
-    alloc: Global,
-    pass: &mut Pass<F, K>,
-) -> Result<Frozen, Fail> {
-    let view = pass.view()?;
-    let frozen = view.picture().freeze(alloc);
-    drop(view);
-    Ok(frozen?)
-}
-
-/// Whether a plan passes the check.
-fn is_checked<F: PriceFn + Drop, K: ServiceBrand<F>>(
-    frozen: &Frozen,
-    service: &Service<F, K>,
-    (u, v): (u32, u32),
-    plan: &Plan,
-) -> bool {
-    are_ends(frozen, u, v) && check(frozen, service.tariff(), u, v, plan).is_ok()
-}
-
-impl<F: PriceFn + Drop, K: ServiceBrand<F>> Kept<'_, F, K> {
-    /// Takes a view.
-    fn view(&mut self, alloc: Global, pass: &mut Pass<F, K>) -> Result<String, Fail> {
-        let view = pass.view()?;
-        let text = text_of_view(alloc, &view);
-        self.views.push(view)?;
-        Ok(text?)
-    }
-
-    /// Finds a route, or says why there is none.
-    fn find(
+impl<F: PriceFn + Drop, K: ServiceBrand<F>> Kept<F, K> {
+    /// Finds a route or makes a plan, which is kept, or says why there is none.
+    fn search(
         &mut self,
         alloc: Global,
         service: &Service<F, K>,
         pass: &mut Pass<F, K>,
         (u, v): (u32, u32),
+        is_plan: bool,
     ) -> Result<String, Fail> {
+        if is_plan {
+            return match pass.plan(alloc, service.tariff(), u, v) {
+                Ok(plan) => {
+                    let price = plan.price;
+                    self.plans.push(plan)?;
+                    Ok(format!(in alloc; "planned for {price}")?)
+                }
+                Err(fault) => Ok(format!(in alloc; "{fault:?}")?),
+            };
+        }
         match pass.find(alloc, service.tariff(), u, v) {
             Ok(found) => {
                 let (ends, price) = (found.ends(), found.first().price);
@@ -155,41 +86,22 @@ impl<F: PriceFn + Drop, K: ServiceBrand<F>> Kept<'_, F, K> {
         }
     }
 
-    /// Makes a plan, or says why there is none.
-    fn plan(
-        &mut self,
-        alloc: Global,
-        service: &Service<F, K>,
-        pass: &mut Pass<F, K>,
-        (u, v): (u32, u32),
-    ) -> Result<String, Fail> {
-        match pass.plan(alloc, service.tariff(), u, v) {
-            Ok(plan) => {
-                let price = plan.price;
-                self.plans.push(plan)?;
-                Ok(format!(in alloc; "planned for {price}")?)
-            }
-            Err(fault) => Ok(format!(in alloc; "{fault:?}")?),
-        }
-    }
-
-    /// A plan.
-    fn planned(&self, at: usize) -> Result<&Plan, Fail> {
-        Ok(self.plans.as_slice().get(at).ok_or("a plan")?)
-    }
-
-    /// Whether a plan passes the check on the newest version.
+    /// Whether a plan that is kept passes the check on the newest version.
     fn check(
         &self,
         alloc: Global,
         service: &Service<F, K>,
         pass: &mut Pass<F, K>,
-        ends: (u32, u32),
+        (u, v): (u32, u32),
         at: usize,
     ) -> Result<String, Fail> {
-        let plan = self.planned(at)?;
-        let frozen = frozen_of(alloc, pass)?;
-        let is_good = is_checked(&frozen, service, ends, plan);
+        let plan = self.plans.as_slice().get(at).ok_or("a plan")?;
+        let view = pass.view()?;
+        let frozen = view.picture().freeze(alloc);
+        drop(view);
+        let frozen = frozen?;
+        let is_good = are_ends(&frozen, u, v)
+            && check(&frozen, service.tariff(), u, v, plan).is_ok();
         drop(frozen);
         Ok(format!(in alloc; "good: {is_good}")?)
     }
@@ -203,127 +115,111 @@ impl<F: PriceFn + Drop, K: ServiceBrand<F>> Kept<'_, F, K> {
         format!(in alloc; "{numbers:?}")
     }
 
-    /// Takes a step, and tells what came of it.
-    fn take<R: Wait>(
+    /// Takes a step that makes no call and looks for nothing, and tells what the pass sees.
+    fn look(
         &mut self,
-        rt: &R,
         alloc: Global,
-        service: &Service<F, K>,
         pass: &mut Pass<F, K>,
         step: Step<'_>,
     ) -> Result<String, Fail> {
         match step {
-            Step::Make(call) => Ok(text_of(alloc, make(rt, service, pass, call)?)?),
             Step::Seen => {
                 let (seen, receipts) = (pass.seen(), pass.receipts().len());
                 Ok(format!(in alloc; "{seen} seen, {receipts} receipts")?)
             }
-            Step::FirstReply => first_reply(alloc, pass),
-            Step::View => self.view(alloc, pass),
-            Step::Rows => rows_of(alloc, pass),
-            Step::Find(u, v) => self.find(alloc, service, pass, (u, v)),
-            Step::InsertFound(at) => {
-                let found = self.routes.as_slice().get(at).ok_or("a route")?;
-                Ok(text_of(alloc, service.insert_found(rt, pass, 0, found)?)?)
+            Step::FirstReply => {
+                let receipt = pass.receipts().first().ok_or("a receipt")?;
+                Ok(format!(in alloc; "{:?}", receipt.reply)?)
             }
-            Step::Plan(u, v) => self.plan(alloc, service, pass, (u, v)),
-            Step::Check(u, v, at) => self.check(alloc, service, pass, (u, v), at),
-            Step::InsertPlanned(u, v, at) => {
-                let plan = self.planned(at)?;
-                Ok(text_of(alloc, service.insert_planned(rt, pass, u, v, 0, plan)?)?)
+            Step::View => {
+                let view = pass.view()?;
+                let (number, edges) = (view.number(), view.picture().counts().edges);
+                self.views.push(view)?;
+                Ok(format!(in alloc; "version {number} with {edges} edges")?)
             }
-            Step::InsertBy(u, v, plan) => {
-                Ok(text_of(alloc, service.insert_planned(rt, pass, u, v, 0, plan)?)?)
+            Step::Accepted(least) => {
+                let view = pass.view()?;
+                let is_so = view.number() >= least;
+                drop(view);
+                Ok(format!(in alloc; "accepted: {is_so}")?)
             }
-            Step::Asked => {
-                let asked = self.asked.swap(0, Ordering::SeqCst);
-                Ok(format!(in alloc; "asked {asked} times")?)
+            Step::Rows => {
+                let view = pass.view()?;
+                let rows = view.picture().rows(alloc);
+                drop(view);
+                let rows = rows?;
+                let text = format!(in alloc; "{rows:?}");
+                drop(rows);
+                Ok(text?)
             }
+            _ => Err("a step that looks".into()),
         }
     }
 }
 
-/// The steps of a story, and a count of the prices that are asked for.
+/// The work of the passes, the steps after it, and a count of the prices that are asked for.
 #[derive(Drop)]
 pub(crate) struct Play<'a> {
+    pub work: &'a Work<'a>,
     pub steps: Steps<'a>,
     pub asked: &'a AtomicU64,
 }
 
 impl Play<'_> {
-    /// How the workers' lists ended, if there are any; a line for each step; and the views as they
-    /// are at the end.
-    fn play<F: PriceFn + Drop, K: ServiceBrand<F>, R: Wait>(
+    /// Takes a step, and tells what came of it.
+    fn take<F: PriceFn + Drop, K: ServiceBrand<F>, R: TestRuntime>(
         &self,
         rt: &R,
-        alloc: Global,
+        service: &Service<F, K>,
+        pass: &mut Pass<F, K>,
+        kept: &mut Kept<F, K>,
+        step: Step<'_>,
+    ) -> Result<String, Fail> {
+        let alloc = rt.alloc();
+        let reply = match step {
+            Step::Make(call) => make(rt, service, pass, call)?,
+            Step::InsertFound(at) => {
+                let found = kept.routes.as_slice().get(at).ok_or("a route")?;
+                service.insert_found(rt, pass, 0, found)?
+            }
+            Step::InsertPlanned(u, v, at) => {
+                let plan = kept.plans.as_slice().get(at).ok_or("a plan")?;
+                service.insert_planned(rt, pass, u, v, 0, plan)?
+            }
+            Step::InsertBy(u, v, plan) => service.insert_planned(rt, pass, u, v, 0, plan)?,
+            Step::Find(u, v) => return kept.search(alloc, service, pass, (u, v), false),
+            Step::Plan(u, v) => return kept.search(alloc, service, pass, (u, v), true),
+            Step::Check(u, v, at) => return kept.check(alloc, service, pass, (u, v), at),
+            Step::Asked => {
+                let asked = self.asked.swap(0, Ordering::SeqCst);
+                return Ok(format!(in alloc; "asked {asked} times")?);
+            }
+            _ => return kept.look(alloc, pass, step),
+        };
+        let text = format!(in alloc; "{reply:?}");
+        drop(reply);
+        Ok(text?)
+    }
+
+    /// A line more for each step, and the views as they are at the end.
+    pub(crate) fn play<F: PriceFn + Drop, K: ServiceBrand<F>, R: TestRuntime>(
+        &self,
+        rt: &R,
         service: &Service<F, K>,
         passes: &mut [Pass<F, K>],
-        kept: &mut Kept<'_, F, K>,
-        ends: &[WorkerEnd],
+        kept: &mut Kept<F, K>,
+        mut text: String,
     ) -> Result<String, Fail> {
-        let mut text = text_of_ends(alloc, ends)?;
         for row in self.steps {
             let (number, step) = *row;
             let Some(pass) = passes.get_mut(number) else {
                 return Err("a pass".into());
             };
-            let told = kept.take(rt, alloc, service, pass, step)?;
+            let told = self.take(rt, service, pass, kept, step)?;
             text.push_str(told.as_str())?;
             text.push_str("\n")?;
         }
-        text.push_str(kept.text_of_views(alloc)?.as_str())?;
+        text.push_str(kept.text_of_views(rt.alloc())?.as_str())?;
         Ok(text)
     }
-}
-
-impl Story for Play<'_> {
-    fn tell<F: PriceFn + Drop, K: ServiceBrand<F>, R: Wait>(
-        &self,
-        rt: &R,
-        alloc: Global,
-        service: &Service<F, K>,
-        passes: &mut Vec<Pass<F, K>>,
-        ends: &[WorkerEnd],
-    ) -> Result<String, Fail> {
-        let mut kept = Kept {
-            asked: self.asked,
-            views: Vec::new(alloc),
-            routes: Vec::new(alloc),
-            plans: Vec::new(alloc),
-        };
-        let told = self.play(rt, alloc, service, passes.as_mut_slice(), &mut kept, ends);
-        drop(kept);
-        told
-    }
-}
-
-/// What the passes of a service tell by these steps, once their work is done.
-pub(crate) fn told_of_work<T: Gate, R: TestRuntime>(
-    rt: &R,
-    table: &PriceTable,
-    start: Picture,
-    work: Work<T>,
-    steps: Steps<'_>,
-) -> Result<String, Fail> {
-    let asked = AtomicU64::new(0);
-    let ask = |facts: &Facts| {
-        let _ = asked.fetch_add(1, Ordering::SeqCst);
-        table.price(facts.kind)
-    };
-    let play = Play {
-        steps,
-        asked: &asked,
-    };
-    run_work(rt, ask, start, work, &play)
-}
-
-/// What two passes of a service tell by these steps.
-pub(crate) fn told_of_steps<R: TestRuntime>(
-    rt: &R,
-    table: &PriceTable,
-    start: Picture,
-    steps: Steps<'_>,
-) -> Result<String, Fail> {
-    told_of_work(rt, table, start, Work::<Still>::Nothing(2), steps)
 }

@@ -1,17 +1,10 @@
 //! Views, plans and found routes on one thread, and passes that are missing.
 
-use crate::harness::{Still, Story, TestRuntime, Work, is_told, run_work_at};
-use crate::steps::{Step, Steps, told_of_steps};
-use std::alloc::Global;
-use std::sync::Wait;
+use crate::harness::{Start, Work, is_told, told_of};
+use crate::steps::Step;
 use std::test::Fail;
-use topo_picture::Picture;
-use topo_price::tariff::PriceFn;
-use topo_service::{Pass, Service, WorkerEnd};
 use topo_test_support::calls::{delete, insert};
-use topo_test_support::pictures::{BIPYRAMID, greatest_limits, picture_of};
-use topo_test_support::prices::{Entries, FIVE_TWO_NINE, table_of};
-use topo_versions::ServiceBrand;
+use topo_test_support::prices::FIVE_TWO_NINE;
 
 /// The apexes of the bipyramid.
 const U: u32 = 3;
@@ -20,24 +13,28 @@ const V: u32 = 4;
 
 #[test]
 fn views_follow_the_calls(rt: HostRuntime) -> Result<(), Fail> {
-    let start = Picture::seed(rt.alloc(), greatest_limits())?;
-    let steps: Steps<'_> = &[
-        (0, Step::View),
-        (0, Step::Make(insert(0, 1))),
-        (0, Step::View),
-        (0, Step::Seen),
-        (1, Step::Make(insert(0, 1))),
-        (1, Step::View),
-        (1, Step::Make(insert(0, 0))),
-        (1, Step::View),
-        (0, Step::Make(insert(1, 1))),
-        (0, Step::Seen),
-        (1, Step::Make(insert(0, 1))),
-        (0, Step::View),
-        (0, Step::Seen),
-        (1, Step::Seen),
-    ];
-    let told = told_of_steps(&rt, &table_of(Some(1), &[])?, start, steps);
+    let told = told_of(
+        &rt,
+        Start::Seed,
+        (Some(1), &[]),
+        Work::Nothing(2),
+        &[
+            (0, Step::View),
+            (0, Step::Make(insert(0, 1))),
+            (0, Step::View),
+            (0, Step::Seen),
+            (1, Step::Make(insert(0, 1))),
+            (1, Step::View),
+            (1, Step::Make(insert(0, 0))),
+            (1, Step::View),
+            (0, Step::Make(insert(1, 1))),
+            (0, Step::Seen),
+            (1, Step::Make(insert(0, 1))),
+            (0, Step::View),
+            (0, Step::Seen),
+            (1, Step::Seen),
+        ],
+    );
     is_told(
         &rt,
         told,
@@ -62,25 +59,15 @@ fn views_follow_the_calls(rt: HostRuntime) -> Result<(), Fail> {
     )
 }
 
-/// What these steps tell of a service that begins with the bipyramid is what is due.
-fn is_told_of_bipyramid<R: TestRuntime>(
-    rt: &R,
-    (rest, entries): (Option<u32>, Entries),
-    steps: Steps<'_>,
-    due: &str,
-) -> Result<(), Fail> {
-    let start = picture_of(rt.alloc(), &BIPYRAMID)?;
-    let told = told_of_steps(rt, &table_of(rest, entries)?, start, steps);
-    is_told(rt, told, due)
-}
-
 #[test]
 fn a_good_plan_spares_the_search_and_a_stale_one_does_not_harm(
     rt: HostRuntime,
 ) -> Result<(), Fail> {
-    is_told_of_bipyramid(
+    let told = told_of(
         &rt,
+        Start::Bipyramid,
         (Some(1), FIVE_TWO_NINE),
+        Work::Nothing(2),
         &[
             (0, Step::Plan(U, V)),
             (1, Step::Plan(U, V)),
@@ -93,13 +80,18 @@ fn a_good_plan_spares_the_search_and_a_stale_one_does_not_harm(
             (0, Step::Make(delete(1))),
             (1, Step::InsertPlanned(U, V, 1)),
         ],
+    );
+    is_told(
+        &rt,
+        told,
         "planned for 2\n\
          planned for 2\n\
          asked 18 times\n\
          good: true\n\
          asked 19 times\n\
          Inserted(Inserted { id: EdgeId(9), route: Route { start: 2, \
-         crossed: Listed { items: [Dart { edge: EdgeId(1), seg: 0, way: Back }] }, end: 2 }, price: 2 })\n\
+         crossed: Listed { items: [Dart { edge: EdgeId(1), seg: 0, way: Back }] }, \
+         end: 2 }, price: 2 })\n\
          asked 19 times\n\
          Deleted(EdgeId(9))\n\
          Deleted(EdgeId(1))\n\
@@ -115,9 +107,11 @@ fn a_good_plan_spares_the_search_and_a_stale_one_does_not_harm(
 fn a_found_route_is_taken_as_it_is_and_a_late_one_does_not_harm(
     rt: HostRuntime,
 ) -> Result<(), Fail> {
-    is_told_of_bipyramid(
+    let told = told_of(
         &rt,
+        Start::Bipyramid,
         (Some(1), FIVE_TWO_NINE),
+        Work::Nothing(2),
         &[
             (0, Step::Find(U, V)),
             (1, Step::Find(U, V)),
@@ -130,13 +124,18 @@ fn a_found_route_is_taken_as_it_is_and_a_late_one_does_not_harm(
             (1, Step::InsertFound(1)),
             (1, Step::Asked),
         ],
+    );
+    is_told(
+        &rt,
+        told,
         "(3, 4) for 2\n\
          (3, 4) for 2\n\
          Refused(SameEnds)\n\
          Refused(NoVertex)\n\
          asked 14 times\n\
          Inserted(Inserted { id: EdgeId(9), route: Route { start: 2, \
-         crossed: Listed { items: [Dart { edge: EdgeId(1), seg: 0, way: Back }] }, end: 2 }, price: 2 })\n\
+         crossed: Listed { items: [Dart { edge: EdgeId(1), seg: 0, way: Back }] }, \
+         end: 2 }, price: 2 })\n\
          Deleted(EdgeId(9))\n\
          Deleted(EdgeId(1))\n\
          Inserted(Inserted { id: EdgeId(10), route: Route { start: 2, \
@@ -149,14 +148,20 @@ fn a_found_route_is_taken_as_it_is_and_a_late_one_does_not_harm(
 /// Where each way is closed, a search says that there is no route, and not that memory ran out.
 #[test]
 fn no_route_is_not_out_of_memory(rt: HostRuntime) -> Result<(), Fail> {
-    is_told_of_bipyramid(
+    let told = told_of(
         &rt,
+        Start::Bipyramid,
         (None, &[]),
+        Work::Nothing(2),
         &[
             (0, Step::Plan(U, V)),
             (0, Step::Find(U, V)),
             (0, Step::Make(insert(U, V))),
         ],
+    );
+    is_told(
+        &rt,
+        told,
         "Refused(NoRoute)\n\
          Refused(NoRoute)\n\
          Refused(NoRoute)\n\
@@ -164,40 +169,18 @@ fn no_route_is_not_out_of_memory(rt: HostRuntime) -> Result<(), Fail> {
     )
 }
 
-/// As many passes as are given out; the second alone is handed back.
-#[derive(Drop)]
-struct SecondAlone;
-
-impl Story for SecondAlone {
-    fn tell<F: PriceFn + Drop, K: ServiceBrand<F>, R: Wait>(
-        &self,
-        _rt: &R,
-        alloc: Global,
-        _service: &Service<F, K>,
-        passes: &mut Vec<Pass<F, K>>,
-        _ends: &[WorkerEnd],
-    ) -> Result<String, Fail> {
-        let given = passes.len();
-        passes.retain(|pass| pass.number() == 1);
-        Ok(format!(in alloc; "{given}")?)
-    }
-}
-
-/// What so many passes of a service that begins with the seed tell, of which at most the second is
-/// handed back, is what is due.
-fn is_told_of_passes<R: TestRuntime>(rt: &R, passes: usize, due: &str) -> Result<(), Fail> {
-    let start = Picture::seed(rt.alloc(), greatest_limits())?;
-    let work = Work::<Still>::Nothing(passes);
-    let told = run_work_at(rt, &table_of(Some(1), &[])?, start, work, &SecondAlone);
-    is_told(rt, told, due)
-}
-
+/// A service has sixteen passes. Where only the second is handed back, the first that is missing is
+/// told. A service without passes ends with an empty history.
 #[test]
 fn the_seventeenth_pass_is_refused_and_missing_ones_are_told(rt: HostRuntime) -> Result<(), Fail> {
-    is_told_of_passes(&rt, 20, "16; 43 PassMissing(0), 1 passes")
-}
-
-#[test]
-fn a_service_without_passes_ends_with_an_empty_history(rt: HostRuntime) -> Result<(), Fail> {
-    is_told_of_passes(&rt, 0, "0; 0 calls, replayed: true")
+    let rows = [
+        (20, "16 given out\n[]; 43 PassMissing(0), 1 passes"),
+        (0, "0 given out\n[]; 0 calls, replayed: true"),
+    ];
+    for (passes, due) in rows {
+        let work = Work::SecondAlone(passes);
+        let told = told_of(&rt, Start::Seed, (Some(1), &[]), work, &[]);
+        is_told(&rt, told, due)?;
+    }
+    Ok(())
 }
