@@ -117,8 +117,8 @@ impl<'a> EmbeddedRows<'a> {
         }
     }
 
-    /// The half of the next dart along the face on the left, and the label of the face on the right,
-    /// in one look.
+    /// The half of the next dart along the face on the left, and the label of the face on the
+    /// right, in one look.
     fn step_from(&self, half: Half) -> (Half, u32)
         requires { IsHalf self.now.embedded half }
         ensures next { (d : Dart) → has_dart (darts self.now.embedded.rows) d ≡ true

@@ -1,9 +1,8 @@
 -- The labels of faces through each edit.
-use Rattle.std.proofs.Common.{◌≡◌, ℕ, ◌<◌, Bool, true, ◌⊎◌, inl, inr, refl, sym, ◌∙◌, ap, subst, arith, List, Option, Some, None, map}
+use Rattle.std.proofs.Common.{◌≡◌, ℕ, ◌<◌, Bool, true, ◌⊎◌, inl, inr, refl, sym, ◌∙◌, ap, subst, arith, List, Option, map}
 use Rattle.std.proofs.lemmas.Bool.{cases_eq, false≢true}
-use Rattle.std.proofs.lemmas.List.Elements.{same_from_all_zip}
 use Rattle.std.specs.Option.{option_map}
-use Rattle.slab.specs.Slab.{Slab, IsSlabClone, IsSlotClone}
+use Rattle.slab.specs.Slab.{Slab}
 use Rattle.topo_core.specs.Cycles.{IsPermutation, SameCycle, map_of}
 use Rattle.topo_core.specs.Rotations.{twin, face_next}
 use Rattle.topo_core.specs.Edits.{IsIsolated}
@@ -37,15 +36,6 @@ unfolding live_by turn_by
 same_slots_sound s s' unused e k =
     let eh : holds s' ≡ holds s = ap live_by e in
     grind (arith, turn_by, labelled_by)
-
--- a clone of what is copied is the same
-same_slot : (R : Segment → Segment → Type 0) → ((x y : Segment) → R x y → y ≡ x) → (a b : Option Segment) → IsSlotClone R a b → b ≡ a
-same_slot R same None b e = e
-same_slot R same (Some x) (Some y) e = ap Some (same x y e)
-same_slot R same (Some x) None e = absurd e
-
-pub same_clone : (R : Segment → Segment → Type 0) → ((x y : Segment) → R x y → y ≡ x) → (s s' : Slab Segment) → IsSlabClone R s s' → s'.slots ≡ s.slots
-same_clone R same s s' e = same_from_all_zip (IsSlotClone R) s.slots s'.slots e.slots (same_slot R same)
 
 -- ---- A segment more or less
 

@@ -3,6 +3,7 @@ pub mod Maps
 pub mod Slots
 pub mod Kept
 pub mod Stored
+pub mod Parts
 pub mod Sizes
 pub mod Counted
 pub mod Steps

@@ -4,9 +4,8 @@ use Rattle.std.proofs.Common.{refl, sym, ◌∙◌, ap, subst, arith, length, Op
 use Rattle.std.proofs.lemmas.Bool.{cases_eq, cases_lt, cond-true, cond-false, eq-eqb, ne_eqb}
 use Rattle.std.specs.Option.{option_map}
 use Rattle.std.proofs.Math.ListN.{get_or-map}
-use Rattle.std.proofs.lemmas.List.{get_or-set_same, get_or-set_other, get_or_past}
-use Rattle.std.proofs.lemmas.List.Sums.{sum_by-set}
-use Rattle.slab.specs.Slab.{Slab, get, slab_len, with_value, ContainsKey, Updates}
+use Rattle.std.proofs.lemmas.List.{get_or_past}
+use Rattle.slab.specs.Slab.{Slab, get, slab_len, ContainsKey, Updates}
 use Rattle.topo_core.specs.declared.darts.Way.{Way}
 use Rattle.topo_core.specs.declared.darts.Way.TheVariants.{Forward, Back}
 use Rattle.topo_map.specs.Halves.{half_number}
@@ -110,14 +109,14 @@ pub label_at : (s : Slab Segment) (a : ℕ) → label_in s a ≡ labelled (optio
 unfolding edge_in
 label_at s a = ap labelled (get_or-map (option_map nexts) s.slots (a / 2) None)
 
-pub label-there : (s : Slab Segment) (key : ℕ) (seg : Segment) (a : ℕ) → a / 2 ≡ key → get s key ≡ Some seg → label_in s a ≡ seg.edge
+pub label-there : (s : Slab Segment) (key : ℕ) (seg : Segment) (a : ℕ) → a / 2 ≡ key → get s key ≡ Some seg → label_in s a ≡ seg.rest.edge
 label-there s key seg a e g = label_at s a ∙ ap (λ (k : ℕ). labelled (option_map nexts (get s k))) e
     ∙ ap (λ (o : Option Segment). labelled (option_map nexts o)) g
 
 pub label-else : (s s' : Slab Segment) (key : ℕ) (slot : Option Segment) → Updates s s' key slot → (a : ℕ) → a / 2 ≢ key → label_in s' a ≡ label_in s a
 label-else s s' key slot u a ne = label_at s' a ∙ ap (λ (o : Option Segment). labelled (option_map nexts o)) (u.others (a / 2) ne) ∙ sym (label_at s a)
 
-same_labels : (s s' : Slab Segment) (key : ℕ) (seg v : Segment) → get s key ≡ Some seg → Updates s s' key (Some v) → v.edge ≡ seg.edge
+same_labels : (s s' : Slab Segment) (key : ℕ) (seg v : Segment) → get s key ≡ Some seg → Updates s s' key (Some v) → v.rest.edge ≡ seg.rest.edge
     → label_in s' ≡ label_in s
 same_labels s s' key seg v g u e = funext (label_in s') (label_in s) (λ a. grind (arith, cases_eq, label-else, label-there))
 
@@ -146,53 +145,56 @@ slot_of s key (Some seg) g h = in-slots s key seg g
 pub live-slot : (s : Slab Segment) (a : ℕ) → holds s a ≡ true → a / 2 < length s.slots
 live-slot s a h = slot_of s (a / 2) (get s (a / 2)) refl (sym (live_at nexts s a) ∙ h)
 
-pub updates : (s : Slab Segment) (key : ℕ) (seg v : Segment) → get s key ≡ Some seg → Updates s (with_value s key v) key (Some v)
-updates s key seg v g = grind (arith, get_or-set_same, in-slots, get_or-set_other)
+-- one segment is another one now
+pub record IsWritten (s new : Slab Segment) (key : ℕ) (seg : Segment) : Type 0 where
+  pub updates : Updates s new key (Some seg)
+  pub len : slab_len new ≡ slab_len s
+  pub capacity : new.capacity ≡ s.capacity
 
-pub same_len : (s : Slab Segment) (key : ℕ) (seg v : Segment) → get s key ≡ Some seg → slab_len (with_value s key v) ≡ slab_len s
-same_len s key seg v g = grind (arith, sum_by-set, in-slots)
-
-pub wired_next : {s : Slab Segment} {key : ℕ} (way : Way) {at : ℕ} (to : ℕ) {seg : Segment} (v : Segment) → StandsAt s key way at seg → nexts v
-    ≡ with_side way (nexts seg) to → befores v ≡ befores seg → sides v ≡ sides seg → Rewires s (with_value s key v) (written (next_in s) at to) (before_in s)
-wired_next {s} {key} way {at} to {seg} v stands p q r =
+pub wired_next : {s new : Slab Segment} {key : ℕ} (way : Way) {at : ℕ} (to : ℕ) {seg : Segment} (v : Segment) → StandsAt s key way at seg
+    → IsWritten s new key v → nexts v
+    ≡ with_side way (nexts seg) to → befores v ≡ befores seg → sides v ≡ sides seg → Rewires s new (written (next_in s) at to) (before_in s)
+wired_next {s} {new} {key} way {at} to {seg} v stands w p q r =
     let g : get s key ≡ Some seg = stands.there in
-    let u : Updates s (with_value s key v) key (Some v) = updates s key seg v g in
+    let u : Updates s new key (Some v) = w.updates in
     record {
       next = rewritten nexts to v stands u p;
-      before = unwritten befores s (with_value s key v) key seg v g u q;
-      faces = unwritten sides s (with_value s key v) key seg v g u r;
-      live = same_live s (with_value s key v) key seg v g u;
-      edges = same_labels s (with_value s key v) key seg v g u (ap (λ (t : Slot). t.edge) p ∙ side-edge way (nexts seg) to);
-      len = same_len s key seg v g;
-      capacity = refl;
+      before = unwritten befores s new key seg v g u q;
+      faces = unwritten sides s new key seg v g u r;
+      live = same_live s new key seg v g u;
+      edges = same_labels s new key seg v g u (ap (λ (t : Slot). t.edge) p ∙ side-edge way (nexts seg) to);
+      len = w.len;
+      capacity = w.capacity;
     }
 
-pub wired_before : {s : Slab Segment} {key : ℕ} (way : Way) {at : ℕ} (to : ℕ) {seg : Segment} (v : Segment) → StandsAt s key way at seg → befores v
-    ≡ with_side way (befores seg) to → nexts v ≡ nexts seg → sides v ≡ sides seg → Rewires s (with_value s key v) (next_in s) (written (before_in s) at to)
-wired_before {s} {key} way {at} to {seg} v stands p q r =
+pub wired_before : {s new : Slab Segment} {key : ℕ} (way : Way) {at : ℕ} (to : ℕ) {seg : Segment} (v : Segment) → StandsAt s key way at seg
+    → IsWritten s new key v → befores v
+    ≡ with_side way (befores seg) to → nexts v ≡ nexts seg → sides v ≡ sides seg → Rewires s new (next_in s) (written (before_in s) at to)
+wired_before {s} {new} {key} way {at} to {seg} v stands w p q r =
     let g : get s key ≡ Some seg = stands.there in
-    let u : Updates s (with_value s key v) key (Some v) = updates s key seg v g in
+    let u : Updates s new key (Some v) = w.updates in
     record {
-      next = unwritten nexts s (with_value s key v) key seg v g u q;
+      next = unwritten nexts s new key seg v g u q;
       before = rewritten befores to v stands u p;
-      faces = unwritten sides s (with_value s key v) key seg v g u r;
-      live = same_live s (with_value s key v) key seg v g u;
-      edges = same_labels s (with_value s key v) key seg v g u (ap (λ (t : Slot). t.edge) q);
-      len = same_len s key seg v g;
-      capacity = refl;
+      faces = unwritten sides s new key seg v g u r;
+      live = same_live s new key seg v g u;
+      edges = same_labels s new key seg v g u (ap (λ (t : Slot). t.edge) q);
+      len = w.len;
+      capacity = w.capacity;
     }
 
-pub wired_face : {s : Slab Segment} {key : ℕ} (way : Way) {at : ℕ} (to : ℕ) {seg : Segment} (v : Segment) → StandsAt s key way at seg
-    → sides v ≡ with_side way (sides seg) to → nexts v ≡ nexts seg → befores v ≡ befores seg → Repaints s (with_value s key v) (written (face_in s) at to)
-wired_face {s} {key} way {at} to {seg} v stands p q r =
+pub wired_face : {s new : Slab Segment} {key : ℕ} (way : Way) {at : ℕ} (to : ℕ) {seg : Segment} (v : Segment) → StandsAt s key way at seg
+    → IsWritten s new key v
+    → sides v ≡ with_side way (sides seg) to → nexts v ≡ nexts seg → befores v ≡ befores seg → Repaints s new (written (face_in s) at to)
+wired_face {s} {new} {key} way {at} to {seg} v stands w p q r =
     let g : get s key ≡ Some seg = stands.there in
-    let u : Updates s (with_value s key v) key (Some v) = updates s key seg v g in
+    let u : Updates s new key (Some v) = w.updates in
     record {
       faces = rewritten sides to v stands u p;
-      next = unwritten nexts s (with_value s key v) key seg v g u q;
-      before = unwritten befores s (with_value s key v) key seg v g u r;
-      live = same_live s (with_value s key v) key seg v g u;
-      edges = same_labels s (with_value s key v) key seg v g u (ap (λ (t : Slot). t.edge) q);
-      len = same_len s key seg v g;
-      capacity = refl;
+      next = unwritten nexts s new key seg v g u q;
+      before = unwritten befores s new key seg v g u r;
+      live = same_live s new key seg v g u;
+      edges = same_labels s new key seg v g u (ap (λ (t : Slot). t.edge) q);
+      len = w.len;
+      capacity = w.capacity;
     }

@@ -3,7 +3,7 @@ use Rattle.std.proofs.Common.{◌≡◌, ◌≢◌, ℕ, ◌+◌, ◌-◌, ◌*�
 use Rattle.std.proofs.Common.{refl, sym, ◌∙◌, ap, subst, arith, Option, Some, None, is_some, length, nat_le, min}
 use Rattle.std.proofs.lemmas.Bool.{cases_Bool, cases_eq, cond-true, cond-false, eq-eqb, ne_eqb, leb-true}
 use Rattle.std.specs.Option.{option_map}
-use Rattle.slab.specs.Slab.{Slab, get, slab_len, with_value, Updates}
+use Rattle.slab.specs.Slab.{Slab, get, slab_len, Updates}
 use Rattle.topo_core.specs.Rotations.{twin}
 use Rattle.topo_perm.specs.Joins.{AddsSegment}
 use Rattle.topo_perm.proofs.permutations.Walks.{twin-cases}
@@ -15,7 +15,7 @@ use Rattle.topo_map.specs.Segments.{shown, holds, next_in, before_in, nexts, bef
 use Rattle.topo_map.specs.Segments.{room_of, isolated_segment, AddsFaces, AreInverse, IsKept, IsInserted, IsRemoved}
 use Rattle.topo_map.specs.declared.segments.Segment.{Segment}
 use Rattle.topo_map.proofs.Maps.{funext}
-use Rattle.topo_map.proofs.Slots.{turn_at, label-there, label-else, face-there, face-else, live-slot, live_at, updates, same_len}
+use Rattle.topo_map.proofs.Slots.{turn_at, label-there, label-else, face-there, face-else, live-slot, live_at}
 
 pub limit-is : half_limit ≡ 4294967294
 unfolding half_limit
@@ -29,11 +29,11 @@ true_false e = cc
 abbrev room_at : ℕ → ℕ → ℕ
 room_at cap len = cond (nat_le cap 2147483647) (cap - len) 0
 
-record HasRoom (cap len : ℕ) : Type 0 where
-  narrow : cap ≤ 2147483647
-  below : len + 1 ≤ cap
+pub record HasRoom (cap len : ℕ) : Type 0 where
+  pub narrow : cap ≤ 2147483647
+  pub below : len + 1 ≤ cap
 
-has_room : (cap len : ℕ) → 0 < room_at cap len → HasRoom cap len
+pub has_room : (cap len : ℕ) → 0 < room_at cap len → HasRoom cap len
 has_room cap len h = grind (arith, cases_Bool, len, cond-true, leb-true, cond-false)
 
 room_less : (cap len cap' len' : ℕ) → 0 < room_at cap len → cap' ≡ cap → len' ≡ len + 1 → room_at cap' len' + 1 ≡ room_at cap len
@@ -177,11 +177,3 @@ labels_left s new key seg i a h = label-else s new key None i.updates a (λ e. t
 
 pub faces_left : (s new : Slab Segment) (key : ℕ) (seg : Segment) → IsGoneAt s new key seg → KeepsLabels (holds new) (face_in s) (face_in new)
 faces_left s new key seg i a h = face-else s new key None i.updates a (λ e. true_false (sym h ∙ live-there s new key None i.updates a e))
-
--- stored, and then written again at its key
-pub two_writes : {s mid : Slab Segment} {key : ℕ} (edge left right : ℕ) {blank : Segment} (seg : Segment) → get s key ≡ None → Updates s mid key (Some blank)
-    → seg ≡ isolated_segment key edge left right → slab_len mid ≡ slab_len s + 1 → mid.capacity ≡ s.capacity → key < mid.capacity
-    → IsNewAt s (with_value mid key seg) key edge left right
-two_writes {s} {mid} {key} edge left right {blank} seg free u e len cap below =
-    let v : Updates mid (with_value mid key seg) key (Some seg) = updates mid key blank seg u.changed in
-    grind (arith, free, updates, len, same_len, below)

@@ -1,20 +1,36 @@
 -- How segments lie in a slab. No public clause cites this module.
-use Rattle.std.specs.Prelude.{◌≡◌, ℕ, ◌+◌, ◌-◌, ◌*◌, ◌<◌, ◌≤◌, ◌==◌, nat_le, min, Bool, true, cond, List, map, Option, option_map}
+use Rattle.std.specs.Prelude.{◌≡◌, ℕ, ◌+◌, ◌-◌, ◌*◌, ◌<◌, ◌≤◌, ◌==◌, nat_le, min, Bool, true, cond, List, [], ◌∷◌, map, Option, None, option_map}
 use Rattle.slab.specs.Slab.{Slab, slab_len}
 use Rattle.topo_core.specs.Rotations.{twin}
 use Rattle.topo_perm.specs.Joins.{AddsSegment}
 use Rattle.topo_map.specs.Rotation.{Slot, Rotation, turn_in, edge_in, live_in, half_limit}
+use Rattle.topo_map.specs.declared.segments.Rest.{Rest}
 use Rattle.topo_map.specs.declared.segments.Segment.{Segment}
+use Rattle.topo_map.specs.declared.segments.Walk.{Walk}
 
--- the halves after and before the two of a segment
+-- a segment by its two parts
+abbrev pub whole : Walk → Rest → Segment
+whole walk rest = record { walk = walk; rest = rest }
+
+-- by key the segments of which these are the parts
+abbrev pub joined_slots : List (Option Rest) → List Walk → List (Option Segment)
+joined_slots [] walks = []
+joined_slots (slot ∷ slots) [] = None ∷ joined_slots slots []
+joined_slots (slot ∷ slots) (walk ∷ walks) = option_map (whole walk) slot ∷ joined_slots slots walks
+
+-- what a contract sees of them
+abbrev pub joined : List Walk → Slab Rest → Slab Segment
+joined walks rest = record { slots = joined_slots rest.slots walks; vacant_key = rest.vacant_key; capacity = rest.capacity }
+
+-- the halves after and before the two of a segment, and the labels of the faces on their left
 abbrev pub nexts : Segment → Slot
-nexts s = record { forward = s.forward.next; back = s.back.next; edge = s.edge }
+nexts s = record { forward = s.walk.forward.next; back = s.walk.back.next; edge = s.rest.edge }
 
 abbrev pub befores : Segment → Slot
-befores s = record { forward = s.forward.previous; back = s.back.previous; edge = s.edge }
+befores s = record { forward = s.rest.forward; back = s.rest.back; edge = s.rest.edge }
 
 abbrev pub sides : Segment → Slot
-sides s = record { forward = s.forward.face; back = s.back.face; edge = s.edge }
+sides s = record { forward = s.walk.forward.face; back = s.walk.back.face; edge = s.rest.edge }
 
 abbrev pub shown : (Segment → Slot) → Slab Segment → List (Option Slot)
 shown pick s = map (option_map pick) s.slots
@@ -50,9 +66,8 @@ view_of s = record { slots = shown nexts s; labels = shown sides s; limit = limi
 -- a segment by itself
 abbrev pub isolated_segment : ℕ → ℕ → ℕ → ℕ → Segment
 isolated_segment key edge left right = record {
-  forward = record { next = 2 * key; previous = 2 * key; face = left };
-  back = record { next = 2 * key + 1; previous = 2 * key + 1; face = right };
-  edge = edge;
+  walk = record { forward = record { next = 2 * key; face = left }; back = record { next = 2 * key + 1; face = right } };
+  rest = record { forward = 2 * key; back = 2 * key + 1; edge = edge };
 }
 
 -- ---- Maps

@@ -9,15 +9,14 @@ ghost use Rattle.topo_map.specs.Rotation.{AreLabelled};
 ghost use Rattle.topo_map.specs.Segments.{IsKept, holds, label_in, next_in, room_of};
 
 use crate::half::Half;
-use crate::segments::{self, Segment, insert_isolated, link};
-use slab::Slab;
+use crate::segments::{self, Segments, insert_isolated, link};
 use std::alloc::{AllocError, Global};
 
 /// Segments with these labels, each half a point by itself, and their halves. No face has a label
 /// yet.
 pub(crate) fn isolated_halves(
     alloc: Global,
-    segments: &mut Slab<Segment>,
+    segments: &mut Segments,
     edges: &[u32],
 ) -> Result<Vec<Half>, AllocError>
     requires { segments.old.slots ≡ [] }
@@ -38,7 +37,7 @@ pub(crate) fn isolated_halves(
 }
 
 /// Each half is followed by that of its turn.
-pub(crate) fn join_turns(segments: &mut Slab<Segment>, halves: &[Half], turns: &[u32])
+pub(crate) fn join_turns(segments: &mut Segments, halves: &[Half], turns: &[u32])
     requires permutation { IsPermutationList turns.now }
     requires same_length { length halves.now ≡ length turns.now }
     requires alone { AreAlone segments.old halves.now }

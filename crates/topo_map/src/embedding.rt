@@ -15,16 +15,15 @@ use crate::build::{isolated_halves, join_turns};
 use crate::faces::{HALF_LIMIT, attach, detach, label_faces};
 use crate::half::Half;
 use crate::segments::{
-    self, Segment, around, face, insert_isolated, next, put_before, remove_isolated, take_out,
+    self, Segments, around, face, insert_isolated, next, put_before, remove_isolated, take_out,
 };
-use slab::Slab;
 use std::alloc::{AllocError, Global};
 use std::marker::Model;
 
 /// A graph on closed surfaces: segments between points, and round each point its halves in
 /// clockwise order.
 pub struct Embedding {
-    segments: Slab<Segment>,
+    segments: Segments,
     // The label that the next new face gets: each half has a smaller one.
     unused: u32,
 }
@@ -62,7 +61,7 @@ impl Embedding {
         ensures labels { IfOk result
             (λ made. (edge_of made.0 made.1 ≡ edge) × (edge_of made.0 (twin made.1) ≡ edge)) }
     {
-        let mut segments = Slab::new(alloc);
+        let mut segments = segments::none(alloc);
         segments::reserve(&mut segments, 1)?;
         let half = insert_isolated(&mut segments, edge, 0, 0);
         let unused = 1;
@@ -81,7 +80,7 @@ impl Embedding {
         ensures made { IfOk result (λ made. IsMadeFrom turns.now made.1.items made.0) }
         ensures labels { IfOk result (λ made. AreLabelled edges.now made.1.items (edge_of made.0)) }
     {
-        let mut segments = Slab::new(alloc);
+        let mut segments = segments::none(alloc);
         let halves = isolated_halves(alloc, &mut segments, edges)?;
         join_turns(&mut segments, &halves, turns);
         let unused = label_faces(&mut segments);
@@ -124,8 +123,7 @@ impl Embedding {
         ensures slots { IfOk result (λ copy. copy.slots ≡ self.now.slots) }
         ensures room { IfOk result (λ copy. self.now.room ≤ copy.room) }
     {
-        let mut segments = self.segments.clone()?;
-        segments::reserve(&mut segments, self.room())?;
+        let segments = segments::copy(&self.segments)?;
         let unused = self.unused;
         Ok(Embedding { segments, unused })
     }

@@ -15,8 +15,7 @@ ghost use Rattle.topo_map.specs.Segments.{IsKept, IsTurned, Repaints, face_in};
 ghost use Rattle.topo_map.specs.Segments.{holds, next_in, put, without};
 
 use crate::half::Half;
-use crate::segments::{Segment, contains, face, limit, next, put_before, set_face, take_out};
-use slab::Slab;
+use crate::segments::{Segments, contains, face, limit, next, put_before, set_face, take_out};
 
 /// Above the numbers of all halves.
 pub(crate) const HALF_LIMIT: u64 = 4_294_967_294;
@@ -26,7 +25,7 @@ pub(crate) const HALF_LIMIT: u64 = 4_294_967_294;
 const SPARE_LABELS: usize = 1024;
 
 /// The whole face of `start` gets this label.
-pub(crate) fn paint(segments: &mut Slab<Segment>, start: Half, label: u32)
+pub(crate) fn paint(segments: &mut Segments, start: Half, label: u32)
     requires kept { IsKept segments.old }
     requires live { holds segments.old start ≡ true }
     ensures { IsPainted segments.old segments.new start label }
@@ -43,7 +42,7 @@ pub(crate) fn paint(segments: &mut Slab<Segment>, start: Half, label: u32)
 
 /// Whether the walk round the face of `a` ends no later than that round the face of `b`, if both go
 /// in step.
-fn is_shorter(segments: &Slab<Segment>, a: Half, b: Half) -> bool
+fn is_shorter(segments: &Segments, a: Half, b: Half) -> bool
     requires kept { IsKept segments.now }
     requires live { holds segments.now a ≡ true }
     requires live_other { holds segments.now b ≡ true }
@@ -64,7 +63,7 @@ fn is_shorter(segments: &Slab<Segment>, a: Half, b: Half) -> bool
 }
 
 /// The smaller of two faces gets the label of the other.
-fn share_label(segments: &mut Slab<Segment>, a: Half, b: Half)
+fn share_label(segments: &mut Segments, a: Half, b: Half)
     requires kept { IsKept segments.old }
     requires live { holds segments.old a ≡ true }
     requires live_other { holds segments.old b ≡ true }
@@ -81,7 +80,7 @@ fn share_label(segments: &mut Slab<Segment>, a: Half, b: Half)
 }
 
 /// The smaller of two faces gets this label.
-fn part_label(segments: &mut Slab<Segment>, a: Half, b: Half, label: u32)
+fn part_label(segments: &mut Segments, a: Half, b: Half, label: u32)
     requires kept { IsKept segments.old }
     requires live { holds segments.old a ≡ true }
     requires live_other { holds segments.old b ≡ true }
@@ -97,7 +96,7 @@ fn part_label(segments: &mut Slab<Segment>, a: Half, b: Half, label: u32)
 
 /// Puts `x`, a point by itself, before `c`, and labels the faces of both as they lie then. Answers
 /// the label that is unused then.
-pub(crate) fn attach(segments: &mut Slab<Segment>, unused: u32, x: Half, c: Half) -> u32
+pub(crate) fn attach(segments: &mut Segments, unused: u32, x: Half, c: Half) -> u32
     requires kept { IsKept segments.old }
     requires live { holds segments.old x ≡ true }
     requires live_corner { holds segments.old c ≡ true }
@@ -120,7 +119,7 @@ pub(crate) fn attach(segments: &mut Slab<Segment>, unused: u32, x: Half, c: Half
 
 /// `x` becomes a point by itself, and the faces beside it are labelled as they lie then. Answers
 /// the label that is unused then.
-pub(crate) fn detach(segments: &mut Slab<Segment>, unused: u32, x: Half) -> u32
+pub(crate) fn detach(segments: &mut Segments, unused: u32, x: Half) -> u32
     requires kept { IsKept segments.old }
     requires live { holds segments.old x ≡ true }
     requires labels { IsLabelled segments.old unused }
@@ -141,7 +140,7 @@ pub(crate) fn detach(segments: &mut Slab<Segment>, unused: u32, x: Half) -> u32
 }
 
 /// Whether a half is there and its face has no label.
-fn lacks_label(segments: &Slab<Segment>, half: Half) -> bool
+fn lacks_label(segments: &Segments, half: Half) -> bool
     ensures yes { result ≡ true → (holds segments.now half ≡ true)
         × (face_in segments.now half ≡ 0) }
     ensures no { result ≡ false → holds segments.now half ≡ true → face_in segments.now half ≢ 0 }
@@ -150,7 +149,7 @@ fn lacks_label(segments: &Slab<Segment>, half: Half) -> bool
 }
 
 /// The face of a half has no label, if the half is there.
-fn unlabel_half(segments: &mut Slab<Segment>, half: Half)
+fn unlabel_half(segments: &mut Segments, half: Half)
     ensures same { Repaints segments.old segments.new (face_in segments.new) }
     ensures blank { holds segments.old half ≡ true → face_in segments.new half ≡ 0 }
     ensures others { (a : ℕ) → a ≢ half → face_in segments.new a ≡ face_in segments.old a }
@@ -161,7 +160,7 @@ fn unlabel_half(segments: &mut Slab<Segment>, half: Half)
 }
 
 /// No face has a label.
-fn unlabel(segments: &mut Slab<Segment>)
+fn unlabel(segments: &mut Segments)
     requires { IsKept segments.old }
     ensures same { Repaints segments.old segments.new (face_in segments.new) }
     ensures blank { AreBlank segments.new }
@@ -172,7 +171,7 @@ fn unlabel(segments: &mut Slab<Segment>)
 }
 
 /// Each face gets a label of its own, where none has one. Answers the label that is unused then.
-pub(crate) fn label_faces(segments: &mut Slab<Segment>) -> u32
+pub(crate) fn label_faces(segments: &mut Segments) -> u32
     requires kept { IsKept segments.old }
     requires blank { AreBlank segments.old }
     ensures same { Repaints segments.old segments.new (face_in segments.new) }
@@ -190,13 +189,13 @@ pub(crate) fn label_faces(segments: &mut Slab<Segment>) -> u32
 }
 
 /// The label from which on all faces are labelled anew. It has room in 32 bits.
-fn label_limit(segments: &Slab<Segment>) -> u32 {
+fn label_limit(segments: &Segments) -> u32 {
     (2 * limit(segments) + SPARE_LABELS).min(u32::MAX as usize) as u32
 }
 
 /// The label after `given`, which was given last. Where labels have grown too large, all faces are
 /// labelled anew. Answers the label that is unused then.
-fn label_after(segments: &mut Slab<Segment>, given: u32) -> u32
+fn label_after(segments: &mut Segments, given: u32) -> u32
     requires kept { IsKept segments.old }
     requires labels { IsLabelled segments.old (given + 1) }
     ensures same { Repaints segments.old segments.new (face_in segments.new) }

@@ -1,8 +1,14 @@
-//! Segments in a slab, each with the halves after and before its two, and the labels of the faces
+//! Segments by key, each with the halves after and before its two, and the labels of the faces
 //! beside it. Both directions are kept, so that a half is put in or taken out in a constant number
 //! of steps.
+//!
+//! What a walk reads of a segment, the halves after its two and the labels of the faces, takes 16
+//! bytes and lies in a list of its own. So four segments share a line of a cache, and a search,
+//! which reads nothing else of most segments, waits less for memory.
 
-ghost use Rattle.std.specs.Prelude.{◌≡◌, ◌≢◌, ◌+◌, ◌<◌, ◌≤◌, ◌^◌, true, length, OnOk, IsOk};
+ghost use Rattle.std.specs.Prelude.{◌≡◌, ◌≢◌, ◌+◌, ◌<◌, ◌≤◌, ◌^◌, ℕ, [], true, length, IfOk, OnOk};
+ghost use Rattle.std.specs.Prelude.{IsOk, slice_index_or};
+ghost use Rattle.topo_map.specs.declared.segments.Walk.{Walk};
 ghost use Rattle.slab.specs.Slab.{slab_len};
 ghost use Rattle.topo_core.specs.Rotations.{twin};
 ghost use Rattle.topo_map.specs.Rotation.{AddsLabel, KeepsLabels};
@@ -13,28 +19,57 @@ ghost use Rattle.topo_map.specs.Segments.{next_in, put, room_of, without, writte
 
 use crate::half::Half;
 use slab::Slab;
-use std::alloc::AllocError;
+use std::alloc::{AllocError, Global};
+use std::marker::Model;
 use topo_core::darts::Way;
 
 /// A slab of more segments is used for no new one, so that each half's number fits its type, and
 /// what is above all of them too.
 const MAX_SEGMENTS: usize = 2_147_483_647;
 
-/// The halves after and before a half, clockwise at its point, and the label of the face on its
-/// left.
+/// The half after a half, clockwise at its point, and the label of the face on its left.
 #[derive(Clone, Copy)]
-pub(crate) struct Links {
+struct Links {
     next: Half,
-    previous: Half,
     face: u32,
 }
 
-/// What is kept for a segment: the links of its two halves, and the label of its edge.
+/// What a walk reads of a segment: the links of its two halves.
 #[derive(Clone, Copy)]
-pub(crate) struct Segment {
+struct Walk {
     forward: Links,
     back: Links,
+}
+
+impl Walk {
+    // What stands at a key that has no segment.
+    fn blank() -> Self {
+        Walk {
+            forward: Links {
+                next: Half::numbered(0),
+                face: 0,
+            },
+            back: Links {
+                next: Half::numbered(0),
+                face: 0,
+            },
+        }
+    }
+}
+
+/// What else is kept of a segment: the halves before its two, and the label of its edge.
+#[derive(Clone, Copy)]
+struct Rest {
+    forward: Half,
+    back: Half,
     edge: u32,
+}
+
+/// All that is kept of a segment.
+#[derive(Clone, Copy)]
+pub(crate) struct Segment {
+    walk: Walk,
+    rest: Rest,
 }
 
 impl Segment {
@@ -46,123 +81,201 @@ impl Segment {
         let forward = Half::forward(key);
         let back = forward.twin();
         Segment {
-            forward: Links {
-                next: forward,
-                previous: forward,
-                face: left,
+            walk: Walk {
+                forward: Links {
+                    next: forward,
+                    face: left,
+                },
+                back: Links {
+                    next: back,
+                    face: right,
+                },
             },
-            back: Links {
-                next: back,
-                previous: back,
-                face: right,
+            rest: Rest {
+                forward,
+                back,
+                edge,
             },
-            edge,
         }
     }
 }
 
-/// Whether a half is one of a segment of the slab.
-pub(crate) fn contains(segments: &Slab<Segment>, half: Half) -> bool
+/// Segments by key. Contracts see one slab of whole segments. It is kept in two parts: a slab,
+/// which gives the keys, and a list of what walks read, which has a place for each key that the
+/// slab has room for.
+#[derive(Drop)]
+pub(crate) struct Segments {
+    walks: Vec<Walk>,
+    rest: Slab<Rest>,
+}
+
+impl Model for Segments {
+    ghost use Rattle.slab.specs.Slab.{Slab as Slots};
+    ghost use Rattle.std.specs.Prelude.{◌≤◌, length};
+    ghost use Rattle.topo_map.specs.Segments.{joined};
+    ghost use Rattle.topo_map.specs.declared.segments.Segment.{Segment as Whole};
+
+    ghost Value = { Slots Whole };
+
+    ghost view = { λ s. joined s.walks.items s.rest };
+
+    ghost invariant = { λ s. (length s.rest.slots ≤ s.rest.capacity)
+        × (s.rest.capacity ≤ length s.walks.items) };
+}
+
+/// No segments. Nothing is allocated.
+pub(crate) fn none(alloc: Global) -> Segments
+    ensures { result.slots ≡ [] }
+{
+    Segments {
+        walks: Vec::new(alloc),
+        rest: Slab::new(alloc),
+    }
+}
+
+/// A slab's part with room for so many more, in memory of its own. What would pass the bound is
+/// refused.
+fn with_room(rest: &Slab<Rest>, more: usize) -> Result<Slab<Rest>, AllocError>
+    ensures slots { IfOk result (λ copy. copy.slots ≡ rest.now.slots) }
+    ensures room { IfOk result (λ copy. slab_len rest.now + more ≤ copy.capacity) }
+    ensures narrow { IfOk result (λ copy. copy.capacity ≤ 2147483647) }
+    ensures within { IfOk result (λ copy. length copy.slots ≤ copy.capacity) }
+{
+    let mut copy = rest.clone()?;
+    copy.reserve(more)?;
+    if copy.capacity() <= MAX_SEGMENTS {
+        Ok(copy)
+    } else {
+        Err(AllocError)
+    }
+}
+
+/// At least so many places. Out of memory, nothing has changed.
+fn extend(walks: &mut Vec<Walk>, places: usize) -> Result<(), AllocError>
+    ensures longer { length walks.old.items ≤ length walks.new.items }
+    ensures same { (k : ℕ) (w : Walk) → k < length walks.old.items
+        → slice_index_or walks.new.items k w ≡ slice_index_or walks.old.items k w }
+    ensures places { OnOk result (places ≤ length walks.new.items) }
+{
+    if walks.len() < places {
+        walks.resize(places, Walk::blank())?;
+    }
+    Ok(())
+}
+
+/// The same segments at the same keys, with no less room, in memory of their own.
+pub(crate) fn copy(segments: &Segments) -> Result<Segments, AllocError>
+    ensures slots { IfOk result (λ copy. copy.slots ≡ segments.now.slots) }
+    ensures room { IfOk result (λ copy. room_of segments.now ≤ room_of copy) }
+{
+    let mut walks = segments.walks.clone()?;
+    let rest = with_room(&segments.rest, room(segments))?;
+    extend(&mut walks, rest.capacity())?;
+    Ok(Segments { walks, rest })
+}
+
+/// Whether a half is one of a segment that is there.
+pub(crate) fn contains(segments: &Segments, half: Half) -> bool
     ensures { result ≡ holds segments.now half }
 {
-    segments.contains(half.key())
+    segments.rest.contains(half.key())
 }
 
 /// The next half clockwise.
-pub(crate) fn next(segments: &Slab<Segment>, at: Half) -> Half
+pub(crate) fn next(segments: &Segments, at: Half) -> Half
     requires { holds segments.now at ≡ true }
     ensures { result ≡ next_in segments.now at }
 {
-    let segment = &segments[at.key()];
+    let walk = &segments.walks[at.key()];
     match at.way() {
-        Way::Forward => segment.forward.next,
-        Way::Back => segment.back.next,
+        Way::Forward => walk.forward.next,
+        Way::Back => walk.back.next,
     }
 }
 
 /// The next half the other way round.
-pub(crate) fn previous(segments: &Slab<Segment>, at: Half) -> Half
+pub(crate) fn previous(segments: &Segments, at: Half) -> Half
     requires { holds segments.now at ≡ true }
     ensures { result ≡ before_in segments.now at }
 {
-    let segment = &segments[at.key()];
+    let rest = &segments.rest[at.key()];
     match at.way() {
-        Way::Forward => segment.forward.previous,
-        Way::Back => segment.back.previous,
+        Way::Forward => rest.forward,
+        Way::Back => rest.back,
     }
 }
 
 /// The label of the edge that a half is on.
-pub(crate) fn edge(segments: &Slab<Segment>, at: Half) -> u32
+pub(crate) fn edge(segments: &Segments, at: Half) -> u32
     requires { holds segments.now at ≡ true }
     ensures { result ≡ label_in segments.now at }
 {
-    segments[at.key()].edge
+    segments.rest[at.key()].edge
 }
 
 /// The label of the face on the left of a half.
-pub(crate) fn face(segments: &Slab<Segment>, at: Half) -> u32
+pub(crate) fn face(segments: &Segments, at: Half) -> u32
     requires { holds segments.now at ≡ true }
     ensures { result ≡ face_in segments.now at }
 {
-    let segment = &segments[at.key()];
+    let walk = &segments.walks[at.key()];
     match at.way() {
-        Way::Forward => segment.forward.face,
-        Way::Back => segment.back.face,
+        Way::Forward => walk.forward.face,
+        Way::Back => walk.back.face,
     }
 }
 
 /// The next half clockwise, and the label of the face on the left, in one look.
-pub(crate) fn around(segments: &Slab<Segment>, at: Half) -> (Half, u32)
+pub(crate) fn around(segments: &Segments, at: Half) -> (Half, u32)
     requires { holds segments.now at ≡ true }
     ensures next { result.0 ≡ next_in segments.now at }
     ensures face { result.1 ≡ face_in segments.now at }
 {
-    let segment = &segments[at.key()];
+    let walk = &segments.walks[at.key()];
     match at.way() {
-        Way::Forward => (segment.forward.next, segment.forward.face),
-        Way::Back => (segment.back.next, segment.back.face),
+        Way::Forward => (walk.forward.next, walk.forward.face),
+        Way::Back => (walk.back.next, walk.back.face),
     }
 }
 
 /// The face on the left of a half has this label.
-pub(crate) fn set_face(segments: &mut Slab<Segment>, at: Half, label: u32)
+pub(crate) fn set_face(segments: &mut Segments, at: Half, label: u32)
     requires { holds segments.old at ≡ true }
     ensures { Repaints segments.old segments.new (written (face_in segments.old) at label) }
 {
-    let segment = &mut segments[at.key()];
+    let walk = &mut segments.walks[at.key()];
     match at.way() {
-        Way::Forward => segment.forward.face = label,
-        Way::Back => segment.back.face = label,
+        Way::Forward => walk.forward.face = label,
+        Way::Back => walk.back.face = label,
     }
 }
 
-fn set_next(segments: &mut Slab<Segment>, at: Half, to: Half)
+fn set_next(segments: &mut Segments, at: Half, to: Half)
     requires { holds segments.old at ≡ true }
     ensures { Rewires segments.old segments.new (written (next_in segments.old) at to)
         (before_in segments.old) }
 {
-    let segment = &mut segments[at.key()];
+    let walk = &mut segments.walks[at.key()];
     match at.way() {
-        Way::Forward => segment.forward.next = to,
-        Way::Back => segment.back.next = to,
+        Way::Forward => walk.forward.next = to,
+        Way::Back => walk.back.next = to,
     }
 }
 
-fn set_previous(segments: &mut Slab<Segment>, at: Half, to: Half)
+fn set_previous(segments: &mut Segments, at: Half, to: Half)
     requires { holds segments.old at ≡ true }
     ensures { Rewires segments.old segments.new (next_in segments.old)
         (written (before_in segments.old) at to) }
 {
-    let segment = &mut segments[at.key()];
+    let rest = &mut segments.rest[at.key()];
     match at.way() {
-        Way::Forward => segment.forward.previous = to,
-        Way::Back => segment.back.previous = to,
+        Way::Forward => rest.forward = to,
+        Way::Back => rest.back = to,
     }
 }
 
 /// `to` follows `from`.
-pub(crate) fn link(segments: &mut Slab<Segment>, from: Half, to: Half)
+pub(crate) fn link(segments: &mut Segments, from: Half, to: Half)
     requires from { holds segments.old from ≡ true }
     requires to { holds segments.old to ≡ true }
     ensures { Rewires segments.old segments.new (written (next_in segments.old) from to)
@@ -173,7 +286,7 @@ pub(crate) fn link(segments: &mut Slab<Segment>, from: Half, to: Half)
 }
 
 /// Puts `x`, a point by itself, before `c`.
-pub(crate) fn put_before(segments: &mut Slab<Segment>, x: Half, c: Half)
+pub(crate) fn put_before(segments: &mut Segments, x: Half, c: Half)
     requires kept { IsKept segments.old }
     requires live { holds segments.old x ≡ true }
     requires live_corner { holds segments.old c ≡ true }
@@ -188,7 +301,7 @@ pub(crate) fn put_before(segments: &mut Slab<Segment>, x: Half, c: Half)
 }
 
 /// `x` becomes a point by itself, and what led to it leads on.
-pub(crate) fn take_out(segments: &mut Slab<Segment>, x: Half)
+pub(crate) fn take_out(segments: &mut Segments, x: Half)
     requires kept { IsKept segments.old }
     requires live { holds segments.old x ≡ true }
     ensures turned { IsTurned segments.old segments.new (without (next_in segments.old) x) }
@@ -203,12 +316,7 @@ pub(crate) fn take_out(segments: &mut Slab<Segment>, x: Half)
 /// A new segment on an edge, with each half a point by itself, and these labels of the faces on the
 /// left of the half that is answered and of its twin. The slab gives the key only as it stores, so
 /// the segment is written a second time.
-pub(crate) fn insert_isolated(
-    segments: &mut Slab<Segment>,
-    edge: u32,
-    left: u32,
-    right: u32,
-) -> Half
+pub(crate) fn insert_isolated(segments: &mut Segments, edge: u32, left: u32, right: u32) -> Half
     requires kept { IsKept segments.old }
     requires room { 0 < room_of segments.old }
     ensures inserted { IsInserted segments.old segments.new result }
@@ -217,13 +325,19 @@ pub(crate) fn insert_isolated(
     ensures faces { AddsFaces (holds segments.old) (face_in segments.old)
         (face_in segments.new) result left right }
 {
-    let key = segments.insert_reserved(Segment::isolated(0, edge, left, right));
-    segments[key] = Segment::isolated(key as u32, edge, left, right);
+    let key = segments
+        .rest
+        .insert_reserved(Segment::isolated(0, edge, left, right).rest);
+    // For the proof: the slots are no more than there is room for.
+    segments.rest.capacity();
+    let Segment { walk, rest } = Segment::isolated(key as u32, edge, left, right);
+    segments.rest[key] = rest;
+    segments.walks[key] = walk;
     Half::forward(key as u32)
 }
 
 /// The segment of `x`, each half of which is a point by itself, is gone.
-pub(crate) fn remove_isolated(segments: &mut Slab<Segment>, x: Half)
+pub(crate) fn remove_isolated(segments: &mut Segments, x: Half)
     requires kept { IsKept segments.old }
     requires live { holds segments.old x ≡ true }
     requires alone { next_in segments.old x ≡ x }
@@ -233,26 +347,28 @@ pub(crate) fn remove_isolated(segments: &mut Slab<Segment>, x: Half)
         (label_in segments.new) }
     ensures faces { KeepsLabels (holds segments.new) (face_in segments.old) (face_in segments.new) }
 {
-    segments.remove(x.key());
+    segments.rest.remove(x.key());
+    // For the proof: the slots are no more than there is room for.
+    segments.rest.capacity();
 }
 
 /// Above all halves that there is place for.
-pub(crate) fn limit(segments: &Slab<Segment>) -> usize
+pub(crate) fn limit(segments: &Segments) -> usize
     ensures value { result ≡ limit_of segments.now }
     ensures slots { length segments.now.slots ≤ segments.now.capacity }
     ensures fits { result + 1 < 2 ^ 32 }
 {
-    2 * segments.capacity().min(MAX_SEGMENTS)
+    2 * segments.rest.capacity().min(MAX_SEGMENTS)
 }
 
 /// How many segments fit with no memory taken. A slab that is so large that a key might not fit its
 /// type has room for none.
-pub(crate) fn room(segments: &Slab<Segment>) -> usize
+pub(crate) fn room(segments: &Segments) -> usize
     ensures { result ≡ room_of segments.now }
 {
-    let capacity = segments.capacity();
+    let capacity = segments.rest.capacity();
     if capacity <= MAX_SEGMENTS {
-        capacity - segments.len()
+        capacity - segments.rest.len()
     } else {
         0
     }
@@ -260,7 +376,7 @@ pub(crate) fn room(segments: &Slab<Segment>) -> usize
 
 /// Makes room for so many more segments. What would pass the bound is refused before anything
 /// grows.
-pub(crate) fn reserve(segments: &mut Slab<Segment>, more: usize) -> Result<(), AllocError>
+pub(crate) fn reserve(segments: &mut Segments, more: usize) -> Result<(), AllocError>
     ensures slots { segments.new.slots ≡ segments.old.slots }
     ensures room { OnOk result (more ≤ room_of segments.new) }
     ensures never_less { OnOk result (room_of segments.old ≤ room_of segments.new) }
@@ -271,13 +387,11 @@ pub(crate) fn reserve(segments: &mut Slab<Segment>, more: usize) -> Result<(), A
     if more <= room(segments) {
         return Ok(());
     }
-    if MAX_SEGMENTS.saturating_sub(segments.len()) < more {
+    if MAX_SEGMENTS.saturating_sub(segments.rest.len()) < more {
         return Err(AllocError);
     }
-    segments.reserve(more)?;
-    if segments.capacity() <= MAX_SEGMENTS {
-        Ok(())
-    } else {
-        Err(AllocError)
-    }
+    let rest = with_room(&segments.rest, more)?;
+    extend(&mut segments.walks, rest.capacity())?;
+    segments.rest = rest;
+    Ok(())
 }

@@ -226,7 +226,8 @@ module _ (crossings : List CrossRow) (e s : ℕ) (path before ahead : List ℕ) 
       let value : next ≡ begin + 2 * s + 2 = omega arith in (
         omega arith,
         ap (λ n. written (set ahead n next) (path_notes crossings e (begin + 2 * (s + 1)) (drop (s + 1) path))) p.placed
-            ∙ ap (λ n. written (set ahead (note_place crossings e (slice_index path s)) n) (path_notes crossings e (begin + 2 * (s + 1)) (drop (s + 1) path))) value
+            ∙ ap (λ n. written (set ahead (note_place crossings e (slice_index path s)) n) (path_notes crossings e (begin + 2 * (s + 1)) (drop (s + 1) path)))
+            value
             ∙ sym (path_step crossings e begin s path ahead inside) ∙ was.1,
       )
 
@@ -320,7 +321,8 @@ module _ (rows : Rows) (paths : has_good_paths rows ≡ true) (small : rows.next
   Same = (k : ℕ) → occurrences k (path_pairs rows.edges) ≡ occurrences k (crossing_pairs rows.crossings)
 
   -- an edge is due once with each crossing of it
-  due_once : (e : ℕ) (c : CrossRow) → IsIn c rows.crossings → occurrences (pair e c.id) (crossing_pairs rows.crossings) ≡ one (c.crossed == e || c.newcomer == e)
+  due_once : (e : ℕ) (c : CrossRow) → IsIn c rows.crossings → occurrences (pair e c.id) (crossing_pairs rows.crossings)
+      ≡ one (c.crossed == e || c.newcomer == e)
   due_once e c h =
       crossing_count rows.next_crossing rows.crossings rises e c.id (id_small rows paths small rises c h) (id_small rows paths small rises)
       ∙ ap (λ (o : Option CrossRow). unwrap_or (option_map (λ c. one (c.crossed == e) + one (c.newcomer == e)) o) 0)

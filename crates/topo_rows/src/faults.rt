@@ -42,8 +42,8 @@ fn rise_below(limit: u32, ids: &[u32]) -> bool
     true
 }
 
-/// Whether x is one of the numbers, which are in order. One look finds it where it is expected; else
-/// a binary search does.
+/// Whether x is one of the numbers, which are in order. One look finds it where it is expected;
+/// else a binary search does.
 fn has_number(numbers: &[u32], expected: usize, x: u32) -> bool
     requires { IsNonDecreasing numbers.now }
     ensures { result ≡ list_any (λ y. y == x) numbers.now }

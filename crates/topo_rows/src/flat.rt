@@ -1,8 +1,8 @@
 //! The flat lists of a well-formed picture: its darts as numbers in canonical order.
 
 ghost use Rattle.std.specs.Prelude.{◌≡◌, ◌+◌, ◌*◌, ◌<◌, ◌≤◌, ◌^◌, ◌++◌, ◌==◌, ℕ, true, false};
-ghost use Rattle.std.specs.Prelude.{IfOk, OnOk, IfSome, IfNone, MatchOption, IsTrue, ◌↔◌, find, length, map};
-ghost use Rattle.std.specs.Prelude.{flat_map, replicate, sum_by, is_some, slice_index, not};
+ghost use Rattle.std.specs.Prelude.{IfOk, OnOk, IfSome, IfNone, MatchOption, IsTrue, ◌↔◌, find};
+ghost use Rattle.std.specs.Prelude.{length, map, flat_map, replicate, sum_by, is_some, slice_index, not};
 ghost use Rattle.std.specs.List.{list_all};
 ghost use Rattle.topo_core.specs.Items.{occurrences, rises_below};
 ghost use Rattle.topo_core.specs.Lawful.{IsWellFormed, has_good_paths};
@@ -10,8 +10,8 @@ ghost use Rattle.topo_core.specs.Picture.{segment_count, index_of, end_dart, edg
 ghost use Rattle.topo_core.specs.Picture.{darts, rotation, vertices, turn_images};
 ghost use Rattle.topo_rows.specs.Ids.{IdsRise};
 ghost use Rattle.topo_rows.specs.Flats.{begins_from, written, links, note_place};
-ghost use Rattle.topo_rows.specs.Flats.{path_notes, notes_from, vertex_round};
-ghost use Rattle.topo_rows.specs.Flats.{crossing_round, round_ahead, AreAhead, AreNoted, AreTurnsOf};
+ghost use Rattle.topo_rows.specs.Flats.{path_notes, notes_from, vertex_round, AreTurnsOf};
+ghost use Rattle.topo_rows.specs.Flats.{crossing_round, round_ahead, AreAhead, AreNoted};
 ghost use Rattle.topo_rows.specs.Notes.{Fills, IsNotePlace, IsOfOthers, IsOverfull};
 ghost use Rattle.topo_rows.specs.Pairs.{crossing_pairs, pair, path_pairs};
 

@@ -1,9 +1,8 @@
 use Rattle.std.proofs.Common.{refl, ◌≡◌, ◌+◌, ◌*◌, ◌≤◌, ◌∷◌, ◌++◌, [], List, ℕ, ◌∙◌, ap, sym, subst, arith, length}
 use Rattle.std.proofs.lemmas.List.{length-append}
 use Rattle.topo_map.specs.Building.{AreAlone}
-use Rattle.topo_map.specs.Segments.{holds, label_in, room_of}
+use Rattle.topo_map.specs.Segments.{label_in, room_of}
 use Rattle.topo_map.specs.Rotation.{AreLabelled}
-use Rattle.topo_core.specs.Cycles.{map_of}
 use Rattle.topo_map.proofs.FaceEdits.{blank_none, blank_more}
 use Rattle.topo_map.proofs.Joining.{empty_alone, alone_more, none_held}
 use Rattle.topo_map.proofs.Listing.{labelled_more}

@@ -14,7 +14,8 @@ note_paths-requires-clause-rise c = ids_rise c.args.rows.now c.as_slice-crossing
 
 pub note_paths-requires-clause-known : goal.note_paths-requires-clause-known
 note_paths-requires-clause-known c =
-    paths_named c.args.rows.now c.requires.paths c.as_slice-crossings.result.now c.as_slice-edges.result.now c.as_slice-crossings.ensures c.as_slice-edges.ensures
+    paths_named c.args.rows.now c.requires.paths c.as_slice-crossings.result.now c.as_slice-edges.result.now
+    c.as_slice-crossings.ensures c.as_slice-edges.ensures
 
 pub note_paths-requires-clause-few : goal.note_paths-requires-clause-few
 note_paths-requires-clause-few c =

@@ -12,5 +12,6 @@ invariant-loop-s l = record {
       ≡ noted k l.initial.ahead (crossing_pairs l.crossings) + occurrences k (map (pair l.e) l.path);
   numbered : l.begin + 2 * (length l.path + 1) < 4294967296
       → (l.number ≡ l.begin + 2 * l.s)
-      × (written l.ahead (path_notes l.crossings l.e (l.begin + 2 * l.s) (drop l.s l.path)) ≡ written l.initial.ahead (path_notes l.crossings l.e l.begin l.path));
+      × (written l.ahead (path_notes l.crossings l.e (l.begin + 2 * l.s) (drop l.s l.path))
+      ≡ written l.initial.ahead (path_notes l.crossings l.e l.begin l.path));
 }

@@ -1,7 +1,7 @@
 use Rattle.std.proofs.Common.{arith, ap, ◌∙◌, subst, Bool, ℕ}
 use Rattle.topo_core.specs.Edits.{IsSplit}
 use Rattle.topo_map.specs.Rotation.{AddsLabel, edge_of, CountsMore, Rotation, Grows, half_limit, turn, is_live}
-use Rattle.topo_map.specs.Segments.{face_in, holds, label_in, view_of}
+use Rattle.topo_map.specs.Segments.{holds, label_in, view_of}
 use Rattle.topo_map.proofs.FaceEdits.{split_labelled}
 use Rattle.topo_map.proofs.Steps.{label_added, IsSplitUp, twin_alone, split_alone, splitted, still_live, live_twin}
 use Rattle.topo_map.proofs.embedding.Embedding.split.Goals as goal
