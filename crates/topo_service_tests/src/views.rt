@@ -11,6 +11,26 @@ const U: u32 = 3;
 
 const V: u32 = 4;
 
+/// What the calls of two passes and their views tell.
+const VIEWS_TOLD: &str = "version 0 with 1 edges\n\
+    Inserted(Inserted { id: EdgeId(1), route: Route { start: 0, \
+    crossed: Listed { items: [] }, end: 0 }, price: 0 })\n\
+    version 1 with 2 edges\n\
+    1 seen, 1 receipts\n\
+    Inserted(Inserted { id: EdgeId(2), route: Route { start: 0, \
+    crossed: Listed { items: [] }, end: 1 }, price: 0 })\n\
+    version 2 with 3 edges\n\
+    Refused(SameEnds)\n\
+    version 2 with 3 edges\n\
+    Refused(SameEnds)\n\
+    2 seen, 2 receipts\n\
+    Inserted(Inserted { id: EdgeId(3), route: Route { start: 0, \
+    crossed: Listed { items: [] }, end: 1 }, price: 0 })\n\
+    version 3 with 4 edges\n\
+    3 seen, 2 receipts\n\
+    3 seen, 3 receipts\n\
+    [(0, 1), (1, 2), (2, 3), (2, 3), (3, 4)]; 5 calls, replayed: true";
+
 #[test]
 fn views_follow_the_calls(rt: HostRuntime) -> Result<(), Fail> {
     let told = told_of(
@@ -35,28 +55,7 @@ fn views_follow_the_calls(rt: HostRuntime) -> Result<(), Fail> {
             (1, Step::Seen),
         ],
     );
-    is_told(
-        &rt,
-        told,
-        "version 0 with 1 edges\n\
-         Inserted(Inserted { id: EdgeId(1), route: Route { start: 0, \
-         crossed: Listed { items: [] }, end: 0 }, price: 0 })\n\
-         version 1 with 2 edges\n\
-         1 seen, 1 receipts\n\
-         Inserted(Inserted { id: EdgeId(2), route: Route { start: 0, \
-         crossed: Listed { items: [] }, end: 1 }, price: 0 })\n\
-         version 2 with 3 edges\n\
-         Refused(SameEnds)\n\
-         version 2 with 3 edges\n\
-         Refused(SameEnds)\n\
-         2 seen, 2 receipts\n\
-         Inserted(Inserted { id: EdgeId(3), route: Route { start: 0, \
-         crossed: Listed { items: [] }, end: 1 }, price: 0 })\n\
-         version 3 with 4 edges\n\
-         3 seen, 2 receipts\n\
-         3 seen, 3 receipts\n\
-         [(0, 1), (1, 2), (2, 3), (2, 3), (3, 4)]; 5 calls, replayed: true",
-    )
+    is_told(&rt, told, VIEWS_TOLD)
 }
 
 #[test]
