@@ -110,7 +110,7 @@ read_at {walks} {rest} {s} key at {w} a v e h is = subst (λ (x : Walk). HasPart
 
 -- a place of the list of walks that no proof looks at
 pub some_walk : Walk
-some_walk = record { forward = record { next = 0; face = 0 }; back = record { next = 0; face = 0 } }
+some_walk = record { forward = record { next = 0; face = 0 }; back = record { next = 0; face = 0 }; edge = 0 }
 
 pub rest_at : (walks : List Walk) (rest : Slab Rest) {s : Slab Segment} (key : ℕ) {r : Rest} → HavePlaces walks rest → joined walks rest ≡ s
     → get rest key ≡ Some r → get s key ≡ Some (whole (slice_index_or walks key some_walk) r)

@@ -109,14 +109,14 @@ pub label_at : (s : Slab Segment) (a : ℕ) → label_in s a ≡ labelled (optio
 unfolding edge_in
 label_at s a = ap labelled (get_or-map (option_map nexts) s.slots (a / 2) None)
 
-pub label-there : (s : Slab Segment) (key : ℕ) (seg : Segment) (a : ℕ) → a / 2 ≡ key → get s key ≡ Some seg → label_in s a ≡ seg.rest.edge
+pub label-there : (s : Slab Segment) (key : ℕ) (seg : Segment) (a : ℕ) → a / 2 ≡ key → get s key ≡ Some seg → label_in s a ≡ seg.walk.edge
 label-there s key seg a e g = label_at s a ∙ ap (λ (k : ℕ). labelled (option_map nexts (get s k))) e
     ∙ ap (λ (o : Option Segment). labelled (option_map nexts o)) g
 
 pub label-else : (s s' : Slab Segment) (key : ℕ) (slot : Option Segment) → Updates s s' key slot → (a : ℕ) → a / 2 ≢ key → label_in s' a ≡ label_in s a
 label-else s s' key slot u a ne = label_at s' a ∙ ap (λ (o : Option Segment). labelled (option_map nexts o)) (u.others (a / 2) ne) ∙ sym (label_at s a)
 
-same_labels : (s s' : Slab Segment) (key : ℕ) (seg v : Segment) → get s key ≡ Some seg → Updates s s' key (Some v) → v.rest.edge ≡ seg.rest.edge
+same_labels : (s s' : Slab Segment) (key : ℕ) (seg v : Segment) → get s key ≡ Some seg → Updates s s' key (Some v) → v.walk.edge ≡ seg.walk.edge
     → label_in s' ≡ label_in s
 same_labels s s' key seg v g u e = funext (label_in s') (label_in s) (λ a. grind (arith, cases_eq, label-else, label-there))
 

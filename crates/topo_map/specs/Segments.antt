@@ -24,13 +24,13 @@ joined walks rest = record { slots = joined_slots rest.slots walks; vacant_key =
 
 -- the halves after and before the two of a segment, and the labels of the faces on their left
 abbrev pub nexts : Segment → Slot
-nexts s = record { forward = s.walk.forward.next; back = s.walk.back.next; edge = s.rest.edge }
+nexts s = record { forward = s.walk.forward.next; back = s.walk.back.next; edge = s.walk.edge }
 
 abbrev pub befores : Segment → Slot
-befores s = record { forward = s.rest.forward; back = s.rest.back; edge = s.rest.edge }
+befores s = record { forward = s.rest.forward; back = s.rest.back; edge = s.walk.edge }
 
 abbrev pub sides : Segment → Slot
-sides s = record { forward = s.walk.forward.face; back = s.walk.back.face; edge = s.rest.edge }
+sides s = record { forward = s.walk.forward.face; back = s.walk.back.face; edge = s.walk.edge }
 
 abbrev pub shown : (Segment → Slot) → Slab Segment → List (Option Slot)
 shown pick s = map (option_map pick) s.slots
@@ -66,8 +66,8 @@ view_of s = record { slots = shown nexts s; labels = shown sides s; limit = limi
 -- a segment by itself
 abbrev pub isolated_segment : ℕ → ℕ → ℕ → ℕ → Segment
 isolated_segment key edge left right = record {
-  walk = record { forward = record { next = 2 * key; face = left }; back = record { next = 2 * key + 1; face = right } };
-  rest = record { forward = 2 * key; back = 2 * key + 1; edge = edge };
+  walk = record { forward = record { next = 2 * key; face = left }; back = record { next = 2 * key + 1; face = right }; edge = edge };
+  rest = record { forward = 2 * key; back = 2 * key + 1 };
 }
 
 -- ---- Maps

@@ -2,9 +2,9 @@
 //! beside it. Both directions are kept, so that a half is put in or taken out in a constant number
 //! of steps.
 //!
-//! What a walk reads of a segment, the halves after its two and the labels of the faces, takes 16
-//! bytes and lies in a list of its own. So four segments share a line of a cache, and a search,
-//! which reads nothing else of most segments, waits less for memory.
+//! What a search reads of a segment lies in a list of its own: the halves after its two, the labels
+//! of the faces, and the label of its edge, whose price it asks. These are 20 bytes, so three
+//! segments share a line of a cache.
 
 ghost use Rattle.std.specs.Prelude.{◌≡◌, ◌≢◌, ◌+◌, ◌<◌, ◌≤◌, ◌^◌, ℕ, [], true, length, IfOk, OnOk};
 ghost use Rattle.std.specs.Prelude.{IsOk, slice_index_or};
@@ -34,11 +34,12 @@ struct Links {
     face: u32,
 }
 
-/// What a walk reads of a segment: the links of its two halves.
+/// What a walk reads of a segment: the links of its two halves, and the label of its edge.
 #[derive(Clone, Copy)]
 struct Walk {
     forward: Links,
     back: Links,
+    edge: u32,
 }
 
 impl Walk {
@@ -53,16 +54,16 @@ impl Walk {
                 next: Half::numbered(0),
                 face: 0,
             },
+            edge: 0,
         }
     }
 }
 
-/// What else is kept of a segment: the halves before its two, and the label of its edge.
+/// What else is kept of a segment: the halves before its two.
 #[derive(Clone, Copy)]
 struct Rest {
     forward: Half,
     back: Half,
-    edge: u32,
 }
 
 /// All that is kept of a segment.
@@ -90,12 +91,9 @@ impl Segment {
                     next: back,
                     face: right,
                 },
-            },
-            rest: Rest {
-                forward,
-                back,
                 edge,
             },
+            rest: Rest { forward, back },
         }
     }
 }
@@ -210,7 +208,7 @@ pub(crate) fn edge(segments: &Segments, at: Half) -> u32
     requires { holds segments.now at ≡ true }
     ensures { result ≡ label_in segments.now at }
 {
-    segments.rest[at.key()].edge
+    segments.walks[at.key()].edge
 }
 
 /// The label of the face on the left of a half.
