@@ -16,7 +16,7 @@ ghost use Rattle.topo_changes.specs.Deleting.{rotation_without, left_by, other_e
 use crate::kept::{Crossing, EdgeBody, KeptRows};
 use topo_core::listed::Listed;
 use topo_core::rows::EdgeRow;
-use topo_table::{Hints, Table};
+use topo_table::Table;
 
 /// Takes an id out of a list.
 fn take_id(list: &mut Listed<u32>, id: u32)
@@ -109,7 +109,6 @@ fn edge_across(crossings: &Table<Crossing>, e: u32, x: u32) -> u32
 fn leave_path(
     edges: &mut Table<EdgeBody>,
     crossings: &Table<Crossing>,
-    hints: &Hints,
     e: u32,
     x: u32,
 )
@@ -118,7 +117,7 @@ fn leave_path(
     ensures ids { ids_of edges.new.slots ≡ ids_of edges.old.slots }
 {
     let other = edge_across(crossings, e, x);
-    match edges.place_of(hints.place(other), other) {
+    match edges.place_of(other) {
         Some(place) => {
             let mut body = edges.take(place);
             take_id(&mut body.crossings, x);
@@ -132,7 +131,6 @@ fn leave_path(
 fn leave_paths(
     edges: &mut Table<EdgeBody>,
     crossings: &Table<Crossing>,
-    hints: &Hints,
     e: u32,
     path: &[u32],
 )
@@ -142,7 +140,7 @@ fn leave_paths(
     ensures ids { ids_of edges.new.slots ≡ ids_of edges.old.slots }
 {
     for x in path {
-        leave_path(edges, crossings, hints, e, *x);
+        leave_path(edges, crossings, e, *x);
     }
 }
 
@@ -166,7 +164,7 @@ fn with_id(id: u32, body: EdgeBody) -> EdgeRow
 }
 
 /// Takes out the row of an edge, and its crossings out of the paths of the others.
-fn delete_edge(rows: &mut KeptRows, hints: &Hints, e: u32) -> EdgeRow
+fn delete_edge(rows: &mut KeptRows, e: u32) -> EdgeRow
     requires well_formed { IsWellFormed rows.old }
     requires there { is_some (edge_row rows.old e) ≡ true }
     ensures row { edge_row rows.old e ≡ Some result }
@@ -180,7 +178,7 @@ fn delete_edge(rows: &mut KeptRows, hints: &Hints, e: u32) -> EdgeRow
     };
     let row = with_id(e, body);
     let path = row.crossings.as_slice();
-    leave_paths(&mut rows.edges, &rows.crossings, hints, e, path);
+    leave_paths(&mut rows.edges, &rows.crossings, e, path);
     row
 }
 
@@ -211,15 +209,16 @@ fn delete_crossings(crossings: &mut Table<Crossing>, path: &[u32])
     for x in path {
         crossings.remove(*x);
     }
+    crossings.close_up();
 }
 
 /// Takes out an edge and its crossings. The counters stay.
-pub fn delete_rows(rows: &mut KeptRows, hints: &Hints, e: u32)
+pub fn delete_rows(rows: &mut KeptRows, e: u32)
     requires well_formed { IsWellFormed rows.old }
     requires there { is_some (edge_row rows.old e) ≡ true }
     ensures { rows.new ≡ without rows.old e }
 {
-    let row = delete_edge(rows, hints, e);
+    let row = delete_edge(rows, e);
     leave_ends(rows, &row);
     delete_crossings(&mut rows.crossings, row.crossings.as_slice());
 }

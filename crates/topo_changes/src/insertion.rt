@@ -20,7 +20,7 @@ use topo_core::darts::{Dart, Sign, Way};
 use topo_core::listed::Listed;
 use topo_core::routes::Route;
 use topo_core::rows::EdgeRow;
-use topo_table::{Hints, Table};
+use topo_table::Table;
 
 /// The place on a path where a segment ends, when only the crossings with ids before `first` count.
 fn segment_end(path: &[u32], segment: u32, first: u32) -> usize
@@ -59,7 +59,6 @@ fn keep_below(list: &mut Listed<u32>, first: u32)
 /// Puts crossing `x` on the path of edge `e`.
 fn cross_edge(
     edges: &mut Table<EdgeBody>,
-    hints: &Hints,
     e: u32,
     segment: u32,
     first: u32,
@@ -71,7 +70,7 @@ fn cross_edge(
     ensures err { OnErr result (edges_of edges.new ≡ edges_of edges.old) }
     ensures places { KeepsPlaces edges.old edges.new }
 {
-    match edges.place_of(hints.place(e), e) {
+    match edges.place_of(e) {
         Some(place) => {
             let mut body = edges.take(place);
             let done = cross_path(&mut body.crossings, segment, first, x);
@@ -83,12 +82,12 @@ fn cross_edge(
 }
 
 /// Takes the crossings from `first` on out of the path of edge `e`.
-fn uncross_edge(edges: &mut Table<EdgeBody>, hints: &Hints, e: u32, first: u32)
+fn uncross_edge(edges: &mut Table<EdgeBody>, e: u32, first: u32)
     ensures edges { edges_of edges.new
         ≡ map (repathed e (filter (λ x. nat_lt x first))) (edges_of edges.old) }
     ensures places { KeepsPlaces edges.old edges.new }
 {
-    match edges.place_of(hints.place(e), e) {
+    match edges.place_of(e) {
         Some(place) => {
             let mut body = edges.take(place);
             keep_below(&mut body.crossings, first);
@@ -100,7 +99,7 @@ fn uncross_edge(edges: &mut Table<EdgeBody>, hints: &Hints, e: u32, first: u32)
 
 /// Puts crossings on the segments of the darts, with ids from `first` on, as far as there is
 /// memory, and answers how many.
-fn cross_some(edges: &mut Table<EdgeBody>, hints: &Hints, darts: &[Dart], first: u32) -> usize
+fn cross_some(edges: &mut Table<EdgeBody>, darts: &[Dart], first: u32) -> usize
     requires below { paths_below first (edges_of edges.old) ≡ true }
     requires there { AreOnPaths (edges_of edges.old) darts.now }
     requires ids { first + length darts.now < 2 ^ 32 }
@@ -111,7 +110,7 @@ fn cross_some(edges: &mut Table<EdgeBody>, hints: &Hints, darts: &[Dart], first:
 {
     for (i, dart) in darts.iter().enumerate() {
         let x = first + i as u32;
-        if cross_edge(edges, hints, dart.edge.number(), dart.seg, first, x).is_err() {
+        if cross_edge(edges, dart.edge.number(), dart.seg, first, x).is_err() {
             return i;
         }
     }
@@ -119,7 +118,7 @@ fn cross_some(edges: &mut Table<EdgeBody>, hints: &Hints, darts: &[Dart], first:
 }
 
 /// Takes the crossings of the darts out again, the last one first.
-fn uncross(edges: &mut Table<EdgeBody>, hints: &Hints, darts: &[Dart], first: u32)
+fn uncross(edges: &mut Table<EdgeBody>, darts: &[Dart], first: u32)
     requires ids { first + length darts.now < 2 ^ 32 }
     ensures edges { (was : List EdgeRow) → paths_below first was ≡ true
         → edges_of edges.old ≡ map (crossed_by first darts.now) was → edges_of edges.new ≡ was }
@@ -128,7 +127,7 @@ fn uncross(edges: &mut Table<EdgeBody>, hints: &Hints, darts: &[Dart], first: u3
     let mut n = darts.len();
     while n > 0 {
         n -= 1;
-        uncross_edge(edges, hints, darts[n].edge.number(), first + n as u32);
+        uncross_edge(edges, darts[n].edge.number(), first + n as u32);
     }
 }
 
@@ -136,7 +135,6 @@ fn uncross(edges: &mut Table<EdgeBody>, hints: &Hints, darts: &[Dart], first: u3
 /// short.
 fn cross(
     edges: &mut Table<EdgeBody>,
-    hints: &Hints,
     darts: &[Dart],
     first: u32,
 ) -> Result<(), AllocError>
@@ -148,9 +146,9 @@ fn cross(
     ensures err { OnErr result (edges_of edges.new ≡ edges_of edges.old) }
     ensures places { KeepsPlaces edges.old edges.new }
 {
-    let done = cross_some(edges, hints, darts, first);
+    let done = cross_some(edges, darts, first);
     if done < darts.len() {
-        uncross(edges, hints, &darts[..done], first);
+        uncross(edges, &darts[..done], first);
         return Err(AllocError);
     }
     Ok(())
@@ -227,7 +225,6 @@ fn insert_lists(
     rotations: &mut [Listed<u32>],
     edges: &mut Table<EdgeBody>,
     crossings: &mut Table<Crossing>,
-    hints: &Hints,
     row: EdgeRow,
     route: &Route,
     first: u32,
@@ -261,9 +258,9 @@ fn insert_lists(
     let darts = route.crossed.as_slice();
     edges.reserve(1)?;
     crossings.reserve(darts.len())?;
-    cross(edges, hints, darts, first)?;
+    cross(edges, darts, first)?;
     if join_ends(rotations, &row, route).is_err() {
-        uncross(edges, hints, darts, first);
+        uncross(edges, darts, first);
         return Err(AllocError);
     }
     add_crossings(crossings, darts, first, row.id);
@@ -276,7 +273,6 @@ fn insert_lists(
 pub fn apply_rows(
     alloc: Global,
     rows: &mut KeptRows,
-    hints: &Hints,
     u: u32,
     v: u32,
     kind: u32,
@@ -301,7 +297,6 @@ pub fn apply_rows(
         rows.rotations.as_vec_mut(),
         &mut rows.edges,
         &mut rows.crossings,
-        hints,
         row,
         route,
         first,

@@ -188,11 +188,11 @@ impl KeptRows {
         self.edges.len()
     }
 
-    /// The edge with an id, which is looked for at a place of the table first.
-    pub fn edge(&self, hint: usize, id: u32) -> Option<EdgeView<'_>>
+    /// The edge with an id.
+    pub fn edge(&self, id: u32) -> Option<EdgeView<'_>>
         ensures { option_map viewed_row result ≡ edge_row self.now id }
     {
-        let body = self.edges.get_near(hint, id)?;
+        let body = self.edges.get(id)?;
         Some(EdgeView {
             id,
             a: body.a,
@@ -300,14 +300,14 @@ pub(crate) fn put_edge(edges: &mut Table<EdgeBody>, row: EdgeRow)
     edges.push(id, body);
 }
 
-/// The table of edges whose ids rise and are below `limit`.
+/// The table of edges whose ids rise and are below `limit`. Each id below it is its own place.
 fn edge_table(alloc: Global, rows: &[EdgeRow], limit: u32) -> Result<Table<EdgeBody>, AllocError>
     requires { rises_below limit (map (λ row. row.id) rows.now) ≡ true }
     ensures rows { IfOk result (λ table. edges_of table ≡ rows.now) }
     ensures below { IfOk result (λ table. AreBelow limit table.slots) }
 {
     let mut table = Table::new(alloc);
-    table.reserve(rows.len())?;
+    table.reserve(limit as usize)?;
     for row in rows {
         let crossings = copy_path(alloc, row.crossings.as_slice())?;
         let body = EdgeBody {
@@ -316,8 +316,11 @@ fn edge_table(alloc: Global, rows: &[EdgeRow], limit: u32) -> Result<Table<EdgeB
             kind: row.kind,
             crossings,
         };
+        table.skip_to(row.id)?;
+        table.reserve(1)?;
         table.push(row.id, body);
     }
+    table.skip_to(limit)?;
     Ok(table)
 }
 

@@ -22,10 +22,10 @@ use crate::parts::Parts;
 use crate::path::Path;
 use topo_changes::deletion::delete_rows;
 use topo_map::{Embedding, Half};
-use topo_table::{Hints, Table};
+use topo_table::Table;
 
 /// Whether a half is on the path of its edge, and so leads along it.
-fn leads_along(paths: &Table<Path>, segments: &Embedding, hints: &Hints, half: Half) -> bool
+fn leads_along(paths: &Table<Path>, segments: &Embedding, half: Half) -> bool
     ghost rows: { Rows }
     requires ids { ids_in paths.now ≡ map (λ row. row.id) rows.edges }
     requires live { is_live segments.now half ≡ true }
@@ -33,7 +33,7 @@ fn leads_along(paths: &Table<Path>, segments: &Embedding, hints: &Hints, half: H
     ensures { result ≡ leads_in rows (values_in paths.now) (edge_of segments.now) half }
 {
     let edge = segments.edge(half);
-    match paths.get_near(hints.place(edge), edge) {
+    match paths.get(edge) {
         Some(path) => path.contains(half),
         None => unreachable!(),
     }
@@ -44,7 +44,6 @@ fn leads_along(paths: &Table<Path>, segments: &Embedding, hints: &Hints, half: H
 fn midpoint(
     paths: &Table<Path>,
     segments: &Embedding,
-    hints: &Hints,
     before: Half,
     behind: Half,
 ) -> Half
@@ -58,7 +57,7 @@ fn midpoint(
         (turn segments.now) (twin before) behind }
 {
     let over = segments.turn(before.twin());
-    if leads_along(paths, segments, hints, over) {
+    if leads_along(paths, segments, over) {
         over
     } else {
         segments.turn(behind)
@@ -66,7 +65,7 @@ fn midpoint(
 }
 
 /// Takes the segments of an edge out, one after another, and puts the midpoints at their places.
-fn open_path(paths: &Table<Path>, segments: &mut Embedding, hints: &Hints, path: &mut Path)
+fn open_path(paths: &Table<Path>, segments: &mut Embedding, path: &mut Path)
     ghost rows: { Rows }
     requires ids { ids_in paths.now ≡ map (λ row. row.id) rows.edges }
     requires set_out { (e : ℕ) × IsSetOut rows (values_in paths.now) e path.old segments.old }
@@ -77,7 +76,7 @@ fn open_path(paths: &Table<Path>, segments: &mut Embedding, hints: &Hints, path:
     let last = path.len() - 1;
     for i in 0..last {
         let half = path.at(i);
-        let mid = midpoint(paths, segments, hints, half, path.at(i + 1));
+        let mid = midpoint(paths, segments, half, path.at(i + 1));
         path.set(i, mid);
         segments.unchord(half);
     }
@@ -85,7 +84,7 @@ fn open_path(paths: &Table<Path>, segments: &mut Embedding, hints: &Hints, path:
 }
 
 /// Takes a half that is not the first out of the path of its edge.
-fn leave_path(paths: &mut Table<Path>, segments: &Embedding, hints: &Hints, half: Half)
+fn leave_path(paths: &mut Table<Path>, segments: &Embedding, half: Half)
     ghost rows: { Rows }
     requires ids { ids_in paths.old ≡ map (λ row. row.id) rows.edges }
     requires live { is_live segments.now half ≡ true }
@@ -97,7 +96,7 @@ fn leave_path(paths: &mut Table<Path>, segments: &Embedding, hints: &Hints, half
     ensures same { KeepsIds paths.old paths.new }
 {
     let edge = segments.edge(half);
-    match paths.place_of(hints.place(edge), edge) {
+    match paths.place_of(edge) {
         Some(place) => {
             let mut path = paths.take(place);
             path.remove(half);
@@ -109,7 +108,7 @@ fn leave_path(paths: &mut Table<Path>, segments: &Embedding, hints: &Hints, half
 
 /// Smooths the midpoints that an edge has left, one after another, and takes each out of the path
 /// of its edge.
-fn smooth_path(paths: &mut Table<Path>, segments: &mut Embedding, hints: &Hints, path: &Path)
+fn smooth_path(paths: &mut Table<Path>, segments: &mut Embedding, path: &Path)
     ghost rows: { Rows }
     requires ids { ids_in paths.old ≡ map (λ row. row.id) rows.edges }
     requires opened { (e : ℕ)
@@ -123,19 +122,19 @@ fn smooth_path(paths: &mut Table<Path>, segments: &mut Embedding, hints: &Hints,
     let crossings = path.len() - 1;
     for i in 0..crossings {
         let mid = path.at(i);
-        leave_path(paths, segments, hints, mid);
+        leave_path(paths, segments, mid);
         segments.smooth(mid);
     }
 }
 
 /// Takes out the path of an edge, and puts one without a meaning in its place.
-fn stand_in(paths: &mut Table<Path>, hints: &Hints, edge: u32) -> Path
+fn stand_in(paths: &mut Table<Path>, edge: u32) -> Path
     requires { has_id (ids_in paths.old) edge ≡ true }
     ensures path { result ≡ path_in paths.old edge }
     ensures paths { IsPathAt paths.old paths.new edge (0 ∷ []) }
     ensures same { KeepsIds paths.old paths.new }
 {
-    match paths.place_of(hints.place(edge), edge) {
+    match paths.place_of(edge) {
         Some(place) => {
             let path = paths.take(place);
             paths.put(place, Path::of(Half::numbered(0)));
@@ -146,7 +145,7 @@ fn stand_in(paths: &mut Table<Path>, hints: &Hints, edge: u32) -> Path
 }
 
 /// Takes the segments of an edge out, with its crossings, and its path.
-fn delete_lists(paths: &mut Table<Path>, segments: &mut Embedding, hints: &Hints, edge: u32)
+fn delete_lists(paths: &mut Table<Path>, segments: &mut Embedding, edge: u32)
     ghost rows: { Rows }
     requires lawful { Lawful rows }
     requires there { is_some (edge_row rows edge) ≡ true }
@@ -157,9 +156,9 @@ fn delete_lists(paths: &mut Table<Path>, segments: &mut Embedding, hints: &Hints
     ensures kept { AreForEdges (without rows edge) paths.new }
 {
     segments.laws();
-    let mut path = stand_in(paths, hints, edge);
-    open_path(paths, segments, hints, &mut path);
-    smooth_path(paths, segments, hints, &path);
+    let mut path = stand_in(paths, edge);
+    open_path(paths, segments, &mut path);
+    smooth_path(paths, segments, &path);
     paths.remove(edge);
 }
 
@@ -175,10 +174,9 @@ impl Parts {
         ensures kept { AreForEdges self.new.rows self.new.paths }
     {
         self.take_out(edge);
-        self.hints.settle(&self.paths);
     }
 
-    // As `delete`, without the hints.
+    // As `delete`, with a name for the proof of the rows that are there before.
     fn take_out(&mut self, edge: u32)
         ghost rows: { Rows }
         requires was { rows ≡ self.old.rows }
@@ -190,7 +188,7 @@ impl Parts {
         ensures shows { Agree self.new }
         ensures kept { AreForEdges self.new.rows self.new.paths }
     {
-        delete_lists(&mut self.paths, &mut self.segments, &self.hints, edge);
-        delete_rows(&mut self.rows, &self.hints, edge);
+        delete_lists(&mut self.paths, &mut self.segments, edge);
+        delete_rows(&mut self.rows, edge);
     }
 }

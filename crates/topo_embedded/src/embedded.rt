@@ -33,7 +33,6 @@ use topo_core::routes::Route;
 use topo_core::rows::{Facts, Rows};
 use topo_map::{Embedding, Half};
 use topo_rows::Turns;
-use topo_table::Hints;
 
 /// The facts of an edge of a known kind.
 fn facts_of(edge: EdgeView<'_>) -> Facts
@@ -94,13 +93,11 @@ impl Embedded {
         let limit = rows.next_edge;
         let begins = turns.begins.as_slice();
         let paths = paths_of(alloc, edges, begins, halves.as_slice(), limit)?;
-        let hints = Hints::of(alloc, &paths, limit)?;
         let rows = KeptRows::of(alloc, rows)?;
         let parts = Parts {
             rows,
             paths,
             segments,
-            hints,
         };
         Ok(Embedded { parts })
     }
@@ -112,12 +109,10 @@ impl Embedded {
         let rows = self.parts.rows.copy(alloc)?;
         let paths = self.parts.paths.try_copy(alloc)?;
         let segments = self.parts.segments.copy()?;
-        let hints = Hints::of(alloc, &paths, rows.next_edge())?;
         let parts = Parts {
             rows,
             paths,
             segments,
-            hints,
         };
         Ok(Embedded { parts })
     }
@@ -331,8 +326,7 @@ impl Embedded {
         ensures marked { IsMarked self.now result }
         ensures dart { result.dart ≡ dart.now }
     {
-        let hint = self.parts.hints.place(dart.edge.number());
-        Crossed::new(*dart, hint, self.half_of(*dart))
+        Crossed::new(*dart, self.half_of(*dart))
     }
 
     /// Adds a new edge of the given kind along a route that meets no face twice, from the first of

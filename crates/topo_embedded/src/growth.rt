@@ -45,7 +45,6 @@ impl Parts {
         ensures shows { Agree self.new }
         ensures kept { AreForEdges self.new.rows self.new.paths }
     {
-        self.hints.reserve()?;
         self.segments.reserve(1)?;
         self.paths.reserve(1)?;
         let edge = self.rows.next_edge();
@@ -53,7 +52,6 @@ impl Parts {
         self.segments.laws();
         let half = self.segments.hang(named, edge);
         self.paths.push(edge, Path::of(half));
-        self.hints.join(&self.paths, edge);
         Ok(())
     }
 }

@@ -177,14 +177,10 @@ impl Parts {
         ensures shows { Agree self.new }
         ensures kept { AreForEdges self.new.rows self.new.paths }
     {
-        let edge = self.rows.next_edge();
-        self.hints.reserve()?;
-        self.add_edge(alloc, crossed, corners, ends, kind, route)?;
-        self.hints.join(&self.paths, edge);
-        Ok(())
+        self.add_edge(alloc, crossed, corners, ends, kind, route)
     }
 
-    // As `insert`, without the hints.
+    // As `insert`, with a name for the proof of what is there before.
     fn add_edge(
         &mut self,
         alloc: Global,
@@ -213,7 +209,6 @@ impl Parts {
         if apply_rows(
             alloc,
             &mut self.rows,
-            &self.hints,
             ends.0,
             ends.1,
             kind,

@@ -48,7 +48,7 @@ fn path_of(
 }
 
 /// The halves along each edge, where the darts of the edges begin as said. The ids of the edges
-/// are below `limit`.
+/// are below `limit`, and each id below it is its own place.
 pub(crate) fn paths_of(
     alloc: Global,
     edges: &[EdgeRow],
@@ -65,11 +65,15 @@ pub(crate) fn paths_of(
     ensures below { IfOk result (λ paths. AreBelow limit paths.slots) }
 {
     let mut paths = Table::new(alloc);
-    paths.reserve(edges.len())?;
+    paths.reserve(limit as usize)?;
     for place in 0..edges.len() {
         let crossings = edges[place].crossings.as_slice().len();
         let path = path_of(alloc, halves, begins[place] as usize, crossings)?;
-        paths.push(edges[place].id, path);
+        let id = edges[place].id;
+        paths.skip_to(id)?;
+        paths.reserve(1)?;
+        paths.push(id, path);
     }
+    paths.skip_to(limit)?;
     Ok(paths)
 }

@@ -15,26 +15,23 @@ use topo_core::darts::Dart;
 use topo_map::Half;
 use topo_table::Table;
 
-/// A dart that a new edge crosses: where the path of its edge is looked for first, its half, and
-/// the half that goes on behind the crossing.
+/// A dart that a new edge crosses, with its half, and the half that goes on behind the crossing.
 #[derive(Clone, Copy)]
 pub(crate) struct Crossed {
     pub(crate) dart: Dart,
-    pub(crate) hint: usize,
     pub(crate) near: Half,
     pub(crate) beyond: Half,
 }
 
 impl Crossed {
     /// A dart with its half, and none beyond it yet.
-    pub(crate) fn new(dart: Dart, hint: usize, near: Half) -> Self
+    pub(crate) fn new(dart: Dart, near: Half) -> Self
         ensures dart { result.dart ≡ dart }
         ensures near { result.near ≡ near }
         ensures beyond { result.beyond ≡ near }
     {
         Crossed {
             dart,
-            hint,
             near,
             beyond: near,
         }
@@ -50,7 +47,7 @@ fn pad_path(alloc: Global, paths: &mut Table<Path>, cross: &Crossed) -> Result<(
     ensures err { OnErr result (values_in paths.new ≡ values_in paths.old) }
     ensures same { KeepsIds paths.old paths.new }
 {
-    match paths.place_of(cross.hint, cross.dart.edge.number()) {
+    match paths.place_of(cross.dart.edge.number()) {
         Some(place) => {
             let mut path = paths.take(place);
             let done = path.push(alloc, Half::numbered(0));
@@ -86,7 +83,7 @@ fn unpad_path(paths: &mut Table<Path>, cross: &Crossed)
         → path_in paths.old cross.now.dart.edge ≡ xs ++ x ∷ [] → path ≡ xs) }
     ensures same { KeepsIds paths.old paths.new }
 {
-    match paths.place_of(cross.hint, cross.dart.edge.number()) {
+    match paths.place_of(cross.dart.edge.number()) {
         Some(place) => {
             let mut path = paths.take(place);
             path.drop_last();
@@ -172,7 +169,7 @@ pub(crate) fn split_path(paths: &mut Table<Path>, cross: &Crossed, beyond: Half)
         ++ (piece (record { dart = 0; near = cross.now.near; beyond = beyond }) h ++ ys)) }
     ensures same { KeepsIds paths.old paths.new }
 {
-    match paths.place_of(cross.hint, cross.dart.edge.number()) {
+    match paths.place_of(cross.dart.edge.number()) {
         Some(place) => {
             let mut path = paths.take(place);
             put_beside(&mut path, cross.near, beyond);

@@ -8,7 +8,7 @@ ghost use Rattle.topo_table.specs.Places.{entries, value_of};
 use crate::path::Path;
 use topo_changes::{EdgeView, KeptRows};
 use topo_map::Embedding;
-use topo_table::{Hints, Table};
+use topo_table::Table;
 
 /// The parts of an embedding (`Embedded`), whether or not they agree. A method that changes them
 /// says what has to agree before, and that it agrees after.
@@ -17,9 +17,6 @@ pub(crate) struct Parts {
     pub(crate) rows: KeptRows,
     pub(crate) paths: Table<Path>,
     pub(crate) segments: Embedding,
-    // Places of edges in both tables, by their ids. Both have the same places, since an edge is put
-    // into both and taken out of both.
-    pub(crate) hints: Hints,
 }
 
 impl Parts {
@@ -27,13 +24,13 @@ impl Parts {
     pub(crate) fn edge(&self, id: u32) -> Option<EdgeView<'_>>
         ensures { option_map viewed_row result ≡ edge_row self.now.rows id }
     {
-        self.rows.edge(self.hints.place(id), id)
+        self.rows.edge(id)
     }
 
     /// The path of the edge with an id.
     pub(crate) fn path(&self, id: u32) -> Option<&Path>
         ensures { option_copied result ≡ value_of id (entries self.now.paths) }
     {
-        self.paths.get_near(self.hints.place(id), id)
+        self.paths.get(id)
     }
 }

@@ -241,20 +241,66 @@ module _ {V : Type 0} where
       let q : eqb id s.0 ≡ false = grind (arith, nat_tests) in
       rw q (lookup-above id slots parts.1)
 
-  IsBelowAll-push : (x id : ℕ) (v : V) (slots : List (ℕ × Option V)) → x < id → IsBelowAll x (ids_of slots) → IsBelowAll x (ids_of (slots ++ (id, Some v) ∷ []))
-  IsBelowAll-push x id v [] lt h = (lt, tt)
-  IsBelowAll-push x id v (s ∷ slots) lt h = (h.0, IsBelowAll-push x id v slots lt h.1)
+  IsBelowAll-push : (x id : ℕ) (w : Option V) (slots : List (ℕ × Option V)) → x < id → IsBelowAll x (ids_of slots) → IsBelowAll x (ids_of (slots ++ (id, w) ∷ []))
+  IsBelowAll-push x id w [] lt h = (lt, tt)
+  IsBelowAll-push x id w (s ∷ slots) lt h = (h.0, IsBelowAll-push x id w slots lt h.1)
 
-  Rises-push : (id : ℕ) (v : V) (slots : List (ℕ × Option V)) → AreBelow id slots → Rises (ids_of slots) → Rises (ids_of (slots ++ (id, Some v) ∷ []))
-  Rises-push id v [] below h = (tt, tt)
-  Rises-push id v (s ∷ slots) below h =
+  Rises-push : (id : ℕ) (w : Option V) (slots : List (ℕ × Option V)) → AreBelow id slots → Rises (ids_of slots) → Rises (ids_of (slots ++ (id, w) ∷ []))
+  Rises-push id w [] below h = (tt, tt)
+  Rises-push id w (s ∷ slots) below h =
       let parts = both_true {a = ltb s.0 id} {b = list_all (λ x. ltb x id) (ids_of slots)} below in
       let lt : s.0 < id = grind (arith, nat_tests) in
-      (IsBelowAll-push s.0 id v slots lt h.0, Rises-push id v slots parts.1 h.1)
+      (IsBelowAll-push s.0 id w slots lt h.0, Rises-push id w slots parts.1 h.1)
 
-  pub IsStrictlyIncreasing-push : (id : ℕ) (v : V) (slots : List (ℕ × Option V)) → AreBelow id slots → IsStrictlyIncreasing (ids_of slots)
-      → IsStrictlyIncreasing (ids_of (slots ++ (id, Some v) ∷ []))
-  IsStrictlyIncreasing-push id v slots below h = IsStrictlyIncreasing-from_Rises _ (Rises-push id v slots below (Rises-from_increasing _ h))
+  pub IsStrictlyIncreasing-push : (id : ℕ) (w : Option V) (slots : List (ℕ × Option V)) → AreBelow id slots → IsStrictlyIncreasing (ids_of slots)
+      → IsStrictlyIncreasing (ids_of (slots ++ (id, w) ∷ []))
+  IsStrictlyIncreasing-push id w slots below h = IsStrictlyIncreasing-from_Rises _ (Rises-push id w slots below (Rises-from_increasing _ h))
+
+  -- ids below one number and the next one are below any greater number
+  pub AreBelow-push : (limit id : ℕ) (w : Option V) (slots : List (ℕ × Option V)) → AreBelow id slots → id < limit → AreBelow limit (slots ++ (id, w) ∷ [])
+  AreBelow-push limit id w [] below lt = grind (arith, nat_tests)
+  AreBelow-push limit id w (s ∷ slots) below lt =
+      let parts = both_true {a = ltb s.0 id} {b = list_all (λ x. ltb x id) (ids_of slots)} below in
+      let less : ltb s.0 limit ≡ true = grind (arith, nat_tests) in
+      rw less (AreBelow-push limit id w slots parts.1 lt)
+
+  -- ids that rise are below the number behind the last of them
+  pub above_last : (slots : List (ℕ × Option V)) (n id : ℕ) (w : Option V) → length slots ≡ n + 1 → Rises (ids_of slots) → slice_get slots n ≡ Some (id, w)
+      → AreBelow (id + 1) slots
+  above_last [] n id w many h at = refl
+  above_last (s ∷ []) zero id w many h at =
+      let same : s.0 ≡ id = ap (λ s. s.0) (option_some_same at) in
+      let less : ltb s.0 (id + 1) ≡ true = grind (arith, nat_tests) in
+      rw less refl
+  above_last (s ∷ []) (suc n) id w many h at = absurd (omega (arith, many))
+  above_last (s ∷ t ∷ slots) zero id w many h at = absurd (omega (arith, many))
+  above_last (s ∷ t ∷ slots) (suc n) id w many h at =
+      let rest : AreBelow (id + 1) (t ∷ slots) = above_last (t ∷ slots) n id w (omega (arith, many)) h.1 at in
+      let next : ltb t.0 (id + 1) ≡ true = (both_true {a = ltb t.0 (id + 1)} {b = list_all (λ x. ltb x (id + 1)) (ids_of slots)} rest).0 in
+      let rises : s.0 < t.0 = h.0.0 in
+      let less : ltb s.0 (id + 1) ≡ true = grind (arith, nat_tests) in
+      rw less rest
+
+  -- an id at a place is below what all are below
+  pub below_there : (limit id : ℕ) (w : Option V) (slots : List (ℕ × Option V)) (place : ℕ) → AreBelow limit slots → slice_get slots place ≡ Some (id, w) → id < limit
+  below_there limit id w [] place below at = absurd (is_none_not (sym at))
+  below_there limit id w (s ∷ slots) zero below at =
+      let parts = both_true {a = ltb s.0 limit} {b = list_all (λ x. ltb x limit) (ids_of slots)} below in
+      let same : s.0 ≡ id = ap (λ s. s.0) (option_some_same at) in
+      grind (arith, nat_tests)
+  below_there limit id w (s ∷ slots) (suc place) below at =
+      below_there limit id w slots place (both_true {a = ltb s.0 limit} {b = list_all (λ x. ltb x limit) (ids_of slots)} below).1 at
+
+  -- no ids are below any number
+  pub AreBelow-none : (limit : ℕ) (slots : List (ℕ × Option V)) → length slots ≡ 0 → AreBelow limit slots
+  AreBelow-none limit [] none = refl
+  AreBelow-none limit (s ∷ slots) none = absurd (omega (arith, none))
+
+  -- an empty place more
+  pub present-push_empty : (id : ℕ) (slots : List (ℕ × Option V)) → present (slots ++ (id, None) ∷ []) ≡ present slots
+  present-push_empty id [] = refl
+  present-push_empty id ((i, Some x) ∷ slots) = ap (λ l. (i, x) ∷ l) (present-push_empty id slots)
+  present-push_empty id ((i, None) ∷ slots) = present-push_empty id slots
 
   pub present-push : (id : ℕ) (v : V) (slots : List (ℕ × Option V)) → present (slots ++ (id, Some v) ∷ []) ≡ present slots ++ (id, v) ∷ []
   present-push id v [] = refl
@@ -419,103 +465,52 @@ module _ {V : Type 0} where
 
   -- ---- A copy, place by place
 
-  abbrev pub live : ℕ × V → ℕ × Option V
-  live e = (e.0, Some e.1)
-
-  present-live : (es : List (ℕ × V)) → present (map live es) ≡ es
-  present-live [] = refl
-  present-live (e ∷ es) = ap (λ l. e ∷ l) (present-live es)
-
   -- those before a place are below the id there
   before_below : (slots : List (ℕ × Option V)) (place id : ℕ) (w : Option V) → Rises (ids_of slots) → slice_get slots place ≡ Some (id, w)
-      → AreBelow id (map live (present (take place slots)))
+      → AreBelow id (take place slots)
   before_below [] place id w h at = absurd (search (rules, at))
   before_below (s ∷ slots) zero id w h at = refl
-  before_below ((i, Some x) ∷ slots) (suc place) id w h at =
-      let lt = below_later i id slots place w h.0 at in
-      let q : ltb i id ≡ true = grind (arith, nat_tests) in
+  before_below (s ∷ slots) (suc place) id w h at =
+      let lt = below_later s.0 id slots place w h.0 at in
+      let q : ltb s.0 id ≡ true = grind (arith, nat_tests) in
       rw q (before_below slots place id w h.1 at)
-  before_below ((i, None) ∷ slots) (suc place) id w h at = before_below slots place id w h.1 at
 
-  before_fewer : (slots : List (ℕ × Option V)) (place id : ℕ) (v : V) → slice_get slots place ≡ Some (id, Some v)
-      → length (present (take place slots)) < length (present slots)
-  before_fewer [] place id v at = absurd (search (rules, at))
-  before_fewer ((i, u) ∷ slots) zero id v at = by u (ap (λ s. s.1) (option_some_same at))
-    where
-      by : (u : Option V) → u ≡ Some v → 0 < length (present ((i, u) ∷ slots))
-      by (Some x) e = omega arith
-      by None e = absurd (is_none_not (sym e))
-  before_fewer ((i, Some x) ∷ slots) (suc place) id v at = let rest = before_fewer slots place id v at in omega arith
-  before_fewer ((i, None) ∷ slots) (suc place) id v at = before_fewer slots place id v at
+  one_more : (slots : List (ℕ × Option V)) (place : ℕ) (s : ℕ × Option V) → slice_get slots place ≡ Some s → take (suc place) slots ≡ take place slots ++ s ∷ []
+  one_more [] place s at = absurd (is_none_not (sym at))
+  one_more (t ∷ slots) zero s at = ap (λ (t : ℕ × Option V). t ∷ []) (option_some_same at)
+  one_more (t ∷ slots) (suc place) s at = ap (λ l. t ∷ l) (one_more slots place s at)
 
-  more_live : (slots : List (ℕ × Option V)) (place id : ℕ) (v : V) → slice_get slots place ≡ Some (id, Some v)
-      → present (take (suc place) slots) ≡ present (take place slots) ++ (id, v) ∷ []
-  more_live [] place id v at = absurd (search (rules, at))
-  more_live ((i, u) ∷ slots) zero id v at = ap (λ s. present (s ∷ [])) (option_some_same at)
-  more_live ((i, Some x) ∷ slots) (suc place) id v at = ap (λ l. (i, x) ∷ l) (more_live slots place id v at)
-  more_live ((i, None) ∷ slots) (suc place) id v at = more_live slots place id v at
+  few_taken : (n : ℕ) (slots : List (ℕ × Option V)) → length (take n slots) ≤ n
+  few_taken zero slots = omega arith
+  few_taken (suc n) [] = omega arith
+  few_taken (suc n) (s ∷ slots) = let rest = few_taken n slots in omega arith
 
-  no_more_live : (slots : List (ℕ × Option V)) (place id : ℕ) → slice_get slots place ≡ Some (id, None)
-      → present (take (suc place) slots) ≡ present (take place slots)
-  no_more_live [] place id at = absurd (search (rules, at))
-  no_more_live ((i, u) ∷ slots) zero id at = ap (λ s. present (s ∷ [])) (option_some_same at)
-  no_more_live ((i, Some x) ∷ slots) (suc place) id at = ap (λ l. (i, x) ∷ l) (no_more_live slots place id at)
-  no_more_live ((i, None) ∷ slots) (suc place) id at = no_more_live slots place id at
-
-  live_push : (es : List (ℕ × V)) (id : ℕ) (v : V) → map live (es ++ (id, v) ∷ []) ≡ map live es ++ (id, Some v) ∷ []
-  live_push [] id v = refl
-  live_push (e ∷ es) id v = ap (λ l. live e ∷ l) (live_push es id v)
-
-  live_many : (es : List (ℕ × V)) → length (map live es) ≡ length es
-  live_many [] = refl
-  live_many (e ∷ es) = ap suc (live_many es)
-
-  -- the values of the places so far are in the copy, and there is room for the others
+  -- the places so far are in the copy, and there is room for the others
   pub record AreCopied (was : Places V) (place : ℕ) (copy : Places V) : Type 0 where
-    pub slots_are : copy.slots ≡ map live (present (take place was.slots))
-    pub room : length (present was.slots) ≤ length copy.slots + copy.room
+    pub slots_are : copy.slots ≡ take place was.slots
+    pub room : length was.slots ≤ length copy.slots + copy.room
 
-  pub copied_none : (was copy : Places V) (more : ℕ) → copy.slots ≡ [] → more ≡ length (entries was) → more ≤ copy.room → AreCopied was 0 copy
+  pub copied_none : (was copy : Places V) (more : ℕ) → copy.slots ≡ [] → more ≡ length was.slots → more ≤ copy.room → AreCopied was 0 copy
   copied_none was copy more none all room = record { slots_are = none; room = omega (arith, room, all, ap length none) }
 
-  module _ (was copy : Places V) (place id : ℕ) (up : IsStrictlyIncreasing (ids_of was.slots)) (so_far : AreCopied was place copy) where
-    pub copied_below : (w : Option V) → slice_get was.slots place ≡ Some (id, w) → AreBelow id copy.slots
-    copied_below w at = subst (AreBelow id) (sym so_far.slots_are) (before_below was.slots place id w (Rises-from_increasing _ up) at)
+  module _ (was copy : Places V) (place id : ℕ) (w : Option V) (up : IsStrictlyIncreasing (ids_of was.slots)) (so_far : AreCopied was place copy)
+      (at : slice_get was.slots place ≡ Some (id, w)) where
+    pub copied_below : AreBelow id copy.slots
+    copied_below = subst (AreBelow id) (sym so_far.slots_are) (before_below was.slots place id w (Rises-from_increasing _ up) at)
 
-    pub copied_room : (v : V) → slice_get was.slots place ≡ Some (id, Some v) → 0 < copy.room
-    copied_room v at =
-        let many = ap length so_far.slots_are ∙ live_many (present (take place was.slots)) in
-        omega (arith, before_fewer was.slots place id v at, so_far.room, many)
+    pub copied_room : 0 < copy.room
+    copied_room =
+        let inside = slot_inside was.slots place (id, w) at in
+        omega (arith, so_far.room, ap length so_far.slots_are, few_taken place was.slots, inside)
 
-    pub copied_more : (v : V) (more : Places V) → slice_get was.slots place ≡ Some (id, Some v) → more.slots ≡ copy.slots ++ (id, Some v) ∷ []
-        → copy.room ≤ more.room + 1 → AreCopied was (place + 1) more
-    copied_more v more at is room = record {
-      slots_are = rw add-one (is ∙ ap (λ l. l ++ (id, Some v) ∷ []) so_far.slots_are
-          ∙ sym (ap (map live) (more_live was.slots place id v at) ∙ live_push (present (take place was.slots)) id v));
-      room = let r = so_far.room in let long = ap length is ∙ length-append copy.slots ((id, Some v) ∷ []) in omega arith;
+    pub copied_more : (more : Places V) → more.slots ≡ copy.slots ++ (id, w) ∷ [] → copy.room ≤ more.room + 1 → AreCopied was (place + 1) more
+    copied_more more is room = record {
+      slots_are = rw add-one (is ∙ ap (λ l. l ++ (id, w) ∷ []) so_far.slots_are ∙ sym (one_more was.slots place (id, w) at));
+      room = let r = so_far.room in let long = ap length is ∙ length-append copy.slots ((id, w) ∷ []) in omega arith;
     }
 
-    pub copied_empty : slice_get was.slots place ≡ Some (id, None) → AreCopied was (place + 1) copy
-    copied_empty at = record {
-      slots_are = rw add-one (so_far.slots_are ∙ sym (ap (map live) (no_more_live was.slots place id at)));
-      room = so_far.room;
-    }
-
-  live_below : (limit : ℕ) (slots : List (ℕ × Option V)) → AreBelow limit slots → AreBelow limit (map live (present slots))
-  live_below limit [] h = refl
-  live_below limit ((id, Some v) ∷ slots) h =
-      let parts = both_true {a = ltb id limit} {b = list_all (λ x. ltb x limit) (ids_of slots)} h in
-      rw parts.0 (live_below limit slots parts.1)
-  live_below limit ((id, None) ∷ slots) h = live_below limit slots (both_true {a = ltb id limit} {b = list_all (λ x. ltb x limit) (ids_of slots)} h).1
-
-  pub copied_entries : (was copy : Places V) (place : ℕ) → length was.slots ≤ place → AreCopied was place copy → entries copy ≡ entries was
-  copied_entries was copy place past h = ap present (h.slots_are ∙ ap (λ l. map live (present l)) (take_all place was.slots past))
-      ∙ present-live (present was.slots)
-
-  pub copied_limit : (was copy : Places V) (place : ℕ) → length was.slots ≤ place → AreCopied was place copy → (limit : ℕ) → AreBelow limit was.slots
-      → AreBelow limit copy.slots
-  copied_limit was copy place past h limit below = subst (AreBelow limit) (sym (h.slots_are ∙ ap (λ l. map live (present l)) (take_all place was.slots past)))
-      (live_below limit was.slots below)
+  pub copied_slots : (was copy : Places V) (place : ℕ) → length was.slots ≤ place → AreCopied was place copy → copy.slots ≡ was.slots
+  copied_slots was copy place past h = h.slots_are ∙ take_all place was.slots past
 
   -- the ids of both are the same, and so are the values up to a place
   abbrev pub IsCopiedTo : ℕ → List (ℕ × Option V) → List (ℕ × Option V) → Type 0

@@ -1,8 +1,9 @@
 //! Values by ids, kept in rising order of the ids.
 //!
-//! A value is found by its id in one look. Taking one out leaves its place empty, so it costs its
-//! own time; once half of the places are empty they are closed up. The caller below puts in two
-//! values and takes one out again.
+//! An id is looked for at the place with its number, and by its hash if another is there. So where
+//! each id from 0 on has a place, values are found without a hash. Taking a value out leaves its
+//! place empty and costs its own time; the empty places can be closed up. The caller below puts in
+//! two values and takes one out again.
 //!
 //! ```
 //! let mut names = Table::new(alloc);
@@ -13,8 +14,6 @@
 //! ```
 #![tactic(auto)]
 
-mod hints;
 mod table;
 
-pub use hints::Hints;
 pub use table::{Table, TryCopy};

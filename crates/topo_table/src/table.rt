@@ -21,7 +21,8 @@ pub trait TryCopy {
 }
 
 /// Values by ids, in rising order of the ids. A place whose value was taken out stays, empty, until
-/// half of them are; then they are closed up.
+/// the empty ones are closed up. A value is looked for at the place with the number of its id, and
+/// by the hash of the id where another id is there.
 pub struct Table<V> {
     slots: IndexMap<u32, Option<V>>,
     live: usize,
@@ -106,29 +107,29 @@ impl<V> Table<V> {
     pub fn get(&self, id: u32) -> Option<&V>
         ensures { option_copied result ≡ value_of id (entries self.now) }
     {
+        match self.slots.get_index(id as usize) {
+            Some((key, value)) if *key == id => value.as_ref(),
+            _ => self.find(id),
+        }
+    }
+
+    // As `get`, by the hash of the id.
+    fn find(&self, id: u32) -> Option<&V>
+        ensures { option_copied result ≡ value_of id (entries self.now) }
+    {
         match self.slots.get(&id) {
             Some(value) => value.as_ref(),
             None => None,
         }
     }
 
-    /// The value with an id, which is looked for at a place first.
-    pub fn get_near(&self, hint: usize, id: u32) -> Option<&V>
-        ensures { option_copied result ≡ value_of id (entries self.now) }
-    {
-        match self.slots.get_index(hint) {
-            Some((key, value)) if *key == id => value.as_ref(),
-            _ => self.get(id),
-        }
-    }
-
-    /// The place of the value with an id, which is looked for at a place first.
-    pub fn place_of(&self, hint: usize, id: u32) -> Option<usize>
+    /// The place of the value with an id.
+    pub fn place_of(&self, id: u32) -> Option<usize>
         ensures there { IfSome result (λ place. IsLiveAt id place self.now.slots) }
         ensures none { IfNone result (value_of id (entries self.now) ≡ None) }
         ensures rise { IfSome result (λ _. IsStrictlyIncreasing (ids_of self.now.slots)) }
     {
-        let place = self.slot_of(hint, id)?;
+        let place = self.slot_of(id)?;
         match &self.slots[place] {
             Some(_) => Some(place),
             None => None,
@@ -136,13 +137,14 @@ impl<V> Table<V> {
     }
 
     // The place with an id, whether or not it is empty.
-    fn slot_of(&self, hint: usize, id: u32) -> Option<usize>
+    fn slot_of(&self, id: u32) -> Option<usize>
         ensures there { IfSome result (λ place. (value : Option V)
             × (slice_get self.now.slots place ≡ Some (id, value))) }
         ensures none { IfNone result (value_of id (entries self.now) ≡ None) }
     {
-        match self.slots.get_index(hint) {
-            Some((key, _)) if *key == id => Some(hint),
+        let place = id as usize;
+        match self.slots.get_index(place) {
+            Some((key, _)) if *key == id => Some(place),
             _ => self.slots.get_index_of(&id),
         }
     }
@@ -192,6 +194,50 @@ impl<V> Table<V> {
         place
     }
 
+    /// Adds an empty place for an id behind the others. There is room for it.
+    fn push_empty(&mut self, id: u32)
+    where
+        V: Drop,
+        requires room { 0 < self.old.room }
+        requires last { AreBelow id self.old.slots }
+        ensures slots { self.new.slots ≡ self.old.slots ++ (id, None) ∷ [] }
+        ensures room { self.old.room ≤ self.new.room + 1 }
+    {
+        self.slots.insert(id, None).unwrap();
+    }
+
+    // A number above all ids, which is not above one that is.
+    fn next_id(&self, limit: u32) -> u32
+        requires { AreBelow limit self.now.slots }
+        ensures above { AreBelow result self.now.slots }
+        ensures least { result ≤ limit }
+    {
+        let count = self.slots.len();
+        if count == 0 {
+            return 0;
+        }
+        match self.slots.get_index(count - 1) {
+            Some((id, _)) => *id + 1,
+            None => unreachable!(),
+        }
+    }
+
+    /// Gives each id below this one that is above all others an empty place. So ids that begin at 0
+    /// have the places with their numbers, whichever of them are missing.
+    pub fn skip_to(&mut self, id: u32) -> Result<(), AllocError>
+    where
+        V: Drop,
+        requires { AreBelow id self.old.slots }
+        ensures entries { entries self.new ≡ entries self.old }
+        ensures below { OnOk result (AreBelow id self.new.slots) }
+    {
+        for missing in self.next_id(id)..id {
+            self.reserve(1)?;
+            self.push_empty(missing);
+        }
+        Ok(())
+    }
+
     /// An equal table, with the same places, in memory of its own.
     pub fn copy(&self) -> Result<Self, AllocError>
     where
@@ -210,29 +256,43 @@ impl<V> Table<V> {
         })
     }
 
-    /// A table with equal values and without empty places, in memory of its own.
+    /// As `copy`, for values that take memory.
     pub fn try_copy(&self, alloc: Global) -> Result<Self, AllocError>
     where
         V: TryCopy + Drop,
-        ensures entries { IfOk result (λ copy. entries copy ≡ entries self.now) }
-        ensures below { IfOk result (λ copy. (limit : ℕ) → AreBelow limit self.now.slots
-            → AreBelow limit copy.slots) }
+        ensures { IfOk result (λ copy. copy.slots ≡ self.now.slots) }
     {
         let mut copy = Table::new(alloc);
-        copy.reserve(self.len())?;
+        copy.reserve(self.places())?;
         for place in 0..self.places() {
-            match self.at(place) {
-                Some((id, value)) => {
-                    copy.push(id, value.try_copy(alloc)?);
-                }
+            match self.slots.get_index(place) {
+                Some((id, value)) => copy.push_copy(alloc, *id, value)?,
                 None => {}
             }
         }
         Ok(copy)
     }
 
-    /// Takes out the value with an id, if there is one. It takes no memory, and time that grows
-    /// with nothing but for the closing up, which each value that was taken out pays in part.
+    // Adds a place for an id behind the others, with an equal value or empty. There is room for it.
+    fn push_copy(&mut self, alloc: Global, id: u32, value: &Option<V>) -> Result<(), AllocError>
+    where
+        V: TryCopy + Drop,
+        requires room { 0 < self.old.room }
+        requires last { AreBelow id self.old.slots }
+        ensures slots { OnOk result (self.new.slots ≡ self.old.slots ++ (id, value.now) ∷ []) }
+        ensures room { OnOk result (self.old.room ≤ self.new.room + 1) }
+    {
+        match value {
+            Some(value) => {
+                self.push(id, value.try_copy(alloc)?);
+            }
+            None => self.push_empty(id),
+        }
+        Ok(())
+    }
+
+    /// Takes out the value with an id, if there is one. Its place stays, empty. It takes no memory,
+    /// and time that grows with nothing.
     pub fn remove(&mut self, id: u32) -> Option<V>
     where
         V: Drop,
@@ -241,15 +301,13 @@ impl<V> Table<V> {
         ensures below { (limit : ℕ) → AreBelow limit self.old.slots
             → AreBelow limit self.new.slots }
     {
-        let place = self.slots.get_index_of(&id)?;
-        let value = self.slots[place].take()?;
-        self.live -= 1;
-        self.close_up();
-        Some(value)
+        let place = self.place_of(id)?;
+        Some(self.take(place))
     }
 
-    /// Closes the empty places up where they are more than half.
-    fn close_up(&mut self)
+    /// Closes the empty places up where they are more than half. It takes no memory. Done behind
+    /// each removal, it takes time that grows with nothing, on the whole.
+    pub fn close_up(&mut self)
     where
         V: Drop,
         ensures entries { entries self.new ≡ entries self.old }

@@ -1,5 +1,5 @@
 -- Edges in a table: what is found by an id, a path that changes, and what more of them and fewer of them come to.
-use Rattle.std.proofs.Common.{◌≡◌, ◌≢◌, ℕ, ◌+◌, ◌<◌, ◌≤◌, Bool, true, false, cond, not, List, [], ◌∷◌, ◌++◌, length, take, get_or}
+use Rattle.std.proofs.Common.{◌≡◌, ◌≢◌, ℕ, zero, suc, ◌+◌, ◌<◌, ◌≤◌, Bool, true, false, cond, not, List, [], ◌∷◌, ◌++◌, length, take, get_or}
 use Rattle.std.proofs.Common.{refl, sym, ap, subst, ◌∙◌, arith, inl, inr, Option, Some, None}
 use Rattle.std.specs.Prelude.{◌==◌, filter, find, is_some, map, nat_lt, slice_get}
 use Rattle.std.specs.List.{list_all}
@@ -17,13 +17,15 @@ use Rattle.topo_core.specs.Changes.{uncrossed_row}
 use Rattle.topo_core.specs.Items.{has_id, IsIn, rises_below}
 use Rattle.topo_table.specs.Places.{AreBelow, IsLiveAt, KeepsPlaces, Places, entries}
 use Rattle.topo_table.specs.Places.{entry_at, ids_in, ids_of, present, value_of, with_value, without_id}
-use Rattle.topo_table.proofs.PlaceLemmas.{EntriesRise-present, IsBelowAll, Rises, Rises-from_increasing, is_changed, present-push}
+use Rattle.std.proofs.lemmas.Bool.Decides.{nat_tests}
+use Rattle.topo_table.proofs.PlaceLemmas.{AreBelow-push, EntriesRise-present, IsBelowAll, Rises, Rises-from_increasing, is_changed, present-push}
 use Rattle.topo_table.proofs.PlaceLemmas.{value_of-below, was_value, with_value-below}
 use Rattle.topo_changes.specs.declared.kept.EdgeBody.{EdgeBody}
 use Rattle.topo_changes.specs.Inserting.{repathed}
 use Rattle.topo_changes.specs.Keeping.{edge_of, edges_of}
 use Rattle.topo_changes.proofs.rows.CrossedRows.{none_repathed, repathed_other}
-use Rattle.topo_changes.proofs.rows.Keeping.{all_below, more_places, rises_before}
+use Rattle.topo_core.proofs.numbering.Members.{left_true, right_true}
+use Rattle.topo_changes.proofs.rows.Keeping.{more_places}
 use Rattle.topo_changes.proofs.rows.Leaving.{out_of_one, unchanged}
 
 -- ---- What is found
@@ -182,82 +184,108 @@ edges_without was now e is = ap (map edge_of) is ∙ edges_of_left (λ id. not (
 
 -- ---- A table made of rows
 
--- values for the first i rows are in it, under their ids, and more fit
-pub record AreIdsNoted {V : Type 0} (rows : List EdgeRow) (i : ℕ) (table : Places V) : Type 0 where
-  pub places : ids_of table.slots ≡ take i (map (λ row. row.id) rows)
+add_one : (i : ℕ) → i + 1 ≡ suc i
+add_one i = omega arith
+
+rises_at : (limit : ℕ) (ns : List ℕ) (i : ℕ) → i < length ns → rises_below limit ns ≡ true → get_or ns i 0 < get_or ns (suc i) limit
+rises_at limit [] i inside h = absurd (omega arith)
+rises_at limit (x ∷ []) zero inside h = grind (arith, nat_tests)
+rises_at limit (x ∷ []) (suc i) inside h = absurd (omega arith)
+rises_at limit (x ∷ (y ∷ ns)) zero inside h = let first : nat_lt x y ≡ true = left_true (nat_lt x y) _ h in grind (arith, nat_tests)
+rises_at limit (x ∷ (y ∷ ns)) (suc i) inside h = rises_at limit (y ∷ ns) i (omega arith) (right_true (nat_lt x y) _ h)
+
+get_or_same : (ns : List ℕ) (i a b : ℕ) → i < length ns → get_or ns i a ≡ get_or ns i b
+get_or_same [] i a b inside = absurd (omega arith)
+get_or_same (x ∷ ns) zero a b inside = refl
+get_or_same (x ∷ ns) (suc i) a b inside = get_or_same ns i a b (omega arith)
+
+get_or_past : (ns : List ℕ) (i a : ℕ) → length ns ≤ i → get_or ns i a ≡ a
+get_or_past [] i a past = refl
+get_or_past (x ∷ ns) zero a past = absurd (omega arith)
+get_or_past (x ∷ ns) (suc i) a past = get_or_past ns i a (omega arith)
+
+-- the id of a row is that at its place among the ids
+next_is : (rows : List EdgeRow) (limit i : ℕ) (d : EdgeRow) → i < length rows → get_or (map (λ row. row.id) rows) i limit ≡ (get_or rows i d).id
+next_is rows limit i d inside =
+    let many = length-map rows (λ (row : EdgeRow). row.id) in
+    get_or_same (map (λ row. row.id) rows) i limit 0 (omega (arith, many, inside)) ∙ get_or-map (λ (row : EdgeRow). row.id) rows i d 0 inside
+
+-- values for the first i rows are in it, under their ids, and all its ids are below the next one
+pub record AreIdsNoted {V : Type 0} (rows : List EdgeRow) (limit i : ℕ) (table : Places V) : Type 0 where
+  pub below : AreBelow (get_or (map (λ row. row.id) rows) i limit) table.slots
   pub ids : ids_in table ≡ take i (map (λ row. row.id) rows)
-  pub room : length rows ≤ i + table.room
 
 module _ {V : Type 0} (rows : List EdgeRow) (limit : ℕ) (rise : rises_below limit (map (λ row. row.id) rows) ≡ true) where
-  pub ids_none : (table : Places V) → table.slots ≡ [] → length rows ≤ table.room → AreIdsNoted rows 0 table
-  ids_none table none room = record {
-    places = ap ids_of none;
+  pub ids_none : (table : Places V) → table.slots ≡ [] → AreIdsNoted rows limit 0 table
+  ids_none table none = record {
+    below = ap (λ ss. list_all (λ x. nat_lt x (get_or (map (λ row. row.id) rows) 0 limit)) (ids_of ss)) none;
     ids = ap (λ ss. map (λ e. e.0) (present ss)) none;
-    room = omega (arith, room);
   }
 
   -- the ids in it are below the next one
-  pub ids_below : (i : ℕ) (d : EdgeRow) (table : Places V) → i < length rows → AreIdsNoted rows i table → AreBelow (get_or rows i d).id table.slots
-  ids_below i d table inside h =
-      let many = length-map rows (λ (row : EdgeRow). row.id) in
-      ap (list_all (λ x. nat_lt x (get_or rows i d).id)) h.places
-      ∙ ap (λ n. list_all (λ x. nat_lt x n) (take i (map (λ row. row.id) rows))) (sym (get_or-map (λ (row : EdgeRow). row.id) rows i d 0 inside))
-      ∙ all_below (get_or (map (λ row. row.id) rows) i 0) (take i (map (λ row. row.id) rows))
-      (rises_before limit (map (λ row. row.id) rows) i (omega arith) rise)
+  pub ids_below : (i : ℕ) (d : EdgeRow) (table : Places V) → i < length rows → AreIdsNoted rows limit i table → AreBelow (get_or rows i d).id table.slots
+  ids_below i d table inside h = subst (λ n. AreBelow n table.slots) (next_is rows limit i d inside) h.below
 
-  -- one more
-  pub ids_more : (i : ℕ) (d : EdgeRow) (table more : Places V) (v : V) → i < length rows → AreIdsNoted rows i table
-      → more.slots ≡ table.slots ++ ((get_or rows i d).id, Some v) ∷ [] → table.room ≤ more.room + 1 → AreIdsNoted rows (i + 1) more
-  ids_more i d table more v inside h is room =
+  -- one more, behind places that are empty
+  pub ids_more : (i : ℕ) (d : EdgeRow) (table skipped more : Places V) (v : V) → i < length rows → AreIdsNoted rows limit i table
+      → entries skipped ≡ entries table → AreBelow (get_or rows i d).id skipped.slots
+      → more.slots ≡ skipped.slots ++ ((get_or rows i d).id, Some v) ∷ [] → AreIdsNoted rows limit (i + 1) more
+  ids_more i d table skipped more v inside h same below is =
       let id = (get_or rows i d).id in
       let many = length-map rows (λ (row : EdgeRow). row.id) in
       let next : take i (map (λ row. row.id) rows) ++ id ∷ [] ≡ take (i + 1) (map (λ row. row.id) rows) =
       sym (take_more (map (λ row. row.id) rows) i 0 (omega arith)
       ∙ ap (λ n. take i (map (λ row. row.id) rows) ++ n ∷ []) (get_or-map (λ (row : EdgeRow). row.id) rows i d 0 inside)) in
+      let less : get_or (map (λ row. row.id) rows) i 0 < get_or (map (λ row. row.id) rows) (suc i) limit =
+      rises_at limit (map (λ row. row.id) rows) i (omega (arith, many, inside)) rise in
+      let read : get_or (map (λ row. row.id) rows) i 0 ≡ id = get_or-map (λ (row : EdgeRow). row.id) rows i d 0 inside in
       record {
-        places = ap ids_of is ∙ map-append (λ (s : ℕ × Option V). s.0) table.slots ((id, Some v) ∷ []) ∙ ap (λ ns. ns ++ id ∷ []) h.places ∙ next;
-        ids = ap (λ ss. map (λ e. e.0) (present ss)) is ∙ ap (map (λ e. e.0)) (present-push id v table.slots)
-            ∙ map-append (λ (e : ℕ × V). e.0) (entries table) ((id, v) ∷ []) ∙ ap (λ ns. ns ++ id ∷ []) h.ids ∙ next;
-        room = let r = h.room in omega arith;
+        below = subst (λ n. AreBelow (get_or (map (λ row. row.id) rows) n limit) more.slots) (sym (add_one i))
+            (subst (AreBelow (get_or (map (λ row. row.id) rows) (suc i) limit)) (sym is)
+            (AreBelow-push (get_or (map (λ row. row.id) rows) (suc i) limit) id (Some v) skipped.slots below (omega (arith, less, read))));
+        ids = ap (λ ss. map (λ e. e.0) (present ss)) is ∙ ap (map (λ e. e.0)) (present-push id v skipped.slots)
+            ∙ map-append (λ (e : ℕ × V). e.0) (entries skipped) ((id, v) ∷ []) ∙ ap (λ es. map (λ e. e.0) es ++ id ∷ []) same
+            ∙ ap (λ ns. ns ++ id ∷ []) h.ids ∙ next;
       }
 
   -- all of them
-  pub ids_all : (i : ℕ) (table : Places V) → length rows ≤ i → AreIdsNoted rows i table
+  pub ids_all : (i : ℕ) (table : Places V) → length rows ≤ i → AreIdsNoted rows limit i table
       → AreBelow limit table.slots × (ids_in table ≡ map (λ row. row.id) rows)
   ids_all i table past h =
       let many = length-map rows (λ (row : EdgeRow). row.id) in
-      let all : take i (map (λ row. row.id) rows) ≡ map (λ row. row.id) rows = take_all i (map (λ row. row.id) rows) (omega arith) in
-      (ap (list_all (λ x. nat_lt x limit)) (h.places ∙ all) ∙ all_below limit (map (λ row. row.id) rows) rise, h.ids ∙ all)
+      (subst (λ n. AreBelow n table.slots) (get_or_past (map (λ row. row.id) rows) i limit (omega (arith, many, past))) h.below,
+          h.ids ∙ take_all i (map (λ row. row.id) rows) (omega (arith, many, past)))
 
--- the first i rows are in it, and more fit
-pub record AreEdgesNoted (rows : List EdgeRow) (i : ℕ) (table : Places EdgeBody) : Type 0 where
+-- the first i rows are in it
+pub record AreEdgesNoted (rows : List EdgeRow) (limit i : ℕ) (table : Places EdgeBody) : Type 0 where
   pub rows_are : edges_of table ≡ take i rows
-  pub noted : AreIdsNoted rows i table
+  pub noted : AreIdsNoted rows limit i table
 
 module _ (rows : List EdgeRow) (limit : ℕ) (rise : rises_below limit (map (λ row. row.id) rows) ≡ true) where
   -- one more
-  pub edges_more : (i : ℕ) (d : EdgeRow) (table more : Places EdgeBody) (path : List ℕ) → i < length rows → AreEdgesNoted rows i table
-      → path ≡ (get_or rows i d).crossings
-      → more.slots ≡ table.slots
+  pub edges_more : (i : ℕ) (d : EdgeRow) (table skipped more : Places EdgeBody) (path : List ℕ) → i < length rows → AreEdgesNoted rows limit i table
+      → path ≡ (get_or rows i d).crossings → entries skipped ≡ entries table → AreBelow (get_or rows i d).id skipped.slots
+      → more.slots ≡ skipped.slots
       ++ ((get_or rows i d).id, Some (record { a = (get_or rows i d).a; b = (get_or rows i d).b; kind = (get_or rows i d).kind; crossings = path }))
-      ∷ [] → table.room ≤ more.room + 1 → AreEdgesNoted rows (i + 1) more
-  edges_more i d table more path inside h copied is room =
+      ∷ [] → AreEdgesNoted rows limit (i + 1) more
+  edges_more i d table skipped more path inside h copied entries_same below is =
       let row = get_or rows i d in
       let body : EdgeBody = record { a = row.a; b = row.b; kind = row.kind; crossings = path } in
       let same : edge_of (row.id, body) ≡ row = ap (λ (xs : List ℕ). record row { crossings = xs }) copied in
       record {
-        rows_are = ap (λ ss. map edge_of (present ss)) is ∙ ap (map edge_of) (present-push row.id body table.slots)
-            ∙ edges_of_more (entries table) ((row.id, body) ∷ [])
-            ∙ ap (λ (r : EdgeRow). edges_of table ++ r ∷ []) same
+        rows_are = ap (λ ss. map edge_of (present ss)) is ∙ ap (map edge_of) (present-push row.id body skipped.slots)
+            ∙ edges_of_more (entries skipped) ((row.id, body) ∷ [])
+            ∙ ap (λ (r : EdgeRow). edges_of skipped ++ r ∷ []) same ∙ ap (λ es. map edge_of es ++ row ∷ []) entries_same
             ∙ ap (λ rs. rs ++ row ∷ []) h.rows_are ∙ sym (take_more rows i d inside);
-        noted = ids_more rows limit rise i d table more body inside h.noted is room;
+        noted = ids_more rows limit rise i d table skipped more body inside h.noted entries_same below is;
       }
 
   -- one more, as it is read
-  pub edges_more_read : (i : ℕ) (row : EdgeRow) (table more : Places EdgeBody) {path : List ℕ} → i < length rows → AreEdgesNoted rows i table
-      → row ≡ get_or rows i row → path ≡ row.crossings
-      → more.slots ≡ table.slots ++ (row.id, Some (record { a = row.a; b = row.b; kind = row.kind; crossings = path })) ∷ []
-      → table.room ≤ more.room + 1 → AreEdgesNoted rows (i + 1) more
-  edges_more_read i row table more {path} inside h read copied is room =
-      edges_more i row table more path inside h (copied ∙ ap (λ (r : EdgeRow). r.crossings) read)
-      (subst (λ (r : EdgeRow). more.slots ≡ table.slots ++ (r.id, Some (record { a = r.a; b = r.b; kind = r.kind; crossings = path })) ∷ []) read is) room
+  pub edges_more_read : (i : ℕ) (row : EdgeRow) (table skipped more : Places EdgeBody) {path : List ℕ} → i < length rows → AreEdgesNoted rows limit i table
+      → row ≡ get_or rows i row → path ≡ row.crossings → entries skipped ≡ entries table → AreBelow row.id skipped.slots
+      → more.slots ≡ skipped.slots ++ (row.id, Some (record { a = row.a; b = row.b; kind = row.kind; crossings = path })) ∷ []
+      → AreEdgesNoted rows limit (i + 1) more
+  edges_more_read i row table skipped more {path} inside h read copied entries_same below is =
+      edges_more i row table skipped more path inside h (copied ∙ ap (λ (r : EdgeRow). r.crossings) read) entries_same
+      (subst (λ (r : EdgeRow). AreBelow r.id skipped.slots) read below)
+      (subst (λ (r : EdgeRow). more.slots ≡ skipped.slots ++ (r.id, Some (record { a = r.a; b = r.b; kind = r.kind; crossings = path })) ∷ []) read is)

@@ -141,7 +141,7 @@ module _ (p : RowsWithPaths) (good : IsWellFormed p.rows) (r : Rotation) (s : Sh
   module _ {now now' : Rotation} {x : ℕ} (c : Crossed) (cs : List Crossed) (sp : AreSplit p r now cs) (is : IsMarked p c)
       (once : AllByRecursion (λ b. same_segment c.dart b ≡ false) (crossed_darts cs)) (done : IsHalfSplit now now' c.near x) where
     abbrev c' : Crossed
-    c' = record { dart = c.dart; hint = c.hint; near = c.near; beyond = x }
+    c' = record { dart = c.dart; near = c.near; beyond = x }
 
     abbrev js : List Subdivision
     js = subdivisions_of p.rows cs
@@ -232,9 +232,9 @@ module _ (p : RowsWithPaths) (good : IsWellFormed p.rows) (r : Rotation) (s : Sh
       → IsHalfSplit now now' c.near x
       → ((xs ys : List ℕ) (h last : ℕ) → get_or paths (edge_place ids c) [] ≡ xs ++ h ∷ (ys ++ last ∷ []) → AreOff c.near xs → IsOn c.near h
       → list ≡ xs ++ (piece (subdivision c.near x) h ++ ys))
-      → AreSplitFrom p r now' was (set cs n (record { dart = c.dart; hint = c.hint; near = c.near; beyond = x })) n (set paths (edge_place ids c) list)
+      → AreSplitFrom p r now' was (set cs n (record { dart = c.dart; near = c.near; beyond = x })) n (set paths (edge_place ids c) list)
   split_more {cs} n c {now'} {x} {paths} list once less at placed from done put =
-      let new : Crossed = record { dart = c.dart; hint = c.hint; near = c.near; beyond = x } in
+      let new : Crossed = record { dart = c.dart; near = c.near; beyond = x } in
       let rest : List Crossed = drop (n + 1) cs in
       let next : n + 1 ≡ suc n = omega arith in
       let is : IsMarked p c = subst (IsMarked p) (sym at) (from.marked n c less) in

@@ -1,4 +1,4 @@
-use Rattle.std.proofs.Common.{arith}
+use Rattle.std.proofs.Common.{◌∙◌, arith}
 use Rattle.topo_changes.proofs.rows.Keeping.{out_all, out_more, out_none}
 use Rattle.topo_changes.proofs.deletion.delete_crossings.Goals as goal
 
@@ -10,5 +10,5 @@ loop-x-preserved c = out_more c.args.crossings.now c.args.path.now c.loop-x.x-in
     c.remove.ensures.entries c.remove.ensures.below
 
 pub returns-clause-entries : goal.returns-clause-entries
-returns-clause-entries c =
+returns-clause-entries c = c.close_up.ensures.entries ∙
     out_all c.args.crossings.now c.args.path.now c.loop-x.x-index c.loop-x.crossings (omega (arith, c.loop-x-test.false)) c.loop-x.invariant

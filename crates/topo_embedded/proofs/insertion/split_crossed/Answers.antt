@@ -52,7 +52,7 @@ loop-n-preserved g c =
     record { edit = c.split-beyond.ensures.edit; grows = c.split-beyond.ensures.grows; label = c.split-beyond.ensures.label } in
     record {
       split = subst (λ (ps : List (List ℕ)). AreSplitFrom g.p c.args.segments.now c.split-beyond.new.self c.args.crossed.now
-          (set c.loop-n.crossed n (record { dart = cross.dart; hint = cross.hint; near = cross.near; beyond = c.split-beyond.result })) n ps)
+          (set c.loop-n.crossed n (record { dart = cross.dart; near = cross.near; beyond = c.split-beyond.result })) n ps)
           (sym (put.put ∙ ap (λ (ids : List ℕ). set (values_in c.loop-n.paths) (place_in ids cross.dart.edge) put.path) ids))
           (split_more g.p c.requires.0.formed c.args.segments.now c.requires.0.shows c.laws.ensures n cross put.path
           c.requires.0.once less c.index-crossed-n.is placed

@@ -12,32 +12,32 @@ pub hang-half-requires-clause-live : goal.hang-half-requires-clause-live
 hang-half-requires-clause-live c =
     let at : IsCornerNamed (with_paths c.args.self.now) c.args.u c.args.position c.args.named =
     record { formed = c.requires.formed; vertex = c.requires.vertex; position = c.requires.position; names = c.requires.named } in
-    corner_alive at c.reserve-2.new.self c.in_ok-reserve-2.ensures.same c.requires.shows
+    corner_alive at c.reserve.new.self c.in_ok-reserve.ensures.same c.requires.shows
 
 pub push-requires-clause-last : goal.push-requires-clause-last
-push-requires-clause-last c = subst (λ (n : ℕ). AreBelow n c.reserve-3.new.self.slots) (sym c.next_edge-edge.ensures)
-    (subst (AreBelow c.args.self.now.rows.next_edge) (sym c.reserve-3.ensures.same) c.requires.kept.below)
+push-requires-clause-last c = subst (λ (n : ℕ). AreBelow n c.reserve-2.new.self.slots) (sym c.next_edge-edge.ensures)
+    (subst (AreBelow c.args.self.now.rows.next_edge) (sym c.reserve-2.ensures.same) c.requires.kept.below)
 
 pub returns-clause-shows : goal.returns-clause-shows
 returns-clause-shows c =
     let at : IsCornerNamed (with_paths c.args.self.now) c.args.u c.args.position c.args.named =
     record { formed = c.requires.formed; vertex = c.requires.vertex; position = c.requires.position; names = c.requires.named } in
-    let hung : IsHung c.reserve-2.new.self c.hang-half.new.self c.args.named c.hang-half.result c.args.self.now.rows.next_edge = record {
+    let hung : IsHung c.reserve.new.self c.hang-half.new.self c.args.named c.hang-half.result c.args.self.now.rows.next_edge = record {
       whole = c.laws.ensures;
       edit = c.hang-half.ensures.edit;
       grows = c.hang-half.ensures.grows;
       label = subst
-          (λ (edge : ℕ). AddsLabel (is_live c.reserve-2.new.self) (edge_of c.reserve-2.new.self) (edge_of c.hang-half.new.self) c.hang-half.result edge)
+          (λ (edge : ℕ). AddsLabel (is_live c.reserve.new.self) (edge_of c.reserve.new.self) (edge_of c.hang-half.new.self) c.hang-half.result edge)
           c.next_edge-edge.ensures c.hang-half.ensures.label;
     } in
-    grown_parts at c.args.kind c.requires.known c.requires.shows c.in_ok-reserve-2.ensures.same hung c.in_ok-grow_rows.ensures.ok c.of.ensures
-    (values_pushed c.reserve-3.new.self c.push.new.self c.next_edge-edge.result c.of.result c.push.ensures.entries
-    ∙ ap (λ slots. map (λ e. e.1) (present slots) ++ c.of.result ∷ []) c.reserve-3.ensures.same)
+    grown_parts at c.args.kind c.requires.known c.requires.shows c.in_ok-reserve.ensures.same hung c.in_ok-grow_rows.ensures.ok c.of.ensures
+    (values_pushed c.reserve-2.new.self c.push.new.self c.next_edge-edge.result c.of.result c.push.ensures.entries
+    ∙ ap (λ slots. map (λ e. e.1) (present slots) ++ c.of.result ∷ []) c.reserve-2.ensures.same)
 
 pub returns-clause-kept : goal.returns-clause-kept
 returns-clause-kept c =
     let rows = c.args.self.now.rows in
-    let was = kept_same rows c.args.self.now.paths c.reserve-3.new.self c.reserve-3.ensures.same c.requires.kept in
+    let was = kept_same rows c.args.self.now.paths c.reserve-2.new.self c.reserve-2.ensures.same c.requires.kept in
     subst (λ (after : Rows). AreForEdges after c.push.new.self) (sym c.in_ok-grow_rows.ensures.ok)
     (one_more_kept _ c.push.new.self c.of.result c.next_edge-edge.result was c.next_edge-edge.ensures
     (ids_grown rows c.args.u c.args.position c.args.kind) refl c.push.ensures.slots c.push.ensures.entries)

@@ -31,7 +31,7 @@ invariant_of-self g c =
     let more : c.self.inside.live + 1 ≡ length (present (slots ++ (c.args.id, Some c.args.value) ∷ [])) =
     omega (arith, ap length now, length-append (present slots) ((c.args.id, c.args.value) ∷ []), c.self.invariant.1) in
     subst (λ l. IsStrictlyIncreasing (ids_of l) × (c.self.inside.live + 1 ≡ length (present l))) (sym (after g c))
-    (IsStrictlyIncreasing-push c.args.id c.args.value slots (above g c) c.self.invariant.0, more)
+    (IsStrictlyIncreasing-push c.args.id (Some c.args.value) slots (above g c) c.self.invariant.0, more)
 
 pub returns-clause-slots : goal.returns-clause-slots
 returns-clause-slots g c = after g c ∙ ap (λ t. t.slots ++ (c.args.id, Some c.args.value) ∷ []) c.self.view_is

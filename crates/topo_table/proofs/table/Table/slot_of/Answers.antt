@@ -6,7 +6,7 @@ use Rattle.topo_table.proofs.table.Table.slot_of.Goals as goal
 pub returns-in-Some-clause-there : goal.returns-in-Some-clause-there
 returns-in-Some-clause-there g c = (
   c.in-Some.field-0-1.now,
-  sym (ap (λ t. slice_get t.slots c.args.hint) c.self.view_is) ∙ sym c.in-Some.ensures.entry
+  sym (ap (λ t. slice_get t.slots c.args.id) c.self.view_is) ∙ sym c.in-Some.ensures.entry
       ∙ ap (λ (k : ℕ). Some (k, c.in-Some.field-0-1.now)) c.if-key-id.true,
 )
 

@@ -1,6 +1,6 @@
 use Rattle.topo_table.proofs.PlaceLemmas.{AreCopied}
 use Rattle.topo_table.proofs.table.Table.try_copy.Given as goal
 
--- the values of the places so far
+-- the places so far
 abbrev pub invariant-loop-place : goal.invariant-loop-place
 invariant-loop-place g l = AreCopied l.self l.place l.copy
