@@ -13,7 +13,7 @@ use Rattle.std.proofs.lemmas.List.Kept.{AllPairs-from_increasing}
 use Rattle.std.proofs.lemmas.List.Quantifiers.{position-Some}
 use Rattle.indexmap.specs.IndexMap.{set_value_at}
 use Rattle.std.proofs.lemmas.List.{take_all}
-use Rattle.topo_table.specs.Places.{AreBelow, EntriesRise, IsChangedAt, IsEmptyAt, IsLiveAt, KeepsPlaces}
+use Rattle.topo_table.specs.Places.{AreBelow, AreFrom, AreOwnPlaces, EntriesRise, IsChangedAt, IsEmptyAt, IsLiveAt, KeepsPlaces}
 use Rattle.topo_table.specs.Places.{Places, entries, ids_of, present, value_of, with_value, without_id}
 
 -- a number is below each of the others
@@ -295,6 +295,24 @@ module _ {V : Type 0} where
   pub AreBelow-none : (limit : ℕ) (slots : List (ℕ × Option V)) → length slots ≡ 0 → AreBelow limit slots
   AreBelow-none limit [] none = refl
   AreBelow-none limit (s ∷ slots) none = absurd (omega (arith, none))
+
+  from-push : (n id : ℕ) (w : Option V) (slots : List (ℕ × Option V)) → AreFrom n slots → id ≡ n + length slots → AreFrom n (slots ++ (id, w) ∷ [])
+  from-push n id w [] own is = (omega (arith, is), tt)
+  from-push n id w (s ∷ slots) own is = (own.0, from-push (n + 1) id w slots own.1 (omega (arith, is)))
+
+  -- one place more, for the id that comes next
+  pub own-push : (id : ℕ) (w : Option V) (slots : List (ℕ × Option V)) → AreOwnPlaces slots → id ≡ length slots → AreOwnPlaces (slots ++ (id, w) ∷ [])
+  own-push id w slots own is = from-push 0 id w slots own (omega (arith, is))
+
+  from-there : (n id : ℕ) (w : Option V) (slots : List (ℕ × Option V)) (place : ℕ) → AreFrom n slots → slice_get slots place ≡ Some (id, w) → id ≡ n + place
+  from-there n id w [] place own at = absurd (is_none_not (sym at))
+  from-there n id w (s ∷ slots) zero own at =
+      let same : s.0 ≡ id = ap (λ s. s.0) (option_some_same at) in omega (arith, same, own.0)
+  from-there n id w (s ∷ slots) (suc place) own at = let rest = from-there (n + 1) id w slots place own.1 at in omega (arith, rest)
+
+  -- an id is the place where it stands
+  pub own_there : (id : ℕ) (w : Option V) (slots : List (ℕ × Option V)) (place : ℕ) → AreOwnPlaces slots → slice_get slots place ≡ Some (id, w) → id ≡ place
+  own_there id w slots place own at = let there = from-there 0 id w slots place own at in omega (arith, there)
 
   -- an empty place more
   pub present-push_empty : (id : ℕ) (slots : List (ℕ × Option V)) → present (slots ++ (id, None) ∷ []) ≡ present slots

@@ -1,5 +1,5 @@
 -- Values by ids, with places that are empty.
-use Rattle.std.specs.Prelude.{◌≡◌, ℕ, ◌==◌, cond, not, List, [], ◌∷◌, filter, find, flat_map, map, nat_lt, None, slice_get, Some, true, Option, refl}
+use Rattle.std.specs.Prelude.{◌≡◌, ℕ, ◌+◌, ◌==◌, cond, not, List, [], ◌∷◌, filter, find, flat_map, map, nat_lt, None, slice_get, Some, true, Option, refl}
 use Rattle.std.specs.Coded.{Coded, code_by, coded×, coded_list, coded_option, coded_ℕ}
 use Rattle.std.specs.Option.{option_map, option_map_or}
 use Rattle.std.specs.List.{list_all, position_or_len}
@@ -31,6 +31,15 @@ module _ {V : Type 0} where
   -- the ids of all places are below a number
   abbrev pub AreBelow : ℕ → List (ℕ × Option V) → Type 0
   AreBelow limit slots = list_all (λ x. nat_lt x limit) (ids_of slots) ≡ true
+
+  -- the ids are a number and those that follow it
+  abbrev pub AreFrom : ℕ → List (ℕ × Option V) → Type 0
+  AreFrom n [] = Unit {0}
+  AreFrom n (slot ∷ slots) = (slot.0 ≡ n) × AreFrom (n + 1) slots
+
+  -- each id is its own place
+  abbrev pub AreOwnPlaces : List (ℕ × Option V) → Type 0
+  AreOwnPlaces slots = AreFrom 0 slots
 
   -- a place has a value, with this id
   pub record IsLiveAt (id place : ℕ) (slots : List (ℕ × Option V)) : Type 0 where

@@ -6,7 +6,7 @@ ghost use Rattle.std.specs.Prelude.{Option, is_some, length, option_copied, slic
 ghost use Rattle.std.specs.List.Sorted.{IsStrictlyIncreasing};
 ghost use Rattle.std.specs.Map.{values_of};
 ghost use Rattle.indexmap.specs.IndexMap.{set_value_at};
-ghost use Rattle.topo_table.specs.Places.{AreBelow, EntriesRise, IsEmptyAt, IsLiveAt, entries};
+ghost use Rattle.topo_table.specs.Places.{AreBelow, AreOwnPlaces, EntriesRise, IsEmptyAt, IsLiveAt, entries};
 ghost use Rattle.topo_table.specs.Places.{ids_of, value_of, without_id};
 
 use indexmap::IndexMap;
@@ -211,6 +211,7 @@ impl<V> Table<V> {
         requires { AreBelow limit self.now.slots }
         ensures above { AreBelow result self.now.slots }
         ensures least { result ≤ limit }
+        ensures own { AreOwnPlaces self.now.slots → result ≡ length self.now.slots }
     {
         let count = self.slots.len();
         if count == 0 {
@@ -230,6 +231,8 @@ impl<V> Table<V> {
         requires { AreBelow id self.old.slots }
         ensures entries { entries self.new ≡ entries self.old }
         ensures below { OnOk result (AreBelow id self.new.slots) }
+        ensures own { OnOk result (AreOwnPlaces self.old.slots
+            → AreOwnPlaces self.new.slots × (length self.new.slots ≡ id)) }
     {
         for missing in self.next_id(id)..id {
             self.reserve(1)?;
