@@ -1,9 +1,9 @@
 //! Insertion on plain rows. What can fail comes before what cannot, and what was changed before a
 //! failure is changed back.
 
-ghost use Rattle.std.specs.Prelude.{◌≡◌, ◌≢◌, ◌+◌, ◌<◌, ◌≤◌, ◌^◌, ℕ, List, true};
+ghost use Rattle.std.specs.Prelude.{◌≡◌, ◌≢◌, ◌+◌, ◌<◌, ◌≤◌, ◌^◌, ◌↔◌, ℕ, IsTrue, List, true};
 ghost use Rattle.std.specs.Prelude.{nat_lt, IfOk, OnOk, OnErr, length, map};
-ghost use Rattle.std.specs.Prelude.{filter, take, slice_index_or, [], ◌∷◌, ◌++◌};
+ghost use Rattle.std.specs.Prelude.{drop, filter, take, slice_index_or, [], ◌∷◌, ◌++◌};
 ghost use Rattle.std.specs.List.{enumerate_from, list_all};
 ghost use Rattle.topo_core.specs.Changes.{shown, sign_of, with_end};
 ghost use Rattle.topo_core.specs.Insertions.{IsInsertable};
@@ -22,13 +22,38 @@ use topo_core::routes::Route;
 use topo_core::rows::EdgeRow;
 use topo_table::Table;
 
+/// Whether all ids are before this one. All are looked at, so that several can be at once.
+fn are_below(ids: &[u32], first: u32) -> bool
+    ensures { IsTrue result ↔ list_all (λ x. nat_lt x first) ids.now ≡ true }
+{
+    let mut are_all = true;
+    for x in ids {
+        are_all &= *x < first;
+    }
+    are_all
+}
+
 /// The place on a path where a segment ends, when only the crossings with ids before `first` count.
+/// Where all before it count, as on most paths, it is that of the segment or behind it.
 fn segment_end(path: &[u32], segment: u32, first: u32) -> usize
     ensures { result ≡ segment_end first segment path.now }
 {
+    let head = path.len().min(segment as usize);
+    if are_below(&path[..head], first) {
+        next_end(path, head, 0, first)
+    } else {
+        next_end(path, 0, segment, first)
+    }
+}
+
+/// As `segment_end`, from a place on, behind which so many crossings count before the end.
+fn next_end(path: &[u32], from: usize, segment: u32, first: u32) -> usize
+    requires { from ≤ length path.now }
+    ensures { result ≡ from + segment_end first segment (drop from path.now) }
+{
     let mut left = segment;
-    for (i, x) in path.iter().enumerate() {
-        if *x < first {
+    for i in from..path.len() {
+        if path[i] < first {
             if left == 0 {
                 return i;
             }

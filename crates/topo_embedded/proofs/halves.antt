@@ -1,4 +1,5 @@
 -- The halves of darts, where they lie, and the faces beside them.
+pub mod Blocks
 pub mod Listing
 pub mod KeptPaths
 pub mod Numbers

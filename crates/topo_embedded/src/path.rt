@@ -1,8 +1,9 @@
 //! The path of an edge: the halves along it.
 
-ghost use Rattle.std.specs.Prelude.{◌≡◌, ◌≢◌, ◌==◌, ◌<◌, ◌++◌, ◌∷◌, ℕ, List, [], IfOk, OnErr};
+ghost use Rattle.std.specs.Prelude.{◌≡◌, ◌≢◌, ◌==◌, ◌<◌, ◌≤◌, ◌++◌, ◌∷◌, ℕ, List, [], IfOk};
+ghost use Rattle.std.specs.Prelude.{OnErr, false};
 ghost use Rattle.std.specs.Prelude.{OnOk, filter, length, not, slice_index_or, slice_set};
-ghost use Rattle.std.specs.List.{position_or_len};
+ghost use Rattle.std.specs.List.{list_any, position_or_len};
 ghost use Rattle.topo_core.specs.Items.{has_id};
 ghost use Rattle.topo_embedded.specs.Halves.{on_segment};
 
@@ -10,6 +11,9 @@ use std::alloc::{AllocError, Global};
 use std::marker::Model;
 use topo_map::Half;
 use topo_table::TryCopy;
+
+/// How many halves of a path are looked at at once.
+const BLOCK: usize = 32;
 
 /// The first half, and the others where there are some. They lie behind one word, so that this
 /// takes two.
@@ -51,6 +55,35 @@ fn is_on(halves: &[Half], half: Half) -> bool
     ensures { result ≡ has_id halves.now half }
 {
     halves.iter().any(|at| *at == half)
+}
+
+/// Whether one of these halves is on the segment of a half. All are looked at, so that several can
+/// be at once.
+fn has_segment(halves: &[Half], half: Half) -> bool
+    ensures { result ≡ list_any (on_segment half) halves.now }
+{
+    let twin = half.twin();
+    let mut found = false;
+    for at in halves {
+        found |= (*at == half) | (*at == twin);
+    }
+    found
+}
+
+/// How many halves, block by block, lie before the first block with one on the segment of a half.
+fn blocks_before(halves: &[Half], half: Half) -> usize
+    ensures none { (k : ℕ) → k < result
+        → on_segment half (slice_index_or halves.now k 0) ≡ false }
+    ensures within { result ≤ length halves.now }
+{
+    let blocks = halves.len() / BLOCK;
+    for block in 0..blocks {
+        let begin = BLOCK * block;
+        if has_segment(&halves[begin..begin + BLOCK], half) {
+            return begin;
+        }
+    }
+    BLOCK * blocks
 }
 
 /// Takes a half out of the list of the others.
@@ -134,12 +167,26 @@ impl Path {
         along == half || along == half.twin()
     }
 
+    /// A place before which a half is on no segment. It is not far before the first that it is on.
+    fn place_before(&self, half: Half) -> usize
+        ensures none { (k : ℕ) → k < result
+            → on_segment half (slice_index_or self.now k 0) ≡ false }
+        ensures within { result ≤ length self.now }
+    {
+        match &self.line {
+            Line::More(_, others) if !self.is_at(0, half) => {
+                1 + blocks_before(others.as_slice(), half)
+            }
+            _ => 0,
+        }
+    }
+
     /// The place of the first segment that a half is on; the number of segments where there is
     /// none.
     pub(crate) fn place_of(&self, half: Half) -> usize
         ensures { result ≡ position_or_len (on_segment half) self.now }
     {
-        for place in 0..self.len() {
+        for place in self.place_before(half)..self.len() {
             if self.is_at(place, half) {
                 return place;
             }
