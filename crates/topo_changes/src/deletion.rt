@@ -106,12 +106,7 @@ fn edge_across(crossings: &Table<Crossing>, e: u32, x: u32) -> u32
 }
 
 /// Takes a crossing of `e` out of the path of the other edge.
-fn leave_path(
-    edges: &mut Table<EdgeBody>,
-    crossings: &Table<Crossing>,
-    e: u32,
-    x: u32,
-)
+fn leave_path(edges: &mut Table<EdgeBody>, crossings: &Table<Crossing>, e: u32, x: u32)
     requires crossed { IsCrossed (rows_of crossings.now) e (edges_of edges.old) x }
     ensures edges { edges_of edges.new ≡ map (uncrossed_row (x ∷ [])) (edges_of edges.old) }
     ensures ids { ids_of edges.new.slots ≡ ids_of edges.old.slots }
@@ -128,12 +123,7 @@ fn leave_path(
 }
 
 /// Takes the crossings of `e` out of the paths of the other edges.
-fn leave_paths(
-    edges: &mut Table<EdgeBody>,
-    crossings: &Table<Crossing>,
-    e: u32,
-    path: &[u32],
-)
+fn leave_paths(edges: &mut Table<EdgeBody>, crossings: &Table<Crossing>, e: u32, path: &[u32])
     requires crossed { (x : ℕ) → IsIn x path.now
         → IsCrossed (rows_of crossings.now) e (edges_of edges.old) x }
     ensures edges { edges_of edges.new ≡ map (uncrossed_row path.now) (edges_of edges.old) }

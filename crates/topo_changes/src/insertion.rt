@@ -158,11 +158,7 @@ fn uncross(edges: &mut Table<EdgeBody>, darts: &[Dart], first: u32)
 
 /// Puts crossings on the segments of the darts, with ids from `first` on, or none where memory is
 /// short.
-fn cross(
-    edges: &mut Table<EdgeBody>,
-    darts: &[Dart],
-    first: u32,
-) -> Result<(), AllocError>
+fn cross(edges: &mut Table<EdgeBody>, darts: &[Dart], first: u32) -> Result<(), AllocError>
     requires below { paths_below first (edges_of edges.old) ≡ true }
     requires there { AreOnPaths (edges_of edges.old) darts.now }
     requires ids { first + length darts.now < 2 ^ 32 }

@@ -41,12 +41,7 @@ fn leads_along(paths: &Table<Path>, segments: &Embedding, half: Half) -> bool
 
 /// Of the halves that lead over a crossing from the segment before and the one behind, the one that
 /// leads along its edge.
-fn midpoint(
-    paths: &Table<Path>,
-    segments: &Embedding,
-    before: Half,
-    behind: Half,
-) -> Half
+fn midpoint(paths: &Table<Path>, segments: &Embedding, before: Half, behind: Half) -> Half
     ghost rows: { Rows }
     requires ids { ids_in paths.now ≡ map (λ row. row.id) rows.edges }
     requires live { is_live segments.now (twin before) ≡ true }

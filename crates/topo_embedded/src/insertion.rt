@@ -206,16 +206,7 @@ impl Parts {
     {
         let edge = self.rows.next_edge();
         let mut line = make_room(alloc, &mut self.paths, &mut self.segments, crossed)?;
-        if apply_rows(
-            alloc,
-            &mut self.rows,
-            ends.0,
-            ends.1,
-            kind,
-            route,
-        )
-        .is_err()
-        {
+        if apply_rows(alloc, &mut self.rows, ends.0, ends.1, kind, route).is_err() {
             unpad(&mut self.paths, crossed);
             return Err(AllocError);
         }

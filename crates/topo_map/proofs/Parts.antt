@@ -254,8 +254,8 @@ stored_as walks rest mid key edge left right blank l m free u len cap below =
     }
 
 pub stored : (walks : List Walk) {rest mid : Slab Rest} {s : Slab Segment} {key : ℕ} (edge left right : ℕ) {blank : Rest} (seg : Segment)
-    → HavePlaces walks rest → joined walks rest ≡ s → seg ≡ isolated_segment key edge left right → length mid.slots ≤ mid.capacity → get rest key ≡ None → Updates rest mid key (Some blank)
-    → slab_len mid ≡ slab_len rest + 1 → mid.capacity ≡ rest.capacity → key < mid.capacity
+    → HavePlaces walks rest → joined walks rest ≡ s → seg ≡ isolated_segment key edge left right → length mid.slots ≤ mid.capacity → get rest key ≡ None
+    → Updates rest mid key (Some blank) → slab_len mid ≡ slab_len rest + 1 → mid.capacity ≡ rest.capacity → key < mid.capacity
     → IsNewAt s (joined (slice_set walks key seg.walk) (with_value mid key seg.rest)) key edge left right
 stored walks {rest} {mid} {s} {key} edge left right {blank} seg a v e m free u len cap below =
     subst (λ (t : Slab Segment). IsNewAt t (joined (slice_set walks key seg.walk) (with_value mid key seg.rest)) key edge left right) v

@@ -47,12 +47,6 @@ IsStrictlyIncreasing-from_Rises (x ∷ y ∷ ys) h zero lt = h.0.0
 IsStrictlyIncreasing-from_Rises (x ∷ y ∷ ys) h (suc k) lt = let next = IsStrictlyIncreasing-from_Rises (y ∷ ys) h.1 k (omega arith) in
     simp unary_clauses (simp unary_clauses at next)
 
--- a number that is below all is none of them
-at_below : (x : ℕ) (xs : List ℕ) (k : ℕ) → IsBelowAll x xs → k < length xs → x < get_or xs k 0
-at_below x [] k h lt = absurd (omega arith)
-at_below x (y ∷ ys) zero h lt = h.0
-at_below x (y ∷ ys) (suc k) h lt = at_below x ys k h.1 (omega arith)
-
 is_none_not : {X : Type 0} {x : X} → Some x ≡ None → ⊥
 is_none_not h = cc
 
@@ -182,28 +176,6 @@ module _ {V : Type 0} where
       → slice_get (values_of slots) place ≡ Some w → slice_get slots place ≡ Some (id, w)
   slot_found id place w slots found at = slot_by id place w slots (position-Some (eqb id) (ids_of slots) place 0 (sym found)).1 at
 
-  -- a place that was found and holds a value: the table without that value
-  pub record Emptied (id : ℕ) (v : V) (old new : List (ℕ × Option V)) : Type 0 where
-    pub rises : IsStrictlyIncreasing (ids_of new)
-    pub count : length (present new) + 1 ≡ length (present old)
-    pub left : present new ≡ without_id id (present old)
-    pub value : value_of id (present old) ≡ Some v
-    pub ids : ids_of new ≡ ids_of old
-
-  pub emptied : (id place : ℕ) (v : V) (slots : List (ℕ × Option V)) → IsStrictlyIncreasing (ids_of slots) → Some place ≡ position (eqb id) (ids_of slots)
-      → slice_get (values_of slots) place ≡ Some (Some v) → slice_get (values_of slots) place ≡ lookup (eqb id) slots
-      → Emptied id v slots (set_value_at slots place None)
-  emptied id place v slots up found at looked =
-      let ids = ids_of-set_value_at slots place None in
-      let both = present-emptied slots place id v (Rises-from_increasing _ up) (slot_found id place (Some v) slots found at) in
-      record {
-        rises = subst IsStrictlyIncreasing (sym ids) up;
-        count = both.1;
-        left = both.0;
-        value = value_of-found id slots up ∙ ap option_flatten (sym looked ∙ at);
-        ids = ids;
-      }
-
   -- what is left once the empty places are closed up
   abbrev pub kept : List (ℕ × Option V) → List (ℕ × Option V)
   kept slots = filter (λ slot. is_some slot.1) slots
@@ -241,7 +213,8 @@ module _ {V : Type 0} where
       let q : eqb id s.0 ≡ false = grind (arith, nat_tests) in
       rw q (lookup-above id slots parts.1)
 
-  IsBelowAll-push : (x id : ℕ) (w : Option V) (slots : List (ℕ × Option V)) → x < id → IsBelowAll x (ids_of slots) → IsBelowAll x (ids_of (slots ++ (id, w) ∷ []))
+  IsBelowAll-push : (x id : ℕ) (w : Option V) (slots : List (ℕ × Option V)) → x < id → IsBelowAll x (ids_of slots)
+      → IsBelowAll x (ids_of (slots ++ (id, w) ∷ []))
   IsBelowAll-push x id w [] lt h = (lt, tt)
   IsBelowAll-push x id w (s ∷ slots) lt h = (h.0, IsBelowAll-push x id w slots lt h.1)
 
@@ -282,7 +255,8 @@ module _ {V : Type 0} where
       rw less rest
 
   -- an id at a place is below what all are below
-  pub below_there : (limit id : ℕ) (w : Option V) (slots : List (ℕ × Option V)) (place : ℕ) → AreBelow limit slots → slice_get slots place ≡ Some (id, w) → id < limit
+  pub below_there : (limit id : ℕ) (w : Option V) (slots : List (ℕ × Option V)) (place : ℕ) → AreBelow limit slots
+      → slice_get slots place ≡ Some (id, w) → id < limit
   below_there limit id w [] place below at = absurd (is_none_not (sym at))
   below_there limit id w (s ∷ slots) zero below at =
       let parts = both_true {a = ltb s.0 limit} {b = list_all (λ x. ltb x limit) (ids_of slots)} below in
@@ -290,11 +264,6 @@ module _ {V : Type 0} where
       grind (arith, nat_tests)
   below_there limit id w (s ∷ slots) (suc place) below at =
       below_there limit id w slots place (both_true {a = ltb s.0 limit} {b = list_all (λ x. ltb x limit) (ids_of slots)} below).1 at
-
-  -- no ids are below any number
-  pub AreBelow-none : (limit : ℕ) (slots : List (ℕ × Option V)) → length slots ≡ 0 → AreBelow limit slots
-  AreBelow-none limit [] none = refl
-  AreBelow-none limit (s ∷ slots) none = absurd (omega (arith, none))
 
   from-push : (n id : ℕ) (w : Option V) (slots : List (ℕ × Option V)) → AreFrom n slots → id ≡ n + length slots → AreFrom n (slots ++ (id, w) ∷ [])
   from-push n id w [] own is = (omega (arith, is), tt)
@@ -498,28 +467,15 @@ module _ {V : Type 0} where
   one_more (t ∷ slots) zero s at = ap (λ (t : ℕ × Option V). t ∷ []) (option_some_same at)
   one_more (t ∷ slots) (suc place) s at = ap (λ l. t ∷ l) (one_more slots place s at)
 
-  few_taken : (n : ℕ) (slots : List (ℕ × Option V)) → length (take n slots) ≤ n
-  few_taken zero slots = omega arith
-  few_taken (suc n) [] = omega arith
-  few_taken (suc n) (s ∷ slots) = let rest = few_taken n slots in omega arith
-
   -- the places so far are in the copy, and there is room for the others
   pub record AreCopied (was : Places V) (place : ℕ) (copy : Places V) : Type 0 where
     pub slots_are : copy.slots ≡ take place was.slots
     pub room : length was.slots ≤ length copy.slots + copy.room
 
-  pub copied_none : (was copy : Places V) (more : ℕ) → copy.slots ≡ [] → more ≡ length was.slots → more ≤ copy.room → AreCopied was 0 copy
-  copied_none was copy more none all room = record { slots_are = none; room = omega (arith, room, all, ap length none) }
-
   module _ (was copy : Places V) (place id : ℕ) (w : Option V) (up : IsStrictlyIncreasing (ids_of was.slots)) (so_far : AreCopied was place copy)
       (at : slice_get was.slots place ≡ Some (id, w)) where
     pub copied_below : AreBelow id copy.slots
     copied_below = subst (AreBelow id) (sym so_far.slots_are) (before_below was.slots place id w (Rises-from_increasing _ up) at)
-
-    pub copied_room : 0 < copy.room
-    copied_room =
-        let inside = slot_inside was.slots place (id, w) at in
-        omega (arith, so_far.room, ap length so_far.slots_are, few_taken place was.slots, inside)
 
     pub copied_more : (more : Places V) → more.slots ≡ copy.slots ++ (id, w) ∷ [] → copy.room ≤ more.room + 1 → AreCopied was (place + 1) more
     copied_more more is room = record {

@@ -6,8 +6,8 @@ ghost use Rattle.std.specs.Prelude.{Option, is_some, length, option_copied, slic
 ghost use Rattle.std.specs.List.Sorted.{IsStrictlyIncreasing};
 ghost use Rattle.std.specs.Map.{values_of};
 ghost use Rattle.indexmap.specs.IndexMap.{set_value_at};
-ghost use Rattle.topo_table.specs.Places.{AreBelow, AreOwnPlaces, EntriesRise, IsEmptyAt, IsLiveAt, entries};
-ghost use Rattle.topo_table.specs.Places.{ids_of, value_of, without_id};
+ghost use Rattle.topo_table.specs.Places.{AreBelow, AreOwnPlaces, EntriesRise, IsEmptyAt};
+ghost use Rattle.topo_table.specs.Places.{IsLiveAt, entries, ids_of, value_of, without_id};
 
 use indexmap::IndexMap;
 use std::alloc::{AllocError, Global};

@@ -165,9 +165,10 @@ ends_behind first s zero (x ∷ path) all le few (inr none) =
     same ∙ ap (λ n. segment_end first n (x ∷ path)) zero_is
 ends_behind first s (suc h) (x ∷ path) all le few or =
     let low : x < first = grind (arith, left_true, nat_tests) in
-    let later : (length path ≤ h) ⊎ (s - 1 ≤ h) = elim or [ | inl past ↦ inl (omega (arith, past)) | inr none ↦ inr (omega (arith, none)) ] in
+    let later : (length path ≤ h) ⊎ (s - 1 ≤ h) = elim or [ inl past ↦ inl (omega (arith, past)) | inr none ↦ inr (omega (arith, none)) ] in
     let rest : h + segment_end first 0 (drop h path) ≡ segment_end first (s - 1) path =
-    ends_behind first (s - 1) h path (right_true (nat_lt x first) (list_all (λ y. nat_lt y first) (take h path)) all) (omega (arith, le)) (omega (arith, few)) later in
+    ends_behind first (s - 1) h path (right_true (nat_lt x first) (list_all (λ y. nat_lt y first) (take h path)) all)
+    (omega (arith, le)) (omega (arith, few)) later in
     let here : segment_end first s (x ∷ path) ≡ segment_end first (s - 1) path + 1 = counts first s x path low (omega (arith, le)) in
     omega (arith, rest, here)
 

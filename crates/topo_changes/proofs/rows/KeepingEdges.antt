@@ -252,9 +252,10 @@ module _ {V : Type 0} (rows : List EdgeRow) (limit : ℕ) (rise : rises_below li
   pub ids_all : (i : ℕ) (table : Places V) → length rows ≤ i → AreIdsNoted rows limit i table
       → AreBelow limit table.slots × (ids_in table ≡ map (λ row. row.id) rows)
   ids_all i table past h =
-      let many = length-map rows (λ (row : EdgeRow). row.id) in
-      (subst (λ n. AreBelow n table.slots) (get_or_past (map (λ row. row.id) rows) i limit (omega (arith, many, past))) h.below,
-          h.ids ∙ take_all i (map (λ row. row.id) rows) (omega (arith, many, past)))
+      let many = length-map rows (λ (row : EdgeRow). row.id) in (
+        subst (λ n. AreBelow n table.slots) (get_or_past (map (λ row. row.id) rows) i limit (omega (arith, many, past))) h.below,
+        h.ids ∙ take_all i (map (λ row. row.id) rows) (omega (arith, many, past)),
+      )
 
 -- the first i rows are in it
 pub record AreEdgesNoted (rows : List EdgeRow) (limit i : ℕ) (table : Places EdgeBody) : Type 0 where

@@ -24,5 +24,5 @@ none_more p xs begin n end is within before none k less = elim (cases_lt k begin
       let read : get_or (take n (drop begin xs)) (k - begin) 0 ≡ get_or xs k 0 =
       get_or-take n (drop begin xs) (k - begin) 0 (omega (arith, is, less, ge)) ∙ get_or-drop begin xs (k - begin) 0 ∙ ap (λ i. get_or xs i 0) same in
       ap p (sym read) ∙ none_at p (take n (drop begin xs)) (k - begin) none (omega (arith, is, less, ge, many))
-    )
+      )
 ]

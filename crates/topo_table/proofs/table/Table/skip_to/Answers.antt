@@ -19,4 +19,3 @@ loop-missing-preserved g c = record {
         omega (arith, many, before.1, ap length same),
       );
 }
-
