@@ -1,6 +1,6 @@
 -- What a deletion reads of the rows while it takes an edge out.
-use Rattle.std.specs.Prelude.{◌≡◌, ◌≢◌, ◌≤◌, ℕ, nat_le, ◌==◌, true, false, if◌then◌else◌, not, List}
-use Rattle.std.specs.Prelude.{[], filter, find, is_some, unwrap_or, slice_index_or, slice_set}
+use Rattle.std.specs.Prelude.{◌≡◌, ◌≢◌, ◌≤◌, ◌<◌, ◌+◌, ◌-◌, ℕ, nat_le, ◌==◌, true, false, if◌then◌else◌, not, List}
+use Rattle.std.specs.Prelude.{[], filter, find, is_some, length, unwrap_or, slice_index_or, slice_set}
 use Rattle.std.specs.List.{list_all}
 use Rattle.topo_core.specs.declared.darts.Sign.TheVariants.{LeftToRight}
 use Rattle.topo_core.specs.declared.rows.EdgeRow.{EdgeRow}
@@ -22,10 +22,14 @@ pub record IsCrossed (crossings : List CrossRow) (e : ℕ) (edges : List EdgeRow
   pub there : is_some (find (λ row. row.id == other_edge crossings e x) edges) ≡ true
   pub elsewhere : (row : EdgeRow) → IsIn row edges → row.id ≢ other_edge crossings e x → has_id row.crossings x ≡ false
 
--- the list begins with its least id, and e stands in it at most once
-pub record IsRotation (e : ℕ) (around : List ℕ) : Type 0 where
+-- the list begins with its least id, and each stands in it once
+pub record IsRotation (around : List ℕ) : Type 0 where
   pub least : list_all (nat_le (slice_index_or around 0 0)) around ≡ true
-  pub once : occurrences e around ≤ 1
+  pub once : (e : ℕ) → occurrences e around ≤ 1
+
+-- the last id of a list is below all between it and the first
+abbrev pub IsLastNext : List ℕ → Type 0
+IsLastNext ids = (k : ℕ) → 0 < k → k + 1 < length ids → slice_index_or ids (length ids - 1) 0 < slice_index_or ids k 0
 
 -- a rotation without e, from its least id on
 abbrev pub rotation_without : ℕ → List ℕ → List ℕ

@@ -1,7 +1,7 @@
 //! Deletion on plain rows. It takes no memory, so it cannot fail.
 
-ghost use Rattle.std.specs.Prelude.{Some, ◌&&◌, ◌≡◌, ◌≢◌, ◌<◌, ◌≤◌, ◌==◌, ℕ, true};
-ghost use Rattle.std.specs.Prelude.{not, filter, find, fold, is_some, length, map, min};
+ghost use Rattle.std.specs.Prelude.{Some, ◌&&◌, ◌≡◌, ◌≢◌, ◌<◌, ◌≤◌, ◌==◌, ℕ, true, IsTrue};
+ghost use Rattle.std.specs.Prelude.{◌↔◌, slice_get, drop, not, filter, find, fold, is_some, length, map, min};
 ghost use Rattle.std.specs.Prelude.{slice_index, slice_index_or, slice_set, [], ◌∷◌};
 ghost use Rattle.std.specs.List.{position_or_len};
 ghost use Rattle.topo_core.specs.Changes.{from_least, uncrossed_row, without};
@@ -10,7 +10,7 @@ ghost use Rattle.topo_core.specs.Lawful.{IsWellFormed};
 ghost use Rattle.topo_core.specs.Picture.{edge_at, edge_row, rotation};
 ghost use Rattle.topo_changes.specs.Keeping.{edge_of, edges_of, rows_of};
 ghost use Rattle.topo_table.specs.Places.{AreBelow, entries, ids_of};
-ghost use Rattle.topo_changes.specs.Deleting.{IsCrossed, IsRotation};
+ghost use Rattle.topo_changes.specs.Deleting.{IsCrossed, IsLastNext, IsRotation};
 ghost use Rattle.topo_changes.specs.Deleting.{rotation_without, left_by, other_edge};
 
 use crate::kept::{Crossing, EdgeBody, KeptRows};
@@ -59,36 +59,69 @@ fn place_of(ids: &[u32], id: u32) -> usize
     ids.len()
 }
 
-/// Takes an id that stands in a list at most once out of it, in one move, and answers where it
-/// stood.
-fn take_once(ids: &mut Vec<u32>, id: u32) -> usize
+/// Takes an id that stands in a list at most once out of it, in one move.
+fn take_once(ids: &mut Vec<u32>, id: u32)
     requires { occurrences id ids.old.items ≤ 1 }
-    ensures left { ids.new.items ≡ filter (λ y. not (y == id)) ids.old.items }
-    ensures place { result ≡ position_or_len (λ y. y == id) ids.old.items }
+    ensures { ids.new.items ≡ filter (λ y. not (y == id)) ids.old.items }
 {
     let place = place_of(ids.as_slice(), id);
     if place < ids.len() {
         ids.remove(place);
     }
-    place
+}
+
+/// Whether the last id of a rotation is the least of those behind the first. If it follows the
+/// first as a number, no other has to be looked at.
+fn is_last_next(ids: &[u32]) -> bool
+    requires rotation { IsRotation ids.now }
+    requires more { 1 < length ids.now }
+    ensures { IsTrue result → IsLastNext ids.now }
+{
+    let last = ids.len() - 1;
+    ids[last] - ids[0] == 1 || ids[last] < least_of(u32::MAX, &ids[1..last])
+}
+
+/// Takes out the first id of a rotation, and lists the others from their least one on. Where that
+/// is the last, it takes the place of the first, and no other moves.
+fn leave_first(ids: &mut Vec<u32>)
+    requires rotation { IsRotation ids.old.items }
+    requires some { 0 < length ids.old.items }
+    ensures { ids.new.items ≡ from_least (drop 1 ids.old.items) }
+{
+    if ids.len() > 1 && is_last_next(ids.as_slice()) {
+        ids.swap_remove(0);
+    } else {
+        ids.remove(0);
+        begin_at_least(ids);
+    }
+}
+
+/// Whether an id stands at the head of a list.
+fn begins_with(ids: &[u32], id: u32) -> bool
+    ensures some { IsTrue result → 0 < length ids.now }
+    ensures head { IsTrue result ↔ slice_get ids.now 0 ≡ Some id }
+{
+    ids.first() == Some(&id)
 }
 
 /// Takes an edge out of a rotation. Where that was its least id, the rotation is listed from its
 /// least id again; else it begins as it did.
 fn leave_rotation(around: &mut Listed<u32>, e: u32)
-    requires { IsRotation e around.old }
+    requires { IsRotation around.old }
     ensures { around.new ≡ rotation_without e around.old }
 {
     let items = around.as_vec_mut();
-    if take_once(items, e) == 0 {
-        begin_at_least(items);
+    if begins_with(items.as_slice(), e) {
+        leave_first(items);
+    } else {
+        take_once(items, e);
     }
 }
 
 /// Takes an edge out of the rotation of a vertex.
 fn leave_vertex(rotations: &mut Vec<Listed<u32>>, v: u32, e: u32)
     requires vertex { v < length rotations.old.items }
-    requires rotation { IsRotation e (slice_index_or rotations.old.items v []) }
+    requires rotation { IsRotation (slice_index_or rotations.old.items v []) }
     ensures { rotations.new.items ≡ left_by e v rotations.old.items }
 {
     leave_rotation(&mut rotations[v as usize], e);
@@ -177,8 +210,8 @@ fn leave_ends(rows: &mut KeptRows, row: &EdgeRow)
     requires a { row.now.a < length rows.old.rotations }
     requires b { row.now.b < length rows.old.rotations }
     requires apart { row.now.a ≢ row.now.b }
-    requires rotation_a { IsRotation row.now.id (rotation rows.old row.now.a) }
-    requires rotation_b { IsRotation row.now.id (rotation rows.old row.now.b) }
+    requires rotation_a { IsRotation (rotation rows.old row.now.a) }
+    requires rotation_b { IsRotation (rotation rows.old row.now.b) }
     ensures { rows.new ≡ record rows.old {
       rotations =
           left_by row.now.id row.now.b (left_by row.now.id row.now.a rows.old.rotations);

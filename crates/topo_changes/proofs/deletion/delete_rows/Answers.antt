@@ -25,13 +25,13 @@ leave_ends-requires-clause-apart c = ends_apart c.args.rows.now c.requires.well_
 pub leave_ends-requires-clause-rotation_a : goal.leave_ends-requires-clause-rotation_a
 leave_ends-requires-clause-rotation_a c =
     let row = c.delete_edge-row.result in
-    subst (λ (rows : Rows). IsRotation row.id (rotation rows row.a)) (sym c.delete_edge-row.ensures.rows)
+    subst (λ (rows : Rows). IsRotation (rotation rows row.a)) (sym c.delete_edge-row.ensures.rows)
     (rotation_a c.args.rows.now c.requires.well_formed c.args.e row c.delete_edge-row.ensures.row)
 
 pub leave_ends-requires-clause-rotation_b : goal.leave_ends-requires-clause-rotation_b
 leave_ends-requires-clause-rotation_b c =
     let row = c.delete_edge-row.result in
-    subst (λ (rows : Rows). IsRotation row.id (rotation rows row.b)) (sym c.delete_edge-row.ensures.rows)
+    subst (λ (rows : Rows). IsRotation (rotation rows row.b)) (sym c.delete_edge-row.ensures.rows)
     (rotation_b c.args.rows.now c.requires.well_formed c.args.e row c.delete_edge-row.ensures.row)
 
 pub returns : goal.returns
