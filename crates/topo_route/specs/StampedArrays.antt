@@ -4,28 +4,42 @@ use Rattle.std.proofs.Math.Dec.{ltb}
 use Rattle.topo_core.specs.Items.{has_id}
 use Rattle.topo_core.specs.Routes.{unreached}
 
--- how many numbers an epoch has
-abbrev pub span : ℕ
-span = 4398046511104
+-- more than any height
+abbrev pub height_limit : ℕ
+height_limit = 4398046511104
 
--- what a word says in the epoch with this base: how far it is above, if it is no word of an earlier epoch
-abbrev pub read_from : ℕ → ℕ → ℕ
-read_from base word = cond {A = ℕ} (ltb (word - base) span) (word - base) unreached
+-- the greatest word, which no epoch has
+abbrev pub blank_word : ℕ
+blank_word = 4294967295
+
+-- what a word says in the epoch that has so many numbers from a base on: how far it is above the base, if it is no word of an earlier epoch
+abbrev pub read_from : ℕ → ℕ → ℕ → ℕ
+read_from base span word = cond {A = ℕ} (ltb (word - base) span) (word - base) unreached
 
 -- what an array of so many numbers says
-abbrev pub read_all : ℕ → ℕ → List ℕ → List ℕ
-read_all base zero words = []
-read_all base (suc len) [] = []
-read_all base (suc len) (word ∷ words) = read_from base word ∷ read_all base len words
+abbrev pub read_all : ℕ → ℕ → ℕ → List ℕ → List ℕ
+read_all base span zero words = []
+read_all base span (suc len) [] = []
+read_all base span (suc len) (word ∷ words) = read_from base span word ∷ read_all base span len words
 
 abbrev pub AreAtLeast : ℕ → List ℕ → Type 0
 AreAtLeast least xs = (k : ℕ) → k < length xs → least ≤ slice_index xs k
 
--- There is a word for each number, and none is below the base. The list of what is written has each place of the epoch, and none
--- past the end.
-pub record AreWritten (base len : ℕ) (words written : List ℕ) : Type 0 where
+-- There is a word for each number, and none is below the base. The epoch has at most half of all words. The list of what is written
+-- has each place of the epoch, and none past the end.
+pub record AreWritten (base span len : ℕ) (words written : List ℕ) : Type 0 where
   pub as_many : len ≤ length words
   pub above : AreAtLeast base words
-  pub room : base + span ≤ unreached
+  pub room : base + span ≤ blank_word
+  pub half : span + span ≤ blank_word
   pub listed : (k : ℕ) → k < len → slice_index words k - base < span → has_id written k ≡ true
   pub there : (k : ℕ) → has_id written k ≡ true → k < len
+
+-- the word that says the same in an epoch with more numbers, which ends with the last word before the blank one
+abbrev pub moved_word : ℕ → ℕ → ℕ → ℕ → ℕ
+moved_word base span wider word = cond {A = ℕ} (ltb (word - base) span) (blank_word - wider + (word - base)) blank_word
+
+-- an array in a wider epoch says what it said
+pub record SaysTheSame (base span : ℕ) (words : List ℕ) (new_base new_span : ℕ) (new_words : List ℕ) (len : ℕ) (written : List ℕ) : Type 0 where
+  pub are : AreWritten new_base new_span len new_words written
+  pub reads : read_all new_base new_span len new_words ≡ read_all base span len words

@@ -13,7 +13,7 @@ ghost use Rattle.topo_route.specs.Settling.{AreCosts, AreFaceCosts, AreLowered, 
 ghost use Rattle.topo_route.specs.Settling.{AreSums, IsCrossed, IsReached, IsSettled, Relaxes};
 ghost use Rattle.topo_route.specs.Settling.{Spreads, SpreadsTo, dart_of_item, effort};
 ghost use Rattle.topo_route.specs.Settling.{is_pending, is_waiting, number_at, reach_of, top_of};
-ghost use Rattle.topo_route.specs.StampedArrays.{span};
+ghost use Rattle.topo_route.specs.StampedArrays.{height_limit};
 
 use crate::bucket_queue::{BucketQueue, dart_of_item, item_of, least_height};
 use crate::face_graph::FaceGraph;
@@ -61,7 +61,7 @@ impl Labels {
     /// Whether a height brings a face down, and not above the least sum.
     fn is_lowered_by(&self, least: u64, face: u32, height: u64) -> bool
         requires within { face < length self.now.heights }
-        requires fits { height < span }
+        requires fits { height < height_limit }
         ensures { IsTrue result
             ↔ height < min (slice_index self.now.heights face) (reach_of least) }
     {
@@ -80,7 +80,6 @@ impl Labels {
     ) -> Result<(), AllocError>
         requires within { face < length self.old.heights }
         requires named { face < length self.old.names.items }
-        requires fits { height < span }
         ensures heights { OnOk result (self.new.heights ≡ slice_set self.old.heights face height) }
         ensures names { OnOk result
             (self.new.names.items ≡ slice_set self.old.names.items face dart) }

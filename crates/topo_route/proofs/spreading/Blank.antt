@@ -4,89 +4,150 @@ use Rattle.std.proofs.Common.{ap, arith, eq-eqb, get_or-set_other, get_or-set_sa
 use Rattle.std.proofs.Math.Bool.{or-false}
 use Rattle.std.proofs.Math.ListN.{set}
 use Rattle.std.proofs.lemmas.Bool.{cases_eq, cases_lt, eqb-true, le-ltb, lt-ltb}
-use Rattle.std.proofs.lemmas.List.{length-set}
+use Rattle.std.proofs.lemmas.List.{get_or-map, length-map, length-set}
 use Rattle.std.proofs.lemmas.List.Folds.{list_any-append}
-use Rattle.std.specs.Prelude.{cond, slice_index}
+use Rattle.std.specs.Prelude.{cond, map, slice_index}
 use Rattle.topo_core.specs.Items.{has_id}
 use Rattle.topo_core.specs.Routes.{unreached}
 use Rattle.topo_core.proofs.numbering.NumberOrder.{either}
-use Rattle.topo_route.specs.StampedArrays.{AreAtLeast, AreWritten, read_all, read_from, span}
+use Rattle.topo_route.specs.StampedArrays.{AreAtLeast, AreWritten, SaysTheSame, blank_word, height_limit, moved_word, read_all, read_from}
 
 -- a word of the epoch says how far it is above the base
-pub reads_number : (base word : ℕ) → word - base < span → read_from base word ≡ word - base
-reads_number base word h = ap (λ (b : Bool). cond {A = ℕ} b (word - base) unreached) (lt-ltb (word - base) span h)
+pub reads_number : (base span word : ℕ) → word - base < span → read_from base span word ≡ word - base
+reads_number base span word h = ap (λ (b : Bool). cond {A = ℕ} b (word - base) unreached) (lt-ltb (word - base) span h)
 
 -- one of an earlier epoch says nothing
-pub reads_blank : (base word : ℕ) → span ≤ word - base → read_from base word ≡ unreached
-reads_blank base word h = ap (λ (b : Bool). cond {A = ℕ} b (word - base) unreached) (le-ltb (word - base) span h)
+pub reads_blank : (base span word : ℕ) → span ≤ word - base → read_from base span word ≡ unreached
+reads_blank base span word h = ap (λ (b : Bool). cond {A = ℕ} b (word - base) unreached) (le-ltb (word - base) span h)
 
 -- a word that lies above the base by more than a number says more than the number
-pub reads_more : (base word number : ℕ) → number < span → base + number < word → number < read_from base word
-reads_more base word number fits more = elim (cases_lt (word - base) span) [
-  | inl less ↦ let is = reads_number base word less in omega arith
-  | inr past ↦ let is = reads_blank base word past in omega arith
+pub reads_more : (base span word number : ℕ) → number < height_limit → number < word - base → number < read_from base span word
+reads_more base span word number fits more = elim (cases_lt (word - base) span) [
+  | inl less ↦ let is = reads_number base span word less in omega arith
+  | inr past ↦ let is = reads_blank base span word past in omega arith
 ]
 
 -- and no other does
-pub reads_no_more : (base word number : ℕ) → number < span → word ≤ base + number → read_from base word ≤ number
-reads_no_more base word number fits low = let is = reads_number base word (omega arith) in omega arith
+pub reads_no_more : (base span word number : ℕ) → word - base < span → word - base ≤ number → read_from base span word ≤ number
+reads_no_more base span word number fits low = let is = reads_number base span word (omega arith) in omega arith
 
-pub all_long : (base len : ℕ) (words : List ℕ) → len ≤ length words → length (read_all base len words) ≡ len
-all_long base zero words many = refl
-all_long base (suc len) [] many = absurd (omega arith)
-all_long base (suc len) (word ∷ words) many = ap suc (all_long base len words (omega arith))
+pub all_long : (base span len : ℕ) (words : List ℕ) → len ≤ length words → length (read_all base span len words) ≡ len
+all_long base span zero words many = refl
+all_long base span (suc len) [] many = absurd (omega arith)
+all_long base span (suc len) (word ∷ words) many = ap suc (all_long base span len words (omega arith))
 
-pub read_at : (base len : ℕ) (words : List ℕ) (k : ℕ) → k < len → len ≤ length words
-    → slice_index (read_all base len words) k ≡ read_from base (slice_index words k)
-read_at base zero words k h many = absurd (omega arith)
-read_at base (suc len) [] k h many = absurd (omega arith)
-read_at base (suc len) (word ∷ words) zero h many = refl
-read_at base (suc len) (word ∷ words) (suc k) h many = read_at base len words k (omega arith) (omega arith)
+pub read_at : (base span len : ℕ) (words : List ℕ) (k : ℕ) → k < len → len ≤ length words
+    → slice_index (read_all base span len words) k ≡ read_from base span (slice_index words k)
+read_at base span zero words k h many = absurd (omega arith)
+read_at base span (suc len) [] k h many = absurd (omega arith)
+read_at base span (suc len) (word ∷ words) zero h many = refl
+read_at base span (suc len) (word ∷ words) (suc k) h many = read_at base span len words k (omega arith) (omega arith)
 
 -- a number that is written is read
-written_reads : (base number : ℕ) → number < span → read_from base (base + number) ≡ number
-written_reads base number h = let back : base + number - base ≡ number = omega arith in reads_number base (base + number) (omega arith) ∙ back
+written_reads : (base span number : ℕ) → number < span → read_from base span (base + number) ≡ number
+written_reads base span number h = let back : base + number - base ≡ number = omega arith in reads_number base span (base + number) (omega arith) ∙ back
 
-pub written_number : (base len : ℕ) (words : List ℕ) (k number : ℕ) → number < span
-    → read_all base len (set words k (base + number)) ≡ set (read_all base len words) k number
-written_number base zero words k number h = refl
-written_number base (suc len) [] k number h = refl
-written_number base (suc len) (word ∷ words) zero number h = ap (λ x. x ∷ read_all base len words) (written_reads base number h)
-written_number base (suc len) (word ∷ words) (suc k) number h = ap (λ xs. read_from base word ∷ xs) (written_number base len words k number h)
+pub written_number : (base span len : ℕ) (words : List ℕ) (k number : ℕ) → number < span
+    → read_all base span len (set words k (base + number)) ≡ set (read_all base span len words) k number
+written_number base span zero words k number h = refl
+written_number base span (suc len) [] k number h = refl
+written_number base span (suc len) (word ∷ words) zero number h = ap (λ x. x ∷ read_all base span len words) (written_reads base span number h)
+written_number base span (suc len) (word ∷ words) (suc k) number h = ap (λ xs. read_from base span word ∷ xs) (written_number base span len words k number h)
 
 -- words of earlier epochs are blank
-pub all_blank : (base len : ℕ) (words : List ℕ) → len ≤ length words → AreAtLeast (base + span) words → read_all base len words ≡ replicate len unreached
-all_blank base zero words many early = refl
-all_blank base (suc len) [] many early = absurd (omega arith)
-all_blank base (suc len) (word ∷ words) many early =
+pub all_blank : (base span len : ℕ) (words : List ℕ) → len ≤ length words → AreAtLeast (base + span) words → read_all base span len words ≡ replicate len unreached
+all_blank base span zero words many early = refl
+all_blank base span (suc len) [] many early = absurd (omega arith)
+all_blank base span (suc len) (word ∷ words) many early =
     let high : base + span ≤ word = early 0 (omega arith) in
-    ap (λ x. x ∷ read_all base len words) (reads_blank base word (omega arith))
-    ∙ ap (λ xs. unreached ∷ xs) (all_blank base len words (omega arith) (λ k h. early (suc k) (omega arith)))
+    ap (λ x. x ∷ read_all base span len words) (reads_blank base span word (omega arith))
+    ∙ ap (λ xs. unreached ∷ xs) (all_blank base span len words (omega arith) (λ k h. early (suc k) (omega arith)))
 
 -- a list that is filled, or filled up, with the greatest word keeps its bound
-pub filled : (least m : ℕ) → least ≤ unreached → AreAtLeast least (replicate m unreached)
+pub filled : (least m : ℕ) → least ≤ blank_word → AreAtLeast least (replicate m blank_word)
 filled least zero h k within = absurd (omega arith)
 filled least (suc m) h zero within = h
 filled least (suc m) h (suc k) within = filled least m h k (omega arith)
 
-pub filled_up : (least n m : ℕ) (xs : List ℕ) → least ≤ unreached → AreAtLeast least xs → AreAtLeast least (take n xs ++ replicate m unreached)
+pub filled_up : (least n m : ℕ) (xs : List ℕ) → least ≤ blank_word → AreAtLeast least xs → AreAtLeast least (take n xs ++ replicate m blank_word)
 filled_up least zero m xs h above k within = filled least m h k within
 filled_up least (suc n) m [] h above k within = filled least m h k within
 filled_up least (suc n) m (x ∷ xs) h above zero within = above 0 (omega arith)
 filled_up least (suc n) m (x ∷ xs) h above (suc k) within = filled_up least n m xs h (λ j less. above (suc j) (omega arith)) k (omega arith)
 
 -- what is read is no more than the greatest number
-reads_within : (base word : ℕ) → read_from base word ≤ unreached
-reads_within base word = elim (cases_lt (word - base) span) [
-  | inl less ↦ let is = reads_number base word less in omega arith
-  | inr more ↦ let is = reads_blank base word more in omega arith
+reads_within : (base span word : ℕ) → span ≤ blank_word → read_from base span word ≤ unreached
+reads_within base span word narrow = elim (cases_lt (word - base) span) [
+  | inl less ↦ let is = reads_number base span word less in omega arith
+  | inr more ↦ let is = reads_blank base span word more in omega arith
 ]
 
-pub all_within : (base len : ℕ) (words : List ℕ) (k : ℕ) → slice_index (read_all base len words) k ≤ unreached
-all_within base zero words k = omega arith
-all_within base (suc len) [] k = omega arith
-all_within base (suc len) (word ∷ words) zero = reads_within base word
-all_within base (suc len) (word ∷ words) (suc k) = all_within base len words k
+pub all_within : (base span len : ℕ) (words : List ℕ) (k : ℕ) → span ≤ blank_word → slice_index (read_all base span len words) k ≤ unreached
+all_within base span zero words k narrow = omega arith
+all_within base span (suc len) [] k narrow = omega arith
+all_within base span (suc len) (word ∷ words) zero narrow = reads_within base span word narrow
+all_within base span (suc len) (word ∷ words) (suc k) narrow = all_within base span len words k narrow
+
+-- ---- Words that are moved to a wider epoch
+
+module _ (base span wider : ℕ) (more : span ≤ wider) (half : wider + wider ≤ blank_word) where
+  abbrev moved : ℕ → ℕ
+  moved word = moved_word base span wider word
+
+  stays : (word : ℕ) → word - base < span → moved word ≡ blank_word - wider + (word - base)
+  stays word h = ap (λ (b : Bool). cond {A = ℕ} b (blank_word - wider + (word - base)) blank_word) (lt-ltb (word - base) span h)
+
+  goes : (word : ℕ) → span ≤ word - base → moved word ≡ blank_word
+  goes word h = ap (λ (b : Bool). cond {A = ℕ} b (blank_word - wider + (word - base)) blank_word) (le-ltb (word - base) span h)
+
+  says_the_same : (word : ℕ) → read_from (blank_word - wider) wider (moved word) ≡ read_from base span word
+  says_the_same word = elim (cases_lt (word - base) span) [
+    | inl less ↦ (
+        let at = stays word less in
+        let back : moved word - (blank_word - wider) ≡ word - base = omega (arith, at) in
+        reads_number (blank_word - wider) wider (moved word) (omega (arith, back)) ∙ back ∙ sym (reads_number base span word less))
+    | inr past ↦ (
+        let at = goes word past in
+        reads_blank (blank_word - wider) wider (moved word) (omega (arith, at)) ∙ sym (reads_blank base span word past))
+  ]
+
+  say_the_same : (len : ℕ) (words : List ℕ) → read_all (blank_word - wider) wider len (map moved words) ≡ read_all base span len words
+  say_the_same zero words = refl
+  say_the_same (suc len) [] = refl
+  say_the_same (suc len) (word ∷ words) =
+      ap (λ x. x ∷ read_all (blank_word - wider) wider len (map moved words)) (says_the_same word)
+      ∙ ap (λ xs. read_from base span word ∷ xs) (say_the_same len words)
+
+  high : (word : ℕ) → blank_word - wider ≤ moved word
+  high word = elim (cases_lt (word - base) span) [
+    | inl less ↦ (let at = stays word less in omega (arith, at))
+    | inr past ↦ (let at = goes word past in omega (arith, at))
+  ]
+
+  was_there : (word : ℕ) → moved word - (blank_word - wider) < wider → word - base < span
+  was_there word here = elim (cases_lt (word - base) span) [
+    | inl less ↦ less
+    | inr past ↦ absurd (let at = goes word past in omega (arith, at, here))
+  ]
+
+  -- a wider epoch says the same
+  pub widened : (len : ℕ) (words written : List ℕ) → AreWritten base span len words written
+      → SaysTheSame base span words (blank_word - wider) wider (map (moved_word base span wider) words) len written
+  widened len words written are =
+      let as_many = length-map words moved in
+      let at = λ (k : ℕ) (inside : k < length words). get_or-map moved words k 0 0 inside in record {
+        are = record {
+          as_many = omega (arith, as_many, are.as_many);
+          above = λ k inside. let is = at k (omega (arith, as_many, inside)) in let h = high (slice_index words k) in omega (arith, is, h);
+          room = omega arith;
+          half = half;
+          listed = λ k within here.
+              let is = at k (omega (arith, are.as_many, within)) in
+              are.listed k within (was_there (slice_index words k) (omega (arith, is, here)));
+          there = are.there;
+        };
+        reads = say_the_same len words;
+      }
 
 -- ---- The list of the places that are written
 
@@ -118,9 +179,9 @@ pub lists_already : (xs : List ℕ) (k : ℕ) → has_id xs k ≡ true → Lists
 lists_already xs k h = record { itself = h; stays = λ j l. l; came = λ j l. inr l }
 
 -- a number is written at a place that is listed
-pub number_written : (base len : ℕ) (words before after : List ℕ) (k number : ℕ) → AreWritten base len words before → Lists before after k → k < len
-    → AreWritten base len (set words k (base + number)) after
-number_written base len words before after k number written lists inside =
+pub number_written : (base span len : ℕ) (words before after : List ℕ) (k number : ℕ) → AreWritten base span len words before → Lists before after k → k < len
+    → AreWritten base span len (set words k (base + number)) after
+number_written base span len words before after k number written lists inside =
     let same = length-set words k (base + number) in
     let as_many = written.as_many in
     record {
@@ -131,6 +192,7 @@ number_written base len words before after k number written lists inside =
         | inr ne ↦ let there = get_or-set_other words k j (base + number) 0 ne in let was = written.above j (omega arith) in omega arith
       ];
       room = written.room;
+      half = written.half;
       listed = λ j within at. elim (cases_eq j k) [
         | inl e ↦ ap (has_id after) e ∙ lists.itself
         | inr ne ↦ let there = get_or-set_other words k j (base + number) 0 ne in lists.stays j (written.listed j within (omega arith))
@@ -142,16 +204,16 @@ number_written base len words before after k number written lists inside =
     }
 
 -- what is read as a number is written
-pub read_written : (base len : ℕ) (words written : List ℕ) → AreWritten base len words written → (k : ℕ) → k < length (read_all base len words)
-    → slice_index (read_all base len words) k ≢ unreached → has_id written k ≡ true
-read_written base len words written are k within some =
-    let long = all_long base len words are.as_many in
+pub read_written : (base span len : ℕ) (words written : List ℕ) → AreWritten base span len words written → (k : ℕ) → k < length (read_all base span len words)
+    → slice_index (read_all base span len words) k ≢ unreached → has_id written k ≡ true
+read_written base span len words written are k within some =
+    let long = all_long base span len words are.as_many in
     let inside : k < len = omega arith in
     elim (cases_lt (slice_index words k - base) span) [
       | inl less ↦ are.listed k inside less
-      | inr more ↦ absurd (some (read_at base len words k inside are.as_many ∙ reads_blank base (slice_index words k) more))
+      | inr more ↦ absurd (some (read_at base span len words k inside are.as_many ∙ reads_blank base span (slice_index words k) more))
     ]
 
-pub written_within : (base len : ℕ) (words written : List ℕ) → AreWritten base len words written → (k : ℕ) → has_id written k ≡ true
-    → k < length (read_all base len words)
-written_within base len words written are k h = let long = all_long base len words are.as_many in let less = are.there k h in omega arith
+pub written_within : (base span len : ℕ) (words written : List ℕ) → AreWritten base span len words written → (k : ℕ) → has_id written k ≡ true
+    → k < length (read_all base span len words)
+written_within base span len words written are k h = let long = all_long base span len words are.as_many in let less = are.there k h in omega arith

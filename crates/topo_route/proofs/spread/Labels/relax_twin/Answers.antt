@@ -10,12 +10,6 @@ use Rattle.topo_route.proofs.spreading.Relaxing.{twin_relaxes}
 use Rattle.topo_route.proofs.spreading.Settled.{of_face}
 use Rattle.topo_route.proofs.spread.Labels.relax_twin.Goals as goal
 
-pub lower-requires-clause-fits : goal.lower-requires-clause-fits
-lower-requires-clause-fits g c =
-    let fits = c.requires.costs.costs.bounded c.args.dart c.requires.in_hand.0 c.requires.in_hand.1 in
-    let asked = c.in-Some.ensures.price in
-    omega (arith, fits, c.in-Some.ensures.promise.at_most asked.facts c.in-Some.price asked.asked, c.requires.height)
-
 pub returns-in_ok-push-in-Some : goal.returns-in_ok-push-in-Some
 returns-in_ok-push-in-Some g c =
     let price = prices_of (g.F.PriceFn.may_return c.args.priced.now.tariff.now) in

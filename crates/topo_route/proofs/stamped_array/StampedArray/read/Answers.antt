@@ -9,8 +9,8 @@ index-requires c = grind (arith, all_long)
 pub overflow_sub-number : goal.overflow_sub-number
 overflow_sub-number c = grind (arith, all_long, get_or_default_zero, c.self.invariant.above)
 
-pub returns-then-number-lt-SPAN : goal.returns-then-number-lt-SPAN
-returns-then-number-lt-SPAN c = grind (arith, all_long, get_or_default_zero, reads_number, read_at)
+pub returns-then-number-self : goal.returns-then-number-self
+returns-then-number-self c = grind (arith, all_long, get_or_default_zero, reads_number, read_at)
 
-pub returns-else-number-lt-SPAN : goal.returns-else-number-lt-SPAN
-returns-else-number-lt-SPAN c = grind (arith, all_long, get_or_default_zero, reads_blank, read_at)
+pub returns-else-number-self : goal.returns-else-number-self
+returns-else-number-self c = grind (arith, all_long, get_or_default_zero, reads_blank, read_at)
