@@ -185,6 +185,11 @@ module _ {V : Type 0} where
   present-kept ((id, Some v) ∷ slots) = ap (λ l. (id, v) ∷ l) (present-kept slots)
   present-kept ((id, None) ∷ slots) = present-kept slots
 
+  pub length-kept : (slots : List (ℕ × Option V)) → length (kept slots) ≡ length (present slots)
+  length-kept [] = refl
+  length-kept ((id, Some v) ∷ slots) = ap suc (length-kept slots)
+  length-kept ((id, None) ∷ slots) = length-kept slots
+
   IsBelowAll-kept : (x : ℕ) (slots : List (ℕ × Option V)) → IsBelowAll x (ids_of slots) → IsBelowAll x (ids_of (kept slots))
   IsBelowAll-kept x [] h = tt
   IsBelowAll-kept x ((id, Some v) ∷ slots) h = (h.0, IsBelowAll-kept x slots h.1)

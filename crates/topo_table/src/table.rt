@@ -1,6 +1,6 @@
 //! A table of values by ids that rise.
 
-ghost use Rattle.std.specs.Prelude.{◌≡◌, ◌+◌, ◌<◌, ◌≤◌, ◌++◌, ◌∷◌, [], ℕ, true};
+ghost use Rattle.std.specs.Prelude.{◌≡◌, ◌+◌, ◌/◌, ◌<◌, ◌≤◌, ◌++◌, ◌∷◌, [], ℕ, true};
 ghost use Rattle.std.specs.Prelude.{IfNone, IfOk, IfSome, None, OnOk, Some};
 ghost use Rattle.std.specs.Prelude.{Option, is_some, length, option_copied, slice_get};
 ghost use Rattle.std.specs.List.Sorted.{IsStrictlyIncreasing};
@@ -314,6 +314,8 @@ impl<V> Table<V> {
     where
         V: Drop,
         ensures entries { entries self.new ≡ entries self.old }
+        ensures closed { length (entries self.old) < length self.old.slots / 2
+            → length self.new.slots ≡ length (entries self.new) }
         ensures below { (limit : ℕ) → AreBelow limit self.old.slots
             → AreBelow limit self.new.slots }
     {

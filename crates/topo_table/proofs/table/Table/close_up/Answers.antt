@@ -2,7 +2,7 @@ use Rattle.std.proofs.Common.{◌≡◌, length, subst, sym, ap, ◌∙◌, is_s
 use Rattle.std.specs.List.Sorted.{IsStrictlyIncreasing}
 use Rattle.indexmap.proofs.CallerLemmas.{filter-RetainsPairs}
 use Rattle.topo_table.specs.Places.{AreBelow, entries, ids_of, present}
-use Rattle.topo_table.proofs.PlaceLemmas.{AreBelow-kept, IsStrictlyIncreasing-kept, kept, present-kept}
+use Rattle.topo_table.proofs.PlaceLemmas.{AreBelow-kept, IsStrictlyIncreasing-kept, kept, length-kept, present-kept}
 use Rattle.topo_table.proofs.table.Table.close_up.Given as given
 use Rattle.topo_table.proofs.table.Table.close_up.Goals as goal
 
@@ -19,6 +19,11 @@ invariant_of-self g c =
 pub returns-then-self-len-clause-entries : goal.returns-then-self-len-clause-entries
 returns-then-self-len-clause-entries g c =
     ap present (after g c) ∙ present-kept c.self.inside.slots.entries ∙ ap entries c.self.view_is
+
+pub returns-then-self-len-clause-closed : goal.returns-then-self-len-clause-closed
+returns-then-self-len-clause-closed g c = λ _.
+    let slots = c.self.inside.slots.entries in
+    ap length (after g c) ∙ length-kept slots ∙ sym (ap length (ap present (after g c) ∙ present-kept slots))
 
 pub returns-then-self-len-clause-below : goal.returns-then-self-len-clause-below
 returns-then-self-len-clause-below g c = λ limit below.
