@@ -14,3 +14,9 @@ returns-in-Err-clause-fault g c =
           seen c.in_ok-version.ensures.version,
       c.in-Err.ensures.refused,
     )
+
+pub returns-clause-u : goal.returns-clause-u
+returns-clause-u g c = c.in-Ok.ensures.u
+
+pub returns-clause-v : goal.returns-clause-v
+returns-clause-v g c = c.in-Ok.ensures.v
