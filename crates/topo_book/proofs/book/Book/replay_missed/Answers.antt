@@ -46,3 +46,6 @@ loop-index-preserved g c =
     one_on (prices_of (g.F.PriceFn.may_return s.tariff))
     s.start s.history c.loop-index.index entry picture c.apply_entry.new.picture c.loop-index.invariant there (omega arith) step
     c.apply_entry.ensures.same_limits c.apply_entry.ensures.lawful
+
+pub loop-index-init : goal.loop-index-init
+loop-index-init g c = c.requires
