@@ -123,7 +123,7 @@ differ_at (x ∷ xs) (suc i) (suc k) once less inside same =
 -- no id of a rotation is below its first
 none_lower : (ids : List ℕ) → IsRotation ids → (k : ℕ) → k < length ids → get_or ids 0 0 ≤ get_or ids k 0
 none_lower ids rotation k inside =
-    let t = test_of_each (nat_le (get_or ids 0 0)) (get_or ids k 0) ids rotation.least (in_at ids k 0 inside) in le_from (get_or ids 0 0) (get_or ids k 0) t where
+    le_from (get_or ids 0 0) (get_or ids k 0) (test_of_each (nat_le (get_or ids 0 0)) (get_or ids k 0) ids rotation.least (in_at ids k 0 inside)) where
       le_from : (m n : ℕ) → nat_le m n ≡ true → m ≤ n
       le_from m n h = grind (arith, nat_tests)
 

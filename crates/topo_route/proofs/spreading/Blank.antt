@@ -55,7 +55,8 @@ written_number base span (suc len) (word ∷ words) zero number h = ap (λ x. x 
 written_number base span (suc len) (word ∷ words) (suc k) number h = ap (λ xs. read_from base span word ∷ xs) (written_number base span len words k number h)
 
 -- words of earlier epochs are blank
-pub all_blank : (base span len : ℕ) (words : List ℕ) → len ≤ length words → AreAtLeast (base + span) words → read_all base span len words ≡ replicate len unreached
+pub all_blank : (base span len : ℕ) (words : List ℕ) → len ≤ length words → AreAtLeast (base + span) words
+    → read_all base span len words ≡ replicate len unreached
 all_blank base span zero words many early = refl
 all_blank base span (suc len) [] many early = absurd (omega arith)
 all_blank base span (suc len) (word ∷ words) many early =

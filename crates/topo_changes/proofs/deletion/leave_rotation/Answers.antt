@@ -1,4 +1,4 @@
-use Rattle.std.proofs.Common.{◌≡◌, ◌≤◌, ◌∙◌, ap, arith, sym}
+use Rattle.std.proofs.Common.{◌≤◌, ◌∙◌, ap, arith, sym}
 use Rattle.std.specs.Prelude.{◌==◌, filter, not, slice_get}
 use Rattle.std.proofs.lemmas.Bool.{false≢true}
 use Rattle.topo_core.specs.Items.{occurrences}
@@ -14,7 +14,8 @@ pub returns-then-begins_with : goal.returns-then-begins_with
 returns-then-begins_with c =
     let items = c.as_vec_mut-items.result.now.items in
     let same = c.as_vec_mut-items.ensures.items in
-    let once : occurrences c.args.e items ≤ 1 = let alike = ap (occurrences c.args.e) same in let most = c.requires.once c.args.e in omega (arith, alike, most) in
+    let alike = ap (occurrences c.args.e) same in
+    let once : occurrences c.args.e items ≤ 1 = let most = c.requires.once c.args.e in omega (arith, alike, most) in
     let head = ap (λ xs. slice_get xs 0) (sym c.as_slice.ensures.value) ∙ c.begins_with.ensures.head.0 c.if-begins_with.true in
     c.leave_first.ensures ∙ first_goes c.args.e items once head ∙ ap (rotation_without c.args.e) same
 

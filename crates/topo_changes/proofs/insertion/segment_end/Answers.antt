@@ -1,5 +1,4 @@
-use Rattle.std.proofs.Common.{◌≤◌, ◌⊎◌, ◌∙◌, arith, drop, length, sym}
-use Rattle.topo_changes.specs.Inserting.{segment_end}
+use Rattle.std.proofs.Common.{◌∙◌, arith}
 use Rattle.topo_changes.proofs.rows.CrossedPaths.{ends_behind}
 use Rattle.topo_changes.proofs.insertion.segment_end.Goals as goal
 

@@ -5,4 +5,5 @@ use Rattle.topo_route.proofs.spreading.Blank.{all_within}
 use Rattle.topo_route.proofs.stamped_array.StampedArray.in_range.Goals as goal
 
 pub returns : goal.returns
-returns c k = subst (λ (xs : List ℕ). slice_index xs k ≤ unreached) c.self.view_is (all_within c.self.inside.base c.self.inside.span c.self.inside.len c.self.inside.words.items k (omega (arith, c.self.invariant.half)))
+returns c k = subst (λ (xs : List ℕ). slice_index xs k ≤ unreached) c.self.view_is
+    (all_within c.self.inside.base c.self.inside.span c.self.inside.len c.self.inside.words.items k (omega (arith, c.self.invariant.half)))
