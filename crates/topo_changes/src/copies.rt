@@ -7,10 +7,7 @@ use topo_core::listed::Listed;
 use topo_core::rows::{EdgeRow, Rows};
 
 /// An equal list of rotations.
-pub(crate) fn copy_rotations(
-    alloc: Global,
-    lists: &[Listed<u32>],
-) -> Result<Vec<Listed<u32>>, AllocError>
+fn copy_rotations(alloc: Global, lists: &[Listed<u32>]) -> Result<Vec<Listed<u32>>, AllocError>
     ensures { IfOk result (λ copy. copy.items ≡ lists.now) }
 {
     let mut copy = Vec::with_capacity(alloc, lists.len())?;

@@ -1,19 +1,19 @@
 //! Deletion on plain rows. It takes no memory, so it cannot fail.
 
-ghost use Rattle.std.specs.Prelude.{Some, ◌&&◌, ◌≡◌, ◌≢◌, ◌<◌, ◌≤◌, ◌==◌, ℕ, true, IsTrue};
-ghost use Rattle.std.specs.Prelude.{◌↔◌, slice_get, drop, not, filter, find, fold, is_some, length, map, min};
-ghost use Rattle.std.specs.Prelude.{slice_index, slice_index_or, slice_set, [], ◌∷◌};
-ghost use Rattle.std.specs.List.{position_or_len};
-ghost use Rattle.topo_core.specs.Changes.{from_least, uncrossed_row, without};
-ghost use Rattle.topo_core.specs.Items.{IsIn, has_id, occurrences};
+ghost use Rattle.std.specs.Prelude.{Some, ◌≡◌, ◌≢◌, ◌<◌, ◌==◌, ℕ, true};
+ghost use Rattle.std.specs.Prelude.{not, filter, find, is_some, length, map};
+ghost use Rattle.std.specs.Prelude.{slice_index, slice_index_or, [], ◌∷◌};
+ghost use Rattle.topo_core.specs.Changes.{uncrossed_row, without};
+ghost use Rattle.topo_core.specs.Items.{IsIn, has_id};
 ghost use Rattle.topo_core.specs.Lawful.{IsWellFormed};
-ghost use Rattle.topo_core.specs.Picture.{edge_at, edge_row, rotation};
+ghost use Rattle.topo_core.specs.Picture.{edge_row, rotation};
 ghost use Rattle.topo_changes.specs.Keeping.{edge_of, edges_of, rows_of};
 ghost use Rattle.topo_table.specs.Places.{AreBelow, entries, ids_of};
-ghost use Rattle.topo_changes.specs.Deleting.{IsCrossed, IsLastNext, IsRotation};
-ghost use Rattle.topo_changes.specs.Deleting.{rotation_without, left_by, other_edge};
+ghost use Rattle.topo_changes.specs.Deleting.{IsCrossed, IsRotation};
+ghost use Rattle.topo_changes.specs.Deleting.{left_by, other_edge};
 
 use crate::kept::{Crossing, EdgeBody, KeptRows};
+use crate::rotation::Rotation;
 use topo_core::listed::Listed;
 use topo_core::rows::EdgeRow;
 use topo_table::Table;
@@ -25,106 +25,13 @@ fn take_id(list: &mut Listed<u32>, id: u32)
     list.as_vec_mut().retain(|y| *y != id);
 }
 
-/// The least of a number and those of a list.
-fn least_of(first: u32, ids: &[u32]) -> u32
-    ensures { result ≡ fold min first ids.now }
-{
-    let mut least = first;
-    for id in ids {
-        least = least.min(*id);
-    }
-    least
-}
-
-/// Lists the same cycle from its least id on.
-fn begin_at_least(ids: &mut [u32])
-    ensures { ids.new ≡ from_least ids.old }
-{
-    if let Some(first) = ids.first() {
-        let least = least_of(*first, ids);
-        let place = place_of(ids, least);
-        ids.rotate_left(place);
-    }
-}
-
-/// The place of an id in a list; its length where it is not there.
-fn place_of(ids: &[u32], id: u32) -> usize
-    ensures { result ≡ position_or_len (λ y. y == id) ids.now }
-{
-    for place in 0..ids.len() {
-        if ids[place] == id {
-            return place;
-        }
-    }
-    ids.len()
-}
-
-/// Takes an id that stands in a list at most once out of it, in one move.
-fn take_once(ids: &mut Vec<u32>, id: u32)
-    requires { occurrences id ids.old.items ≤ 1 }
-    ensures { ids.new.items ≡ filter (λ y. not (y == id)) ids.old.items }
-{
-    let place = place_of(ids.as_slice(), id);
-    if place < ids.len() {
-        ids.remove(place);
-    }
-}
-
-/// Whether the last id of a rotation is the least of those behind the first. If it follows the
-/// first as a number, no other has to be looked at.
-fn is_last_next(ids: &[u32]) -> bool
-    requires rotation { IsRotation ids.now }
-    requires more { 1 < length ids.now }
-    ensures { IsTrue result → IsLastNext ids.now }
-{
-    let last = ids.len() - 1;
-    ids[last] - ids[0] == 1 || ids[last] < least_of(u32::MAX, &ids[1..last])
-}
-
-/// Takes out the first id of a rotation, and lists the others from their least one on. Where that
-/// is the last, it takes the place of the first, and no other moves.
-fn leave_first(ids: &mut Vec<u32>)
-    requires rotation { IsRotation ids.old.items }
-    requires some { 0 < length ids.old.items }
-    ensures { ids.new.items ≡ from_least (drop 1 ids.old.items) }
-{
-    if ids.len() > 1 && is_last_next(ids.as_slice()) {
-        ids.swap_remove(0);
-    } else {
-        ids.remove(0);
-        begin_at_least(ids);
-    }
-}
-
-/// Whether an id stands at the head of a list.
-fn begins_with(ids: &[u32], id: u32) -> bool
-    ensures some { IsTrue result → 0 < length ids.now }
-    ensures head { IsTrue result ↔ slice_get ids.now 0 ≡ Some id }
-{
-    ids.first() == Some(&id)
-}
-
-/// Takes an edge out of a rotation. Where that was its least id, the rotation is listed from its
-/// least id again; else it begins as it did.
-fn leave_rotation(around: &mut Listed<u32>, e: u32)
-    requires { IsRotation around.old }
-    ensures { around.new ≡ rotation_without e around.old }
-{
-    let items = around.as_vec_mut();
-    if begins_with(items.as_slice(), e) {
-        leave_first(items);
-    } else {
-        take_once(items, e);
-    }
-}
-
 /// Takes an edge out of the rotation of a vertex.
-fn leave_vertex(rotations: &mut Vec<Listed<u32>>, v: u32, e: u32)
+fn leave_vertex(rotations: &mut Vec<Rotation>, v: u32, e: u32)
     requires vertex { v < length rotations.old.items }
     requires rotation { IsRotation (slice_index_or rotations.old.items v []) }
     ensures { rotations.new.items ≡ left_by e v rotations.old.items }
 {
-    leave_rotation(&mut rotations[v as usize], e);
+    rotations[v as usize].leave(e);
 }
 
 /// The other edge of a crossing of `e`.

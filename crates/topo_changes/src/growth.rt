@@ -8,6 +8,7 @@ ghost use Rattle.topo_changes.specs.Keeping.{edges_of};
 ghost use Rattle.topo_table.specs.Places.{AreBelow};
 
 use crate::kept::{EdgeBody, KeptRows, put_edge};
+use crate::rotation::Rotation;
 use std::alloc::{AllocError, Global};
 use topo_core::listed::Listed;
 use topo_core::rows::EdgeRow;
@@ -22,25 +23,10 @@ pub fn one_listed(alloc: Global, x: u32) -> Result<Listed<u32>, AllocError>
     Ok(Listed::from_vec(items))
 }
 
-/// Puts `e` into the corner at a position of the list.
-pub(crate) fn put_into(around: &mut Listed<u32>, position: u32, e: u32) -> Result<(), AllocError>
-    requires { position ≤ length around.old }
-    ensures ok { OnOk result (around.new ≡ put_in position e around.old) }
-    ensures err { OnErr result (around.new ≡ around.old) }
-{
-    let items = around.as_vec_mut();
-    if position == 0 {
-        items.push(e)?;
-    } else {
-        items.insert(position as usize, e)?;
-    }
-    Ok(())
-}
-
 /// Puts `e` into the corner at a position of `v`, and a new vertex with `e` alone at the end.
 fn grow_rotations(
     alloc: Global,
-    rotations: &mut Vec<Listed<u32>>,
+    rotations: &mut Vec<Rotation>,
     v: u32,
     position: u32,
     e: u32,
@@ -51,8 +37,8 @@ fn grow_rotations(
         (rotations.new.items ≡ with_end rotations.old.items v position e ++ (e ∷ []) ∷ []) }
     ensures err { OnErr result (rotations.new.items ≡ rotations.old.items) }
 {
-    rotations.push(one_listed(alloc, e)?)?;
-    if put_into(&mut rotations[v as usize], position, e).is_err() {
+    rotations.push(Rotation::one(alloc, e)?)?;
+    if rotations[v as usize].put_in(position, e).is_err() {
         let _ = rotations.pop();
         return Err(AllocError);
     }
@@ -90,7 +76,7 @@ pub fn grow_rows(
 /// Puts the new edge into the lists and the table, or leaves them as they were.
 fn grow_lists(
     alloc: Global,
-    rotations: &mut Vec<Listed<u32>>,
+    rotations: &mut Vec<Rotation>,
     edges: &mut Table<EdgeBody>,
     row: EdgeRow,
     position: u32,

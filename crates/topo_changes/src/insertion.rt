@@ -13,8 +13,8 @@ ghost use Rattle.topo_table.specs.Places.{AreBelow, KeepsPlaces, entries, ids_of
 ghost use Rattle.topo_changes.specs.Inserting.{AreOnPaths, crossed_by, crossed_path};
 ghost use Rattle.topo_changes.specs.Inserting.{paths_below, repathed, segment_end};
 
-use crate::growth::put_into;
 use crate::kept::{Crossing, EdgeBody, KeptRows, put_edge};
+use crate::rotation::Rotation;
 use std::alloc::{AllocError, Global};
 use topo_core::darts::{Dart, Sign, Way};
 use topo_core::listed::Listed;
@@ -176,7 +176,7 @@ fn cross(edges: &mut Table<EdgeBody>, darts: &[Dart], first: u32) -> Result<(), 
 }
 
 /// Puts the edge of a row into the corners where a route starts and ends, or into none.
-fn join_ends(rotations: &mut [Listed<u32>], row: &EdgeRow, route: &Route) -> Result<(), AllocError>
+fn join_ends(rotations: &mut [Rotation], row: &EdgeRow, route: &Route) -> Result<(), AllocError>
     requires a { row.now.a < length rotations.old }
     requires b { row.now.b < length rotations.old }
     requires apart { row.now.a ≢ row.now.b }
@@ -189,9 +189,9 @@ fn join_ends(rotations: &mut [Listed<u32>], row: &EdgeRow, route: &Route) -> Res
         row.now.b route.now.end row.now.id) }
     ensures err { OnErr result (rotations.new ≡ rotations.old) }
 {
-    put_into(&mut rotations[row.a as usize], route.start, row.id)?;
-    if put_into(&mut rotations[row.b as usize], route.end, row.id).is_err() {
-        keep_below(&mut rotations[row.a as usize], row.id);
+    rotations[row.a as usize].put_in(route.start, row.id)?;
+    if rotations[row.b as usize].put_in(route.end, row.id).is_err() {
+        rotations[row.a as usize].keep_below(row.id);
         return Err(AllocError);
     }
     Ok(())
@@ -243,7 +243,7 @@ fn add_crossings(crossings: &mut Table<Crossing>, darts: &[Dart], first: u32, ed
 /// Puts the edge of a row and its crossings into the lists and the tables, or leaves them as they
 /// were.
 fn insert_lists(
-    rotations: &mut [Listed<u32>],
+    rotations: &mut [Rotation],
     edges: &mut Table<EdgeBody>,
     crossings: &mut Table<Crossing>,
     row: EdgeRow,

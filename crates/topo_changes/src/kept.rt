@@ -9,7 +9,8 @@ ghost use Rattle.topo_core.specs.Picture.{cross_row, edge_row, rotation};
 ghost use Rattle.topo_changes.specs.Keeping.{crossing_row, edge_of, edges_of, rows_of, viewed_row};
 ghost use Rattle.topo_table.specs.Places.{AreBelow};
 
-use crate::copies::{copy_path, copy_rotations};
+use crate::copies::copy_path;
+use crate::rotation::{Rotation, copied_rotations, listed_rotations, rotations_of};
 use std::alloc::{AllocError, Global};
 use std::marker::Model;
 use topo_core::darts::Sign;
@@ -71,7 +72,7 @@ pub struct EdgeView<'a> {
 
 /// The rows of a picture, which contracts see. Its edges and its crossings are in tables.
 pub struct KeptRows {
-    pub(crate) rotations: Listed<Listed<u32>>,
+    pub(crate) rotations: Listed<Rotation>,
     pub(crate) edges: Table<EdgeBody>,
     pub(crate) crossings: Table<Crossing>,
     pub(crate) next_edge: u32,
@@ -123,8 +124,9 @@ impl KeptRows {
     {
         let edges = edge_table(alloc, rows.edges.as_slice(), rows.next_edge)?;
         let crossings = table_of(alloc, rows.crossings.as_slice(), rows.next_crossing)?;
+        let rotations = rotations_of(alloc, rows.rotations.as_slice())?;
         Ok(KeptRows {
-            rotations: rows.rotations,
+            rotations: Listed::from_vec(rotations),
             edges,
             crossings,
             next_edge: rows.next_edge,
@@ -136,7 +138,7 @@ impl KeptRows {
     pub fn show(&self, alloc: Global) -> Result<Rows, AllocError>
         ensures { IfOk result (λ rows. rows ≡ self.now) }
     {
-        let rotations = copy_rotations(alloc, self.rotations.as_slice())?;
+        let rotations = listed_rotations(alloc, self.rotations.as_slice())?;
         let edges = edge_list(alloc, &self.edges)?;
         let crossings = list_of(alloc, &self.crossings)?;
         Ok(Rows {
@@ -152,7 +154,7 @@ impl KeptRows {
     pub fn copy(&self, alloc: Global) -> Result<Self, AllocError>
         ensures { IfOk result (λ kept. kept ≡ self.now) }
     {
-        let rotations = copy_rotations(alloc, self.rotations.as_slice())?;
+        let rotations = copied_rotations(alloc, self.rotations.as_slice())?;
         let edges = self.edges.try_copy(alloc)?;
         let crossings = self.crossings.copy()?;
         Ok(KeptRows {
@@ -165,7 +167,7 @@ impl KeptRows {
     }
 
     /// For each vertex the clockwise list of the ids of its edges.
-    pub fn rotations(&self) -> &[Listed<u32>]
+    pub fn rotations(&self) -> &[Rotation]
         ensures { result.now ≡ self.now.rotations }
     {
         self.rotations.as_slice()

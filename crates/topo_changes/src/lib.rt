@@ -13,5 +13,7 @@ pub mod deletion;
 pub mod growth;
 pub mod insertion;
 pub mod kept;
+pub mod rotation;
 
 pub use kept::{EdgeView, KeptRows};
+pub use rotation::Rotation;

@@ -248,8 +248,8 @@ impl Embedded {
         ensures { result ≡ option_map (half_in self.now) (corner self.now.rows v position) }
     {
         if (position as usize) < self.parts.rows.degree(v) {
-            let around = self.parts.rows.rotations()[v as usize].as_slice();
-            Some(self.end_half(v, around[position as usize]))
+            let around = &self.parts.rows.rotations()[v as usize];
+            Some(self.end_half(v, around.at(position as usize)))
         } else {
             None
         }

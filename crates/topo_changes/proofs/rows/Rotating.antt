@@ -6,7 +6,7 @@ use Rattle.std.specs.List.{list_all, position_or_len, remove, swap_remove}
 use Rattle.std.proofs.lemmas.Grind.{common_steps}
 use Rattle.std.proofs.lemmas.Bool.{cases_Bool, cases_lt, eq-eqb, eqb-true, false≢true}
 use Rattle.std.proofs.lemmas.Bool.Decides.{nat_tests}
-use Rattle.std.proofs.lemmas.List.{get_or-drop, get_or-take, length-drop, length-take-le}
+use Rattle.std.proofs.lemmas.List.{append-nil, get_or-drop, get_or-take, length-drop, length-take-le}
 use Rattle.std.proofs.lemmas.List.Sums.{get_or-le-sum_by, sum_by-cons}
 use Rattle.std.proofs.lemmas.Option.{get_or_from_slice_get}
 use Rattle.topo_core.specs.declared.rows.EdgeRow.{EdgeRow}
@@ -126,6 +126,19 @@ none_lower ids rotation k inside =
     le_from (get_or ids 0 0) (get_or ids k 0) (test_of_each (nat_le (get_or ids 0 0)) (get_or ids k 0) ids rotation.least (in_at ids k 0 inside)) where
       le_from : (m n : ℕ) → nat_le m n ≡ true → m ≤ n
       le_from m n h = grind (arith, nat_tests)
+
+-- where the second id follows the first, the others begin with it
+pub second_begins : (e : ℕ) (ids : List ℕ) → IsRotation ids → slice_get ids 0 ≡ Some e → slice_get ids 1 ≡ Some (e + 1) → drop 1 ids ≡ rotation_without e ids
+second_begins e [] rotation first second = refl
+second_begins e (x ∷ xs) rotation first second =
+    sym (append-nil xs) ∙ least_first xs 0 (omega arith) (λ some. some) least (λ k below. absurd (omega arith))
+    ∙ first_goes e (x ∷ xs) (rotation.once e) first where
+      least : (k : ℕ) → k < length xs → get_or xs 0 0 ≤ get_or xs k 0
+      least k inside =
+          let low = none_lower (x ∷ xs) rotation (suc k) (omega arith) in
+          let other = differ_at (x ∷ xs) 0 (suc k) rotation.once (omega arith) (omega arith) in
+          let here = get_or_from_slice_get (x ∷ xs) 0 e 0 first in
+          let next = get_or_from_slice_get (x ∷ xs) 1 (e + 1) 0 second in omega (arith, low, other, here, next)
 
 -- the number behind the first is the next
 pub follows_first : (ids : List ℕ) → IsRotation ids → 1 < length ids → get_or ids (length ids - 1) 0 - get_or ids 0 0 ≡ 1 → IsLastNext ids

@@ -105,10 +105,9 @@ entry_known rows good v p e around inside is below at =
     known e (in_at e (rotation rows v) p (ap (λ (xs : List ℕ). slice_get xs p) (sym is) ∙ slice_get-get_or around p 0 below ∙ ap Some (sym at)))
 
 -- the edges round a vertex, as they are read
-pub around_read : (rows : Rows) (v : ℕ) (lists : List (List ℕ)) (x read : List ℕ) → v < length lists → lists ≡ rows.rotations → x ≡ slice_index_or lists v x
-    → read ≡ x → read ≡ rotation rows v
-around_read rows v lists x read inside same is read_is = read_is ∙ is ∙ get_or_default lists v x [] inside
-    ∙ ap (λ (ls : List (List ℕ)). slice_index_or ls v []) same
+pub around_read : (rows : Rows) (v : ℕ) (lists : List (List ℕ)) (x : List ℕ) → v < length lists → lists ≡ rows.rotations → x ≡ slice_index_or lists v x
+    → x ≡ rotation rows v
+around_read rows v lists x inside same is = is ∙ get_or_default lists v x [] inside ∙ ap (λ (ls : List (List ℕ)). slice_index_or ls v []) same
 
 pub vertex_there : (rows : Rows) (v p : ℕ) → p < length (rotation rows v) → v < length rows.rotations
 vertex_there rows v p h = grind (arith, cases_lt, get_or_past)

@@ -3,7 +3,7 @@ use Rattle.std.specs.List.{swap_remove}
 use Rattle.topo_core.specs.Changes.{from_least}
 use Rattle.topo_changes.specs.Deleting.{IsLastNext}
 use Rattle.topo_changes.proofs.rows.Rotating.{last_taken}
-use Rattle.topo_changes.proofs.deletion.leave_first.Goals as goal
+use Rattle.topo_changes.proofs.rotation.leave_first.Goals as goal
 
 taken : (ids : List ℕ) (d : ℕ) → 1 < length ids → IsLastNext ids → swap_remove ids 0 d ≡ from_least (drop 1 ids)
 taken [] d more next = absurd (omega arith)

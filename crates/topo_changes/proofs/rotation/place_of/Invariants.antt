@@ -1,6 +1,6 @@
 use Rattle.std.proofs.Common.{◌≡◌, ◌<◌, eqb, false, ℕ}
 use Rattle.std.specs.Prelude.{slice_index_or}
-use Rattle.topo_changes.proofs.deletion.place_of.Given as goal
+use Rattle.topo_changes.proofs.rotation.place_of.Given as goal
 
 -- the id is none of those so far
 abbrev pub invariant-loop-place : goal.invariant-loop-place

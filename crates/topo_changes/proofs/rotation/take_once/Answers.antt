@@ -2,7 +2,7 @@ use Rattle.std.proofs.Common.{◌≡◌, ap, arith, sym, ◌∙◌}
 use Rattle.std.specs.Prelude.{◌==◌}
 use Rattle.std.specs.List.{position_or_len, remove}
 use Rattle.topo_changes.proofs.rows.Rotating.{none_there, removed_once}
-use Rattle.topo_changes.proofs.deletion.take_once.Goals as goal
+use Rattle.topo_changes.proofs.rotation.take_once.Goals as goal
 
 pub returns-then-place-len : goal.returns-then-place-len
 returns-then-place-len c =

@@ -1,5 +1,5 @@
 use Rattle.std.proofs.Common.{◌≡◌, fold, min, take}
-use Rattle.topo_changes.proofs.deletion.least_of.Given as goal
+use Rattle.topo_changes.proofs.rotation.least_of.Given as goal
 
 -- the least of the first number and of those so far
 abbrev pub invariant-loop-id : goal.invariant-loop-id

@@ -2,7 +2,7 @@ use Rattle.std.proofs.Common.{arith, eqb, get_or, length, sym}
 use Rattle.std.proofs.lemmas.Bool.{eq-eqb}
 use Rattle.std.proofs.lemmas.List.Sums.{position_or_len_is}
 use Rattle.topo_changes.proofs.rows.Rotating.{others_more}
-use Rattle.topo_changes.proofs.deletion.place_of.Goals as goal
+use Rattle.topo_changes.proofs.rotation.place_of.Goals as goal
 
 pub returns-then-ids-place : goal.returns-then-ids-place
 returns-then-ids-place c =

@@ -1,7 +1,7 @@
 use Rattle.std.proofs.Common.{◌<◌, ◌-◌, arith, get_or, length}
 use Rattle.std.proofs.lemmas.Bool.Decides.{nat_tests}
 use Rattle.topo_changes.proofs.rows.Rotating.{below_others, follows_first}
-use Rattle.topo_changes.proofs.deletion.is_last_next.Goals as goal
+use Rattle.topo_changes.proofs.rotation.is_last_next.Goals as goal
 
 pub returns-then-ids-last-eq1 : goal.returns-then-ids-last-eq1
 returns-then-ids-last-eq1 c = grind (arith, follows_first)

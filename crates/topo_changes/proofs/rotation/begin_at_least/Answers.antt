@@ -2,7 +2,7 @@ use Rattle.std.proofs.Common.{ℕ, ◌≡◌, ◌∙◌, ap, arith, sym, drop, t
 use Rattle.std.specs.Prelude.{◌==◌, fold, min}
 use Rattle.std.specs.List.{position_or_len}
 use Rattle.topo_changes.proofs.rows.Leaving.{from_its_place}
-use Rattle.topo_changes.proofs.deletion.begin_at_least.Goals as goal
+use Rattle.topo_changes.proofs.rotation.begin_at_least.Goals as goal
 
 pub rotate_left-requires : goal.rotate_left-requires
 rotate_left-requires c =
