@@ -4,9 +4,9 @@
 const MAX_PAUSE: u32 = 63;
 
 /// Whether a planned insertion is worth looking ahead for. A route that is found ahead is lost work
-/// if others change what its search has seen; so after such a route the pass makes some planned
-/// insertions as plain ones, and twice as many after the next. It is speed alone: no answer depends
-/// on it.
+/// if others change what its search has seen. Once that may be chance. If it comes to pass twice in
+/// a row, the pass makes its next planned insertion as a plain one, and some twice as many after
+/// each further route that is lost. It is speed alone: no answer depends on it.
 #[derive(Clone, Copy, Debug, Drop)]
 pub(crate) struct Lookahead {
     pause: u32,
@@ -34,12 +34,12 @@ impl Lookahead {
         if is_found && is_taken {
             self.pause = 0;
         } else if is_found {
+            self.left = self.pause;
             self.pause = self
                 .pause
                 .saturating_mul(2)
                 .saturating_add(1)
                 .min(MAX_PAUSE);
-            self.left = self.pause;
         }
     }
 }
