@@ -176,7 +176,7 @@ impl<F: PriceFn, K: ServiceBrand<F>, W: VersionWriter<F, K>> LockedState<F, K, W
     /// Whether the route is known to be the first between these ends on the picture of now: it was
     /// found on the version that is published, or nothing that its search has seen was changed
     /// since.
-    fn stands(&self, found: &FoundRoute<F, K>, u: u32, v: u32) -> bool
+    pub(crate) fn stands(&self, found: &FoundRoute<F, K>, u: u32, v: u32) -> bool
         ensures { result ≡ true → IsFirst (prices_of (F.may_return self.now.tariff))
             self.now.picture.rows u v found.now.route found.now.price }
     {

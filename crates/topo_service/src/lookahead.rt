@@ -4,9 +4,9 @@
 const MAX_PAUSE: u32 = 63;
 
 /// Whether a planned insertion is worth looking ahead for. A route that is found ahead is lost work
-/// if others change what its search has seen. Once that may be chance. If it comes to pass twice in
-/// a row, the pass makes its next planned insertion as a plain one, and some twice as many after
-/// each further route that is lost. It is speed alone: no answer depends on it.
+/// if others change what its search has seen. Once that may be chance. After two insertions in a
+/// row whose routes came too late, the pass makes its next planned insertion as a plain one, and
+/// some twice as many after each further one. It is speed alone: no answer depends on it.
 #[derive(Clone, Copy, Debug, Drop)]
 pub(crate) struct Lookahead {
     pause: u32,

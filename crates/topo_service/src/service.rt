@@ -8,7 +8,7 @@ ghost use Rattle.topo_core.specs.declared.calls.Refusal.TheVariants.{Memory};
 ghost use Rattle.topo_core.specs.declared.calls.Reply.TheVariants.{Refused};
 ghost use Rattle.topo_versions.specs.Names.{prices_named};
 ghost use Rattle.topo_versions.specs.Versions.{AreLegal};
-ghost use Rattle.topo_service.specs.Answers.{HasSeenOwn, IsAnswered, IsDueAfter};
+ghost use Rattle.topo_service.specs.Answers.{HasReceiptOf, HasSeenOwn, IsAnswered, IsDueAfter};
 ghost use Rattle.topo_service.specs.Passes.{receipt_of};
 ghost use Rattle.topo_core.specs.declared.limits.TheConstants.{MAX_PASSES};
 
@@ -274,8 +274,8 @@ impl<F: PriceFn, K: ServiceBrand<F>, W: VersionWriter<F, K>> ServiceOver<F, K, W
         }
     }
 
-    /// One call under the lock, of which the pass keeps the receipt. Its place is taken first. The
-    /// reply is copied once more only if it is asked for.
+    /// One call under the lock, of which the pass keeps the receipt. The reply is copied once more
+    /// only if it is asked for.
     pub(crate) fn enter<'a, G: VersionReader<F, K>, R: Wait>(
         &'a self,
         rt: &R,
@@ -292,25 +292,106 @@ impl<F: PriceFn, K: ServiceBrand<F>, W: VersionWriter<F, K>> ServiceOver<F, K, W
         ensures legal { AreLegal (prices_named F.may_return K.closure) K.start pass.new.seen }
         ensures unchanged { OnErr result (pass.new ≡ pass.old) }
     {
-        // For the proof: what the type keeps.
-        pass.seen();
-        pass.receipts.reserve(1)?;
-        let is_found = matches!(source, RouteSource::Found(_));
         let mut guard = self.state.lock(rt);
-        let state = &mut *guard;
-        if !pass.prefix.is_prefix_of(state.prefix()) {
-            wait_forever(rt);
-        }
-        let share = &mut pass.share;
-        let made = state.call(rt, self.alloc, share, pass.number, call, source, is_asked);
-        let ReplyPair { receipt, answer } = made?;
-        pass.lookahead.note(is_found, state.was_known());
-        pass.receipts.push_reserved(Receipt {
-            call,
-            reply: receipt,
-        });
-        pass.prefix = state.prefix().share();
-        pass.inbox.learn(self.alloc, state.history(), &pass.prefix);
-        Ok(answer)
+        enter_in(rt, self.alloc, &mut *guard, pass, call, source, is_asked)
     }
+
+    /// As `enter` of an insertion, if the route that was found for it still stands. Else nothing is
+    /// entered, and the pass has seen what it had missed.
+    pub(crate) fn enter_standing<G: VersionReader<F, K>, R: Wait>(
+        &self,
+        rt: &R,
+        pass: &mut PassOver<F, K, G>,
+        kind: u32,
+        found: &FoundRoute<F, K>,
+    ) -> Result<bool, AllocError>
+        ensures number { pass.new.number ≡ pass.old.number }
+        ensures receipt { IfOk result (λ entered. entered ≡ true
+            → HasReceiptOf pass.old pass.new (Insert found.now.u found.now.v kind)) }
+        ensures late { IfOk result
+            (λ entered. entered ≡ false → pass.new.receipts ≡ pass.old.receipts) }
+        ensures later { IsPrefix pass.old.seen pass.new.seen }
+        ensures unchanged { OnErr result (pass.new ≡ pass.old) }
+    {
+        let (u, v) = found.ends();
+        let mut guard = self.state.lock(rt);
+        if !guard.stands(found, u, v) {
+            catch_up(rt, self.alloc, &*guard, pass);
+            return Ok(false);
+        }
+        let source = RouteSource::Found(found);
+        let insertion = Call::Insert { u, v, kind };
+        enter_in(rt, self.alloc, &mut *guard, pass, insertion, source, false)?;
+        Ok(true)
+    }
+}
+
+/// The pass sees what it has missed.
+fn catch_up<F, K, W, G, R>(
+    rt: &R,
+    alloc: Global,
+    state: &LockedState<F, K, W>,
+    pass: &mut PassOver<F, K, G>,
+)
+where
+    F: PriceFn,
+    K: ServiceBrand<F>,
+    W: VersionWriter<F, K>,
+    G: VersionReader<F, K>,
+    R: Wait,
+    ensures number { pass.new.number ≡ pass.old.number }
+    ensures receipts { pass.new.receipts ≡ pass.old.receipts }
+    ensures later { IsPrefix pass.old.seen pass.new.seen }
+{
+    let all = state.prefix();
+    if !pass.prefix.is_prefix_of(all) {
+        wait_forever(rt);
+    }
+    pass.prefix = all.share();
+    pass.inbox.learn(alloc, state.history(), &pass.prefix);
+}
+
+/// One call on what lies under the lock, of which the pass keeps the receipt. Its place is taken
+/// first.
+fn enter_in<'a, F, K, W, G, R>(
+    rt: &R,
+    alloc: Global,
+    state: &mut LockedState<F, K, W>,
+    pass: &mut PassOver<F, K, G>,
+    call: Call,
+    source: RouteSource<'a, FoundRoute<F, K>>,
+    is_asked: bool,
+) -> Result<Option<Reply>, AllocError>
+where
+    F: PriceFn,
+    K: ServiceBrand<F>,
+    W: VersionWriter<F, K>,
+    G: VersionReader<F, K>,
+    R: Wait,
+    ensures number { pass.new.number ≡ pass.old.number }
+    ensures asked { IfOk result (λ reply. is_some reply ≡ is_asked) }
+    ensures answered { IfOk result (IsAnswered (prices_named F.may_return K.closure)
+        K.start pass.old pass.new call) }
+    ensures later { IsPrefix pass.old.seen pass.new.seen }
+    ensures legal { AreLegal (prices_named F.may_return K.closure) K.start pass.new.seen }
+    ensures unchanged { OnErr result (pass.new ≡ pass.old) }
+{
+    // For the proof: what the type keeps.
+    pass.seen();
+    pass.receipts.reserve(1)?;
+    let is_found = matches!(source, RouteSource::Found(_));
+    if !pass.prefix.is_prefix_of(state.prefix()) {
+        wait_forever(rt);
+    }
+    let share = &mut pass.share;
+    let made = state.call(rt, alloc, share, pass.number, call, source, is_asked);
+    let ReplyPair { receipt, answer } = made?;
+    pass.lookahead.note(is_found, state.was_known());
+    pass.receipts.push_reserved(Receipt {
+        call,
+        reply: receipt,
+    });
+    pass.prefix = state.prefix().share();
+    pass.inbox.learn(alloc, state.history(), &pass.prefix);
+    Ok(answer)
 }

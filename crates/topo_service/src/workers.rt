@@ -1,7 +1,7 @@
 //! Lists of commands, each with a pass in a thread of its own.
 
 ghost use Rattle.std.specs.Prelude.{◌≡◌, ◌<◌, ◌≤◌, ◌-◌, ◌++◌, ◌∷◌, ℕ, [], length};
-ghost use Rattle.std.specs.Prelude.{map, IfOk, OnErr, OnOk, slice_index_or, vec_capacity};
+ghost use Rattle.std.specs.Prelude.{map, IfOk, IfSome, OnErr, OnOk, slice_index_or, vec_capacity};
 ghost use Rattle.topo_core.specs.History.{IsPrefix, call_of};
 ghost use Rattle.topo_core.specs.declared.calls.Call.TheVariants.{Insert};
 ghost use Rattle.topo_service.specs.Answers.{HasReceiptOf};
@@ -62,8 +62,35 @@ fn enter<
     Ok(())
 }
 
-/// Inserts an edge whose route is looked for first on the pass's own version, without the lock. If
-/// that finds none, it is an insertion.
+/// The first of the cheapest routes on the pass's own version, looked for without the lock; none if
+/// there is none, or it is out of memory.
+fn find_ahead<F: PriceFn, K: ServiceBrand<F>, W: VersionWriter<F, K>, G: VersionReader<F, K>>(
+    alloc: Global,
+    service: &ServiceOver<F, K, W>,
+    pass: &mut PassOver<F, K, G>,
+    u: u32,
+    v: u32,
+) -> Option<FoundRoute<F, K>>
+    ensures number { pass.new.number ≡ pass.old.number }
+    ensures receipts { pass.new.receipts ≡ pass.old.receipts }
+    ensures later { IsPrefix pass.old.seen pass.new.seen }
+    ensures u { IfSome result (λ found. found.u ≡ u) }
+    ensures v { IfSome result (λ found. found.v ≡ v) }
+{
+    let Ok(own) = pass.take_own(alloc, service.tariff()) else {
+        return None;
+    };
+    match first_on(alloc, own.picture(), service.tariff(), u, v, &mut pass.work) {
+        Ok(seen) => Some(FoundRoute::of(own, (u, v), seen)),
+        Err(_) => {
+            pass.own = Some(own);
+            None
+        }
+    }
+}
+
+/// Inserts an edge whose route is looked for first on the pass's own version, without the lock. A
+/// route that comes too late is looked for once more so. If that finds none, it is an insertion.
 fn insert_ahead<
     F: PriceFn,
     K: ServiceBrand<F>,
@@ -85,21 +112,20 @@ fn insert_ahead<
     ensures unchanged { OnErr result (pass.new.receipts ≡ pass.old.receipts) }
 {
     let insertion = Call::Insert { u, v, kind };
-    let Ok(own) = pass.take_own(alloc, service.tariff()) else {
+    let Some(found) = find_ahead(alloc, service, pass, u, v) else {
         return enter(rt, service, pass, insertion, RouteSource::Search);
     };
-    match first_on(alloc, own.picture(), service.tariff(), u, v, &mut pass.work) {
-        Ok(seen) => {
-            let found = FoundRoute::of(own, (u, v), seen);
-            let made = enter(rt, service, pass, insertion, RouteSource::Found(&found));
-            pass.own = Some(found.into_version());
-            made
-        }
-        Err(_) => {
-            pass.own = Some(own);
-            enter(rt, service, pass, insertion, RouteSource::Search)
-        }
+    let entered = service.enter_standing(rt, pass, kind, &found);
+    pass.own = Some(found.into_version());
+    if entered? {
+        return Ok(());
     }
+    let Some(found) = find_ahead(alloc, service, pass, u, v) else {
+        return enter(rt, service, pass, insertion, RouteSource::Search);
+    };
+    let made = enter(rt, service, pass, insertion, RouteSource::Found(&found));
+    pass.own = Some(found.into_version());
+    made
 }
 
 /// Carries a command out. A planned insertion looks for its route ahead, unless the routes that the

@@ -4,11 +4,11 @@ use Rattle.topo_core.specs.History.{IsPrefix, IsVersion, versions}
 use Rattle.topo_versions.specs.Names.{prices_named}
 use Rattle.topo_service.specs.Passes.{entry_of, receipt_of}
 use Rattle.topo_service.proofs.Versions.{begins_length, begins_on, refused_due, versions_on}
-use Rattle.topo_service.proofs.service.ServiceOver.enter.Goals as goal
+use Rattle.topo_service.proofs.service.enter_in.Goals as goal
 
 pub returns-clause-later : goal.returns-clause-later
 returns-clause-later g c =
-    let old = c.deref_mut-state.result.now.history in
+    let old = c.args.state.now.history in
     let e = entry_of c.pass.inside.number c.args.call c.in_ok-receipt.field-0.receipt in
     let seen = c.args.pass.now.seen in
     let before : IsPrefix seen (versions old) =
@@ -19,7 +19,7 @@ returns-clause-later g c =
 pub returns-clause-answered : goal.returns-clause-answered
 returns-clause-answered g c =
     let told = c.in_ok-receipt.field-0.receipt in
-    let old = c.deref_mut-state.result.now.history in
+    let old = c.args.state.now.history in
     let n = c.pass.inside.number in
     let price = prices_named g.F.PriceFn.may_return g.K.ServiceBrand.closure in
     let start = g.K.ServiceBrand.start in
@@ -49,7 +49,7 @@ returns-clause-answered g c =
         picture = c.call-made.new.self.picture.rows;
         replayed = subst (λ (es : List Entry). IsVersion price start.limits start.rows es c.call-made.new.self.picture.rows) (sym c.share.ensures.same)
             c.prefix-2.ensures.replayed;
-        step = refused_due price start.limits c.deref_mut-state.result.now.picture.rows c.call-made.new.self.picture.rows c.args.call told off
+        step = refused_due price start.limits c.args.state.now.picture.rows c.call-made.new.self.picture.rows c.args.call told off
             c.in_ok-receipt.ensures.step;
       };
       no_memory = c.in_ok-receipt.ensures.no_memory;
