@@ -1,12 +1,12 @@
 //! When a pass looks for routes before it has the lock.
 
-/// So many planned insertions in a row are made as plain ones at most.
+/// So many routes in a row are looked for under the lock at most.
 const MAX_PAUSE: u32 = 63;
 
-/// Whether a planned insertion is worth looking ahead for. A route that is found ahead is lost work
-/// if others change what its search has seen. Once that may be chance. After two insertions in a
-/// row whose routes came too late, the pass makes its next planned insertion as a plain one, and
-/// some twice as many after each further one. It is speed alone: no answer depends on it.
+/// Whether it is worth looking ahead for a route. One that is found ahead is lost work if others
+/// change what its search has seen. Once that may be chance. After two such routes in a row the
+/// pass looks for one route under the lock, and for some twice as many after each further one. It
+/// is speed alone: no answer depends on it.
 #[derive(Clone, Copy, Debug, Drop)]
 pub(crate) struct Lookahead {
     pause: u32,
@@ -19,7 +19,7 @@ impl Lookahead {
         Lookahead { pause: 0, left: 0 }
     }
 
-    /// Whether the next planned insertion looks ahead.
+    /// Whether the next route is looked for ahead.
     pub(crate) fn is_due(&mut self) -> bool {
         if self.left == 0 {
             return true;

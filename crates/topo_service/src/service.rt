@@ -316,6 +316,7 @@ impl<F: PriceFn, K: ServiceBrand<F>, W: VersionWriter<F, K>> ServiceOver<F, K, W
         let (u, v) = found.ends();
         let mut guard = self.state.lock(rt);
         if !guard.stands(found, u, v) {
+            pass.lookahead.note(true, false);
             catch_up(rt, self.alloc, &*guard, pass);
             return Ok(false);
         }

@@ -90,7 +90,8 @@ fn find_ahead<F: PriceFn, K: ServiceBrand<F>, W: VersionWriter<F, K>, G: Version
 }
 
 /// Inserts an edge whose route is looked for first on the pass's own version, without the lock. A
-/// route that comes too late is looked for once more so. If that finds none, it is an insertion.
+/// route that comes too late is looked for once more so, unless the one before was late too. If
+/// that finds none, it is an insertion.
 fn insert_ahead<
     F: PriceFn,
     K: ServiceBrand<F>,
@@ -119,6 +120,9 @@ fn insert_ahead<
     pass.own = Some(found.into_version());
     if entered? {
         return Ok(());
+    }
+    if !pass.looks_ahead() {
+        return enter(rt, service, pass, insertion, RouteSource::Search);
     }
     let Some(found) = find_ahead(alloc, service, pass, u, v) else {
         return enter(rt, service, pass, insertion, RouteSource::Search);
