@@ -1,2 +1,3 @@
 pub mod EntryLemmas
+pub mod NumberedLemmas
 pub mod PlaceLemmas

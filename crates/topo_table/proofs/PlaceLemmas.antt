@@ -58,7 +58,7 @@ pub none_at_lookup : {X : Type 0} (r : Option X) → false ≡ is_some r → r �
 none_at_lookup None h = refl
 none_at_lookup (Some x) h = absurd (false≢true h)
 
-both_true : {a b : Bool} → (a && b) ≡ true → (a ≡ true) × (b ≡ true)
+pub both_true : {a b : Bool} → (a && b) ≡ true → (a ≡ true) × (b ≡ true)
 both_true {a = true} h = (refl, h)
 both_true {a = false} h = absurd (false≢true h)
 
