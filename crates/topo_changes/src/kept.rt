@@ -166,6 +166,14 @@ impl KeptRows {
         })
     }
 
+    /// Room for so many more vertices and edges, so that their lists need not move as they grow.
+    pub fn reserve(&mut self, vertices: usize, edges: usize) -> Result<(), AllocError>
+        ensures { self.new ≡ self.old }
+    {
+        self.rotations.as_vec_mut().reserve(vertices)?;
+        self.edges.reserve(edges)
+    }
+
     /// For each vertex the clockwise list of the ids of its edges.
     pub fn rotations(&self) -> &[Rotation]
         ensures { result.now ≡ self.now.rotations }

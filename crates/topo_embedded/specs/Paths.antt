@@ -1,5 +1,5 @@
 -- The halves along each edge, as they are kept: in a table, by the ids of the edges.
-use Rattle.std.specs.Prelude.{◌≡◌, ℕ, List, [], map, slice_index_or, slice_set}
+use Rattle.std.specs.Prelude.{◌≡◌, ℕ, List, [], length, map, slice_index_or, slice_set}
 use Rattle.topo_core.specs.declared.rows.Rows.{Rows}
 use Rattle.topo_table.specs.Places.{AreBelow, KeepsPlaces, Places, ids_in, place_in, values_in}
 
@@ -21,7 +21,8 @@ pub record IsPathSo (was now : Places (List ℕ)) (e : ℕ) (so : List ℕ → T
   pub put : IsPathAt was now e path
   pub is : so path
 
--- there is a path for each edge of rows, and for no other
+-- there is a path for each edge of rows, and for no other, and a place for each id that was given
 pub record AreForEdges (rows : Rows) (paths : Places (List ℕ)) : Type 0 where
   pub ids : ids_in paths ≡ map (λ row. row.id) rows.edges
   pub below : AreBelow rows.next_edge paths.slots
+  pub count : length paths.slots ≡ rows.next_edge

@@ -22,10 +22,10 @@ use crate::parts::Parts;
 use crate::path::Path;
 use topo_changes::deletion::delete_rows;
 use topo_map::{Embedding, Half};
-use topo_table::Table;
+use topo_table::NumberedTable;
 
 /// Whether a half is on the path of its edge, and so leads along it.
-fn leads_along(paths: &Table<Path>, segments: &Embedding, half: Half) -> bool
+fn leads_along(paths: &NumberedTable<Path>, segments: &Embedding, half: Half) -> bool
     ghost rows: { Rows }
     requires ids { ids_in paths.now ≡ map (λ row. row.id) rows.edges }
     requires live { is_live segments.now half ≡ true }
@@ -41,7 +41,7 @@ fn leads_along(paths: &Table<Path>, segments: &Embedding, half: Half) -> bool
 
 /// Of the halves that lead over a crossing from the segment before and the one behind, the one that
 /// leads along its edge.
-fn midpoint(paths: &Table<Path>, segments: &Embedding, before: Half, behind: Half) -> Half
+fn midpoint(paths: &NumberedTable<Path>, segments: &Embedding, before: Half, behind: Half) -> Half
     ghost rows: { Rows }
     requires ids { ids_in paths.now ≡ map (λ row. row.id) rows.edges }
     requires live { is_live segments.now (twin before) ≡ true }
@@ -60,7 +60,7 @@ fn midpoint(paths: &Table<Path>, segments: &Embedding, before: Half, behind: Hal
 }
 
 /// Takes the segments of an edge out, one after another, and puts the midpoints at their places.
-fn open_path(paths: &Table<Path>, segments: &mut Embedding, path: &mut Path)
+fn open_path(paths: &NumberedTable<Path>, segments: &mut Embedding, path: &mut Path)
     ghost rows: { Rows }
     requires ids { ids_in paths.now ≡ map (λ row. row.id) rows.edges }
     requires set_out { (e : ℕ) × IsSetOut rows (values_in paths.now) e path.old segments.old }
@@ -79,7 +79,7 @@ fn open_path(paths: &Table<Path>, segments: &mut Embedding, path: &mut Path)
 }
 
 /// Takes a half that is not the first out of the path of its edge.
-fn leave_path(paths: &mut Table<Path>, segments: &Embedding, half: Half)
+fn leave_path(paths: &mut NumberedTable<Path>, segments: &Embedding, half: Half)
     ghost rows: { Rows }
     requires ids { ids_in paths.old ≡ map (λ row. row.id) rows.edges }
     requires live { is_live segments.now half ≡ true }
@@ -103,7 +103,7 @@ fn leave_path(paths: &mut Table<Path>, segments: &Embedding, half: Half)
 
 /// Smooths the midpoints that an edge has left, one after another, and takes each out of the path
 /// of its edge.
-fn smooth_path(paths: &mut Table<Path>, segments: &mut Embedding, path: &Path)
+fn smooth_path(paths: &mut NumberedTable<Path>, segments: &mut Embedding, path: &Path)
     ghost rows: { Rows }
     requires ids { ids_in paths.old ≡ map (λ row. row.id) rows.edges }
     requires opened { (e : ℕ)
@@ -123,7 +123,7 @@ fn smooth_path(paths: &mut Table<Path>, segments: &mut Embedding, path: &Path)
 }
 
 /// Takes out the path of an edge, and puts one without a meaning in its place.
-fn stand_in(paths: &mut Table<Path>, edge: u32) -> Path
+fn stand_in(paths: &mut NumberedTable<Path>, edge: u32) -> Path
     requires { has_id (ids_in paths.old) edge ≡ true }
     ensures path { result ≡ path_in paths.old edge }
     ensures paths { IsPathAt paths.old paths.new edge (0 ∷ []) }
@@ -140,7 +140,7 @@ fn stand_in(paths: &mut Table<Path>, edge: u32) -> Path
 }
 
 /// Takes the segments of an edge out, with its crossings, and its path.
-fn delete_lists(paths: &mut Table<Path>, segments: &mut Embedding, edge: u32)
+fn delete_lists(paths: &mut NumberedTable<Path>, segments: &mut Embedding, edge: u32)
     ghost rows: { Rows }
     requires lawful { Lawful rows }
     requires there { is_some (edge_row rows edge) ≡ true }

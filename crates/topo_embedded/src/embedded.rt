@@ -117,6 +117,16 @@ impl Embedded {
         Ok(Embedded { parts })
     }
 
+    /// Room for so many more vertices, and for so many more edges that cross nothing, so that what
+    /// is kept of them need not move as it grows.
+    pub fn reserve(&mut self, vertices: usize, edges: usize) -> Result<(), AllocError>
+        ensures { self.new ≡ self.old }
+    {
+        self.parts.rows.reserve(vertices, edges)?;
+        self.parts.paths.reserve(edges)?;
+        self.parts.segments.reserve(edges)
+    }
+
     /// The rows.
     pub fn rows(&self) -> &KeptRows
         ensures { result.now ≡ self.now.rows }

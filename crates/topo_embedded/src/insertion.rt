@@ -24,10 +24,10 @@ use std::alloc::{AllocError, Global};
 use topo_changes::insertion::apply_rows;
 use topo_core::routes::Route;
 use topo_map::{Embedding, Half};
-use topo_table::Table;
+use topo_table::NumberedTable;
 
 /// Splits the segments of the crossed darts, the last one first.
-fn split_crossed(paths: &mut Table<Path>, segments: &mut Embedding, crossed: &mut [Crossed])
+fn split_crossed(paths: &mut NumberedTable<Path>, segments: &mut Embedding, crossed: &mut [Crossed])
     ghost p: { RowsWithPaths }
     requires ready { IsReady p segments.old crossed.old (values_in paths.old) }
     requires room { length crossed.old ≤ segments.old.room }
@@ -97,7 +97,7 @@ fn add_chords(
 /// crossed edges, and a path for the new edge.
 fn make_room(
     alloc: Global,
-    paths: &mut Table<Path>,
+    paths: &mut NumberedTable<Path>,
     segments: &mut Embedding,
     crossed: &[Crossed],
 ) -> Result<Path, AllocError>
@@ -124,7 +124,7 @@ fn make_room(
 
 /// Puts the new edge into the embedding.
 fn add_route(
-    paths: &mut Table<Path>,
+    paths: &mut NumberedTable<Path>,
     segments: &mut Embedding,
     crossed: &mut [Crossed],
     corners: (Half, Half),

@@ -12,7 +12,7 @@ use crate::path::Path;
 use std::alloc::{AllocError, Global};
 use topo_core::rows::EdgeRow;
 use topo_map::Half;
-use topo_table::Table;
+use topo_table::NumberedTable;
 
 /// For each segment the id of its edge. So many segments are expected.
 pub(crate) fn labels_of(
@@ -55,7 +55,7 @@ pub(crate) fn paths_of(
     begins: &[u32],
     halves: &[Half],
     limit: u32,
-) -> Result<Table<Path>, AllocError>
+) -> Result<NumberedTable<Path>, AllocError>
     requires rise { rises_below limit (map (λ row. row.id) edges.now) ≡ true }
     requires begins { begins.now ≡ begins_from 0 edges.now }
     requires halves { length halves.now ≡ length (flat_map darts_of edges.now) }
@@ -63,8 +63,9 @@ pub(crate) fn paths_of(
         ArePathsOf edges.now begins.now halves.now (length edges.now) (values_in paths)) }
     ensures ids { IfOk result (λ paths. ids_in paths ≡ map (λ row. row.id) edges.now) }
     ensures below { IfOk result (λ paths. AreBelow limit paths.slots) }
+    ensures count { IfOk result (λ paths. length paths.slots ≡ limit) }
 {
-    let mut paths = Table::new(alloc);
+    let mut paths = NumberedTable::new(alloc);
     paths.reserve(limit as usize)?;
     for place in 0..edges.len() {
         let crossings = edges[place].crossings.as_slice().len();

@@ -13,7 +13,7 @@ use crate::path::Path;
 use std::alloc::{AllocError, Global};
 use topo_core::darts::Dart;
 use topo_map::Half;
-use topo_table::Table;
+use topo_table::NumberedTable;
 
 /// A dart that a new edge crosses, with its half, and the half that goes on behind the crossing.
 #[derive(Clone, Copy)]
@@ -39,7 +39,11 @@ impl Crossed {
 }
 
 /// Puts one more half at the end of the path of a crossed dart, or leaves it as it was.
-fn pad_path(alloc: Global, paths: &mut Table<Path>, cross: &Crossed) -> Result<(), AllocError>
+fn pad_path(
+    alloc: Global,
+    paths: &mut NumberedTable<Path>,
+    cross: &Crossed,
+) -> Result<(), AllocError>
     requires { IsPlaced (ids_in paths.old) cross.now }
     ensures ok { OnOk result (IsPathAt paths.old paths.new cross.now.dart.edge
         (path_in paths.old cross.now.dart.edge ++ 0 ∷ [])) }
@@ -60,7 +64,7 @@ fn pad_path(alloc: Global, paths: &mut Table<Path>, cross: &Crossed) -> Result<(
 
 /// Puts one more half at the end of the path of each crossed dart, as far as there is memory, and
 /// answers for how many.
-fn pad_some(alloc: Global, paths: &mut Table<Path>, crossed: &[Crossed]) -> usize
+fn pad_some(alloc: Global, paths: &mut NumberedTable<Path>, crossed: &[Crossed]) -> usize
     requires { ArePlaced (ids_in paths.old) crossed.now }
     ensures within { result ≤ length crossed.now }
     ensures padded { ArePadded (ids_in paths.old) (λ hs. hs) (values_in paths.old)
@@ -76,7 +80,7 @@ fn pad_some(alloc: Global, paths: &mut Table<Path>, crossed: &[Crossed]) -> usiz
 }
 
 /// Takes the last half behind the first out of the path of a crossed dart.
-fn unpad_path(paths: &mut Table<Path>, cross: &Crossed)
+fn unpad_path(paths: &mut NumberedTable<Path>, cross: &Crossed)
     requires { IsPlaced (ids_in paths.old) cross.now }
     ensures path { IsPathSo paths.old paths.new cross.now.dart.edge
         (λ path. (xs : List ℕ) (x : ℕ) → 0 < length xs
@@ -94,7 +98,7 @@ fn unpad_path(paths: &mut Table<Path>, cross: &Crossed)
 }
 
 /// Takes the halves out again that were put at the ends.
-pub(crate) fn unpad(paths: &mut Table<Path>, crossed: &[Crossed])
+pub(crate) fn unpad(paths: &mut NumberedTable<Path>, crossed: &[Crossed])
     requires { ArePlaced (ids_in paths.old) crossed.now }
     ensures paths { (was : List (List ℕ))
         → ArePadded (ids_in paths.old) (λ hs. hs) was crossed.now (values_in paths.old)
@@ -111,7 +115,7 @@ pub(crate) fn unpad(paths: &mut Table<Path>, crossed: &[Crossed])
 /// Puts one more half at the end of the path of each crossed dart, or leaves all as they were.
 pub(crate) fn pad(
     alloc: Global,
-    paths: &mut Table<Path>,
+    paths: &mut NumberedTable<Path>,
     crossed: &[Crossed],
 ) -> Result<(), AllocError>
     requires { ArePlaced (ids_in paths.old) crossed.now }
@@ -160,7 +164,7 @@ fn put_beside(path: &mut Path, near: Half, beyond: Half)
 
 /// Puts the half that goes on beyond the half of a crossed dart next to it on the path, where there
 /// is room for it.
-pub(crate) fn split_path(paths: &mut Table<Path>, cross: &Crossed, beyond: Half)
+pub(crate) fn split_path(paths: &mut NumberedTable<Path>, cross: &Crossed, beyond: Half)
     requires { IsPlaced (ids_in paths.old) cross.now }
     ensures path { IsPathSo paths.old paths.new cross.now.dart.edge
         (λ path. (xs ys : List ℕ) (h last : ℕ)

@@ -8,14 +8,14 @@ ghost use Rattle.topo_table.specs.Places.{entries, value_of};
 use crate::path::Path;
 use topo_changes::{EdgeView, KeptRows};
 use topo_map::Embedding;
-use topo_table::Table;
+use topo_table::NumberedTable;
 
 /// The parts of an embedding (`Embedded`), whether or not they agree. A method that changes them
 /// says what has to agree before, and that it agrees after.
 #[derive(Drop)]
 pub(crate) struct Parts {
     pub(crate) rows: KeptRows,
-    pub(crate) paths: Table<Path>,
+    pub(crate) paths: NumberedTable<Path>,
     pub(crate) segments: Embedding,
 }
 

@@ -1,5 +1,5 @@
 -- Paths in a table by the ids of their edges: how they are read, changed, put in and taken out.
-use Rattle.std.proofs.Common.{◌≡◌, ◌+◌, ◌<◌, ap, arith, Bool, cond, false, get_or, is_some, length, List, [], ◌∷◌, ◌++◌, map, None, not, refl, remove}
+use Rattle.std.proofs.Common.{◌≡◌, ◌+◌, ◌<◌, ap, arith, Bool, cond, false, get_or, is_some, length, length-append, List, [], ◌∷◌, ◌++◌, map, None, not, refl, remove}
 use Rattle.std.proofs.Common.{set, Some, subst, sym, take, true, ℕ, ◌∙◌}
 use Rattle.std.specs.Prelude.{◌||◌, ◌==◌, filter, find, flat_map, Option, slice_get, slice_index_or}
 use Rattle.std.specs.List.{position_or_len}
@@ -149,12 +149,22 @@ pub kept_same : (rows : Rows) (was now : Places (List ℕ)) → now.slots ≡ wa
 kept_same rows was now same kept = record {
   ids = ap (λ slots. map (λ e. e.0) (present slots)) same ∙ kept.ids;
   below = subst (AreBelow rows.next_edge) (sym same) kept.below;
+  count = ap length same ∙ kept.count;
 }
+
+-- as many places, where they have the same ids
+pub places_many : (was now : Places (List ℕ)) → ids_of now.slots ≡ ids_of was.slots → length now.slots ≡ length was.slots
+places_many was now places =
+    sym (length-map now.slots (λ (slot : ℕ × Option (List ℕ)). slot.0)) ∙ ap length places ∙ length-map was.slots (λ (slot : ℕ × Option (List ℕ)). slot.0)
 
 -- the same edges
 pub kept_ids : (rows : Rows) (was now : Places (List ℕ)) → ids_in now ≡ ids_in was → ids_of now.slots ≡ ids_of was.slots → AreForEdges rows was
     → AreForEdges rows now
-kept_ids rows was now ids places kept = record { ids = ids ∙ kept.ids; below = below_same rows.next_edge was.slots now.slots places kept.below }
+kept_ids rows was now ids places kept = record {
+  ids = ids ∙ kept.ids;
+  below = below_same rows.next_edge was.slots now.slots places kept.below;
+  count = places_many was now places ∙ kept.count;
+}
 
 -- the paths with one more are for the rows with one more edge
 pub one_more_kept : {rows : Rows} (after : Rows) {was : Places (List ℕ)} (now : Places (List ℕ)) (path : List ℕ) (edge : ℕ) → AreForEdges rows was
@@ -166,6 +176,7 @@ one_more_kept {rows} after {was} now path edge kept is more next slots entries_a
       ∙ ap (λ (n : ℕ). map (λ row. row.id) rows.edges ++ n ∷ []) is ∙ sym more;
   below = subst (λ (n : ℕ). AreBelow n now.slots) (ap (λ (n : ℕ). n + 1) is ∙ sym next) (subst (AreBelow (edge + 1)) (sym slots)
       (below_more edge (Some path) was.slots (subst (λ (n : ℕ). AreBelow n was.slots) (sym is) kept.below)));
+  count = omega (arith, ap length slots, length-append was.slots ((edge, Some path) ∷ []), kept.count, next);
 }
 
 module _ (rows : Rows) (was now : Places (List ℕ)) (e : ℕ) (same : ids_in was ≡ map (λ row. row.id) rows.edges)

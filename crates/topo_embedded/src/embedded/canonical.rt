@@ -14,6 +14,7 @@ ghost use Rattle.topo_route.specs.Names.{HasFaces, canonical};
 ghost use Rattle.topo_table.specs.Places.{values_in};
 
 use super::Embedded;
+use crate::parts::Parts;
 use crate::path::Path;
 use crate::walking::led;
 use std::alloc::{AllocError, Global};
@@ -22,7 +23,7 @@ use topo_core::darts::{Dart, Point, Way};
 use topo_core::ids::{CrossId, VertexId};
 use topo_core::rows::Rows;
 use topo_map::{Embedding, Half};
-use topo_table::Table;
+use topo_table::NumberedTable;
 
 /// Writes the two halves of each segment of a path behind those of a list.
 fn write_path(halves: &mut Vec<u32>, path: &Path) -> Result<(), AllocError>
@@ -37,7 +38,7 @@ fn write_path(halves: &mut Vec<u32>, path: &Path) -> Result<(), AllocError>
 }
 
 /// The same of each path in turn.
-fn write_paths(halves: &mut Vec<u32>, paths: &Table<Path>) -> Result<(), AllocError>
+fn write_paths(halves: &mut Vec<u32>, paths: &NumberedTable<Path>) -> Result<(), AllocError>
     ensures { OnOk result
         (halves.new.items ≡ halves.old.items ++ flat_map halves_of (values_in paths.now)) }
 {
@@ -94,6 +95,22 @@ impl Embedded {
         ensures { IfOk result (λ rows. rows ≡ self.now.rows) }
     {
         self.parts.rows.show(alloc)
+    }
+
+    /// The rows alone. The halves and the segments go before they are made, so that both need not
+    /// be in memory at one time.
+    pub fn into_rows(self, alloc: Global) -> Result<Rows, AllocError>
+        ensures { IfOk result (λ rows. rows ≡ self.rows) }
+    {
+        let Embedded { parts } = self;
+        let Parts {
+            rows,
+            paths,
+            segments,
+        } = parts;
+        drop(paths);
+        drop(segments);
+        rows.show(alloc)
     }
 
     /// How many vertices there are.

@@ -6,7 +6,7 @@ use Rattle.topo_table.specs.Places.{ids_in, values_in}
 use Rattle.topo_table.proofs.PlaceLemmas.{below_same}
 use Rattle.topo_embedded.specs.Opening.{IsOpened, IsSmoothedTo, mids_of}
 use Rattle.topo_embedded.proofs.deleting.SmoothedPath.{handed_out, opened_here, shows_left}
-use Rattle.topo_embedded.proofs.halves.KeptPaths.{id_among, ids_left, place_in_rows, place_known, values_left}
+use Rattle.topo_embedded.proofs.halves.KeptPaths.{id_among, ids_left, place_in_rows, place_known, places_many, values_left}
 use Rattle.topo_embedded.proofs.deletion.delete_lists.Goals as goal
 
 pub stand_in-path-requires : goal.stand_in-path-requires
@@ -72,4 +72,6 @@ returns-clause-kept g c = record {
       (c.smooth_path.ensures.same.0 ∙ c.stand_in-path.ensures.same.0 ∙ c.requires.1.1.1.ids) c.remove.ensures.entries;
   below = c.remove.ensures.below g.rows.next_edge (below_same g.rows.next_edge c.args.paths.now.slots c.smooth_path.new.paths.slots
       (c.smooth_path.ensures.same.1.0 ∙ c.stand_in-path.ensures.same.1.0) c.requires.1.1.1.below);
+  count = c.remove.ensures.count
+      ∙ places_many c.args.paths.now c.smooth_path.new.paths (c.smooth_path.ensures.same.1.0 ∙ c.stand_in-path.ensures.same.1.0) ∙ c.requires.1.1.1.count;
 }

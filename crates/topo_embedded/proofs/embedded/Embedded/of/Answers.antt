@@ -40,5 +40,6 @@ invariant_of-result c =
       record {
         ids = c.in_ok-paths.ensures.ids ∙ ap (λ (es : List EdgeRow). map (λ row. row.id) es) c.as_slice-edges.ensures;
         below = c.in_ok-paths.ensures.below;
+        count = c.in_ok-paths.ensures.count;
       },
     )

@@ -2,7 +2,7 @@ use Rattle.std.proofs.Common.{arith, refl, ◌≡◌, List, ap, subst, sym, ℕ,
 use Rattle.topo_core.specs.declared.rows.Rows.{Rows}
 use Rattle.topo_core.specs.Changes.{shown}
 use Rattle.topo_changes.proofs.rows.CrossedRows.{when_err, when_ok}
-use Rattle.topo_table.specs.Places.{AreBelow, ids_in, values_in}
+use Rattle.topo_table.specs.Places.{ids_in, values_in}
 use Rattle.topo_embedded.specs.Crossing.{ids_of_edges}
 use Rattle.topo_embedded.specs.Halves.{RowsWithPaths, ShowsRows}
 use Rattle.topo_embedded.specs.Padding.{ArePadded}
@@ -76,10 +76,10 @@ add_route-requires g c =
 pub push-requires-clause-room : goal.push-requires-clause-room
 push-requires-clause-room g c = let room = c.add_route.ensures.same.1.1 in let some = c.in_ok-line.ensures.path_room in omega (arith, room, some)
 
-pub push-requires-clause-last : goal.push-requires-clause-last
-push-requires-clause-last g c = subst (λ (n : ℕ). AreBelow n c.add_route.new.paths.slots) (sym c.next_edge-edge.ensures)
-    (kept_ids c.args.self.now.rows c.args.self.now.paths c.add_route.new.paths (c.add_route.ensures.same.0 ∙ c.make_room.ensures.ids)
-    (c.add_route.ensures.same.1.0 ∙ c.make_room.ensures.places) c.requires.1.1.0).below
+pub push-requires-clause-own : goal.push-requires-clause-own
+push-requires-clause-own g c = c.next_edge-edge.ensures
+    ∙ sym (kept_ids c.args.self.now.rows c.args.self.now.paths c.add_route.new.paths (c.add_route.ensures.same.0 ∙ c.make_room.ensures.ids)
+    (c.add_route.ensures.same.1.0 ∙ c.make_room.ensures.places) c.requires.1.1.0).count
 
 pub returns-clause-shows : goal.returns-clause-shows
 returns-clause-shows g c =

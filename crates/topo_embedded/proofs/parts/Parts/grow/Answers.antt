@@ -1,7 +1,7 @@
-use Rattle.std.proofs.Common.{ap, map, refl, subst, sym, ◌∙◌, ◌++◌, ◌∷◌, [], ℕ}
+use Rattle.std.proofs.Common.{ap, length, map, refl, subst, sym, ◌∙◌, ◌++◌, ◌∷◌, [], ℕ}
 use Rattle.topo_core.specs.declared.rows.Rows.{Rows}
 use Rattle.topo_map.specs.Rotation.{AddsLabel, edge_of, is_live}
-use Rattle.topo_table.specs.Places.{AreBelow, present}
+use Rattle.topo_table.specs.Places.{present}
 use Rattle.topo_embedded.specs.Parts.{with_paths}
 use Rattle.topo_embedded.specs.Paths.{AreForEdges}
 use Rattle.topo_embedded.proofs.growing.Grown.{IsCornerNamed, IsHung, corner_alive, grown_parts}
@@ -14,9 +14,8 @@ hang-half-requires-clause-live c =
     record { formed = c.requires.formed; vertex = c.requires.vertex; position = c.requires.position; names = c.requires.named } in
     corner_alive at c.reserve.new.self c.in_ok-reserve.ensures.same c.requires.shows
 
-pub push-requires-clause-last : goal.push-requires-clause-last
-push-requires-clause-last c = subst (λ (n : ℕ). AreBelow n c.reserve-2.new.self.slots) (sym c.next_edge-edge.ensures)
-    (subst (AreBelow c.args.self.now.rows.next_edge) (sym c.reserve-2.ensures.same) c.requires.kept.below)
+pub push-requires-clause-own : goal.push-requires-clause-own
+push-requires-clause-own c = c.next_edge-edge.ensures ∙ sym (ap length c.reserve-2.ensures.same ∙ c.requires.kept.count)
 
 pub returns-clause-shows : goal.returns-clause-shows
 returns-clause-shows c =
