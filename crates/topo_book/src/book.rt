@@ -14,6 +14,7 @@ use std::marker::Model;
 use std::mem;
 use std::sync::Arc;
 use topo_core::calls::{Call, Entry, Reply};
+use topo_core::rows::Rows;
 use topo_picture::Picture;
 use topo_price::tariff::{PriceFn, Tariff};
 use topo_route::plan::{Plan, PricedRoute};
@@ -69,6 +70,16 @@ fn begun(alloc: Global, start: &Picture) -> Result<(Arc<Picture>, Replicas, Scra
     Ok((picture, Replicas::new(alloc)?, Scratch::new(alloc)?))
 }
 
+/// The rows of a picture. It ends before they are made, if nobody else has a share of it.
+fn last_rows(alloc: Global, picture: Arc<Picture>) -> Result<Rows, AllocError>
+    ensures { IfOk result (λ rows. rows ≡ (arc_value picture).rows) }
+{
+    match Arc::try_unwrap(picture) {
+        Ok(picture) => picture.into_rows(alloc),
+        Err(shared) => shared.rows(alloc),
+    }
+}
+
 /// Whether a call is an insertion whose route has to be looked for.
 fn is_search(call: Call, source: RouteSource<PricedRoute>) -> bool {
     matches!((call, source), (Call::Insert { .. }, RouteSource::Search))
@@ -96,7 +107,7 @@ impl<F: PriceFn> Model for Book<F> {
 }
 
 impl<F: PriceFn> Book<F> {
-    ghost use Rattle.std.specs.Prelude.{◌≡◌, ◌≢◌, ◌<◌, true, IfOk, IfSome};
+    ghost use Rattle.std.specs.Prelude.{◌≡◌, ◌≢◌, ◌<◌, ◌≤◌, true, IfOk, IfSome};
     ghost use Rattle.std.specs.Prelude.{OnOk, OnErr, [], ◌∷◌, ◌++◌};
     ghost use Rattle.topo_core.specs.History.{Replays, is_accepted};
     ghost use Rattle.topo_core.specs.Steps.{Step};
@@ -193,24 +204,30 @@ impl<F: PriceFn> Book<F> {
         )
     }
 
-    /// The entries, the oldest first. The book ends.
-    pub fn into_history(self) -> Vec<Entry>
+    /// The entries, the oldest first, and the rows of the picture. The book ends, and what else it
+    /// keeps goes before the rows are made, so that both need not be in memory at one time.
+    pub fn into_history_and_rows(self, alloc: Global) -> Result<(Vec<Entry>, Rows), AllocError>
     where
         F: Drop,
-        ensures entries { result.items ≡ self.history }
+        ensures entries { IfOk result (λ made. made.0.items ≡ self.history) }
+        ensures rows { IfOk result (λ made. made.1 ≡ self.picture.rows) }
         ensures legal { Replays (prices_of (F.may_return self.tariff))
             self.start.limits self.start.rows self.history self.picture.rows }
     {
         let Book {
             tariff: _tariff,
-            start: _start,
+            start,
             history,
-            picture: _picture,
-            replicas: _replicas,
-            scratch: _scratch,
+            picture,
+            replicas,
+            scratch,
             search_on_replica: _,
         } = self;
-        history // the oldest entry first
+        drop(start);
+        drop(replicas);
+        drop(scratch);
+        let rows = last_rows(alloc, picture)?;
+        Ok((history, rows))
     }
 
     /// Inserts an edge of this kind from `u` to `v` along the first of the cheapest routes, or
@@ -338,6 +355,25 @@ impl<F: PriceFn> Book<F> {
     {
         let planned = RouteSource::Plan(plan);
         self.prepare_from(alloc, caller, Call::Insert { u, v, kind }, planned)
+    }
+
+    /// Room for so many more entries, vertices and edges, so that the history and the picture need
+    /// not move as they grow. There is none made in a picture of which somebody has a share.
+    pub fn reserve(
+        &mut self,
+        entries: usize,
+        vertices: usize,
+        edges: usize,
+    ) -> Result<(), AllocError>
+        ensures room { OnOk result (entries ≤ self.new.spare) }
+        ensures unchanged { IsUnchanged self.old self.new }
+        ensures same_book { IsSameBook self.old self.new }
+    {
+        self.history.reserve(entries)?;
+        match Arc::get_mut(&mut self.picture) {
+            Some(picture) => picture.reserve(vertices, edges),
+            None => Ok(()),
+        }
     }
 
     /// Enters what was made ready. It takes no memory.

@@ -1,6 +1,7 @@
 -- What is told of bytes is told of what was read and written.
-use Rattle.std.proofs.Common.{◌≡◌, ℕ, List, Option, subst}
+use Rattle.std.proofs.Common.{◌≡◌, ℕ, List, Ok, Option, subst}
 use Rattle.std.specs.Io.KnownBytes.{Appends, Keeps}
+use Rattle.topo_forms.specs.Reads.{Gives, Read}
 use Rattle.topo_settings.specs.declared.fault.RunFault.{RunFault}
 use Rattle.topo_settings.specs.declared.fault.RunFault.TheVariants.{Memory, Script, BadLimits, Price, Load, NoSeat, Mismatch}
 use Rattle.topo_settings.specs.declared.fault.RunFault.TheVariants.{WrongReply, WrongPicture, ReadFault, WriteFault}
@@ -9,6 +10,10 @@ use Rattle.topo_settings.specs.Writing.{AppendsPart, IsOfWriting}
 use Rattle.topo_settings.proofs.Faults.{by_writing}
 use Rattle.topo_check.specs.Checks.{CheckFailsBy, IsChecked, IsLawfulInput, IsSizeOfBytes, IsUnlawful}
 use Rattle.topo_check.specs.Replays.{IsUntrueReport, ReplayFailsBy, ReportsUntruly, TellsUntrue}
+
+-- what was read without a fault is what is due
+pub read_so : {A : Type 0} {read due : Read A} {a : A} → read ≡ Ok a → Gives read due → due ≡ Ok a
+read_so {due} is gives = subst (λ r. Gives r due) is gives
 
 module _ (old_left new_left old_held new_held : Option (List ℕ)) where
   appends_so : (text line : List ℕ) → text ≡ line → Appends old_held new_held text → Appends old_held new_held line

@@ -1,15 +1,18 @@
 //! The command `check`.
 
-ghost use Rattle.std.specs.Prelude.{◌≡◌, IfOk, IfErr, string_bytes};
+ghost use Rattle.std.specs.Prelude.{◌≡◌, ℕ, List, IfOk, IfErr, string_bytes};
 ghost use Rattle.topo_check.specs.Checks.{CheckFailsBy, IsChecked};
 ghost use Rattle.topo_check.specs.Checks.{IsSizeOfBytes, IsUnlawful, size_line};
+ghost use Rattle.topo_forms.specs.Reads.{Gives};
+ghost use Rattle.topo_forms.specs.RowForms.{rows_of};
 ghost use Rattle.topo_settings.specs.Limiting.{AreGreatest};
 
 use std::alloc::{AllocError, Global};
 use std::io::{Read, Write};
 use topo_core::limits::Limits;
-use topo_forms::read_rows;
+use topo_core::rows::Rows;
 use topo_forms::row_forms::MAX_PICTURE_BYTES;
+use topo_forms::{ScriptFault, read_rows};
 use topo_picture::{Counts, Picture};
 use topo_settings::RunFault;
 use topo_settings::reading::read_bytes;
@@ -31,7 +34,10 @@ pub fn check_io<R: Read, W: Write>(
         (R.remaining reader.new) (W.contents writer.old) (W.contents writer.new)) }
 {
     let bytes = read_bytes(alloc, MAX_PICTURE_BYTES as u32, reader)?;
-    let line = check_bytes(alloc, bytes.as_slice())?;
+    let read = read_rows(alloc, bytes.as_slice());
+    // The text of a picture is larger than the picture.
+    drop(bytes);
+    let line = line_of_read(alloc, read)?;
     write_text(writer, line.as_str())
 }
 
@@ -41,7 +47,17 @@ pub fn check_bytes(alloc: Global, bytes: &[u8]) -> Result<String, RunFault>
     ensures line { IfOk result (λ line. IsSizeOfBytes bytes.now (string_bytes line)) }
     ensures fault { IfErr result (IsUnlawful bytes.now) }
 {
-    let rows = match read_rows(alloc, bytes) {
+    line_of_read(alloc, read_rows(alloc, bytes))
+}
+
+/// The same, from what was read of the bytes.
+fn line_of_read(alloc: Global, read: Result<Rows, ScriptFault>) -> Result<String, RunFault>
+    ensures line { (bytes : List ℕ) → Gives read (rows_of bytes)
+        → IfOk result (λ line. IsSizeOfBytes bytes (string_bytes line)) }
+    ensures fault { (bytes : List ℕ) → Gives read (rows_of bytes)
+        → IfErr result (IsUnlawful bytes) }
+{
+    let rows = match read {
         Ok(rows) => rows,
         Err(fault) => return Err(RunFault::Script(fault)),
     };

@@ -1,12 +1,14 @@
 //! The command `replay`.
 
-ghost use Rattle.std.specs.Prelude.{◌≡◌, ◌≤◌, IfOk, IfErr, IfSome, Some};
+ghost use Rattle.std.specs.Prelude.{◌≡◌, ◌≤◌, ℕ, List, IfOk, IfErr, IfSome, Some};
 ghost use Rattle.std.specs.Prelude.{None, slice_get, string_bytes};
 ghost use Rattle.topo_book.specs.Faults.{IsFaultOf, IsIllegalAt};
 ghost use Rattle.topo_core.specs.History.{Replays};
 ghost use Rattle.topo_price.specs.Prices.{IsPromise, first_bad, prices_of};
 ghost use Rattle.topo_check.specs.Replays.{IsReplayed, IsTrueReport, IsUntrue, ReplayFailsBy};
 ghost use Rattle.topo_check.specs.Replays.{TellsCalls, TellsUntrue, calls_line};
+ghost use Rattle.topo_forms.specs.Reads.{Gives};
+ghost use Rattle.topo_forms.specs.Scripts.{report_of};
 ghost use Rattle.topo_settings.specs.Settings.{priced, price_table};
 ghost use Rattle.topo_core.specs.declared.rows.TheConstants.{MAX_PRICE};
 
@@ -15,7 +17,7 @@ use std::io::{Read, Write};
 use topo_book::{ReplayFault, replay};
 use topo_core::rows::{Facts, Rows};
 use topo_forms::row_forms::MAX_PICTURE_BYTES;
-use topo_forms::{Report, read_report};
+use topo_forms::{Report, ScriptFault, read_report};
 use topo_picture::Picture;
 use topo_price::table::PriceTable;
 use topo_price::tariff::{PriceFn, Tariff};
@@ -42,7 +44,10 @@ pub fn replay_io<R: Read, W: Write>(
         (R.remaining reader.new) (W.contents writer.old) (W.contents writer.new)) }
 {
     let bytes = read_bytes(alloc, MAX_PICTURE_BYTES as u32, reader)?;
-    let line = replay_bytes(alloc, bytes.as_slice())?;
+    let read = read_report(alloc, bytes.as_slice());
+    // The text of a report is larger than the report.
+    drop(bytes);
+    let line = line_of_read(alloc, read)?;
     write_text(writer, line.as_str())
 }
 
@@ -52,7 +57,17 @@ pub fn replay_bytes(alloc: Global, bytes: &[u8]) -> Result<String, RunFault>
     ensures line { IfOk result (λ line. TellsCalls bytes.now (string_bytes line)) }
     ensures fault { IfErr result (TellsUntrue bytes.now) }
 {
-    let report = match read_report(alloc, bytes) {
+    line_of_read(alloc, read_report(alloc, bytes))
+}
+
+/// The same, from what was read of the bytes.
+fn line_of_read(alloc: Global, read: Result<Report, ScriptFault>) -> Result<String, RunFault>
+    ensures line { (bytes : List ℕ) → Gives read (report_of bytes)
+        → IfOk result (λ line. TellsCalls bytes (string_bytes line)) }
+    ensures fault { (bytes : List ℕ) → Gives read (report_of bytes)
+        → IfErr result (TellsUntrue bytes) }
+{
+    let report = match read {
         Ok(report) => report,
         Err(fault) => return Err(RunFault::Script(fault)),
     };
@@ -115,9 +130,7 @@ fn replayed_rows(
         start.now.limits start.now.rows report.now.history) }
 {
     let picture = priced_replay(alloc, report, start, table)?;
-    let rows = picture.rows(alloc);
-    drop(picture);
-    match rows {
+    match picture.into_rows(alloc) {
         Ok(rows) => Ok(rows),
         Err(_) => Err(ReplayFault::Memory),
     }

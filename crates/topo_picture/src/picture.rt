@@ -130,6 +130,30 @@ impl Picture {
         self.embedded.copy_of_rows(alloc)
     }
 
+    /// Its rows. The picture ends, and what it keeps beside its rows goes before these are made, so
+    /// that both need not be in memory at one time.
+    pub fn into_rows(self, alloc: Global) -> Result<Rows, AllocError>
+        ensures { IfOk result (λ r. r ≡ self.rows) }
+    {
+        let Picture {
+            limits: _,
+            embedded,
+        } = self;
+        embedded.into_rows(alloc)
+    }
+
+    /// Room for so many more vertices and edges, as far as the limits let them come, so that what is
+    /// kept of them need not move as it grows. The picture stays as it is.
+    pub fn reserve(&mut self, vertices: usize, edges: usize) -> Result<(), AllocError>
+        ensures { self.new ≡ self.old }
+    {
+        let rows = self.embedded.rows();
+        let vertices_left = (self.limits.vertices as usize).saturating_sub(rows.rotations().len());
+        let edges_left = self.limits.edges.saturating_sub(rows.next_edge()) as usize;
+        self.embedded
+            .reserve(vertices.min(vertices_left), edges.min(edges_left))
+    }
+
     /// The frozen picture of its rows, as they are now.
     pub fn freeze(&self, alloc: Global) -> Result<Frozen, AllocError>
         ensures { IfOk result (λ f. f.rows ≡ self.now.rows) }

@@ -58,6 +58,26 @@ fn carry_out<F: PriceFn, T: Gate>(
     true
 }
 
+/// How many vertices and how many edges the commands of a list add at most. No contract rests on
+/// it.
+fn most_added(list: &[Command]) -> (usize, usize) {
+    let mut vertices = 0usize;
+    let mut edges = 0usize;
+    for command in list {
+        match command {
+            Command::Plain(Call::Grow { .. }) => {
+                vertices = vertices.saturating_add(1);
+                edges = edges.saturating_add(1);
+            }
+            Command::Plain(Call::Insert { .. }) | Command::Planned { .. } => {
+                edges = edges.saturating_add(1);
+            }
+            Command::Plain(Call::Delete { .. }) => {}
+        }
+    }
+    (vertices, edges)
+}
+
 /// What one list leads to from a start.
 pub(crate) fn outcome_alone<F: PriceFn + Drop, T: Gate>(
     alloc: Global,
@@ -73,6 +93,10 @@ pub(crate) fn outcome_alone<F: PriceFn + Drop, T: Gate>(
     let Ok(mut book) = Book::new(alloc, start, tariff) else {
         return Err(RunFault::Memory);
     };
+    let (vertices, edges) = most_added(list);
+    if book.reserve(list.len(), vertices, edges).is_err() {
+        return Err(RunFault::Memory);
+    }
     if carry_out(alloc, &mut book, list, gate) {
         // For the proof: what the type keeps.
         book.history();

@@ -27,11 +27,11 @@ pub(crate) fn outcome_of<F: PriceFn + Drop>(
     ensures picture { IfOk result (λ outcome. outcome.picture ≡ book.picture.rows) }
     ensures fault { IfErr result IsOfService }
 {
-    let Ok(picture) = book.picture().rows(alloc) else {
+    let Ok((history, picture)) = book.into_history_and_rows(alloc) else {
         return Err(RunFault::Memory);
     };
     Ok(RunOutcome {
-        history: Listed::from_vec(book.into_history()),
+        history: Listed::from_vec(history),
         picture,
     })
 }

@@ -1,6 +1,8 @@
 //! The command `run`.
 
-ghost use Rattle.std.specs.Prelude.{◌≡◌, IfErr, IfOk, None, ◌++◌, ◌∷◌, [], string_bytes};
+ghost use Rattle.std.specs.Prelude.{◌≡◌, ℕ, List, IfErr, IfOk, None, ◌++◌, ◌∷◌, [], string_bytes};
+ghost use Rattle.topo_forms.specs.Reads.{Gives};
+ghost use Rattle.topo_forms.specs.Scripts.{script_of};
 ghost use Rattle.topo_price.specs.Prices.{first_bad};
 ghost use Rattle.topo_run.specs.Runs.{FailsBy, FailsRun, IsDone, IsFaultOfBytes};
 ghost use Rattle.topo_run.specs.Runs.{IsLineOfBytes, IsRunLine, ShowsRun};
@@ -14,7 +16,7 @@ use std::io::{Read, Write};
 use std::sync::Wait;
 use std::thread::Threads;
 use topo_forms::script_forms::MAX_SCRIPT_BYTES;
-use topo_forms::{Report, Script, read_script};
+use topo_forms::{Report, Script, ScriptFault, read_script};
 use topo_picture::Picture;
 use topo_price::table::PriceTable;
 use topo_script::report;
@@ -45,22 +47,27 @@ pub fn run_io<R: Threads + Wait + Sync, I: Read, O: Write, T: Gate>(
         (I.remaining reader.new) (O.contents writer.old) (O.contents writer.new)) }
 {
     let bytes = read_bytes(alloc, MAX_SCRIPT_BYTES as u32, reader)?;
-    let line = bytes_line(rt, alloc, bytes.as_slice(), gate)?;
+    let read = read_script(alloc, bytes.as_slice());
+    drop(bytes);
+    let line = line_of_read(rt, alloc, read, gate)?;
     write_text(writer, line.as_str())
 }
 
-/// The line that shows the run of the script that bytes spell, or the first fault.
-fn bytes_line<R: Threads + Wait + Sync, T: Gate>(
+/// The line that shows the run of a script, from what was read of the bytes that spell it, or the
+/// first fault.
+fn line_of_read<R: Threads + Wait + Sync, T: Gate>(
     rt: &R,
     alloc: Global,
-    bytes: &[u8],
+    read: Result<Script, ScriptFault>,
     gate: &T,
 ) -> Result<String, RunFault>
-    ensures line { IfOk result (λ line. IsLineOfBytes bytes.now (string_bytes line)) }
-    ensures fault { IfErr result (IsFaultOfBytes bytes.now) }
+    ensures line { (bytes : List ℕ) → Gives read (script_of bytes)
+        → IfOk result (λ line. IsLineOfBytes bytes (string_bytes line)) }
+    ensures fault { (bytes : List ℕ) → Gives read (script_of bytes)
+        → IfErr result (IsFaultOfBytes bytes) }
 {
-    match read_script(alloc, bytes) {
-        Ok(script) => run_line(rt, alloc, &script, gate),
+    match read {
+        Ok(script) => run_line(rt, alloc, script, gate),
         Err(fault) => Err(RunFault::Script(fault)),
     }
 }
@@ -70,11 +77,11 @@ fn bytes_line<R: Threads + Wait + Sync, T: Gate>(
 fn run_line<R: Threads + Wait + Sync, T: Gate>(
     rt: &R,
     alloc: Global,
-    script: &Script,
+    script: Script,
     gate: &T,
 ) -> Result<String, RunFault>
-    ensures line { IfOk result (λ line. IsRunLine script.now (string_bytes line)) }
-    ensures fault { IfErr result (FailsRun script.now) }
+    ensures line { IfOk result (λ line. IsRunLine script (string_bytes line)) }
+    ensures fault { IfErr result (FailsRun script) }
 {
     let prices = script.prices.as_slice();
     let (table, start) = validate(alloc, script.limits, prices, script.start.as_ref())?;
@@ -85,18 +92,19 @@ fn run_line<R: Threads + Wait + Sync, T: Gate>(
 fn priced_line<R: Threads + Wait + Sync, T: Gate>(
     rt: &R,
     alloc: Global,
-    script: &Script,
+    script: Script,
     start: Picture,
     table: &PriceTable,
     gate: &T,
 ) -> Result<String, RunFault>
-    requires own { table.now ≡ price_table script.now.prices }
-    requires good { first_bad (price_table script.now.prices) ≡ None }
+    requires own { table.now ≡ price_table script.prices }
+    requires good { first_bad (price_table script.prices) ≡ None }
     ensures line { IfOk result
-        (λ line. ShowsRun script.now start.limits start.rows (string_bytes line)) }
+        (λ line. ShowsRun script start.limits start.rows (string_bytes line)) }
     ensures fault { IfErr result IsOfService }
 {
-    let report = priced_report(rt, alloc, script, start, table, gate)?;
+    let report = priced_report(rt, alloc, &script, start, table, gate)?;
+    drop(script);
     match report_line(alloc, &report) {
         Ok(line) => Ok(line),
         Err(_) => Err(RunFault::Memory),

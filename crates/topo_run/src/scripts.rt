@@ -9,7 +9,7 @@ ghost use Rattle.topo_run.specs.Working.{IsOfService};
 ghost use Rattle.topo_settings.specs.Limiting.{AreLimits};
 ghost use Rattle.topo_settings.specs.Settings.{price_table};
 
-use crate::serving::{lists_of, run_lists};
+use crate::serving::run_lists;
 use std::alloc::{AllocError, Global};
 use std::sync::{Arc, Wait};
 use std::thread::Threads;
@@ -100,10 +100,8 @@ fn run_from<F: PriceFn + Drop + Send + Sync, R: Threads + Wait + Sync, T: Gate>(
     let Ok(heading) = heading_of(alloc, script, &start) else {
         return Err(RunFault::Memory);
     };
-    let Ok(lists) = lists_of(alloc, script.workers.as_slice()) else {
-        return Err(RunFault::Memory);
-    };
-    let outcome = run_lists(rt, alloc, start, tariff, lists.as_slice(), gate)?;
+    let lists = script.workers.as_slice();
+    let outcome = run_lists(rt, alloc, start, tariff, lists, gate)?;
     Ok(Report {
         limits: heading.limits,
         prices: heading.prices,

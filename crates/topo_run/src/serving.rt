@@ -25,10 +25,7 @@ use topo_settings::RunFault;
 use topo_versions::{ServiceBrand, StoreReader};
 
 /// Copies of lists of commands.
-pub(crate) fn lists_of(
-    alloc: Global,
-    lists: &[Listed<Command>],
-) -> Result<Vec<Vec<Command>>, AllocError>
+fn lists_of(alloc: Global, lists: &[Listed<Command>]) -> Result<Vec<Vec<Command>>, AllocError>
     ensures { IfOk result (λ copies. map commands copies.items ≡ lists.now) }
 {
     let mut copies = Vec::new(alloc);
@@ -165,22 +162,42 @@ fn serve<
     }
 }
 
+/// Carries out copies of the lists on a new service, each in a thread of its own.
+fn run_together<F: PriceFn + Drop + Send + Sync, R: Threads + Wait + Sync, T: Gate>(
+    rt: &R,
+    alloc: Global,
+    start: Picture,
+    tariff: Arc<Tariff<F>>,
+    lists: &[Listed<Command>],
+    gate: &T,
+) -> Result<RunOutcome, RunFault>
+    ensures run { IfOk result (λ outcome. IsRun (prices_of (F.may_return (arc_value tariff)))
+        start.limits start.rows lists.now outcome.history outcome.picture) }
+    ensures fault { IfErr result IsOfService }
+{
+    let Ok(copies) = lists_of(alloc, lists) else {
+        return Err(RunFault::Memory);
+    };
+    let fresh = FreshService::new();
+    serve::<F, Brand, R, T>(rt, alloc, fresh, start, tariff, copies.as_slice(), gate)
+}
+
 /// Carries out lists of commands from a start, each in a thread of its own, and says what they have
-/// led to. One list alone is carried out on a book.
+/// led to. One list alone is carried out on a book, as it stands.
 pub(crate) fn run_lists<F: PriceFn + Drop + Send + Sync, R: Threads + Wait + Sync, T: Gate>(
     rt: &R,
     alloc: Global,
     start: Picture,
     tariff: Arc<Tariff<F>>,
-    lists: &[Vec<Command>],
+    lists: &[Listed<Command>],
     gate: &T,
 ) -> Result<RunOutcome, RunFault>
     ensures run { IfOk result (λ outcome. IsRun (prices_of (F.may_return (arc_value tariff)))
-        start.limits start.rows (map commands lists.now) outcome.history outcome.picture) }
+        start.limits start.rows lists.now outcome.history outcome.picture) }
     ensures fault { IfErr result IsOfService }
 {
     match lists {
         [list] => outcome_alone(alloc, start, tariff, list.as_slice(), gate),
-        _ => serve::<F, Brand, R, T>(rt, alloc, FreshService::new(), start, tariff, lists, gate),
+        _ => run_together(rt, alloc, start, tariff, lists, gate),
     }
 }

@@ -23,6 +23,7 @@ use topo_core::darts::{Dart, Way};
 use topo_core::ids::{EdgeId, VertexId};
 use topo_core::listed::Listed;
 use topo_core::routes::Inserted;
+use topo_core::rows::Rows;
 use topo_forms::prices::kept_len;
 use topo_forms::{LimitRows, Report};
 
@@ -269,6 +270,24 @@ impl Written for Report {
     }
 }
 
+/// How many bytes the text of rows takes, or some more, if their ids have up to five digits. No
+/// contract rests on it.
+fn bytes_of_rows(rows: &Rows) -> usize {
+    let edges = rows.edges.len().saturating_mul(64);
+    let crossings = rows.crossings.len().saturating_mul(80);
+    let rotations = rows.rotations.len().saturating_mul(24);
+    edges.saturating_add(crossings).saturating_add(rotations)
+}
+
+/// How many bytes the text of a report takes, or some more, if its numbers have up to five digits.
+/// No contract rests on it.
+fn bytes_of(report: &Report) -> usize {
+    let history = report.history.len().saturating_mul(96);
+    let routes = report.picture.crossings.len().saturating_mul(24);
+    let pictures = bytes_of_rows(&report.start).saturating_add(bytes_of_rows(&report.picture));
+    history.saturating_add(routes).saturating_add(pictures)
+}
+
 /// The text of a report, on one line and without a line feed. The ones at the end of its prices are
 /// left out, and its version is 2 exactly where a price is null.
 pub fn report(alloc: Global, report: &Report) -> Result<String, AllocError>
@@ -278,6 +297,8 @@ pub fn report(alloc: Global, report: &Report) -> Result<String, AllocError>
         → length (string_bytes text) ≤ 268435456 → report_of (string_bytes text) ≡ Ok report.now) }
 {
     let mut text = String::new(alloc);
+    // Only so that it need not move as it grows: it grows as well without.
+    let _ = text.reserve(bytes_of(report));
     report.write(&mut text)?;
     Ok(text)
 }

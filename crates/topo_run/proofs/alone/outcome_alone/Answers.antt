@@ -15,8 +15,8 @@ returns-then-carry_out-clause-run g c =
     let start = c.args.start in
     let list = c.args.list.now in
     let book = c.carry_out.new.book in
-    let tariff = c.carry_out.ensures.same_book.0 ∙ c.in-Ok.ensures.tariff in
-    let begins = c.carry_out.ensures.same_book.1 ∙ c.in-Ok.ensures.start in
+    let tariff = c.carry_out.ensures.same_book.0 ∙ c.reserve.ensures.same_book.0 ∙ c.in-Ok.ensures.tariff in
+    let begins = c.carry_out.ensures.same_book.1 ∙ c.reserve.ensures.same_book.1 ∙ c.in-Ok.ensures.start in
     let way : Replays (prices_of (g.F.PriceFn.may_return own)) start.limits start.rows book.history book.picture.rows =
     subst (λ (s : Shown). Replays (prices_of (g.F.PriceFn.may_return own)) s.limits s.rows book.history book.picture.rows) begins
     (subst (λ t. Replays (prices_of (g.F.PriceFn.may_return t)) book.start.limits book.start.rows book.history book.picture.rows)

@@ -10,7 +10,7 @@ use Rattle.topo_run.proofs.run.run_line.Goals as goal
 pub returns-clause-line : goal.returns-clause-line
 returns-clause-line g c = ok_so c.priced_line.result _ _
     (λ line shown.
-    let script = c.args.script.now in
+    let script = c.args.script in
     let limits = c.in_ok-table.start.limits in
     let begun : _ ≡ script.start = search rules in
     record {
@@ -26,7 +26,7 @@ returns-clause-line g c = ok_so c.priced_line.result _ _
 
 pub returns-clause-fault : goal.returns-clause-fault
 returns-clause-fault g c =
-    let script = c.args.script.now in
+    let script = c.args.script in
     let limits = c.in_ok-table.start.limits in
     let begun : _ ≡ script.start = search rules in
     let sound : IsSound script.limits script.prices script.start limits =

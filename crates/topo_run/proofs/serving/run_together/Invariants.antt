@@ -1,6 +1,6 @@
 use Rattle.std.proofs.Common.{Some}
 use Rattle.std.specs.Arc.{arc_value}
-use Rattle.topo_run.proofs.serving.run_lists.Given as goal
+use Rattle.topo_run.proofs.serving.run_together.Given as goal
 
 abbrev pub ghosts-serve-K-ServiceBrand : goal.ghosts-serve-K-ServiceBrand
 ghosts-serve-K-ServiceBrand g a = record { start = a.start; closure = Some (arc_value a.tariff) }
