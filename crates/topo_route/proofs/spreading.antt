@@ -1,6 +1,7 @@
 -- Heights while a search spreads them.
 pub mod Blank
 pub mod FaceHeights
+pub mod Listed
 pub mod Settled
 pub mod Fits
 pub mod Sums

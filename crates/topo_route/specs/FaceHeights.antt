@@ -1,6 +1,7 @@
 -- Heights of faces by their labels, and those of darts by their names.
-use Rattle.std.specs.Prelude.{◌≡◌, ◌≢◌, ℕ, ◌^◌, ◌<◌, ◌≤◌, ◌==◌, ◌&&◌, Bool, cond, List, length, map, slice_index, slice_index_or}
+use Rattle.std.specs.Prelude.{◌≡◌, ◌≢◌, ℕ, ◌^◌, ◌<◌, ◌==◌, ◌&&◌, ◌++◌, ◌∷◌, [], Bool, cond, List, length, map, slice_index, slice_index_or, true}
 use Rattle.std.specs.List.{range_with_len}
+use Rattle.topo_core.specs.Items.{has_id}
 use Rattle.topo_core.specs.Picture.{darts}
 use Rattle.topo_core.specs.Routes.{unreached}
 use Rattle.topo_core.specs.Systems.{has_dart}
@@ -18,10 +19,13 @@ height_at g face heights k = cond {A = ℕ} (is_name g k) (slice_index_or height
 unfoldable pub dart_heights : Named → (ℕ → ℕ) → List ℕ → List ℕ
 dart_heights g face heights = map (height_at g face heights) (range_with_len 0 g.size)
 
--- One height and one dart for each label. Where the height is reached the dart lies in the face.
+-- the names of darts in the faces that are reached, where a face is given a height: one more if it was not reached before
+abbrev pub with_name : List ℕ → ℕ → ℕ → List ℕ → List ℕ
+with_name heights f k names = cond {A = List ℕ} (slice_index heights f == unreached) (names ++ k ∷ []) names
+
+-- One height for each label, and names of darts. In each face that is reached lies one of these.
 pub record AreLabelled (g : Named) (face : ℕ → ℕ) (faces : ℕ) (heights names : List ℕ) : Type 0 where
   pub few : faces < 2 ^ 32
   pub one_each : length heights ≡ faces
-  pub as_many : faces ≤ length names
-  pub named : (f : ℕ) → f < faces → slice_index heights f ≢ unreached → IsName g (slice_index names f)
-  pub inside : (f : ℕ) → f < faces → slice_index heights f ≢ unreached → face (slice_index names f) ≡ f
+  pub named : (k : ℕ) → has_id names k ≡ true → IsName g k
+  pub inside : (f : ℕ) → f < faces → slice_index heights f ≢ unreached → (k : ℕ) × (has_id names k ≡ true) × (face k ≡ f)

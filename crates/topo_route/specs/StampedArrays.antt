@@ -1,7 +1,6 @@
 -- Numbers that count in the epoch in which they were written.
-use Rattle.std.specs.Prelude.{[], ◌∷◌, ◌≡◌, ◌+◌, ◌-◌, ◌<◌, ◌≤◌, ℕ, suc, zero, cond, length, List, slice_index, true}
+use Rattle.std.specs.Prelude.{[], ◌∷◌, ◌≡◌, ◌+◌, ◌-◌, ◌<◌, ◌≤◌, ℕ, suc, zero, cond, length, List, slice_index}
 use Rattle.std.proofs.Math.Dec.{ltb}
-use Rattle.topo_core.specs.Items.{has_id}
 use Rattle.topo_core.specs.Routes.{unreached}
 
 -- more than any height
@@ -25,21 +24,18 @@ read_all base span (suc len) (word ∷ words) = read_from base span word ∷ rea
 abbrev pub AreAtLeast : ℕ → List ℕ → Type 0
 AreAtLeast least xs = (k : ℕ) → k < length xs → least ≤ slice_index xs k
 
--- There is a word for each number, and none is below the base. The epoch has at most half of all words. The list of what is written
--- has each place of the epoch, and none past the end.
-pub record AreWritten (base span len : ℕ) (words written : List ℕ) : Type 0 where
+-- There is a word for each number, and none is below the base. The epoch has at most half of all words.
+pub record AreWords (base span len : ℕ) (words : List ℕ) : Type 0 where
   pub as_many : len ≤ length words
   pub above : AreAtLeast base words
   pub room : base + span ≤ blank_word
   pub half : span + span ≤ blank_word
-  pub listed : (k : ℕ) → k < len → slice_index words k - base < span → has_id written k ≡ true
-  pub there : (k : ℕ) → has_id written k ≡ true → k < len
 
 -- the word that says the same in an epoch with more numbers, which ends with the last word before the blank one
 abbrev pub moved_word : ℕ → ℕ → ℕ → ℕ → ℕ
 moved_word base span wider word = cond {A = ℕ} (ltb (word - base) span) (blank_word - wider + (word - base)) blank_word
 
 -- an array in a wider epoch says what it said
-pub record SaysTheSame (base span : ℕ) (words : List ℕ) (new_base new_span : ℕ) (new_words : List ℕ) (len : ℕ) (written : List ℕ) : Type 0 where
-  pub are : AreWritten new_base new_span len new_words written
+pub record SaysTheSame (base span : ℕ) (words : List ℕ) (new_base new_span : ℕ) (new_words : List ℕ) (len : ℕ) : Type 0 where
+  pub are : AreWords new_base new_span len new_words
   pub reads : read_all new_base new_span len new_words ≡ read_all base span len words

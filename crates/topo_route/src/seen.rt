@@ -11,7 +11,7 @@ use crate::both_ends::Stop;
 use crate::face_graph::FaceGraph;
 use crate::region::Region;
 use crate::spread::Labels;
-use crate::steps::next_along;
+use crate::steps::{face_at, next_along};
 use crate::workspace::Workspace;
 use std::alloc::{AllocError, Global};
 
@@ -68,11 +68,11 @@ fn mark_below<W: FaceGraph>(
         (dart_heights (W.named graph.now) (W.face_of graph.now) labels.now.heights)
         bound region.new) }
 {
-    let places = labels.heights.written();
-    for i in 0..places.len() {
-        let face = places[i];
-        if labels.heights.get(face) < bound {
-            mark_face(graph, labels.names[face as usize], region)?;
+    let names = labels.names.as_slice();
+    for i in 0..names.len() {
+        let dart = names[i];
+        if labels.heights.get(face_at(graph, dart)) < bound {
+            mark_face(graph, dart, region)?;
         }
     }
     Ok(())

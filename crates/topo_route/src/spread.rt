@@ -6,7 +6,7 @@ ghost use Rattle.std.specs.Prelude.{min, replicate, slice_index, slice_set, true
 ghost use Rattle.topo_core.specs.Picture.{darts};
 ghost use Rattle.topo_price.specs.Prices.{prices_of};
 ghost use Rattle.topo_core.specs.Routes.{unreached};
-ghost use Rattle.topo_route.specs.FaceHeights.{dart_heights};
+ghost use Rattle.topo_route.specs.FaceHeights.{dart_heights, with_name};
 ghost use Rattle.topo_route.specs.Names.{IsName, height_of, twin_name};
 ghost use Rattle.topo_route.specs.Plans.{AreHeights, IsZeroAt};
 ghost use Rattle.topo_route.specs.Settling.{AreCosts, AreFaceCosts, AreLowered, ArePrices};
@@ -24,7 +24,8 @@ use std::alloc::{AllocError, Global};
 use topo_price::tariff::PriceFn;
 
 /// What a search knows of the faces from one of its ends: how high they lie above it, by their
-/// labels, a dart of each that it has reached, and the darts whose faces wait.
+/// labels, a dart of each that it has reached, in the order in which it did, and the darts whose
+/// faces wait.
 #[derive(Drop)]
 pub(crate) struct Labels {
     pub heights: StampedArray,
@@ -47,13 +48,11 @@ impl Labels {
     /// Reaches no face of so many, and none waits.
     pub(crate) fn clear(&mut self, faces: usize) -> Result<(), AllocError>
         ensures heights { OnOk result (self.new.heights ≡ replicate faces unreached) }
-        ensures names { OnOk result (faces ≤ length self.new.names.items) }
+        ensures names { OnOk result (self.new.names.items ≡ []) }
         ensures waiting { OnOk result (self.new.waiting ≡ []) }
     {
         self.heights.clear(faces)?;
-        if self.names.len() < faces {
-            self.names.resize(faces, 0)?;
-        }
+        self.names.clear();
         self.waiting.clear();
         Ok(())
     }
@@ -68,8 +67,8 @@ impl Labels {
         height <= least && self.heights.is_above(face, height)
     }
 
-    /// Gives a face a height, and names a dart of it. With the height above the other end it may be
-    /// the least sum.
+    /// Gives a face a height, and names a dart of it if it was not reached before. With the height
+    /// above the other end it may be the least sum.
     fn lower(
         &mut self,
         other: &StampedArray,
@@ -79,16 +78,18 @@ impl Labels {
         height: u64,
     ) -> Result<(), AllocError>
         requires within { face < length self.old.heights }
-        requires named { face < length self.old.names.items }
         ensures heights { OnOk result (self.new.heights ≡ slice_set self.old.heights face height) }
         ensures names { OnOk result
-            (self.new.names.items ≡ slice_set self.old.names.items face dart) }
+            (self.new.names.items
+            ≡ with_name self.old.heights face dart self.old.names.items) }
         ensures waiting { OnOk result (self.new.waiting ≡ self.old.waiting) }
         ensures least { OnOk result
             (least.new ≡ min least.old (height + number_at other.now face)) }
     {
+        if self.heights.get(face) == u64::MAX {
+            self.names.push(dart)?;
+        }
         self.heights.set(face, height)?;
-        self.names[face as usize] = dart;
         let sum = height.saturating_add(other.number_at(face));
         if sum < *least {
             *least = sum;

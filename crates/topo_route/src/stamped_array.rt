@@ -1,11 +1,10 @@
 //! A list of numbers that is blank again in one step.
 
-ghost use Rattle.std.specs.Prelude.{◌≡◌, ◌≢◌, ◌<◌, ◌≤◌, ◌↔◌, [], ℕ, IfOk, IsTrue, List, OnOk};
-ghost use Rattle.std.specs.Prelude.{length, map, replicate, slice_index, slice_set, true};
-ghost use Rattle.topo_core.specs.Items.{has_id};
+ghost use Rattle.std.specs.Prelude.{◌≡◌, ◌<◌, ◌≤◌, ◌↔◌, [], ℕ, IfOk, IsTrue, OnOk};
+ghost use Rattle.std.specs.Prelude.{length, map, replicate, slice_index, slice_set};
 ghost use Rattle.topo_core.specs.Routes.{unreached};
 ghost use Rattle.topo_route.specs.Settling.{number_at};
-ghost use Rattle.topo_route.specs.StampedArrays.{AreAtLeast, AreWritten, SaysTheSame, height_limit};
+ghost use Rattle.topo_route.specs.StampedArrays.{AreAtLeast, AreWords, SaysTheSame, height_limit};
 ghost use Rattle.topo_route.specs.StampedArrays.{moved_word};
 
 use std::alloc::{AllocError, Global};
@@ -26,26 +25,24 @@ const MAX_SPAN: u32 = u32::MAX / 2;
 /// So a word of an earlier epoch is past those of this one, a new epoch blanks the whole list, and
 /// a search that is given one takes no time for what it does not reach. An epoch is made wider when
 /// a number comes that it does not have, and the later ones stay so. The words are never fewer than
-/// they were: a list that is long again takes no time either. The places written in the epoch are
-/// listed too, each once: what a search has reached can be gone through.
+/// they were: a list that is long again takes no time either.
 #[derive(Drop)]
 pub(crate) struct StampedArray {
     words: Vec<u32>,
     base: u32,
     span: u32,
     len: usize,
-    written: Vec<u32>,
 }
 
 impl Model for StampedArray {
     ghost use Rattle.std.specs.Prelude.{ℕ, List};
-    ghost use Rattle.topo_route.specs.StampedArrays.{AreWritten, read_all};
+    ghost use Rattle.topo_route.specs.StampedArrays.{AreWords, read_all};
 
     ghost Value = { List ℕ };
 
     ghost view = { λ s. read_all s.base s.span s.len s.words.items };
 
-    ghost invariant = { λ s. AreWritten s.base s.span s.len s.words.items s.written.items };
+    ghost invariant = { λ s. AreWords s.base s.span s.len s.words.items };
 }
 
 /// The word that says the same in a wider epoch, which ends with the last word before the blank
@@ -84,10 +81,8 @@ fn widen(
 ) -> Result<(), AllocError>
     requires above { AreAtLeast base.old words.old.items }
     ensures fits { OnOk result (number < span.new) }
-    ensures same { (len : ℕ) (written : List ℕ)
-        → AreWritten base.old span.old len words.old.items written
-        → SaysTheSame base.old span.old words.old.items base.new span.new words.new.items len
-        written }
+    ensures same { (len : ℕ) → AreWords base.old span.old len words.old.items
+        → SaysTheSame base.old span.old words.old.items base.new span.new words.new.items len }
 {
     if number < *span as u64 {
         return Ok(());
@@ -112,7 +107,6 @@ impl StampedArray {
             base: BLANK - FIRST_SPAN,
             span: FIRST_SPAN,
             len: 0,
-            written: Vec::new(alloc),
         }
     }
 
@@ -124,7 +118,6 @@ impl StampedArray {
             self.words.fill(BLANK);
             self.base = BLANK - self.span;
         }
-        self.written.clear();
         self.base -= self.span;
         if self.words.len() < len {
             self.words.resize(len, BLANK)?;
@@ -189,19 +182,7 @@ impl StampedArray {
         ensures { OnOk result (self.new ≡ slice_set self.old place number) }
     {
         widen(&mut self.words, &mut self.base, &mut self.span, number)?;
-        if self.words[place as usize] - self.base >= self.span {
-            self.written.push(place)?;
-        }
         self.words[place as usize] = self.base + number as u32;
         Ok(())
-    }
-
-    /// The places where something is written.
-    pub(crate) fn written(&self) -> &[u32]
-        ensures there { (k : ℕ) → has_id result.now k ≡ true → k < length self.now }
-        ensures all { (k : ℕ) → k < length self.now → slice_index self.now k ≢ unreached
-            → has_id result.now k ≡ true }
-    {
-        self.written.as_slice()
     }
 }

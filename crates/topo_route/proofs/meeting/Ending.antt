@@ -3,6 +3,7 @@ use Rattle.std.proofs.Common.{◌≡◌, ℕ, ◌+◌, ◌-◌, ◌^◌, ◌<◌
 use Rattle.std.specs.Prelude.{max, min, slice_index}
 use Rattle.std.proofs.lemmas.Bool.{cases_lt, false≢true}
 use Rattle.std.proofs.lemmas.List.{get_or-replicate, get_or_past, length-replicate}
+use Rattle.topo_core.specs.Items.{has_id}
 use Rattle.topo_core.specs.Lawful.{Lawful}
 use Rattle.topo_core.specs.Routes.{HasNoRoute, IsPricedRoute, KeepsPromise, Pricing, unreached}
 use Rattle.topo_route.specs.Descents.{AreHeightsFor, HasNoStart}
@@ -29,7 +30,7 @@ module _ (price : Pricing) (g : Named) (lawful : Lawful g.rows) (has : IsNamed g
 
   -- ---- The start
 
-  module _ (heights names : List ℕ) (few : faces < 2 ^ 32) (blank : heights ≡ replicate faces unreached) (as_many : faces ≤ length names) where
+  module _ (heights names : List ℕ) (few : faces < 2 ^ 32) (blank : heights ≡ replicate faces unreached) (none : names ≡ []) where
     blank_face : (f : ℕ) → f < faces → slice_index heights f ≡ unreached
     blank_face f l = ap (λ (xs : List ℕ). slice_index xs f) blank ∙ get_or-replicate faces f unreached 0 l
 
@@ -50,8 +51,7 @@ module _ (price : Pricing) (g : Named) (lawful : Lawful g.rows) (has : IsNamed g
       labelled = record {
         few = few;
         one_each = one_each;
-        as_many = as_many;
-        named = λ f l some. absurd (some (blank_face f l));
+        named = λ k h. absurd (false≢true (sym (ap (λ (ks : List ℕ). has_id ks k) none) ∙ h));
         inside = λ f l some. absurd (some (blank_face f l));
       };
       capped = face_capped;
@@ -79,7 +79,7 @@ module _ (price : Pricing) (g : Named) (lawful : Lawful g.rows) (has : IsNamed g
   -- no face is reached, and none waits
   pub record IsBlank (heights names waiting : List ℕ) : Type 0 where
     pub heights_are : heights ≡ replicate faces unreached
-    pub as_many : faces ≤ length names
+    pub none_named : names ≡ []
     pub none_waits : waiting ≡ []
 
   -- the corners of v are reached, and then those of u
@@ -93,10 +93,10 @@ module _ (price : Pricing) (g : Named) (lawful : Lawful g.rows) (has : IsNamed g
   started_both {blank} {names} {none} {others} {names'} {coming} {heights} {on_names} {waiting} {distances} {back_names} {coming'} {l} {l'} {l''} few
       empty empty' on at_target back at_start = record {
         on = narrowed price g face faces v heights on_names waiting (λ k. unreached) (λ k. reach_of l'') (reach_of l') (reach_of l'') g.size
-            (on.spreads (λ k. unreached) (blank_spreads blank names few empty.heights_are empty.as_many v (reach_of l) none empty.none_waits))
+            (on.spreads (λ k. unreached) (blank_spreads blank names few empty.heights_are empty.none_named v (reach_of l) none empty.none_waits))
             (λ k. omega arith) (omega (arith, back.less));
         back = narrowed price g face faces u distances back_names coming' (λ k. unreached) (λ k. reach_of l'') (reach_of l'') (reach_of l'') g.size
-            (back.spreads (λ k. unreached) (blank_spreads others names' few empty'.heights_are empty'.as_many u (reach_of l') coming empty'.none_waits))
+            (back.spreads (λ k. unreached) (blank_spreads others names' few empty'.heights_are empty'.none_named u (reach_of l') coming empty'.none_waits))
             (λ k. omega arith) (omega arith);
         sums = sums_swapped g has (dart_heights g face distances) (dart_heights g face heights) l'' (one_for_each g face distances)
             (one_for_each g face heights) back.sums;

@@ -1,16 +1,12 @@
 -- Arrays that are blank, and numbers written in them.
-use Rattle.std.proofs.Common.{◌≡◌, ◌≢◌, ◌∙◌, ◌<◌, ◌≤◌, ◌+◌, ◌-◌, ◌∷◌, ◌++◌, ◌||◌, ◌==◌, ◌⊎◌, [], ℕ, suc, zero, Bool, false, true, List}
-use Rattle.std.proofs.Common.{ap, arith, eq-eqb, get_or-set_other, get_or-set_same, inl, inr, length, refl, replicate, sym, take}
-use Rattle.std.proofs.Math.Bool.{or-false}
+use Rattle.std.proofs.Common.{◌≡◌, ◌∙◌, ◌<◌, ◌≤◌, ◌+◌, ◌-◌, ◌∷◌, ◌++◌, [], ℕ, suc, zero, Bool, List}
+use Rattle.std.proofs.Common.{ap, arith, get_or-set_other, get_or-set_same, inl, inr, length, refl, replicate, sym, take}
 use Rattle.std.proofs.Math.ListN.{set}
-use Rattle.std.proofs.lemmas.Bool.{cases_eq, cases_lt, eqb-true, le-ltb, lt-ltb}
+use Rattle.std.proofs.lemmas.Bool.{cases_eq, cases_lt, le-ltb, lt-ltb}
 use Rattle.std.proofs.lemmas.List.{get_or-map, length-map, length-set}
-use Rattle.std.proofs.lemmas.List.Folds.{list_any-append}
 use Rattle.std.specs.Prelude.{cond, map, slice_index}
-use Rattle.topo_core.specs.Items.{has_id}
 use Rattle.topo_core.specs.Routes.{unreached}
-use Rattle.topo_core.proofs.numbering.NumberOrder.{either}
-use Rattle.topo_route.specs.StampedArrays.{AreAtLeast, AreWritten, SaysTheSame, blank_word, height_limit, moved_word, read_all, read_from}
+use Rattle.topo_route.specs.StampedArrays.{AreAtLeast, AreWords, SaysTheSame, blank_word, height_limit, moved_word, read_all, read_from}
 
 -- a word of the epoch says how far it is above the base
 pub reads_number : (base span word : ℕ) → word - base < span → read_from base span word ≡ word - base
@@ -125,16 +121,10 @@ module _ (base span wider : ℕ) (more : span ≤ wider) (half : wider + wider �
     | inr past ↦ (let at = goes word past in omega (arith, at))
   ]
 
-  was_there : (word : ℕ) → moved word - (blank_word - wider) < wider → word - base < span
-  was_there word here = elim (cases_lt (word - base) span) [
-    | inl less ↦ less
-    | inr past ↦ absurd (let at = goes word past in omega (arith, at, here))
-  ]
-
   -- a wider epoch says the same
-  pub widened : (len : ℕ) (words written : List ℕ) → AreWritten base span len words written
-      → SaysTheSame base span words (blank_word - wider) wider (map (moved_word base span wider) words) len written
-  widened len words written are =
+  pub widened : (len : ℕ) (words : List ℕ) → AreWords base span len words
+      → SaysTheSame base span words (blank_word - wider) wider (map (moved_word base span wider) words) len
+  widened len words are =
       let as_many = length-map words moved in
       let at = λ (k : ℕ) (inside : k < length words). get_or-map moved words k 0 0 inside in record {
         are = record {
@@ -142,79 +132,23 @@ module _ (base span wider : ℕ) (more : span ≤ wider) (half : wider + wider �
           above = λ k inside. let is = at k (omega (arith, as_many, inside)) in let h = high (slice_index words k) in omega (arith, is, h);
           room = omega arith;
           half = half;
-          listed = λ k within here.
-              let is = at k (omega (arith, are.as_many, within)) in
-              are.listed k within (was_there (slice_index words k) (omega (arith, is, here)));
-          there = are.there;
         };
         reads = say_the_same len words;
       }
 
--- ---- The list of the places that are written
-
-second_holds : (a b : Bool) → b ≡ true → (a || b) ≡ true
-second_holds true b h = refl
-second_holds false b h = h
-
--- what stands in a list after another item has been added
-pub listed_more : (xs : List ℕ) (k j : ℕ) → has_id (xs ++ k ∷ []) j ≡ (has_id xs j || k == j)
-listed_more xs k j = list_any-append (λ y. y == j) xs (k ∷ []) ∙ ap (λ b. has_id xs j || b) (or-false (k == j))
-
--- a list in which a place stands, and else what stood there before
-pub record Lists (before after : List ℕ) (k : ℕ) : Type 0 where
-  pub itself : has_id after k ≡ true
-  pub stays : (j : ℕ) → has_id before j ≡ true → has_id after j ≡ true
-  pub came : (j : ℕ) → has_id after j ≡ true → (j ≡ k) ⊎ (has_id before j ≡ true)
-
-pub lists_added : (xs : List ℕ) (k : ℕ) → Lists xs (xs ++ k ∷ []) k
-lists_added xs k = record {
-  itself = listed_more xs k k ∙ second_holds (has_id xs k) (k == k) (eq-eqb k k refl);
-  stays = λ j h. listed_more xs k j ∙ ap (λ b. b || k == j) h;
-  came = λ j h. elim (either (has_id xs j) (k == j) (sym (listed_more xs k j) ∙ h)) [
-    | inl was ↦ inr was
-    | inr is ↦ inl (sym (eqb-true k j is))
-  ];
-}
-
-pub lists_already : (xs : List ℕ) (k : ℕ) → has_id xs k ≡ true → Lists xs xs k
-lists_already xs k h = record { itself = h; stays = λ j l. l; came = λ j l. inr l }
-
--- a number is written at a place that is listed
-pub number_written : (base span len : ℕ) (words before after : List ℕ) (k number : ℕ) → AreWritten base span len words before → Lists before after k → k < len
-    → AreWritten base span len (set words k (base + number)) after
-number_written base span len words before after k number written lists inside =
+-- a number is written
+pub number_written : (base span len : ℕ) (words : List ℕ) (k number : ℕ) → AreWords base span len words → AreWords base span len (set words k (base + number))
+number_written base span len words k number are =
     let same = length-set words k (base + number) in
-    let as_many = written.as_many in
+    let as_many = are.as_many in
     record {
       as_many = omega arith;
       above = λ j within. elim (cases_eq j k) [
-        | inl e ↦ let here = get_or-set_same words k (base + number) 0 (omega arith) in let at : slice_index (set words k (base + number)) j ≡ base + number =
-            ap (slice_index (set words k (base + number))) e ∙ here in omega arith
-        | inr ne ↦ let there = get_or-set_other words k j (base + number) 0 ne in let was = written.above j (omega arith) in omega arith
+        | inl e ↦
+            let here = get_or-set_same words k (base + number) 0 (omega (arith, e, within)) in
+            let at : slice_index (set words k (base + number)) j ≡ base + number = ap (slice_index (set words k (base + number))) e ∙ here in omega arith
+        | inr ne ↦ let there = get_or-set_other words k j (base + number) 0 ne in let was = are.above j (omega arith) in omega arith
       ];
-      room = written.room;
-      half = written.half;
-      listed = λ j within at. elim (cases_eq j k) [
-        | inl e ↦ ap (has_id after) e ∙ lists.itself
-        | inr ne ↦ let there = get_or-set_other words k j (base + number) 0 ne in lists.stays j (written.listed j within (omega arith))
-      ];
-      there = λ j h. elim (lists.came j h) [
-        | inl e ↦ omega arith
-        | inr was ↦ written.there j was
-      ];
+      room = are.room;
+      half = are.half;
     }
-
--- what is read as a number is written
-pub read_written : (base span len : ℕ) (words written : List ℕ) → AreWritten base span len words written → (k : ℕ) → k < length (read_all base span len words)
-    → slice_index (read_all base span len words) k ≢ unreached → has_id written k ≡ true
-read_written base span len words written are k within some =
-    let long = all_long base span len words are.as_many in
-    let inside : k < len = omega arith in
-    elim (cases_lt (slice_index words k - base) span) [
-      | inl less ↦ are.listed k inside less
-      | inr more ↦ absurd (some (read_at base span len words k inside are.as_many ∙ reads_blank base span (slice_index words k) more))
-    ]
-
-pub written_within : (base span len : ℕ) (words written : List ℕ) → AreWritten base span len words written → (k : ℕ) → has_id written k ≡ true
-    → k < length (read_all base span len words)
-written_within base span len words written are k h = let long = all_long base span len words are.as_many in let less = are.there k h in omega arith

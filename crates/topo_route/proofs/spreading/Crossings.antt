@@ -5,7 +5,7 @@ use Rattle.std.proofs.Math.ListN.{set}
 use Rattle.topo_core.specs.Lawful.{Lawful}
 use Rattle.topo_core.specs.Routes.{KeepsPromise, Price, Pricing, Reaches}
 use Rattle.topo_core.proofs.routing.Certificates.{single_price}
-use Rattle.topo_route.specs.FaceHeights.{dart_heights}
+use Rattle.topo_route.specs.FaceHeights.{dart_heights, with_name}
 use Rattle.topo_route.specs.Names.{HasFaces, IsName, IsNamed, Named, dart_named, twin_name}
 use Rattle.topo_route.specs.Settling.{AreFaceCosts, IsCrossed, IsReached, Spreads, is_waiting, item_of, reached}
 use Rattle.topo_route.proofs.spreading.FaceHeights.{face_lowered, face_other, one_height}
@@ -36,13 +36,13 @@ module _ (price : Pricing) (g : Named) (lawful : Lawful g.rows) (has : IsNamed g
   inside : face other < length heights
   inside = has_face has_faces costs other there
 
-  pub twin_costs : AreFaceCosts price g face faces v (set heights (face other) x) (set names (face other) other)
+  pub twin_costs : AreFaceCosts price g face faces v (set heights (face other) x) (with_name heights (face other) other names)
   twin_costs = lowered_costs price g has face faces has_faces v heights names costs other x there (omega arith) walk near
 
   -- the twin waits
   pub twin_waits : (top : ℕ → ℕ) (waiting' : List ℕ) → other < 2 ^ 32 → ((i : ℕ) → is_waiting waiting' i ≡ (item_of other x == i || is_waiting waiting i))
       → Spreads price g face faces v top reach heights names waiting d
-      → Spreads price g face faces v top reach (set heights (face other) x) (set names (face other) other) waiting' d
+      → Spreads price g face faces v top reach (set heights (face other) x) (with_name heights (face other) other names) waiting' d
   twin_waits top waiting' short added spreads =
       lowered_waits price g has face faces has_faces v heights names costs other x there (omega arith)
       walk near top reach waiting waiting' d short spreads added

@@ -8,7 +8,7 @@ use Rattle.topo_core.specs.Cycles.{after}
 use Rattle.topo_core.specs.Lawful.{Lawful}
 use Rattle.topo_core.specs.Picture.{corner}
 use Rattle.topo_core.specs.Routes.{KeepsPromise, Price, Pricing, Reaches}
-use Rattle.topo_route.specs.FaceHeights.{dart_heights}
+use Rattle.topo_route.specs.FaceHeights.{dart_heights, with_name}
 use Rattle.topo_route.specs.Names.{HasFaces, IsName, IsNamed, Named, dart_named, height_of, next_name, twin_name}
 use Rattle.topo_route.specs.Settling.{AreFaceCosts, AreLowered, AreSums, IsCrossed, IsReached}
 use Rattle.topo_route.specs.Settling.{Relaxes, Spreads, is_pending, is_waiting, item_of, number_at, reach_of}
@@ -51,17 +51,17 @@ module _ (price : Pricing) (g : Named) (lawful : Lawful g.rows) (has : IsNamed g
   -- a face is lowered and waits
   lowered_relaxes : {heights names waiting waiting' : List ℕ} {least lower t : ℕ} (x d : ℕ)
       → AreSums g (dart_heights g face heights) (dart_heights g face others) least → IsName g t → AreFaceCosts price g face faces v heights names
-      → x < slice_index (dart_heights g face heights) t → AreFaceCosts price g face faces v (set heights (face t) x) (set names (face t) t)
+      → x < slice_index (dart_heights g face heights) t → AreFaceCosts price g face faces v (set heights (face t) x) (with_name heights (face t) t names)
       → lower ≡ min least (x + number_at others (face t)) → length waiting' ≡ length waiting + 1
       → ((top : ℕ → ℕ) → Spreads price g face faces v top (reach_of least) heights names waiting d
-      → Spreads price g face faces v top (reach_of least) (set heights (face t) x) (set names (face t) t) waiting' d)
-      → Relaxes price g face faces v others heights names waiting least d (set heights (face t) x) (set names (face t) t) waiting' lower d
+      → Spreads price g face faces v top (reach_of least) (set heights (face t) x) (with_name heights (face t) t names) waiting' d)
+      → Relaxes price g face faces v others heights names waiting least d (set heights (face t) x) (with_name heights (face t) t names) waiting' lower d
   lowered_relaxes {heights} {names} {waiting} {waiting'} {least} {lower} {t} x d sums there costs low now is longer waits =
       let within = has_face has_faces costs t there in
       let at = of_face price g has face faces has_faces v heights names costs t there in
       let less = passed_effort heights waiting (face t) x within (omega arith) in
       record {
-        spreads = λ top s. narrowed price g face faces v (set heights (face t) x) (set names (face t) t) waiting' top top (reach_of least)
+        spreads = λ top s. narrowed price g face faces v (set heights (face t) x) (with_name heights (face t) t names) waiting' top top (reach_of least)
             (reach_of lower) d (waits top s) (λ k. omega arith) (omega arith);
         costs = now;
         sums = sums_lowered has face heights others x there within (omega arith) sums is;
@@ -85,7 +85,7 @@ module _ (price : Pricing) (g : Named) (lawful : Lawful g.rows) (has : IsNamed g
       → ((i : ℕ) → is_waiting waiting' i ≡ (item_of other (slice_index (dart_heights g face heights) d + p) == i || is_waiting waiting i))
       → length waiting' ≡ length waiting + 1
       → Relaxes price g face faces v others heights names waiting least d (set heights (face other) (slice_index (dart_heights g face heights) d + p))
-      (set names (face other) other) waiting' lower d
+      (with_name heights (face other) other names) waiting' lower d
   twin_relaxes {heights} {names} {waiting} {waiting'} {least} {lower} {d} {other} {p} sums costs in_hand promise asked twin low least_is added longer =
       lowered_relaxes (slice_index (dart_heights g face heights) d + p) d sums twin.there costs (omega arith)
       (twin_costs price g lawful has face faces has_faces v (reach_of least) heights names waiting d other p costs in_hand promise asked twin.is twin.there low)
@@ -179,7 +179,7 @@ module _ (price : Pricing) (g : Named) (lawful : Lawful g.rows) (has : IsNamed g
       (at : corner g.rows v i ≡ Some (dart_named g c)) (high : 0 < slice_index (dart_heights g face heights) c) (short : c < 2 ^ 32) where
     pub started : lower ≡ min least (number_at others (face c)) → ((i : ℕ) → is_waiting waiting' i ≡ (item_of c 0 == i || is_waiting waiting i))
         → length waiting' ≡ length waiting + 1
-        → Relaxes price g face faces v others heights names waiting least g.size (set heights (face c) 0) (set names (face c) c) waiting' lower g.size
+        → Relaxes price g face faces v others heights names waiting least g.size (set heights (face c) 0) (with_name heights (face c) c names) waiting' lower g.size
     started is added longer =
         let walk : Reaches price g.rows v (dart_named g c) 0 =
         record { crossed = []; position = i; to = dart_named g c; ends = at; walk = record { steps = 0; leads = refl }; cost = refl } in

@@ -1,19 +1,20 @@
 -- How heights spread: faces are lowered, wait and are settled, said of darts by their names.
-use Rattle.std.proofs.Common.{◌≡◌, ◌≢◌, ℕ, ◌+◌, ◌*◌, ◌^◌, ◌<◌, ◌≤◌, ◌||◌, ◌==◌, Bool, true, false, cond, List}
+use Rattle.std.proofs.Common.{◌≡◌, ◌≢◌, ℕ, ◌+◌, ◌*◌, ◌^◌, ◌<◌, ◌≤◌, ◌||◌, ◌==◌, ◌++◌, ◌∷◌, [], Bool, true, false, cond, List}
 use Rattle.std.proofs.Common.{length, inl, inr, refl, sym, ap, subst, ◌∙◌, arith, get_or-set_same, get_or-set_other}
 use Rattle.std.specs.Prelude.{slice_index, sum_by}
 use Rattle.std.proofs.Math.ListN.{set}
-use Rattle.std.proofs.lemmas.Bool.{cases_eq, cases_lt, eqb-true, eq-eqb, ne_eqb, false≢true}
+use Rattle.std.proofs.lemmas.Bool.{cases_Bool, cases_eq, cases_lt, eqb-true, eq-eqb, ne_eqb, false≢true}
 use Rattle.std.proofs.lemmas.List.{length-set}
 use Rattle.std.proofs.lemmas.List.Sums.{sum_by-set}
 use Rattle.topo_core.specs.Routes.{Pricing, Reaches, unreached}
 use Rattle.topo_core.proofs.numbering.NumberOrder.{either}
-use Rattle.topo_route.specs.FaceHeights.{AreLabelled, dart_heights}
+use Rattle.topo_route.specs.FaceHeights.{AreLabelled, dart_heights, with_name}
 use Rattle.topo_route.specs.Names.{HasFaces, IsName, IsNamed, Named, dart_named, height_of, next_name, twin_name}
 use Rattle.topo_route.specs.Plans.{IsZeroAt}
 use Rattle.topo_route.specs.Settling.{AreCosts, AreFaceCosts, AreLowered, IsReached, IsSettled}
 use Rattle.topo_route.specs.Settling.{Spreads, dart_of_item, effort, is_pending, is_waiting, item_of, reached}
 use Rattle.topo_route.proofs.spreading.FaceHeights.{dart_capped, face_less, face_lowered, face_other, height_by_face, one_for_each, one_height, reached_named}
+use Rattle.topo_route.proofs.spreading.Listed.{lists_added}
 use Rattle.topo_route.proofs.spreading.FaceWalks.{crosses_from}
 use Rattle.topo_route.proofs.spreading.Fits.{counts, reached_within}
 use Rattle.topo_route.proofs.names.Names.{name_below}
@@ -102,23 +103,43 @@ module _ (price : Pricing) (g : Named) (has : IsNamed g) (face : ℕ → ℕ) (f
     face_capped : (f : ℕ) → slice_index heights' f ≤ unreached
     face_capped f = let cap = costs.capped f in let less = lowered_less heights (face t) x inside f (omega (arith, low_face)) in omega arith
 
-    labelled : AreLabelled g face faces heights' (set names (face t) t)
-    labelled =
-        let was = costs.labelled in
-        let room : face t < length names = omega (arith, was.as_many, has_faces.within t there) in record {
+    labelled_anew : AreLabelled g face faces heights' (names ++ t ∷ [])
+    labelled_anew =
+        let lists = lists_added names t in
+        let was = costs.labelled in record {
           few = was.few;
           one_each = length-set heights (face t) x ∙ was.one_each;
-          as_many = omega (arith, length-set names (face t) t, was.as_many);
-          named = λ f l reached. elim (cases_eq f (face t)) [
-            | inl e ↦ subst (IsName g) (sym (ap (slice_index (set names (face t) t)) e ∙ lowered_there names (face t) t room)) there
-            | inr ne ↦ subst (IsName g) (sym (lowered_other names (face t) t room f ne))
-                (was.named f l (λ e. reached (lowered_other heights (face t) x inside f ne ∙ e)))
+          named = λ k h. elim (lists.came k h) [
+            | inl is ↦ subst (IsName g) (sym is) there
+            | inr earlier ↦ was.named k earlier
           ];
           inside = λ f l reached. elim (cases_eq f (face t)) [
-            | inl e ↦ ap face (ap (slice_index (set names (face t) t)) e ∙ lowered_there names (face t) t room) ∙ sym e
-            | inr ne ↦ ap face (lowered_other names (face t) t room f ne) ∙ was.inside f l (λ e. reached (lowered_other heights (face t) x inside f ne ∙ e))
+            | inl e ↦ (t, lists.itself, sym e)
+            | inr ne ↦
+                let (k, h, is) = was.inside f l (λ e. reached (lowered_other heights (face t) x inside f ne ∙ e)) in
+                (k, lists.stays k h, is)
           ];
         }
+
+    labelled_again : slice_index heights (face t) ≢ unreached → AreLabelled g face faces heights' names
+    labelled_again again =
+        let was = costs.labelled in record {
+          few = was.few;
+          one_each = length-set heights (face t) x ∙ was.one_each;
+          named = was.named;
+          inside = λ f l reached. elim (cases_eq f (face t)) [
+            | inl e ↦ was.inside f l (λ z. again (ap (slice_index heights) (sym e) ∙ z))
+            | inr ne ↦ was.inside f l (λ e. reached (lowered_other heights (face t) x inside f ne ∙ e))
+          ];
+        }
+
+    labelled : AreLabelled g face faces heights' (with_name heights (face t) t names)
+    labelled =
+        let Labelled = λ (b : Bool). AreLabelled g face faces heights' (cond {A = List ℕ} b (names ++ t ∷ []) names) in
+        elim (cases_Bool (slice_index heights (face t) == unreached)) [
+          | inl anew ↦ subst Labelled (sym anew) labelled_anew
+          | inr again ↦ subst Labelled (sym again) (labelled_again (λ e. false≢true (sym again ∙ eq-eqb (slice_index heights (face t)) unreached e)))
+        ]
 
     -- darts that were reached are
     pub lowered_stays : (k : ℕ) → slice_index of_darts k ≢ unreached → slice_index after k ≢ unreached
@@ -155,7 +176,7 @@ module _ (price : Pricing) (g : Named) (has : IsNamed g) (face : ℕ → ℕ) (f
     }
 
     -- a lower cost keeps heights costs
-    pub lowered_costs : AreFaceCosts price g face faces v heights' (set names (face t) t)
+    pub lowered_costs : AreFaceCosts price g face faces v heights' (with_name heights (face t) t names)
     lowered_costs = record { labelled = labelled; capped = face_capped; bounded = face_near; costs = dart_costs }
 
     pub lowered_settled : (bound k : ℕ) → (IsName g k → face k ≢ face t) → IsSettled price g bound of_darts k → IsSettled price g bound after k
@@ -169,7 +190,7 @@ module _ (price : Pricing) (g : Named) (has : IsNamed g) (face : ℕ → ℕ) (f
     pub lowered_waits : (top : ℕ → ℕ) (reach : ℕ) (waiting waiting' : List ℕ) (in_hand : ℕ) → t < 2 ^ 32
         → Spreads price g face faces v top reach heights names waiting in_hand
         → ((i : ℕ) → is_waiting waiting' i ≡ (item_of t x == i || is_waiting waiting i))
-        → Spreads price g face faces v top reach heights' (set names (face t) t) waiting' in_hand
+        → Spreads price g face faces v top reach heights' (with_name heights (face t) t names) waiting' in_hand
     lowered_waits top reach waiting waiting' in_hand short spreads added = record {
       costs = lowered_costs;
       others = λ k l ne less idle.

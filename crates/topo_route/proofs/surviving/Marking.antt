@@ -1,6 +1,6 @@
 -- A region grows by the edges of darts, and what is written is gone through.
 use Rattle.std.proofs.Common.{◌≡◌, ◌≢◌, ℕ, zero, suc, ◌+◌, ◌<◌, ◌≤◌, ◌||◌, ◌==◌, true, List, [], ◌∷◌}
-use Rattle.std.proofs.Common.{length, Some, inl, inr, ◌⊎◌, refl, sym, ap, subst, eq-eqb, ◌∙◌, arith}
+use Rattle.std.proofs.Common.{length, map, Some, inl, inr, ◌⊎◌, refl, sym, ap, subst, eq-eqb, ◌∙◌, arith}
 use Rattle.std.specs.Prelude.{is_some, slice_index}
 use Rattle.std.proofs.Math.Bool.{or-true}
 use Rattle.std.proofs.lemmas.Bool.{cases_lt, eqb-true, false≢true}
@@ -37,6 +37,14 @@ listed_at [] k h = absurd (false≢true h)
 listed_at (x ∷ xs) k h = elim (either (x == k) (has_id xs k) h) [
   | inl e ↦ (0, omega arith, eqb-true x k e)
   | inr rest ↦ let (i, less, is) = listed_at xs k rest in (suc i, omega arith, is)
+]
+
+-- the face of a dart of the list stands among the faces
+pub listed_face : (face : ℕ → ℕ) (xs : List ℕ) (k : ℕ) → has_id xs k ≡ true → has_id (map face xs) (face k) ≡ true
+listed_face face [] k h = absurd (false≢true h)
+listed_face face (x ∷ xs) k h = elim (either (x == k) (has_id xs k) h) [
+  | inl e ↦ ap (λ b. b || has_id (map face xs) (face k)) (eq-eqb (face x) (face k) (ap face (eqb-true x k e)))
+  | inr rest ↦ ap (λ b. face x == face k || b) (listed_face face xs k rest) ∙ or-true (face x == face k)
 ]
 
 -- ---- One edge more

@@ -1,4 +1,4 @@
-use Rattle.std.proofs.Common.{◌≡◌, ◌≤◌, ◌∙◌, ◌<◌, ◌^◌, List, ℕ, ap, arith, length, replicate, subst}
+use Rattle.std.proofs.Common.{◌≡◌, ◌∙◌, ◌<◌, ◌^◌, List, ℕ, ap, arith, replicate, subst}
 use Rattle.std.specs.Prelude.{min}
 use Rattle.topo_core.specs.Routes.{unreached}
 use Rattle.topo_price.specs.Prices.{prices_of}
@@ -22,11 +22,10 @@ start_at-requires g c =
     let has_faces = g.met.W.FaceGraph.has_faces graph in
     let few : faces < 2 ^ 32 = omega (arith, c.faces-faces.ensures, c.faces-faces.type_inv) in
     let blank = c.in_ok-clear.ensures.heights ∙ ap (λ (n : ℕ). replicate n unreached) c.faces-faces.ensures in
-    let many : faces ≤ length c.clear.new.self.names.items = omega (arith, c.in_ok-clear.ensures.names, c.faces-faces.ensures) in
     record {
       costs = blank_costs price named lawful has face faces has_faces c.args.v c.args.v c.clear.new.self.heights c.clear.new.self.names.items few
-          blank many c.args.v;
-      sums = blank_sums price named lawful has face faces has_faces c.args.v c.args.v c.clear.new.self.heights c.clear.new.self.names.items few blank many
+          blank c.in_ok-clear.ensures.names c.args.v;
+      sums = blank_sums price named lawful has face faces has_faces c.args.v c.args.v c.clear.new.self.heights c.clear.new.self.names.items few blank c.in_ok-clear.ensures.names
           c.args.work.now.to_start.heights;
     }
 
@@ -42,13 +41,12 @@ spread-requires-clause-spreads g c =
     let has_faces = g.met.W.FaceGraph.has_faces graph in
     let few : faces < 2 ^ 32 = omega (arith, c.faces-faces.ensures, c.faces-faces.type_inv) in
     let blank = c.in_ok-clear.ensures.heights ∙ ap (λ (n : ℕ). replicate n unreached) c.faces-faces.ensures in
-    let many : faces ≤ length c.clear.new.self.names.items = omega (arith, c.in_ok-clear.ensures.names, c.faces-faces.ensures) in
     let reach = reach_of c.start_at.new.least in
     let now = c.start_at.new.self in
     narrowed price named face faces c.args.v now.heights now.names.items now.waiting (λ k. unreached)
     (top_of 18446744073709551615 (min 0 c.start_at.new.least) (dart_heights named face c.args.work.now.to_start.heights)) reach reach named.size
     (c.in_ok-start_at.ensures.relaxes.spreads (λ k. unreached)
-    (blank_spreads price named lawful has face faces has_faces c.args.v c.args.v c.clear.new.self.heights c.clear.new.self.names.items few blank many c.args.v
+    (blank_spreads price named lawful has face faces has_faces c.args.v c.args.v c.clear.new.self.heights c.clear.new.self.names.items few blank c.in_ok-clear.ensures.names c.args.v
     (reach_of 18446744073709551615) c.clear.new.self.waiting
     c.in_ok-clear.ensures.waiting)) (λ k. omega arith) (omega arith)
 

@@ -1,4 +1,4 @@
-use Rattle.std.proofs.Common.{◌≡◌, ◌≤◌, ◌<◌, ◌^◌, ◌∙◌, ℕ, ap, arith, length, replicate}
+use Rattle.std.proofs.Common.{◌≡◌, ◌<◌, ◌^◌, ◌∙◌, ℕ, ap, arith, replicate}
 use Rattle.topo_core.specs.Routes.{unreached}
 use Rattle.topo_price.specs.Prices.{prices_of}
 use Rattle.topo_route.proofs.meeting.Ending.{blank_costs, blank_sums, started_both}
@@ -18,11 +18,10 @@ start_at-requires g c =
     let has_faces = g.met.W.FaceGraph.has_faces graph in
     let few : faces < 2 ^ 32 = omega (arith, c.faces-faces.ensures, c.faces-faces.type_inv) in
     let blank = c.in_ok-clear.ensures.heights ∙ ap (λ (n : ℕ). replicate n unreached) c.faces-faces.ensures in
-    let many : faces ≤ length c.clear.new.self.names.items = omega (arith, c.in_ok-clear.ensures.names, c.faces-faces.ensures) in
     record {
       costs = blank_costs price named lawful has face faces has_faces c.args.u c.args.v c.clear.new.self.heights c.clear.new.self.names.items few
-          blank many c.args.v;
-      sums = blank_sums price named lawful has face faces has_faces c.args.u c.args.v c.clear.new.self.heights c.clear.new.self.names.items few blank many
+          blank c.in_ok-clear.ensures.names c.args.v;
+      sums = blank_sums price named lawful has face faces has_faces c.args.u c.args.v c.clear.new.self.heights c.clear.new.self.names.items few blank c.in_ok-clear.ensures.names
           c.clear-2.new.self.heights;
     }
 
@@ -38,10 +37,9 @@ start_at-requires-2 g c =
     let has_faces = g.met.W.FaceGraph.has_faces graph in
     let few : faces < 2 ^ 32 = omega (arith, c.faces-faces.ensures, c.faces-faces.type_inv) in
     let blank = c.in_ok-clear-2.ensures.heights ∙ ap (λ (n : ℕ). replicate n unreached) c.faces-faces.ensures in
-    let many : faces ≤ length c.clear-2.new.self.names.items = omega (arith, c.in_ok-clear-2.ensures.names, c.faces-faces.ensures) in
     record {
       costs = blank_costs price named lawful has face faces has_faces c.args.u c.args.v c.clear-2.new.self.heights c.clear-2.new.self.names.items few
-          blank many c.args.u;
+          blank c.in_ok-clear-2.ensures.names c.args.u;
       sums = sums_swapped named has _ _ c.start_at.new.least (one_for_each named face _) (one_for_each named face _) c.in_ok-start_at.ensures.relaxes.sums;
     }
 
@@ -57,9 +55,7 @@ returns g c =
     let has_faces = g.met.W.FaceGraph.has_faces graph in
     let few : faces < 2 ^ 32 = omega (arith, c.faces-faces.ensures, c.faces-faces.type_inv) in
     let whole : replicate c.faces-faces.result unreached ≡ replicate faces unreached = ap (λ (n : ℕ). replicate n unreached) c.faces-faces.ensures in
-    let many : faces ≤ length c.clear.new.self.names.items = omega (arith, c.in_ok-clear.ensures.names, c.faces-faces.ensures) in
-    let many' : faces ≤ length c.clear-2.new.self.names.items = omega (arith, c.in_ok-clear-2.ensures.names, c.faces-faces.ensures) in
     started_both price named lawful has face faces has_faces c.args.u c.args.v few
-    (record { heights_are = c.in_ok-clear.ensures.heights ∙ whole; as_many = many; none_waits = c.in_ok-clear.ensures.waiting })
-    (record { heights_are = c.in_ok-clear-2.ensures.heights ∙ whole; as_many = many'; none_waits = c.in_ok-clear-2.ensures.waiting })
+    (record { heights_are = c.in_ok-clear.ensures.heights ∙ whole; none_named = c.in_ok-clear.ensures.names; none_waits = c.in_ok-clear.ensures.waiting })
+    (record { heights_are = c.in_ok-clear-2.ensures.heights ∙ whole; none_named = c.in_ok-clear-2.ensures.names; none_waits = c.in_ok-clear-2.ensures.waiting })
     c.in_ok-start_at.ensures.relaxes c.in_ok-start_at.ensures.ends c.in_ok-start_at-2.ensures.relaxes c.in_ok-start_at-2.ensures.ends

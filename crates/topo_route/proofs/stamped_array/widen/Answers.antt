@@ -9,7 +9,7 @@ written_back : (n : ℕ) (xs ys : List ℕ) → length ys ≡ n → take n (ys +
 written_back n xs ys long = grind (arith, common_steps)
 
 pub returns-clause-same : goal.returns-clause-same
-returns-clause-same c len written are =
+returns-clause-same c len are =
     let words = c.args.words.now.items in
     let base = c.args.base.now in
     let span = c.args.span.now in
@@ -20,5 +20,5 @@ returns-clause-same c len written are =
     let long : length c.move_words.new.words ≡ c.args.words.now.len =
     ap (λ (xs : List ℕ). length xs) is ∙ length-map words (moved_word base span wider) ∙ sym c.args.words.now.ok.0 in
     let same = written_back c.args.words.now.len words c.move_words.new.words long ∙ is in
-    subst (λ (xs : List ℕ). SaysTheSame base span words (blank_word - wider) wider xs len written) (sym same)
-    (widened base span wider (omega (arith, c.min-wider.ensures, c.if-number-span.false)) (omega (arith, c.min-wider.ensures)) len words written are)
+    subst (λ (xs : List ℕ). SaysTheSame base span words (blank_word - wider) wider xs len) (sym same)
+    (widened base span wider (omega (arith, c.min-wider.ensures, c.if-number-span.false)) (omega (arith, c.min-wider.ensures)) len words are)

@@ -5,7 +5,7 @@ use Rattle.topo_core.specs.declared.darts.Dart.{Dart}
 use Rattle.topo_core.specs.Picture.{corner}
 use Rattle.topo_price.specs.Prices.{prices_of}
 use Rattle.topo_route.specs.declared.spread.Labels.{Labels}
-use Rattle.topo_route.specs.FaceHeights.{dart_heights}
+use Rattle.topo_route.specs.FaceHeights.{dart_heights, with_name}
 use Rattle.topo_route.specs.Names.{dart_named, height_of}
 use Rattle.topo_route.specs.Settling.{is_waiting, item_of, number_at}
 use Rattle.topo_route.proofs.spreading.Relaxing.{both_steps, no_step, renamed, started, started_zero}
@@ -61,8 +61,8 @@ loop-position-preserved g c =
           let label : w.face_at-face.result ≡ face k = w.face_at-face.ensures.face in
           let hs_is : c.match-corner_at.self.heights ≡ set hs (face k) 0 = ap heights w.self-is ∙ w.in_ok-lower.ensures.heights
           ∙ ap (λ (f : ℕ). set hs f 0) label in
-          let ns_is : c.match-corner_at.self.names.items ≡ set ns (face k) k = ap names w.self-is ∙ w.in_ok-lower.ensures.names
-          ∙ ap (λ (f : ℕ). set ns f k) label in
+          let ns_is : c.match-corner_at.self.names.items ≡ with_name hs (face k) k ns = ap names w.self-is ∙ w.in_ok-lower.ensures.names
+          ∙ ap (λ (f : ℕ). with_name hs f k ns) label in
           let added : (i : ℕ) → is_waiting w.push.new.self i ≡ (item_of k 0 == i || is_waiting ws i) = λ i.
           w.in_ok-push.ensures.waits i ∙ ap (λ (j : ℕ). j == i || is_waiting w.lower.new.self.waiting i) w.item_of.ensures
           ∙ ap (λ (ys : List ℕ). item_of k 0 == i || is_waiting ys i) w.in_ok-lower.ensures.waiting in
