@@ -15,7 +15,6 @@ use Rattle.topo_core.specs.declared.rows.Rows.{Rows}
 use Rattle.topo_core.specs.History.{IsPrefix, IsVersion, Replays, is_accepted, versions}
 use Rattle.topo_core.specs.Lawful.{Lawful}
 use Rattle.topo_core.specs.Routes.{IsFirst, Pricing}
-use Rattle.topo_core.specs.Steps.{Step}
 use Rattle.topo_core.proofs.stepping.Replaying.{versions_replay}
 use Rattle.topo_rows.specs.Shown.{IsPicture}
 use Rattle.topo_route.specs.Regions.{AllSpare, IsFirstWhileKept, IsKept, IsRegionOf, RegionState, Spares, holds_edge}

@@ -8,7 +8,7 @@ use crate::replicas::{Replica, Replicas};
 use crate::route_source::RouteSource;
 use crate::scratch::Scratch;
 use crate::sparing::have_spared;
-use crate::steps::{apply_entry, apply_entry_unshared, decide};
+use crate::steps::{apply_entry, apply_entry_unshared, decide, decide_in_place};
 use std::alloc::{AllocError, Global};
 use std::marker::Model;
 use std::mem;
@@ -626,7 +626,7 @@ impl<F: PriceFn> Book<F> {
             return self.call_on_copy(alloc, caller, call, source);
         };
         self.history.reserve(1)?;
-        let reply = decide(
+        let reply = decide_in_place(
             alloc,
             picture,
             &self.tariff,

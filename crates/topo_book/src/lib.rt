@@ -31,6 +31,7 @@ mod replaying;
 mod replicas;
 mod route_source;
 mod scratch;
+mod search_cost;
 mod sparing;
 mod steps;
 

@@ -10,7 +10,7 @@ ghost use Rattle.topo_book.specs.Faults.{IsFaultOf, IsIllegalAt};
 
 use crate::route_source::RouteSource;
 use crate::scratch::Scratch;
-use crate::steps::{apply_entry, decide};
+use crate::steps::{apply_entry, decide_in_place};
 use std::alloc::{AllocError, Global};
 use std::fmt;
 use thiserror::Error;
@@ -86,7 +86,7 @@ fn replay_entry<F: PriceFn>(
     ensures same_limits { picture.new.limits ≡ picture.old.limits }
     ensures lawful { IsPicture picture.new.limits picture.new.rows }
 {
-    let reply = decide(
+    let reply = decide_in_place(
         alloc,
         picture,
         tariff,

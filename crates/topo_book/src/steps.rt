@@ -16,6 +16,7 @@ ghost use Rattle.topo_book.specs.RouteSources.{IsSourceFor, IsTrueOf};
 
 use crate::route_source::RouteSource;
 use crate::scratch::Scratch;
+use crate::search_cost::measure_if_due;
 use std::alloc::{AllocError, Global};
 use std::sync::Arc;
 use topo_core::calls::{Call, Entry, Refusal, Reply};
@@ -164,6 +165,27 @@ pub(crate) fn decide<F: PriceFn>(
             Err(why) => Ok(Reply::Refused(why)),
         },
     }
+}
+
+/// As `decide`, on a picture that nobody else reads, which is measured where that pays.
+pub(crate) fn decide_in_place<F: PriceFn>(
+    alloc: Global,
+    picture: &mut Picture,
+    tariff: &Tariff<F>,
+    call: Call,
+    source: RouteSource<PricedRoute>,
+    scratch: &mut Scratch,
+) -> Result<Reply, AllocError>
+    requires { IsSourceFor (prices_of (F.may_return tariff.now)) picture.old.rows call source }
+    ensures due { IfOk result
+        (IsDue (prices_of (F.may_return tariff.now)) picture.old.limits picture.old.rows call) }
+    ensures no_memory { IfOk result (λ reply. reply ≢ Refused Memory) }
+    ensures unchanged { picture.new ≡ picture.old }
+{
+    measure_if_due(alloc, picture, tariff, &mut scratch.cost);
+    let reply = decide(alloc, picture, tariff, call, source, scratch)?;
+    scratch.cost.note(&reply, scratch.work.reached());
+    Ok(reply)
 }
 
 /// Carries out in place what the reply of an entry says: an insertion along the route that it

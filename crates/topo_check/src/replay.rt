@@ -4,7 +4,7 @@ ghost use Rattle.std.specs.Prelude.{◌≡◌, ◌≤◌, ℕ, List, IfOk, IfErr
 ghost use Rattle.std.specs.Prelude.{None, slice_get, string_bytes};
 ghost use Rattle.topo_book.specs.Faults.{IsFaultOf, IsIllegalAt};
 ghost use Rattle.topo_core.specs.History.{Replays};
-ghost use Rattle.topo_price.specs.Prices.{IsPromise, first_bad, prices_of};
+ghost use Rattle.topo_price.specs.Prices.{AreFloors, IsPromise, first_bad, prices_of};
 ghost use Rattle.topo_check.specs.Replays.{IsReplayed, IsTrueReport, IsUntrue, ReplayFailsBy};
 ghost use Rattle.topo_check.specs.Replays.{TellsCalls, TellsUntrue, calls_line};
 ghost use Rattle.topo_forms.specs.Reads.{Gives};
@@ -15,7 +15,7 @@ ghost use Rattle.topo_core.specs.declared.rows.TheConstants.{MAX_PRICE};
 use std::alloc::{AllocError, Global};
 use std::io::{Read, Write};
 use topo_book::{ReplayFault, replay};
-use topo_core::rows::{Facts, Rows};
+use topo_core::rows::{Facts, KINDS, Rows};
 use topo_forms::row_forms::MAX_PICTURE_BYTES;
 use topo_forms::{Report, ScriptFault, read_report};
 use topo_picture::Picture;
@@ -153,6 +153,7 @@ fn priced_replay(
         (IsIllegalAt (priced report.now.prices)
         start.now.limits start.now.rows report.now.history) }
 {
+    let floors = table.floors();
     asked_replay(
         alloc,
         report,
@@ -161,6 +162,7 @@ fn priced_replay(
             ensures entry { slice_get table.entry.now facts.now.kind ≡ Some result }
             ensures in_range { IfSome result (λ n. (1 ≤ n) × (n ≤ MAX_PRICE)) }
         { table.price(facts.kind) },
+        floors,
     )
 }
 
@@ -170,9 +172,11 @@ fn asked_replay<F: PriceFn + Drop>(
     report: &Report,
     start: &Picture,
     ask: F,
+    floors: [u16; KINDS],
 ) -> Result<Picture, ReplayFault>
     requires callable { F.is_callable ask }
     requires promise { IsPromise (F.may_return ask) }
+    requires floors { AreFloors (prices_of (F.may_return ask)) floors }
     ensures replayed { IfOk result (λ p. Replays (prices_of (F.may_return ask))
         start.now.limits start.now.rows report.now.history p.rows) }
     ensures first_wrong { IfErr result
@@ -181,6 +185,6 @@ fn asked_replay<F: PriceFn + Drop>(
     ensures illegal { IfErr result (IsIllegalAt (prices_of (F.may_return ask))
         start.now.limits start.now.rows report.now.history) }
 {
-    let tariff = Tariff::new(ask);
+    let tariff = Tariff::with_floors(ask, floors);
     replay(alloc, start, report.history.as_slice(), &tariff)
 }

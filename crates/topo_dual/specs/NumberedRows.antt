@@ -1,4 +1,5 @@
 -- Rows with their darts as numbers: the lists that number them.
+use Rattle.std.proofs.Common.{arith, refl}
 use Rattle.std.specs.Prelude.{◌≡◌, ℕ, ◌<◌, true, List, length, map, slice_index}
 use Rattle.topo_core.specs.declared.darts.Dart.{Dart}
 use Rattle.topo_core.specs.declared.rows.Rows.{Rows}
@@ -9,6 +10,7 @@ use Rattle.topo_embedded.specs.Halves.{RowsWithPaths, half_in}
 use Rattle.topo_embedded.specs.KnownFaces.{faces_known}
 use Rattle.topo_route.specs.Names.{HasFaces, IsNamed, canonical, next_name}
 use Rattle.topo_route.proofs.names.Canonical.{canonical_named}
+use Rattle.topo_route.specs.Potentials.{AreConsistent, all_four}
 use Rattle.topo_rows.specs.Recovering.{lawful_again}
 
 -- rows of which it is known that they are lawful, and a label of the face of each dart by its number
@@ -46,3 +48,10 @@ names_again rows merely = canonical_named rows (lawful_again rows merely)
 -- and two darts have one label just where one face lies on their left
 pub faces_again : (shown : LawfulRows) → HasFaces (canonical shown.rows) (slice_index shown.faces) shown.bound
 faces_again shown = faces_known (canonical shown.rows) (lawful_again shown.rows shown.lawful) (slice_index shown.faces) shown.bound shown.told
+
+-- nothing guides a search
+pub never_guided : (shown : LawfulRows) → AreConsistent (canonical shown.rows) (λ _. all_four 0) (λ _. 0)
+never_guided shown = record {
+  even = λ k is. refl;
+  consistent = λ k is. record { first = omega arith; second = omega arith; third = omega arith; fourth = omega arith };
+}

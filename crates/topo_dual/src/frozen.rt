@@ -13,6 +13,7 @@ use topo_core::rows::{Facts, Rows};
 use topo_embedded::Embedded;
 use topo_route::dual::Dual;
 use topo_route::face_graph::FaceGraph;
+use topo_route::potentials::Potentials;
 
 /// A frozen picture: lawful rows with their embedding, and with the lists that number their darts.
 /// Contracts see the rows. It answers what `Numbered` does, and nothing has to be lent to it.
@@ -98,7 +99,8 @@ impl FaceGraph for Frozen {
     ghost use Rattle.topo_rows.specs.Recovering.{lawful_again};
     ghost use Rattle.std.specs.Prelude.{slice_index};
     ghost use Rattle.topo_route.specs.Names.{canonical};
-    ghost use Rattle.topo_dual.specs.NumberedRows.{faces_again, names_again};
+    ghost use Rattle.topo_dual.specs.NumberedRows.{faces_again, names_again, never_guided};
+    ghost use Rattle.topo_route.specs.Potentials.{all_four};
 
     ghost named = { λ f. canonical f.rows };
 
@@ -154,11 +156,29 @@ impl FaceGraph for Frozen {
         self.as_numbered().step(dart)
     }
 
+    ghost potentials = { λ _ _. all_four 0 };
+
+    ghost floor = { λ _ _. 0 };
+
+    fn has_potentials(&self) -> bool {
+        false
+    }
+
+    fn potentials(&self, _dart: u32) -> Potentials {
+        Potentials::all(0)
+    }
+
+    fn floor(&self, _kind: u8) -> u16 {
+        0
+    }
+
     ghost lawful = { λ f. lawful_again f.rows f.lawful };
 
     ghost has_names = { λ f. names_again f.rows f.lawful };
 
     ghost has_faces = { faces_again };
+
+    ghost is_consistent = { never_guided };
 }
 
 impl Dual for Frozen {

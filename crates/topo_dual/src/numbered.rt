@@ -13,6 +13,7 @@ use topo_core::rows::Facts;
 use topo_embedded::Embedded;
 use topo_route::dual::Dual;
 use topo_route::face_graph::FaceGraph;
+use topo_route::potentials::Potentials;
 
 /// Lawful rows with their embedding, and with the lists that number their darts, all borrowed.
 /// Contracts see the rows. The darts are numbered in canonical order: 2i and 2i + 1 are the two of
@@ -125,7 +126,8 @@ impl FaceGraph for Numbered<'_> {
     ghost use Rattle.topo_rows.specs.Recovering.{lawful_again};
     ghost use Rattle.std.specs.Prelude.{slice_index};
     ghost use Rattle.topo_route.specs.Names.{canonical};
-    ghost use Rattle.topo_dual.specs.NumberedRows.{faces_again, names_again};
+    ghost use Rattle.topo_dual.specs.NumberedRows.{faces_again, names_again, never_guided};
+    ghost use Rattle.topo_route.specs.Potentials.{all_four};
 
     ghost named = { λ d. canonical d.rows };
 
@@ -185,11 +187,29 @@ impl FaceGraph for Numbered<'_> {
         (self.next(dart), self.face(self.twin(dart)))
     }
 
+    ghost potentials = { λ _ _. all_four 0 };
+
+    ghost floor = { λ _ _. 0 };
+
+    fn has_potentials(&self) -> bool {
+        false
+    }
+
+    fn potentials(&self, _dart: u32) -> Potentials {
+        Potentials::all(0)
+    }
+
+    fn floor(&self, _kind: u8) -> u16 {
+        0
+    }
+
     ghost lawful = { λ d. lawful_again d.rows d.lawful };
 
     ghost has_names = { λ d. names_again d.rows d.lawful };
 
     ghost has_faces = { faces_again };
+
+    ghost is_consistent = { never_guided };
 }
 
 impl Dual for Numbered<'_> {

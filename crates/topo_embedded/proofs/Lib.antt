@@ -2,3 +2,4 @@ pub mod halves
 pub mod growing
 pub mod inserting
 pub mod deleting
+pub mod guided

@@ -1,6 +1,6 @@
 -- Crossed darts while their segments are split, and the segments of the new edge while they are drawn.
 use Rattle.std.specs.Prelude.{◌≡◌, ℕ, ◌+◌, ◌≤◌, ◌==◌, cond, drop, false, slice_get, slice_index_or, take, true, List, [], ◌∷◌, length, map, Some}
-use Rattle.std.specs.List.{All, AllByRecursion, position_or_len}
+use Rattle.std.specs.List.{All, AllByRecursion}
 use Rattle.topo_core.specs.declared.darts.Dart.{Dart}
 use Rattle.topo_core.specs.declared.rows.EdgeRow.{EdgeRow}
 use Rattle.topo_core.specs.declared.rows.Rows.{Rows}

@@ -1,4 +1,5 @@
 pub mod Along
+pub mod Bounds
 pub mod Halves
 pub mod Parts
 pub mod Paths

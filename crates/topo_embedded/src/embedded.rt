@@ -1,6 +1,6 @@
 //! Rows with their embedding.
 
-ghost use Rattle.std.specs.Prelude.{◌≡◌, ◌↔◌, ◌*◌, ◌<◌, ◌≤◌, ◌^◌, true, IfOk, Some};
+ghost use Rattle.std.specs.Prelude.{◌≡◌, ◌↔◌, ◌*◌, ◌<◌, ◌≤◌, ◌^◌, true, ℕ, IfOk, Some};
 ghost use Rattle.std.specs.Prelude.{IsTrue, is_some, length, option_map, sum_by};
 ghost use Rattle.topo_changes.specs.Keeping.{viewed_row};
 ghost use Rattle.topo_core.specs.declared.darts.Dart.{Dart};
@@ -9,14 +9,17 @@ ghost use Rattle.topo_core.specs.Picture.{corner, darts, edge_at, edge_row};
 ghost use Rattle.topo_core.specs.Picture.{end_dart, segment_count, system};
 ghost use Rattle.topo_core.specs.Routes.{AreFactsOf};
 ghost use Rattle.topo_core.specs.Systems.{SameFace, face_step, has_dart};
+ghost use Rattle.topo_embedded.specs.Bounds.{at_half, floor_of};
 ghost use Rattle.topo_embedded.specs.Halves.{IsHalf, ShowsRows, half_in, path_of};
 ghost use Rattle.topo_embedded.specs.Walking.{named_in};
 ghost use Rattle.topo_rows.specs.Flats.{AreTurnsOf};
 ghost use Rattle.topo_route.specs.Names.{IsNamed};
+ghost use Rattle.topo_route.specs.Potentials.{AreConsistent};
 ghost use Rattle.topo_core.specs.declared.rows.TheConstants.{KINDS};
 
 mod canonical;
 
+use crate::bounds::{Bounds, are_consistent, potentials_of, slopes_for};
 use crate::cuts::first_cut;
 use crate::making::{labels_of, paths_of};
 use crate::padding::Crossed;
@@ -32,6 +35,7 @@ use topo_core::listed::Listed;
 use topo_core::routes::Route;
 use topo_core::rows::{Facts, Rows};
 use topo_map::{Embedding, Half};
+use topo_route::potentials::Potentials;
 use topo_rows::Turns;
 
 /// The facts of an edge of a known kind.
@@ -66,7 +70,7 @@ impl Drop for Embedded {
 impl Model for Embedded {
     ghost use Rattle.topo_core.specs.Lawful.{IsWellFormed};
     ghost use Rattle.topo_embedded.specs.Halves.{RowsWithPaths};
-    ghost use Rattle.topo_embedded.specs.Parts.{Agree, with_paths};
+    ghost use Rattle.topo_embedded.specs.Parts.{Agree, AreBounded, with_paths};
     ghost use Rattle.topo_embedded.specs.Paths.{AreForEdges};
 
     ghost Value = { RowsWithPaths };
@@ -74,7 +78,7 @@ impl Model for Embedded {
     ghost view = { λ e. with_paths e.parts };
 
     ghost invariant = { λ e. IsWellFormed e.parts.rows × Agree e.parts
-        × AreForEdges e.parts.rows e.parts.paths };
+        × AreForEdges e.parts.rows e.parts.paths × AreBounded e.parts };
 }
 
 impl Embedded {
@@ -98,11 +102,12 @@ impl Embedded {
             rows,
             paths,
             segments,
+            bounds: Bounds::none(alloc),
         };
         Ok(Embedded { parts })
     }
 
-    /// An equal one, in memory of its own.
+    /// An equal one, in memory of its own. Nothing guides its searches.
     pub fn copy(&self, alloc: Global) -> Result<Self, AllocError>
         ensures { IfOk result (λ e. e ≡ self.now) }
     {
@@ -113,6 +118,7 @@ impl Embedded {
             rows,
             paths,
             segments,
+            bounds: Bounds::none(alloc),
         };
         Ok(Embedded { parts })
     }
@@ -124,7 +130,9 @@ impl Embedded {
     {
         self.parts.rows.reserve(vertices, edges)?;
         self.parts.paths.reserve(edges)?;
-        self.parts.segments.reserve(edges)
+        self.parts.segments.reserve(edges)?;
+        self.parts.bounds.make_places(self.parts.segments.limit());
+        Ok(())
     }
 
     /// The rows.
@@ -139,6 +147,48 @@ impl Embedded {
         ensures { ShowsRows self.now result.now }
     {
         &self.parts.segments
+    }
+
+    /// The potentials of the halves, and the floors of the kinds.
+    pub(crate) fn bounds(&self) -> &Bounds
+        ensures { (size : ℕ)
+            → AreConsistent (named_in self.now size) (at_half result.now) (floor_of result.now) }
+    {
+        &self.parts.bounds
+    }
+
+    /// Takes the potentials out, with their memory.
+    fn drop_potentials(&mut self, alloc: Global)
+        ensures { self.new ≡ self.old }
+    {
+        self.parts.bounds = Bounds::none(alloc);
+    }
+
+    /// Gives the faces potentials, by their labels, which guide searches from then on, as long as no
+    /// edge is taken out. They are for prices that are no lower than the floors of the kinds of
+    /// edges. Where beside a segment they are farther apart than that, nothing guides searches. The
+    /// picture stays as it was.
+    pub fn set_potentials(
+        &mut self,
+        alloc: Global,
+        faces: &[Potentials],
+        floors: &[u16],
+    ) -> Result<(), AllocError>
+        ensures { self.new ≡ self.old }
+    {
+        self.drop_potentials(alloc);
+        let slopes = slopes_for(alloc, &self.parts.rows, floors)?;
+        let potentials = potentials_of(alloc, &self.parts.segments, faces)?;
+        let bounds = Bounds::new(potentials, slopes, Vec::from_slice(alloc, floors)?);
+        if are_consistent(&self.parts.segments, &bounds) {
+            self.parts.bounds = bounds;
+        }
+        Ok(())
+    }
+
+    /// Whether anything guides a search.
+    pub fn has_potentials(&self) -> bool {
+        self.parts.bounds.are_there()
     }
 
     /// The edge with an id.

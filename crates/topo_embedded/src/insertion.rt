@@ -7,16 +7,18 @@ ghost use Rattle.std.specs.List.{All};
 ghost use Rattle.topo_core.specs.Changes.{shown};
 ghost use Rattle.topo_core.specs.Rotations.{twin};
 ghost use Rattle.topo_map.specs.Rotation.{is_live};
+ghost use Rattle.topo_embedded.specs.Bounds.{GoesOn};
 ghost use Rattle.topo_embedded.specs.Crossing.{AreChordsAdded, AreSplit, IsMarked, IsReady};
 ghost use Rattle.topo_embedded.specs.Crossing.{IsReadyFor, IsRouted, subdivisions_of};
 ghost use Rattle.topo_embedded.specs.Crossing.{subdivided_half, crossed_darts};
 ghost use Rattle.topo_embedded.specs.Halves.{RowsWithPaths};
 ghost use Rattle.topo_embedded.specs.Inserting.{put_halves};
 ghost use Rattle.topo_embedded.specs.Padding.{ArePadded, ArePlaced};
-ghost use Rattle.topo_embedded.specs.Parts.{Agree, with_paths};
+ghost use Rattle.topo_embedded.specs.Parts.{Agree, AreBounded, with_paths};
 ghost use Rattle.topo_embedded.specs.Paths.{AreForEdges, KeepsIds};
 ghost use Rattle.topo_table.specs.Places.{ids_in, ids_of, values_in};
 
+use crate::bounds::{Bounds, chord, split};
 use crate::padding::{Crossed, pad, split_path, unpad};
 use crate::parts::Parts;
 use crate::path::Path;
@@ -27,7 +29,12 @@ use topo_map::{Embedding, Half};
 use topo_table::NumberedTable;
 
 /// Splits the segments of the crossed darts, the last one first.
-fn split_crossed(paths: &mut NumberedTable<Path>, segments: &mut Embedding, crossed: &mut [Crossed])
+fn split_crossed(
+    paths: &mut NumberedTable<Path>,
+    segments: &mut Embedding,
+    bounds: &mut Bounds,
+    crossed: &mut [Crossed],
+)
     ghost p: { RowsWithPaths }
     requires ready { IsReady p segments.old crossed.old (values_in paths.old) }
     requires room { length crossed.old ≤ segments.old.room }
@@ -39,13 +46,14 @@ fn split_crossed(paths: &mut NumberedTable<Path>, segments: &mut Embedding, cros
         ≡ map (put_halves (subdivisions_of p.rows crossed.new)) p.paths }
     ensures same { KeepsIds paths.old paths.new }
     ensures room { segments.new.room + length crossed.old ≡ segments.old.room }
+    ensures bounds { GoesOn segments.old.slots segments.new.slots bounds.old bounds.new }
 {
     segments.laws();
     let mut n = crossed.len();
     while n > 0 {
         n -= 1;
         let cross = crossed[n];
-        let beyond = segments.split(cross.near);
+        let beyond = split(segments, bounds, cross.near);
         split_path(paths, &cross, beyond);
         crossed[n] = Crossed { beyond, ..cross };
     }
@@ -67,6 +75,7 @@ fn subdivided(crossed: &[Crossed], half: Half) -> Half
 /// writes down their halves.
 fn add_chords(
     segments: &mut Embedding,
+    bounds: &mut Bounds,
     crossed: &[Crossed],
     start: Half,
     end: Half,
@@ -79,7 +88,8 @@ fn add_chords(
         × (is_live segments.old c.beyond ≡ true)) crossed.now }
     requires room { length crossed.now + 1 ≤ segments.old.room }
     requires line { length line.old ≡ length crossed.now + 1 }
-    ensures { AreChordsAdded segments.old segments.new crossed.now start end edge line.new }
+    ensures added { AreChordsAdded segments.old segments.new crossed.now start end edge line.new }
+    ensures bounds { GoesOn segments.old.slots segments.new.slots bounds.old bounds.new }
 {
     segments.laws();
     let mut to = end;
@@ -87,10 +97,10 @@ fn add_chords(
     while n > 0 {
         n -= 1;
         let cross = crossed[n];
-        line.set(n + 1, segments.chord(cross.near.twin(), to, edge));
+        line.set(n + 1, chord(segments, bounds, cross.near.twin(), to, edge));
         to = cross.beyond;
     }
-    line.set(0, segments.chord(start, to, edge));
+    line.set(0, chord(segments, bounds, start, to, edge));
 }
 
 /// The memory that an insertion takes: room for segments, and for halves in the paths of the
@@ -126,6 +136,7 @@ fn make_room(
 fn add_route(
     paths: &mut NumberedTable<Path>,
     segments: &mut Embedding,
+    bounds: &mut Bounds,
     crossed: &mut [Crossed],
     corners: (Half, Half),
     edge: u32,
@@ -145,12 +156,13 @@ fn add_route(
     ensures same { KeepsIds paths.old paths.new }
     ensures routed { IsRouted p segments.old segments.new crossed.new corners.0
         corners.1 edge line.new }
+    ensures bounds { GoesOn segments.old.slots segments.new.slots bounds.old bounds.new }
 {
     segments.laws();
-    split_crossed(paths, segments, crossed);
+    split_crossed(paths, segments, bounds, crossed);
     let start = subdivided(crossed, corners.0);
     let end = subdivided(crossed, corners.1);
-    add_chords(segments, crossed, start, end, edge, line);
+    add_chords(segments, bounds, crossed, start, end, edge, line);
 }
 
 impl Parts {
@@ -168,6 +180,7 @@ impl Parts {
         requires ready { IsReadyFor (with_paths self.old)
             self.old.segments crossed.old ends.0 ends.1 kind route.now corners.0 corners.1 }
         requires kept { AreForEdges self.old.rows self.old.paths }
+        requires bounded { AreBounded self.old }
         requires edges { self.old.rows.next_edge + 1 < 2 ^ 32 }
         requires crossing_ids { self.old.rows.next_crossing + length route.now.crossed < 2 ^ 32 }
         ensures ok { OnOk result
@@ -176,6 +189,7 @@ impl Parts {
         ensures err_paths { OnErr result (values_in self.new.paths ≡ values_in self.old.paths) }
         ensures shows { Agree self.new }
         ensures kept { AreForEdges self.new.rows self.new.paths }
+        ensures bounded { AreBounded self.new }
     {
         self.add_edge(alloc, crossed, corners, ends, kind, route)
     }
@@ -195,6 +209,7 @@ impl Parts {
         requires ready { IsReadyFor p self.old.segments crossed.old ends.0 ends.1 kind route.now
             corners.0 corners.1 }
         requires kept { AreForEdges self.old.rows self.old.paths }
+        requires bounded { AreBounded self.old }
         requires edges { self.old.rows.next_edge + 1 < 2 ^ 32 }
         requires crossing_ids { self.old.rows.next_crossing + length route.now.crossed < 2 ^ 32 }
         ensures ok { OnOk result
@@ -203,6 +218,7 @@ impl Parts {
         ensures err_paths { OnErr result (values_in self.new.paths ≡ values_in self.old.paths) }
         ensures shows { Agree self.new }
         ensures kept { AreForEdges self.new.rows self.new.paths }
+        ensures bounded { AreBounded self.new }
     {
         let edge = self.rows.next_edge();
         let mut line = make_room(alloc, &mut self.paths, &mut self.segments, crossed)?;
@@ -211,8 +227,18 @@ impl Parts {
             return Err(AllocError);
         }
         self.segments.laws();
+        self.bounds.make_places(self.segments.limit());
         let paths = &mut self.paths;
-        add_route(paths, &mut self.segments, crossed, corners, edge, &mut line);
+        let bounds = &mut self.bounds;
+        add_route(
+            paths,
+            &mut self.segments,
+            bounds,
+            crossed,
+            corners,
+            edge,
+            &mut line,
+        );
         paths.push(edge, line);
         Ok(())
     }

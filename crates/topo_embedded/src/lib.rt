@@ -4,9 +4,11 @@
 //! A half on each segment of an edge leads along the edge, and is in a list of the edge at the
 //! place of that segment. So the half of a dart is found at once, and the next dart along a face in
 //! one read. The rows tell what is shown. That the halves turn as the rows say is one renumbering
-//! of darts (`ShowsRows`), which the edits of the embedding keep.
+//! of darts (`ShowsRows`), which the edits of the embedding keep. Beside them it may have potentials
+//! of the faces, which guide searches to their targets.
 #![tactic(auto)]
 
+mod bounds;
 mod cuts;
 mod deletion;
 pub mod embedded;

@@ -132,19 +132,6 @@ pub(crate) fn pad(
     Ok(())
 }
 
-/// Puts a half at a place of a list. What was from there on moves up by one, and the last half
-/// goes.
-fn shift_in(path: &mut Path, at: usize, half: Half)
-    ensures { path.new ≡ take at path.old ++ shifted half (drop at path.old) }
-{
-    let mut carried = half;
-    for i in at..path.len() {
-        let next = path.at(i);
-        path.set(i, carried);
-        carried = next;
-    }
-}
-
 /// Puts the half that goes on beyond a half of the list next to it, on the side where it leads. The
 /// last half of the list goes.
 fn put_beside(path: &mut Path, near: Half, beyond: Half)
@@ -155,9 +142,9 @@ fn put_beside(path: &mut Path, near: Half, beyond: Half)
     let at = path.place_of(near);
     if at < path.len() {
         if path.at(at) == near {
-            shift_in(path, at + 1, beyond);
+            path.shift_in(at + 1, beyond);
         } else {
-            shift_in(path, at, beyond.twin());
+            path.shift_in(at, beyond.twin());
         }
     }
 }

@@ -5,6 +5,7 @@ ghost use Rattle.topo_changes.specs.Keeping.{viewed_row};
 ghost use Rattle.topo_core.specs.Picture.{edge_row};
 ghost use Rattle.topo_table.specs.Places.{entries, value_of};
 
+use crate::bounds::Bounds;
 use crate::path::Path;
 use topo_changes::{EdgeView, KeptRows};
 use topo_map::Embedding;
@@ -17,6 +18,7 @@ pub(crate) struct Parts {
     pub(crate) rows: KeptRows,
     pub(crate) paths: NumberedTable<Path>,
     pub(crate) segments: Embedding,
+    pub(crate) bounds: Bounds,
 }
 
 impl Parts {

@@ -2,10 +2,12 @@
 
 ghost use Rattle.std.specs.Prelude.{◌≡◌, ◌≢◌, ◌==◌, ◌<◌, ◌≤◌, ◌++◌, ◌∷◌, ℕ, List, [], IfOk};
 ghost use Rattle.std.specs.Prelude.{OnErr, false};
-ghost use Rattle.std.specs.Prelude.{OnOk, filter, length, not, slice_index_or, slice_set};
+ghost use Rattle.std.specs.Prelude.{OnOk, drop, filter, length, not, slice_index_or, slice_set};
+ghost use Rattle.std.specs.Prelude.{take};
 ghost use Rattle.std.specs.List.{list_any, position_or_len};
 ghost use Rattle.topo_core.specs.Items.{has_id};
 ghost use Rattle.topo_embedded.specs.Halves.{on_segment};
+ghost use Rattle.topo_embedded.specs.Padding.{shifted};
 
 use std::alloc::{AllocError, Global};
 use std::marker::Model;
@@ -91,6 +93,19 @@ fn leave(others: &mut Vec<Half>, half: Half)
     ensures { others.new.items ≡ filter (λ h. not (h == half)) others.old.items }
 {
     others.retain(|h| *h != half);
+}
+
+/// Puts a half at a place of the list of the others. What was from there on moves up by one, and
+/// the last one goes.
+fn shift_in(others: &mut Vec<Half>, at: usize, half: Half)
+    requires { at < length others.old.items }
+    ensures { others.new.items
+        ≡ take at others.old.items ++ shifted half (drop at others.old.items) }
+{
+    let _last = others.pop();
+    if others.insert(at, half).is_err() {
+        unreachable!()
+    }
 }
 
 impl Path {
@@ -220,6 +235,30 @@ impl Path {
             }
         }
         Ok(())
+    }
+
+    /// Puts a half at a place. What was from there on moves up by one, and the last half goes.
+    pub(crate) fn shift_in(&mut self, at: usize, half: Half)
+        ensures { self.new ≡ take at self.old ++ shifted half (drop at self.old) }
+    {
+        match &mut self.line {
+            Line::One(first) => {
+                if at == 0 {
+                    *first = half;
+                }
+            }
+            Line::More(first, others) => {
+                if at == 0 {
+                    let next = *first;
+                    *first = half;
+                    if !others.is_empty() {
+                        shift_in(others, 0, next);
+                    }
+                } else if at <= others.len() {
+                    shift_in(others, at - 1, half);
+                }
+            }
+        }
     }
 
     /// Gives the memory of the others back where none are left.

@@ -8,11 +8,14 @@ ghost use Rattle.topo_core.specs.Lawful.{Lawful};
 ghost use Rattle.topo_core.specs.Picture.{darts, system};
 ghost use Rattle.topo_core.specs.Rotations.{twin};
 ghost use Rattle.topo_core.specs.Systems.{face_step, has_dart};
+ghost use Rattle.topo_embedded.specs.Bounds.{at_half, floor_of};
 ghost use Rattle.topo_embedded.specs.Halves.{IsHalf, by_way, half_in};
 ghost use Rattle.topo_embedded.specs.Walking.{IsOnPath, end_seg, end_way, named_in};
 ghost use Rattle.topo_map.specs.Rotation.{turn_in};
 ghost use Rattle.topo_route.specs.Names.{HasFaces, IsNamed};
+ghost use Rattle.topo_route.specs.Potentials.{AreConsistent};
 
+use crate::bounds::Bounds;
 use crate::embedded::Embedded;
 use crate::path::Path;
 use std::marker::Model;
@@ -21,6 +24,7 @@ use topo_core::darts::{Dart, Way};
 use topo_core::rows::Facts;
 use topo_map::{Embedding, Half};
 use topo_route::face_graph::FaceGraph;
+use topo_route::potentials::Potentials;
 
 /// Where a half lies on the path of its edge, and which way it leads along it.
 pub(crate) fn place_on_path(path: &Path, half: Half) -> (u32, Way)
@@ -67,11 +71,14 @@ pub(crate) fn end_of(edge: EdgeView<'_>, v: u32) -> (usize, Way)
 pub struct EmbeddedRows<'a> {
     embedded: &'a Embedded,
     segments: &'a Embedding,
+    bounds: &'a Bounds,
     size: u32,
     labels: u32,
     ghost named: { IsNamed (named_in embedded.now size) },
     ghost lawful: { ∥ Lawful embedded.now.rows ∥₁ },
     ghost told: { ∥ HasFaces (named_in embedded.now size) (turn_in segments.now.labels) labels ∥₁ },
+    ghost consistent: { AreConsistent (named_in embedded.now size)
+        (at_half bounds.now) (floor_of bounds.now) },
 }
 
 impl<'a> Model for EmbeddedRows<'a> {
@@ -90,6 +97,8 @@ impl<'a> Model for EmbeddedRows<'a> {
       named = d.named;
       lawful = d.lawful;
       told = d.told;
+      bounds = d.bounds.now;
+      consistent = d.consistent;
     } };
 
     ghost invariant = { λ d. (length (darts d.embedded.now.rows) < 2 ^ 32)
@@ -108,10 +117,12 @@ impl<'a> EmbeddedRows<'a> {
     {
         let size = embedded.size();
         let segments = embedded.segments();
+        let bounds = embedded.bounds();
         let labels = segments.labels();
         EmbeddedRows {
             embedded,
             segments,
+            bounds,
             size,
             labels,
         }
@@ -132,7 +143,8 @@ impl<'a> EmbeddedRows<'a> {
 
 impl FaceGraph for EmbeddedRows<'_> {
     ghost use Rattle.topo_rows.specs.Recovering.{lawful_again};
-    ghost use Rattle.topo_embedded.specs.Walking.{faces_apart, named_rows, names_apart};
+    ghost use Rattle.topo_embedded.specs.Bounds.{at_half, floor_of};
+    ghost use Rattle.topo_embedded.specs.Walking.{consistent_potentials, faces_apart, named_rows, names_apart};
     ghost use Rattle.topo_map.specs.Rotation.{turn_in};
 
     ghost named = { named_rows };
@@ -199,11 +211,29 @@ impl FaceGraph for EmbeddedRows<'_> {
         (next.number(), beyond)
     }
 
+    ghost potentials = { λ w. at_half w.bounds };
+
+    ghost floor = { λ w. floor_of w.bounds };
+
+    fn has_potentials(&self) -> bool {
+        self.bounds.are_there()
+    }
+
+    fn potentials(&self, dart: u32) -> Potentials {
+        self.bounds.at(Half::numbered(dart))
+    }
+
+    fn floor(&self, kind: u8) -> u16 {
+        self.bounds.floor(kind)
+    }
+
     ghost lawful = { λ w. lawful_again w.embedded.rows w.lawful };
 
     ghost has_names = { names_apart };
 
     ghost has_faces = { faces_apart };
+
+    ghost is_consistent = { consistent_potentials };
 }
 
 /// Whether one dart comes before another of the same edge.

@@ -1,5 +1,5 @@
 -- What the tests of an edge apart from a region say.
-use Rattle.std.proofs.Common.{◌≡◌, ℕ, Bool, true, false, List, Some, refl, ap, subst, sym, ◌∙◌}
+use Rattle.std.proofs.Common.{◌≡◌, ℕ, Bool, true, false, Some, refl, ap, subst, sym, ◌∙◌}
 use Rattle.std.specs.Prelude.{IfSome, not, ◌&&◌}
 use Rattle.std.specs.List.{list_all}
 use Rattle.topo_core.specs.declared.rows.CrossRow.{CrossRow}

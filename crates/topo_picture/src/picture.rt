@@ -15,6 +15,8 @@ use topo_core::routes::Route;
 use topo_core::rows::{EdgeRow, KINDS, Rows};
 use topo_dual::{Frozen, NumberLists, Numbered};
 use topo_embedded::{Embedded, EmbeddedRows};
+use topo_price::tariff::{PriceFn, Tariff};
+use topo_route::landmarks::landmark_distances;
 use topo_route::plan::Plan;
 use topo_route::region::Region;
 use topo_rows::Turns;
@@ -175,6 +177,31 @@ impl Picture {
         ensures { result.embedded.rows ≡ self.now.rows }
     {
         EmbeddedRows::new(&self.embedded)
+    }
+
+    /// Guides searches to their targets from then on, as long as no edge is taken out: it measures
+    /// how far all faces are from four vertices at these prices, which takes as long as some
+    /// searches of the whole picture. The picture stays as it is, and a copy of it has none of this.
+    pub fn guide_searches<F: PriceFn>(
+        &mut self,
+        alloc: Global,
+        tariff: &Tariff<F>,
+    ) -> Result<(), AllocError>
+        ensures { self.new ≡ self.old }
+    {
+        let vertices = self.embedded.vertex_count() as u32;
+        if vertices == 0 {
+            return Ok(());
+        }
+        let floors = floors_of(alloc, tariff)?;
+        let faces = landmark_distances(alloc, &self.embedded(), tariff, vertices)?;
+        self.embedded
+            .set_potentials(alloc, faces.as_slice(), floors.as_slice())
+    }
+
+    /// Whether searches are guided.
+    pub fn has_guided_searches(&self) -> bool {
+        self.embedded.has_potentials()
     }
 
     /// An equal picture: the same rows and limits.
@@ -567,4 +594,13 @@ fn check_insertion(
     } else {
         Ok(())
     }
+}
+
+/// The floor of each kind.
+fn floors_of<F: PriceFn>(alloc: Global, tariff: &Tariff<F>) -> Result<Vec<u16>, AllocError> {
+    let mut floors = Vec::with_capacity(alloc, KINDS)?;
+    for kind in 0..KINDS {
+        floors.push(tariff.floor(kind as u8))?;
+    }
+    Ok(floors)
 }

@@ -1,10 +1,10 @@
 -- Tables without a bad entry.
 use Rattle.std.proofs.Common.{◌≡◌, ℕ, zero, suc, ◌+◌, ◌≤◌, Bool, true, false, cond, not, List, [], ◌∷◌, length, refl, ap, arith, slice_index_or}
-use Rattle.std.specs.Prelude.{Option, Some, None, IfSome}
+use Rattle.std.specs.Prelude.{Option, Some, None, IfSome, slice_get}
 use Rattle.std.specs.Prelude.{nat_lt}
 use Rattle.std.specs.List.{position_or_len}
 use Rattle.std.proofs.lemmas.Bool.Decides.{nat_tests}
-use Rattle.topo_price.specs.Prices.{is_good, first_bad}
+use Rattle.topo_price.specs.Prices.{AreTableFloors, is_good, first_bad}
 use Rattle.topo_core.specs.declared.rows.TheConstants.{MAX_PRICE}
 
 within : (n : ℕ) → is_good (Some n) ≡ true → (1 ≤ n) × (n ≤ MAX_PRICE)
@@ -43,3 +43,9 @@ good_entry entries h i = good_at entries (past_all (position_or_len (λ entry. n
 
 pub price_in_range : (entries : List (Option ℕ)) → first_bad entries ≡ None → (i : ℕ) → IfSome (slice_index_or entries i None) (λ n. (1 ≤ n) × (n ≤ MAX_PRICE))
 price_in_range entries h i = good_price (slice_index_or entries i None) (good_entry entries h i)
+
+-- the floors of a table are not above its prices
+pub floor_below : (entries : List (Option ℕ)) (floors : List ℕ) → AreTableFloors entries floors → (kind n : ℕ) → slice_get entries kind ≡ Some (Some n)
+    → slice_index_or floors kind 0 ≤ n
+floor_below entries floors are kind n at =
+    let same : slice_index_or floors kind 0 ≡ n = are kind (Some n) at in omega (arith, same)

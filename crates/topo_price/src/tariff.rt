@@ -1,7 +1,7 @@
 //! The stored closure with its promise.
 
 use std::marker::Model;
-use topo_core::rows::Facts;
+use topo_core::rows::{Facts, KINDS};
 
 /// What answers a price: each closure `Fn(&Facts) -> Option<u32>` that threads may share does.
 pub trait PriceFn {
@@ -31,26 +31,33 @@ impl<F: Fn(&Facts) -> Option<u32> + Send + Sync> PriceFn for F {
     }
 }
 
-/// The stored closure. Contracts see the closure, and its promise always holds.
+/// The stored closure. Contracts see the closure, and its promise always holds. Beside it are
+/// numbers that no price of a kind is below, for searches.
 #[derive(Drop)]
 pub struct Tariff<F: PriceFn> {
     ask: F,
+    // none where only 1 is known
+    floors: Option<[u16; KINDS]>,
 }
 
 impl<F: PriceFn> Model for Tariff<F> {
-    ghost use Rattle.topo_price.specs.Prices.{IsPromise};
+    ghost use Rattle.std.specs.Prelude.{IfSome};
+    ghost use Rattle.topo_price.specs.Prices.{AreFloors, IsPromise, prices_of};
 
     ghost Value = { F };
 
     ghost view = { λ t. t.ask };
 
-    ghost invariant = { λ t. F.is_callable t.ask × IsPromise (F.may_return t.ask) };
+    ghost invariant = { λ t. F.is_callable t.ask × IsPromise (F.may_return t.ask)
+        × IfSome t.floors (AreFloors (prices_of (F.may_return t.ask))) };
 }
 
 impl<F: PriceFn> Tariff<F> {
-    ghost use Rattle.std.specs.Prelude.{◌≡◌};
+    ghost use Rattle.std.specs.Prelude.{◌≡◌, ◌<◌, ◌≤◌, ℕ};
+    ghost use Rattle.topo_core.specs.declared.rows.Facts.{Facts};
+    ghost use Rattle.topo_core.specs.declared.rows.TheConstants.{KINDS};
     ghost use Rattle.topo_core.specs.Routes.{KeepsPromise};
-    ghost use Rattle.topo_price.specs.Prices.{IsPriceOf, IsPromise, prices_of};
+    ghost use Rattle.topo_price.specs.Prices.{AreFloors, IsPriceOf, IsPromise, prices_of};
 
     /// Stores the closure. The promise is the caller's: it may be asked for any edge, answers none
     /// or from 1 to `MAX_PRICE`, and answers the same for the same facts.
@@ -59,7 +66,39 @@ impl<F: PriceFn> Tariff<F> {
         requires promise { IsPromise (F.may_return ask) }
         ensures { result ≡ ask }
     {
-        Tariff { ask }
+        Tariff { ask, floors: None }
+    }
+
+    /// As `new`, with numbers by kind of which it is known that no price of the kind is below. A
+    /// kind that has no price may have any. Searches are guided the more to their target the higher
+    /// they are.
+    pub fn with_floors(ask: F, floors: [u16; KINDS]) -> Tariff<F>
+        requires callable { F.is_callable ask }
+        requires promise { IsPromise (F.may_return ask) }
+        requires floors { AreFloors (prices_of (F.may_return ask)) floors }
+        ensures { result ≡ ask }
+    {
+        Tariff {
+            ask,
+            floors: Some(floors),
+        }
+    }
+
+    /// Whether it has floors of its own. No contract rests on it.
+    pub fn has_floors(&self) -> bool {
+        self.floors.is_some()
+    }
+
+    /// A number that no price of this kind is below.
+    pub fn floor(&self, kind: u8) -> u16
+        requires { kind < KINDS }
+        ensures { (facts : Facts) (n : ℕ) → facts.kind ≡ kind
+            → prices_of (F.may_return self.now) facts n → result ≤ n }
+    {
+        match &self.floors {
+            Some(floors) => floors[kind as usize],
+            None => 1,
+        }
     }
 
     /// The price of an edge with these facts; none where it must not be crossed.

@@ -7,3 +7,5 @@ pub mod Ending
 pub mod Uncrossed
 pub mod Levels
 pub mod BothEnds
+pub mod Bounds
+pub mod Guided

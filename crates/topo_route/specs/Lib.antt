@@ -1,12 +1,14 @@
 pub mod Chains
 pub mod Descents
 pub mod Direct
+pub mod Guided
 pub mod FaceHeights
 pub mod FaultTexts
 pub mod Meeting
 pub mod Names
 pub mod Numbers
 pub mod Plans
+pub mod Potentials
 pub mod RegionEvidence
 pub mod Regions
 pub mod Seen

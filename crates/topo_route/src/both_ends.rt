@@ -30,7 +30,7 @@ pub(crate) struct Stop {
 }
 
 /// Gives the faces at both ends height 0: the least sum of the two heights of a face so far.
-fn start_both<W: FaceGraph, F: PriceFn>(
+pub(crate) fn start_both<W: FaceGraph, F: PriceFn>(
     priced: &PricedGraph<W, F>,
     work: &mut Workspace,
     u: u32,
@@ -212,6 +212,7 @@ pub(crate) fn least_heights<W: FaceGraph, F: PriceFn>(
         (W.face_of priced.now.graph.now) work.new.to_end.heights) k ≤ unreached) }
     ensures one_each { OnOk result
         (length work.new.to_end.heights ≡ W.face_bound priced.now.graph.now) }
+    ensures alone { work.new.to_start.heights ≡ [] }
 {
     let faces = priced.graph.faces();
     work.to_end.clear(faces as usize)?;

@@ -7,8 +7,9 @@ ghost use Rattle.topo_route.specs.Settling.{dart_of_item, is_waiting, item_of};
 use std::alloc::{AllocError, Global};
 use std::marker::Model;
 
-/// No price is above 1000, so the heights of those that wait are less than this number apart.
-const BUCKET_COUNT: usize = 1001;
+/// No price is above 1000, so what those that wait are ordered by is less than this number apart:
+/// a step of a search that is guided to its other end adds a price, and at most as much once more.
+const BUCKET_COUNT: usize = 2001;
 
 /// How many numbers half an item holds.
 const ITEM_BASE: u64 = 1 << 32;
@@ -21,7 +22,7 @@ pub(crate) struct Entry {
     below: usize,
 }
 
-/// Items in buckets by their heights modulo 1001, the least heights first. Contracts see the list
+/// Items in buckets by what they are ordered by modulo 2001, the least first. Contracts see the list
 /// of the items: which of them comes out first is speed alone. A bucket is a chain of entries, from
 /// one more than the place of its last one down; entries are put at the end and never moved.
 #[derive(Drop)]
@@ -41,7 +42,7 @@ impl Model for BucketQueue {
 
     ghost view = { λ w. all_chained w.entries.items w.heads.items };
 
-    ghost invariant = { λ w. (length w.heads.items ≡ 1001) × (w.first < 1001)
+    ghost invariant = { λ w. (length w.heads.items ≡ 2001) × (w.first < 2001)
         × GoesDown w.entries.items × StaysBelow w.entries.items w.heads.items };
 }
 
@@ -75,13 +76,13 @@ impl BucketQueue {
         self.count
     }
 
-    /// Adds an item of this height.
-    pub(crate) fn push(&mut self, height: u64, item: u64) -> Result<(), AllocError>
+    /// Adds an item at its place in the order.
+    pub(crate) fn push(&mut self, order: u64, item: u64) -> Result<(), AllocError>
         ensures waits { IfOk result
             (λ _. (k : ℕ) → is_waiting self.new k ≡ (item == k || is_waiting self.old k)) }
         ensures len { IfOk result (λ _. length self.new ≡ length self.old + 1) }
     {
-        let bucket = (height % BUCKET_COUNT as u64) as usize;
+        let bucket = (order % BUCKET_COUNT as u64) as usize;
         let below = self.heads[bucket];
         self.entries.push(Entry { item, below })?;
         self.heads[bucket] = self.entries.len();

@@ -8,7 +8,10 @@ ghost use Rattle.topo_core.specs.Picture.{corner, edge_at, rotation};
 ghost use Rattle.topo_core.specs.Routes.{AreFactsOf};
 ghost use Rattle.topo_route.specs.Names.{HasFaces, IsName, IsNamed, Named};
 ghost use Rattle.topo_route.specs.Names.{dart_named, next_name, twin_name};
+ghost use Rattle.topo_route.specs.Potentials.{AreConsistent};
+ghost use Rattle.topo_route.specs.declared.potentials.Potentials.{Potentials};
 
+use crate::potentials::Potentials;
 use topo_core::darts::Dart;
 use topo_core::rows::Facts;
 
@@ -88,6 +91,24 @@ pub trait FaceGraph {
         ensures next { result.0 ≡ next_name (named self.now) dart }
         ensures beyond { result.1 ≡ face_of self.now (twin_name (named self.now) dart) };
 
+    /// The potentials of the face on the left of a dart.
+    ghost potentials: { Self → ℕ → Potentials };
+
+    /// A number for each kind of edge: the potentials beside its segments differ by no more.
+    ghost floor: { Self → ℕ → ℕ };
+
+    /// Whether any potentials are more than 0. No contract rests on it.
+    fn has_potentials(&self) -> bool;
+
+    /// The potentials of the face on the left of a dart.
+    fn potentials(&self, dart: u32) -> Potentials
+        requires { IsName (named self.now) dart }
+        ensures { result ≡ potentials self.now dart };
+
+    /// The floor of a kind.
+    fn floor(&self, kind: u8) -> u16
+        ensures { result ≡ floor self.now kind };
+
     /// What it shows is lawful.
     ghost lawful: { (picture : Self) → Lawful (named picture).rows };
 
@@ -97,4 +118,9 @@ pub trait FaceGraph {
     /// Two darts have one label just where one face lies on their left.
     ghost has_faces: { (picture : Self)
         → HasFaces (named picture) (face_of picture) (face_bound picture) };
+
+    /// Potentials are equal along each face, and differ across a segment by no more than the floor
+    /// of its edge's kind.
+    ghost is_consistent: { (picture : Self)
+        → AreConsistent (named picture) (potentials picture) (floor picture) };
 }

@@ -5,7 +5,9 @@
 //! order, and `Dual` what it has to where the names are the numbers in canonical order. `search`
 //! takes a `Dual` and gives the first of the least routes with its price and, as a certificate, the
 //! least cost from each face to the target; `first_route` takes any `FaceGraph`, gives the route
-//! and its price alone, and searches from both ends, no further than until the two meet.
+//! and its price alone, and searches from both ends, no further than until the two meet. Where a
+//! picture knows how far each face lies from four vertices (`landmark_distances`), it searches from
+//! one end and is guided to the other.
 //! `first_route_seen` hands out besides the region that its search has seen: a later picture that
 //! has kept it has the same first route. `check` says of any plan whether it is that, and which
 //! test it fails first: its Ok means that the route is the first of the least, whoever made the
@@ -48,9 +50,13 @@ pub mod dual;
 pub mod evidence;
 pub mod face_graph;
 mod faces;
+mod guide;
+mod guided;
 mod heights;
+pub mod landmarks;
 pub mod laws;
 pub mod plan;
+pub mod potentials;
 mod priced_graph;
 pub mod region;
 pub mod region_evidence;

@@ -17,6 +17,8 @@ use crate::direct::direct_route;
 use crate::dual::Dual;
 use crate::face_graph::FaceGraph;
 use crate::faces::dart_count;
+use crate::guide::{Guide, is_guided};
+use crate::guided::heights_toward;
 use crate::plan::{Plan, PricedRoute, SeenRoute};
 use crate::priced_graph::{PricedGraph, segment_prices};
 use crate::seen::seen_region;
@@ -134,7 +136,7 @@ struct Found {
     stop: Option<Stop>,
 }
 
-/// As `first_route`, with where the search has stopped.
+/// As `first_route`, from both ends, with where the search has stopped.
 fn find_route<W: FaceGraph, F: PriceFn>(
     alloc: Global,
     graph: &W,
@@ -216,11 +218,23 @@ pub fn first_route<W: FaceGraph, F: PriceFn>(
         (λ r. IsFirst (prices_of (F.may_return tariff.now))
         (W.named graph.now).rows u v r.route r.price)) }
 {
-    let found = find_route(alloc, graph, tariff, u, v, work)?;
-    match found {
-        Some(found) => Ok(Some(found.first)),
-        None => Ok(None),
+    // For the proof: what the type keeps.
+    tariff.keeps_promise();
+    if let Some(route) = direct_route(alloc, graph, u, v) {
+        return Ok(Some(PricedRoute { route, price: 0 }));
     }
+    let priced = PricedGraph {
+        graph,
+        tariff,
+        prices: Vec::new(alloc),
+    };
+    if is_guided(graph, tariff) {
+        let guide = Guide::to(graph, u);
+        heights_toward(&priced, u, v, &guide, work)?;
+    } else {
+        let _stop = heights_for(&priced, u, v, work)?;
+    }
+    route_by_heights(alloc, &priced, u, v, &work.to_end.heights)
 }
 
 /// As `first_route`, with what the search has seen: on each later picture that has kept that

@@ -6,9 +6,11 @@ ghost use Rattle.std.specs.Prelude.{min, replicate, slice_index, slice_set, true
 ghost use Rattle.topo_core.specs.Picture.{darts};
 ghost use Rattle.topo_price.specs.Prices.{prices_of};
 ghost use Rattle.topo_core.specs.Routes.{unreached};
+ghost use Rattle.topo_route.specs.Guided.{top_of_bound};
 ghost use Rattle.topo_route.specs.FaceHeights.{dart_heights, with_name};
 ghost use Rattle.topo_route.specs.Names.{IsName, height_of, twin_name};
 ghost use Rattle.topo_route.specs.Plans.{AreHeights, IsZeroAt};
+ghost use Rattle.topo_route.specs.Potentials.{bound_by};
 ghost use Rattle.topo_route.specs.Settling.{AreCosts, AreFaceCosts, AreLowered, ArePrices};
 ghost use Rattle.topo_route.specs.Settling.{AreSums, IsCrossed, IsReached, IsSettled, Relaxes};
 ghost use Rattle.topo_route.specs.Settling.{Spreads, SpreadsTo, dart_of_item, effort};
@@ -17,6 +19,7 @@ ghost use Rattle.topo_route.specs.StampedArrays.{height_limit};
 
 use crate::bucket_queue::{BucketQueue, dart_of_item, item_of, least_height};
 use crate::face_graph::FaceGraph;
+use crate::guide::Guide;
 use crate::priced_graph::PricedGraph;
 use crate::stamped_array::StampedArray;
 use crate::steps::{across, corner_at, face_at, step};
@@ -98,12 +101,13 @@ impl Labels {
     }
 
     /// Crosses a dart backwards: the face beyond, which is that of its twin, reaches the end over
-    /// it. A height that this lowers, and brings down to the least sum, waits. The price is not
-    /// asked where not even 1 would do so.
+    /// it. A height that this lowers, and brings down to the least sum, waits, in the order that
+    /// the guide says. The price is not asked where not even 1 would do so.
     fn relax_twin<W: FaceGraph, F: PriceFn>(
         &mut self,
         priced: &PricedGraph<W, F>,
         other: &StampedArray,
+        guide: Option<&Guide>,
         least: &mut u64,
         v: u32,
         dart: u32,
@@ -151,7 +155,8 @@ impl Labels {
                 let lowered = height + price;
                 if self.is_lowered_by(*least, face, lowered) {
                     self.lower(other, least, face, twin, lowered)?;
-                    self.waiting.push(lowered, item_of(twin, lowered))?;
+                    let order = lowered.saturating_add(left_to_go(priced.graph, guide, twin));
+                    self.waiting.push(order, item_of(twin, lowered))?;
                 }
                 Ok(())
             }
@@ -165,6 +170,7 @@ impl Labels {
         &mut self,
         priced: &PricedGraph<W, F>,
         other: &StampedArray,
+        guide: Option<&Guide>,
         least: &mut u64,
         v: u32,
         dart: u32,
@@ -193,7 +199,7 @@ impl Labels {
         let mut at = dart;
         for _steps in 0..priced.graph.size() {
             let (next, face) = step(priced.graph, at);
-            self.relax_twin(priced, other, least, v, at, face, height)?;
+            self.relax_twin(priced, other, guide, least, v, at, face, height)?;
             at = next;
             if at == dart {
                 return Ok(());
@@ -260,7 +266,65 @@ impl Labels {
             level,
             most.min(*least),
         ) {
-            self.relax_face(priced, other, least, v, dart, height)?;
+            self.relax_face(priced, other, None, least, v, dart, height)?;
+        }
+        Ok(())
+    }
+
+    /// Spreads the heights of all that wait and make up no more than the least with what is at least
+    /// left to go by the guide. Faces are taken by the rising sum of both.
+    pub(crate) fn spread_toward<W: FaceGraph, F: PriceFn>(
+        &mut self,
+        priced: &PricedGraph<W, F>,
+        other: &StampedArray,
+        guide: &Guide,
+        least: &mut u64,
+        v: u32,
+    ) -> Result<(), AllocError>
+        requires right { ArePrices (prices_of (F.may_return priced.now.tariff.now))
+            (W.named priced.now.graph.now) priced.now.prices.items }
+        requires spreads { SpreadsTo (prices_of (F.may_return priced.now.tariff.now))
+            (W.named priced.now.graph.now) (W.face_of priced.now.graph.now)
+            (W.face_bound priced.now.graph.now) v (reach_of least.old)
+            self.old.heights self.old.names.items self.old.waiting }
+        requires sums { AreSums (W.named priced.now.graph.now)
+            (dart_heights (W.named priced.now.graph.now) (W.face_of priced.now.graph.now)
+            self.old.heights) (dart_heights (W.named priced.now.graph.now)
+            (W.face_of priced.now.graph.now) other.now) least.old }
+        ensures costs { IfOk result
+            (λ _. AreFaceCosts (prices_of (F.may_return priced.now.tariff.now))
+            (W.named priced.now.graph.now) (W.face_of priced.now.graph.now)
+            (W.face_bound priced.now.graph.now) v self.new.heights self.new.names.items) }
+        ensures settled { IfOk result (λ _. (k : ℕ) → IsName (W.named priced.now.graph.now) k
+            → slice_index (dart_heights (W.named priced.now.graph.now)
+            (W.face_of priced.now.graph.now) self.new.heights) k
+            < top_of_bound (λ j. bound_by guide.now (W.potentials priced.now.graph.now j))
+            least.new k → IsSettled (prices_of (F.may_return priced.now.tariff.now))
+            (W.named priced.now.graph.now) (reach_of least.new)
+            (dart_heights (W.named priced.now.graph.now)
+            (W.face_of priced.now.graph.now) self.new.heights) k) }
+        ensures sums { IfOk result
+            (λ _. AreSums (W.named priced.now.graph.now)
+            (dart_heights (W.named priced.now.graph.now) (W.face_of priced.now.graph.now)
+            self.new.heights) (dart_heights (W.named priced.now.graph.now)
+            (W.face_of priced.now.graph.now) other.now) least.new) }
+        ensures less { IfOk result (λ _. least.new ≤ least.old) }
+        ensures lower { IfOk result
+            (λ _. AreLowered (dart_heights (W.named priced.now.graph.now)
+            (W.face_of priced.now.graph.now) self.old.heights)
+            (dart_heights (W.named priced.now.graph.now)
+            (W.face_of priced.now.graph.now) self.new.heights)) }
+    {
+        // For the proof: what the type keeps.
+        let _darts = priced.graph.size();
+        while let Some((dart, height)) = next_toward(
+            priced.graph,
+            &self.heights,
+            &mut self.waiting,
+            guide,
+            *least,
+        ) {
+            self.relax_face(priced, other, Some(guide), least, v, dart, height)?;
         }
         Ok(())
     }
@@ -316,7 +380,7 @@ impl Labels {
             0,
         ) {
             Some((dart, height)) => {
-                self.relax_face(priced, other, least, v, dart, height)?;
+                self.relax_face(priced, other, None, least, v, dart, height)?;
                 Ok(Some(height))
             }
             None => Ok(None),
@@ -405,6 +469,62 @@ fn next_pending<W: FaceGraph>(
             let height = heights.get(face);
             let is_low = height < level || height.saturating_add(other.number_at(face)) <= most;
             if is_low && item_of(dart, height) == item {
+                return Some((dart, height));
+            }
+        }
+    }
+    None
+}
+
+/// What is at least left to go from the face of a dart; nothing where the search is not guided.
+fn left_to_go<W: FaceGraph>(graph: &W, guide: Option<&Guide>, dart: u32) -> u64
+    requires { IsName (W.named graph.now) dart }
+{
+    match guide {
+        Some(guide) => guide.bound(graph.potentials(dart)),
+        None => 0,
+    }
+}
+
+/// As `next_pending`, for a search that is guided to its other end: the next dart that waits with
+/// the height of its face, which makes up no more than the least with what is left to go.
+fn next_toward<W: FaceGraph>(
+    graph: &W,
+    heights: &StampedArray,
+    waiting: &mut BucketQueue,
+    guide: &Guide,
+    least: u64,
+) -> Option<(u32, u64)>
+    requires one_each { length heights.now ≡ W.face_bound graph.now }
+    requires names { (item : ℕ) → is_waiting waiting.old item ≡ true
+        → IsName (W.named graph.now) (dart_of_item item) }
+    ensures name { IfSome result (λ r. IsName (W.named graph.now) r.0) }
+    ensures pending { IfSome result
+        (λ r. is_pending (dart_heights (W.named graph.now) (W.face_of graph.now) heights.now)
+        waiting.old r.0 ≡ true) }
+    ensures height { IfSome result (λ r. r.1
+        ≡ slice_index (dart_heights (W.named graph.now) (W.face_of graph.now) heights.now) r.0) }
+    ensures others { MatchOption result ((k : ℕ) → k < 2 ^ 32 → IsName (W.named graph.now) k
+        → slice_index (dart_heights (W.named graph.now) (W.face_of graph.now) heights.now) k
+        < top_of_bound (λ j. bound_by guide.now (W.potentials graph.now j)) least k
+        → is_pending (dart_heights (W.named graph.now) (W.face_of graph.now) heights.now)
+        waiting.old k ≡ false)
+        (λ r. (k : ℕ) → k < 2 ^ 32 → IsName (W.named graph.now) k
+        → slice_index (dart_heights (W.named graph.now) (W.face_of graph.now) heights.now) k
+        < top_of_bound (λ j. bound_by guide.now (W.potentials graph.now j)) least k
+        → k ≢ r.0 → is_pending (dart_heights (W.named graph.now) (W.face_of graph.now) heights.now)
+        waiting.new k ≡ is_pending
+        (dart_heights (W.named graph.now) (W.face_of graph.now) heights.now) waiting.old k) }
+    ensures fewer { (item : ℕ) → is_waiting waiting.new item ≡ true
+        → is_waiting waiting.old item ≡ true }
+    ensures len { IfSome result (λ _. length waiting.new < length waiting.old) }
+{
+    while let Some(item) = waiting.pop() {
+        if least_height(item) <= least {
+            let dart = dart_of_item(item);
+            let height = heights.get(face_at(graph, dart));
+            let sum = height.saturating_add(guide.bound(graph.potentials(dart)));
+            if sum <= least && item_of(dart, height) == item {
                 return Some((dart, height));
             }
         }

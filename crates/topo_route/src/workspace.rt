@@ -38,4 +38,11 @@ impl Workspace {
             to_start: Labels::new(alloc, 0)?,
         })
     }
+
+    /// How many faces the last search has reached, from both ends together: what it has cost. A
+    /// route that crosses nothing is found without a search.
+    pub fn reached(&self) -> usize {
+        let from_start = self.to_start.names.len();
+        self.to_end.names.len().saturating_add(from_start)
+    }
 }

@@ -5,7 +5,7 @@ ghost use Rattle.std.specs.Prelude.{Ok, Some, slice_get, option_copied, string_b
 ghost use Rattle.std.specs.Io.KnownBytes.{Appends, Keeps};
 ghost use Rattle.topo_book.specs.Books.{IsSameBook};
 ghost use Rattle.topo_forms.specs.Sessions.{opening_of};
-ghost use Rattle.topo_price.specs.Prices.{IsPromise, first_bad, prices_of};
+ghost use Rattle.topo_price.specs.Prices.{AreFloors, IsPromise, first_bad, prices_of};
 ghost use Rattle.topo_settings.specs.Settings.{IsSound, IsUnsound, price_table, priced, start_of};
 ghost use Rattle.topo_settings.specs.Writing.{AppendsPart};
 ghost use Rattle.topo_serve.specs.Answers.{standing_of};
@@ -23,7 +23,7 @@ use std::alloc::{AllocError, Global};
 use std::io::{Read, Write};
 use std::sync::Arc;
 use topo_book::Book;
-use topo_core::rows::Facts;
+use topo_core::rows::{Facts, KINDS};
 use topo_forms::row_forms::MAX_PICTURE_BYTES;
 use topo_forms::sessions::MAX_LINE_BYTES;
 use topo_forms::{Opening, ScriptFault, read_opening};
@@ -167,6 +167,7 @@ fn serve_priced<I: Read, O: Write>(
         (streams (I.remaining reader.new) ahead.new (O.contents writer.new))
         (begins_at opening.now start.rows)) }
 {
+    let floors = table.floors();
     serve_asked(
         alloc,
         opening,
@@ -175,6 +176,7 @@ fn serve_priced<I: Read, O: Write>(
             ensures entry { slice_get table.entry.now facts.now.kind ≡ Some result }
             ensures in_range { IfSome result (λ n. (1 ≤ n) × (n ≤ MAX_PRICE)) }
         { table.price(facts.kind) },
+        floors,
         ahead,
         has_feed,
         reader,
@@ -188,6 +190,7 @@ fn serve_asked<F: PriceFn + Drop, I: Read, O: Write>(
     opening: &Opening,
     start: Picture,
     ask: F,
+    floors: [u16; KINDS],
     ahead: &mut Ahead,
     has_feed: bool,
     reader: &mut I,
@@ -195,6 +198,7 @@ fn serve_asked<F: PriceFn + Drop, I: Read, O: Write>(
 ) -> Result<(), RunFault>
     requires callable { F.is_callable ask }
     requires promise { IsPromise (F.may_return ask) }
+    requires floors { AreFloors (prices_of (F.may_return ask)) floors }
     ensures done { IfOk result (λ _. BeginsAll has_feed (prices_of (F.may_return ask)) start.limits
         (streams (I.remaining reader.old) ahead.old (O.contents writer.old))
         (streams (I.remaining reader.new) ahead.new (O.contents writer.new))
@@ -205,7 +209,7 @@ fn serve_asked<F: PriceFn + Drop, I: Read, O: Write>(
         (streams (I.remaining reader.new) ahead.new (O.contents writer.new))
         (begins_at opening.now start.rows)) }
 {
-    let Ok(mut book) = begin(alloc, start, ask) else {
+    let Ok(mut book) = begin(alloc, start, ask, floors) else {
         return Err(RunFault::Memory);
     };
     serve_book(alloc, opening, &mut book, ahead, has_feed, reader, writer)
@@ -256,15 +260,21 @@ fn answer_opening<O: Write>(
 }
 
 /// The book of a session.
-fn begin<F: PriceFn + Drop>(alloc: Global, start: Picture, ask: F) -> Result<Book<F>, AllocError>
+fn begin<F: PriceFn + Drop>(
+    alloc: Global,
+    start: Picture,
+    ask: F,
+    floors: [u16; KINDS],
+) -> Result<Book<F>, AllocError>
     requires callable { F.is_callable ask }
     requires promise { IsPromise (F.may_return ask) }
+    requires floors { AreFloors (prices_of (F.may_return ask)) floors }
     ensures tariff { IfOk result (λ book. book.tariff ≡ ask) }
     ensures start { IfOk result (λ book. book.start ≡ start) }
     ensures history { IfOk result (λ book. book.history ≡ []) }
     ensures picture { IfOk result (λ book. book.picture ≡ start) }
 {
-    let tariff = Arc::new(alloc, Tariff::new(ask))?;
+    let tariff = Arc::new(alloc, Tariff::with_floors(ask, floors))?;
     Book::new(alloc, start, tariff)
 }
 

@@ -1,4 +1,5 @@
-//! Searches from both ends on pictures that grow at random, beside searches from one end.
+//! Searches from both ends on pictures that grow at random, and searches that are guided to their
+//! targets, beside searches from one end.
 
 ghost use Rattle.topo_price.specs.Prices.{IsPromise};
 
@@ -52,7 +53,27 @@ fn is_same(found: &Option<PricedRoute>, plan: &Option<Plan>) -> bool {
     }
 }
 
-/// The two searches of a pair find the same, with the prices of a closure.
+/// So does a search of a measured picture, which is guided to its target if all prices are 1.
+fn is_led<F: PriceFn>(
+    rt: &impl Abort,
+    alloc: Global,
+    measured: &Picture,
+    tariff: &Tariff<F>,
+    ends: (u32, u32),
+    plan: &Option<Plan>,
+    work: &mut Workspace,
+) -> Result<(), Fail> {
+    let (u, v) = ends;
+    assert!(rt; are_ends(measured, u, v));
+    let found = first_route(alloc, &measured.embedded(), tariff, u, v, work)?;
+    let same = is_same(&found, plan);
+    drop(found);
+    assert!(rt; same, "{ends:?}");
+    Ok(())
+}
+
+/// The two searches of a pair find the same, with the prices of a closure. From vertex 0 a search
+/// of a measured copy does so too.
 fn is_agreed<F: PriceFn + Drop>(
     rt: &impl Abort,
     alloc: Global,
@@ -75,9 +96,14 @@ fn is_agreed<F: PriceFn + Drop>(
         _ => false,
     };
     drop(found);
-    drop(plan);
     assert!(rt; same, "{ends:?}");
-    Ok(())
+    let plan = plan?;
+    if u > 0 {
+        return Ok(());
+    }
+    let mut measured = picture.copy(alloc)?;
+    measured.guide_searches(alloc, &tariff)?;
+    is_led(rt, alloc, &measured, &tariff, ends, &plan, work)
 }
 
 /// Two different ones of so many vertices.

@@ -20,6 +20,8 @@ mod full_pictures;
 #[cfg(test)]
 mod generated;
 #[cfg(test)]
+mod guided;
+#[cfg(test)]
 mod permutations;
 #[cfg(test)]
 mod picture_rows;

@@ -1,6 +1,6 @@
 -- Paths in a table by the ids of their edges: how they are read, changed, put in and taken out.
-use Rattle.std.proofs.Common.{◌≡◌, ◌+◌, ◌<◌, ap, arith, Bool, cond, false, get_or, is_some, length, length-append, List, [], ◌∷◌, ◌++◌, map, None, not, refl, remove}
-use Rattle.std.proofs.Common.{set, Some, subst, sym, take, true, ℕ, ◌∙◌}
+use Rattle.std.proofs.Common.{◌≡◌, ◌+◌, ap, arith, Bool, cond, false, is_some, length, length-append, List, [], ◌∷◌, ◌++◌, map, None, not, refl, remove}
+use Rattle.std.proofs.Common.{Some, subst, sym, take, true, ℕ, ◌∙◌}
 use Rattle.std.specs.Prelude.{◌||◌, ◌==◌, filter, find, flat_map, Option, slice_get, slice_index_or}
 use Rattle.std.specs.List.{position_or_len}
 use Rattle.std.specs.List.Sorted.{IsStrictlyIncreasing}
@@ -13,7 +13,7 @@ use Rattle.indexmap.specs.IndexMap.{set_value_at}
 use Rattle.topo_core.specs.declared.rows.EdgeRow.{EdgeRow}
 use Rattle.topo_core.specs.declared.rows.Rows.{Rows}
 use Rattle.topo_core.specs.declared.routes.Route.{Route}
-use Rattle.topo_core.specs.Changes.{crossed_row, grown, shown, uncrossed_row, without}
+use Rattle.topo_core.specs.Changes.{crossed_row, grown, shown, without}
 use Rattle.topo_core.specs.Items.{has_id}
 use Rattle.topo_core.specs.Lawful.{has_good_paths}
 use Rattle.topo_core.specs.Picture.{edge_at, edge_row}
@@ -27,7 +27,7 @@ use Rattle.topo_table.specs.Places.{AreBelow, IsLiveAt, Places, entries, entry_a
 use Rattle.topo_table.proofs.PlaceLemmas.{EntriesRise-present, Rises, Rises-from_increasing, below_same, is_changed, present-push, was_value}
 use Rattle.topo_table.proofs.EntryLemmas.{ids-with_value, ids-without, known-id, value-read, values-with_value, values-without}
 use Rattle.topo_embedded.specs.Canonical.{halves_of}
-use Rattle.topo_embedded.specs.Halves.{RowsWithPaths, path_of}
+use Rattle.topo_embedded.specs.Halves.{path_of}
 use Rattle.topo_embedded.specs.Paths.{AreForEdges, IsPathAt, KeepsIds, path_in}
 use Rattle.topo_embedded.proofs.halves.Numbers.{found_place}
 

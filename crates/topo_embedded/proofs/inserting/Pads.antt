@@ -1,7 +1,7 @@
 -- Lists of halves with room at their ends, and a half more in one of them.
-use Rattle.std.proofs.Common.{◌≡◌, ◌≢◌, ◌<◌, ◌+◌, ◌||◌, Bool, true, false, not, ap, append-nil, append_assoc, arith, drop, get_or, inl, inr}
-use Rattle.std.proofs.Common.{length, length-append, List, [], ◌∷◌, ◌++◌, refl, set, subst, suc, sym, take, ℕ, ◌∙◌}
-use Rattle.std.specs.Prelude.{◌==◌, cond, slice_index_or}
+use Rattle.std.proofs.Common.{◌≡◌, ◌≢◌, ◌<◌, ◌≤◌, ◌+◌, ◌||◌, Bool, true, false, not, ap, append-nil, append_assoc, arith, drop, get_or, inl, inr}
+use Rattle.std.proofs.Common.{length, length-append, List, [], ◌∷◌, ◌++◌, refl, set, subst, suc, sym, take, zero, ℕ, ◌∙◌}
+use Rattle.std.specs.Prelude.{◌==◌, Option, Some, cond, option_to_list, slice_index_or}
 use Rattle.std.proofs.lemmas.Bool.{cases_eq, cases_lt, cond-false, cond-true, eq-eqb, false≢true, ne_eqb}
 use Rattle.std.proofs.lemmas.Grind.{flat_map-append}
 use Rattle.std.proofs.lemmas.List.{ext_get_or, get_or-set_other, get_or-set_same, length-set, take_more}
@@ -19,6 +19,21 @@ use Rattle.topo_table.specs.Places.{place_in}
 shifted_last : (h : ℕ) (ys : List ℕ) (last : ℕ) → shifted h (ys ++ last ∷ []) ≡ h ∷ ys
 shifted_last h [] last = refl
 shifted_last h (y ∷ ys) last = ap (λ (xs : List ℕ). h ∷ xs) (shifted_last y ys last)
+
+-- where the last goes, another may be put in at a place: what is there moves up
+shifted_in : (ys : List ℕ) (last half at : ℕ) → at ≤ length ys
+    → take at ys ++ half ∷ drop at ys ≡ take at (ys ++ last ∷ []) ++ shifted half (drop at (ys ++ last ∷ []))
+shifted_in ys last half zero within = sym (shifted_last half ys last)
+shifted_in [] last half (suc at) within = absurd (omega (arith, within))
+shifted_in (y ∷ ys) last half (suc at) within = ap (λ (xs : List ℕ). y ∷ xs) (shifted_in ys last half at (omega (arith, within)))
+
+pub shifted_out : (path rest : List ℕ) (gone : Option ℕ) (last half at : ℕ) → path ≡ rest ++ option_to_list gone → gone ≡ Some last → at < length path
+    → take at rest ++ half ∷ drop at rest ≡ take at path ++ shifted half (drop at path)
+shifted_out path rest gone last half at popped some within =
+    let is : path ≡ rest ++ last ∷ [] = popped ∙ ap (λ (r : Option ℕ). rest ++ option_to_list r) some in
+    let many : length path ≡ length rest + 1 = ap (λ (xs : List ℕ). length xs) is ∙ length-append rest (last ∷ []) in
+    shifted_in rest last half at (omega (arith, many, within))
+    ∙ ap (λ (xs : List ℕ). take at xs ++ shifted half (drop at xs)) (sym is)
 
 take_past : (xs ys : List ℕ) (h : ℕ) → take (suc (length xs)) (xs ++ h ∷ ys) ≡ xs ++ h ∷ []
 take_past [] ys h = refl

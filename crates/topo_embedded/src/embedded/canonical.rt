@@ -107,9 +107,11 @@ impl Embedded {
             rows,
             paths,
             segments,
+            bounds,
         } = parts;
         drop(paths);
         drop(segments);
+        drop(bounds);
         rows.show(alloc)
     }
 

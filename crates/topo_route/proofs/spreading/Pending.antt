@@ -3,6 +3,7 @@ use Rattle.std.proofs.Common.{◌≡◌, ◌≢◌, ℕ, ◌+◌, ◌/◌, ◌^�
 use Rattle.std.specs.Prelude.{min, slice_index}
 use Rattle.std.proofs.lemmas.Bool.{ne_eqb}
 use Rattle.topo_core.specs.Routes.{unreached}
+use Rattle.topo_route.specs.Guided.{top_of_bound}
 use Rattle.topo_route.specs.Settling.{dart_of_item, is_pending, is_waiting, item_of, number_at, top_of}
 use Rattle.topo_route.proofs.spreading.Settled.{dart_of_own}
 
@@ -32,6 +33,21 @@ module _ (heights waiting waiting' : List ℕ) (item : ℕ) (popped : (i : ℕ) 
       let one : dart ≡ k = is ∙ ap dart_of_item e ∙ dart_of_own k (slice_index heights k) short in
       let same : slice_index heights dart ≡ slice_index heights k = ap (slice_index heights) one in
       let other : number_at others dart ≡ number_at others k = ap (number_at others) one in omega arith)
+
+  -- it says that it is past the least
+  pub too_far : (bound : ℕ → ℕ) (least k : ℕ) → k < 2 ^ 32 → item < 2 ^ 64 → least < item / 2 ^ 32 → slice_index heights k < top_of_bound bound least k
+      → is_pending heights waiting' k ≡ is_pending heights waiting k
+  too_far bound least k short small past below =
+      passed_over k (λ e. let up = high_item k (slice_index heights k) item (least + 1) short (omega arith) e in omega arith)
+
+  -- the dart that it is of is past the least with what is left to go
+  pub not_toward : (bound : ℕ → ℕ) (least : ℕ) {dart height number : ℕ} (k : ℕ) → k < 2 ^ 32 → dart ≡ dart_of_item item
+      → height ≡ slice_index heights dart → number ≡ bound dart → least < height + number → slice_index heights k < top_of_bound bound least k
+      → is_pending heights waiting' k ≡ is_pending heights waiting k
+  not_toward bound least {dart} k short is at there past below = passed_over k (λ e.
+      let one : dart ≡ k = is ∙ ap dart_of_item e ∙ dart_of_own k (slice_index heights k) short in
+      let same : slice_index heights dart ≡ slice_index heights k = ap (slice_index heights) one in
+      let other : bound dart ≡ bound k = ap bound one in omega arith)
 
   -- or has another height
   pub other_height : (dart height k : ℕ) → k < 2 ^ 32 → dart ≡ dart_of_item item → height ≡ slice_index heights dart → (item_of dart height ≡ item → ⊥)

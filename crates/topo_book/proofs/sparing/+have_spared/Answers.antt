@@ -1,4 +1,4 @@
-use Rattle.std.proofs.Common.{◌≡◌, true, false, refl, sym, ◌∙◌}
+use Rattle.std.proofs.Common.{refl, sym, ◌∙◌}
 use Rattle.topo_book.proofs.Outliving.{ended_spared}
 use Rattle.topo_book.proofs.sparing.+have_spared.Goals.{then-is_accepted, else-is_accepted}
 use Rattle.topo_book.proofs.sparing.+have_spared.Goals as goal

@@ -1,5 +1,6 @@
 use Rattle.std.proofs.Common.{refl, subst, Some, slice_get, ◌≡◌}
 use Rattle.topo_core.specs.declared.rows.Facts.{Facts}
+use Rattle.topo_price.proofs.Tables.{floor_below}
 use Rattle.topo_check.proofs.FaultsByTable.{fault_by_table, illegal_by_table}
 use Rattle.topo_settings.proofs.Pricing.{good_there, ok_so, err_so, replays_by_table}
 use Rattle.topo_check.proofs.replay.priced_replay.Goals as goal
@@ -48,3 +49,8 @@ returns-clause-illegal c =
       says = record { met = (h, good_there report.prices table facts.kind n c.requires.own c.requires.good h) };
     }) start.limits start.rows report.history fault is)
     c.asked_replay.ensures.illegal
+
+pub asked_replay-requires-clause-floors : goal.asked_replay-requires-clause-floors
+asked_replay-requires-clause-floors c =
+    let table = c.args.table.now in
+    λ facts n h. floor_below table _ c.floors-floors.ensures facts.kind n (subst (λ (f : Facts). slice_get table f.kind ≡ Some (Some n)) h.shows h.says.met.0)

@@ -1,5 +1,5 @@
-use Rattle.std.proofs.Common.{◌≡◌, ◌∙◌, [], ◌∷◌, ap, length, refl, subst, sym, List, set, ℕ}
-use Rattle.std.specs.Prelude.{◌==◌, map, slice_index_or}
+use Rattle.std.proofs.Common.{◌∙◌, [], ◌∷◌, ap, length, refl, subst, sym, List, set, ℕ}
+use Rattle.std.specs.Prelude.{◌==◌, slice_index_or}
 use Rattle.std.specs.List.{position_or_len}
 use Rattle.topo_changes.proofs.rows.Deleting.{edges_climb}
 use Rattle.topo_table.specs.Places.{ids_in, values_in}

@@ -1,5 +1,5 @@
 use Rattle.std.proofs.Common.{ap, subst, sym, true, ◌≡◌, ◌∙◌, ℕ, List}
-use Rattle.std.specs.Prelude.{is_some, slice_index_or}
+use Rattle.std.specs.Prelude.{is_some}
 use Rattle.topo_core.specs.Items.{has_id}
 use Rattle.topo_core.specs.Picture.{edge_row}
 use Rattle.topo_embedded.proofs.halves.KeptPaths.{has_path, path_known}

@@ -1,4 +1,4 @@
-use Rattle.std.proofs.Common.{◌≡◌, ◌≢◌, ap, not, set, subst, sym, true, ℕ, List, ◌∙◌}
+use Rattle.std.proofs.Common.{◌≡◌, ap, not, set, subst, sym, true, ℕ, List, ◌∙◌}
 use Rattle.std.specs.Prelude.{◌==◌, filter, is_some, slice_index_or}
 use Rattle.std.specs.List.{position_or_len}
 use Rattle.topo_core.specs.Picture.{edge_row}

@@ -1,4 +1,5 @@
 use Rattle.std.proofs.Common.{arith}
+use Rattle.topo_embedded.proofs.guided.Begun.{goes_further}
 use Rattle.topo_embedded.proofs.inserting.AddedChords.{subdivided_alive, route_alive}
 use Rattle.topo_embedded.proofs.inserting.Splits.{alive_still}
 use Rattle.topo_embedded.proofs.insertion.add_route.Goals as goal
@@ -12,3 +13,6 @@ add_chords-requires-clause-end g c = grind (arith, subdivided_alive, alive_still
 pub add_chords-requires-clause-alive : goal.add_chords-requires-clause-alive
 add_chords-requires-clause-alive g c = route_alive g.p c.requires.0.formed c.args.segments.now c.requires.0.shows c.split_crossed.new.segments
     c.split_crossed.new.crossed c.laws.ensures c.split_crossed.ensures.split c.split_crossed.ensures.marked
+
+pub returns-clause-bounds : goal.returns-clause-bounds
+returns-clause-bounds g c = goes_further c.split_crossed.ensures.bounds c.add_chords.ensures.bounds

@@ -1,4 +1,4 @@
-use Rattle.std.proofs.Common.{◌≡◌, ◌++◌, ◌∷◌, [], ap, length, List, Some, subst, sym, true, ℕ, ◌∙◌}
+use Rattle.std.proofs.Common.{◌≡◌, ◌++◌, ◌∷◌, [], List, subst, sym, true, ℕ, ◌∙◌}
 use Rattle.topo_core.specs.Items.{has_id}
 use Rattle.topo_table.specs.Places.{ids_in}
 use Rattle.topo_table.proofs.PlaceLemmas.{is_empty}

@@ -73,4 +73,5 @@ returns g c =
           (c.requires.right.promise c.requires.some) done.costs.costs;
       in_range = done.costs.costs.capped;
       one_each = done.costs.labelled.one_each;
+      alone = c.requires.alone;
     }

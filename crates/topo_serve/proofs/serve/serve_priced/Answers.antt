@@ -1,5 +1,6 @@
 use Rattle.std.proofs.Common.{refl, subst, Some, slice_get, ◌≡◌}
 use Rattle.topo_core.specs.declared.rows.Facts.{Facts}
+use Rattle.topo_price.proofs.Tables.{floor_below}
 use Rattle.topo_settings.proofs.Pricing.{back, err_so, good_there, ok_so, there}
 use Rattle.topo_settings.specs.Settings.{priced}
 use Rattle.topo_serve.proofs.OpeningLaws.{begin_fails_so, begins_all_so}
@@ -46,3 +47,8 @@ returns-clause-fault g c =
       says = record { met = (h, good_there prices table facts.kind n own c.requires.good h) };
     })) _ _ _ _ c.args.has_feed fault is)
     c.serve_asked.ensures.fault
+
+pub serve_asked-requires-clause-floors : goal.serve_asked-requires-clause-floors
+serve_asked-requires-clause-floors g c =
+    let table = c.args.table.now in
+    λ facts n h. floor_below table _ c.floors-floors.ensures facts.kind n (subst (λ (f : Facts). slice_get table f.kind ≡ Some (Some n)) h.shows h.says.met.0)

@@ -11,6 +11,9 @@ use Rattle.topo_core.specs.Lawful.{IsWellFormed, has_good_path}
 use Rattle.topo_core.proofs.numbering.Numbering.{turn_permutes}
 use Rattle.topo_rows.proofs.Verdicts.{images_total}
 use Rattle.topo_embedded.specs.Halves.{ShowsRows}
+use Rattle.topo_embedded.specs.Parts.{AreBounded}
+use Rattle.topo_embedded.specs.declared.parts.Parts.{Parts}
+use Rattle.topo_embedded.proofs.guided.Fitting.{bounded_none}
 use Rattle.topo_embedded.proofs.halves.Made.{labels_length, made_from}
 use Rattle.topo_embedded.proofs.embedded.Embedded.of.Goals as goal
 
@@ -30,7 +33,9 @@ paths_of-requires-clause-rise c = subst (λ (es : List EdgeRow). rises_below c.a
 pub invariant_of-result : goal.invariant_of-result
 invariant_of-result c =
     let paths = c.in_ok-paths.paths in
-    subst (λ (rows : Rows). IsWellFormed rows × ShowsRows (record { rows = rows; paths = values_in paths }) c.in_ok-segments.segments × AreForEdges rows paths)
+    let now = λ (rows : Rows). (let p : Parts = record { rows = rows; paths = paths; segments = c.in_ok-segments.segments; bounds = c.none.result } in p) in
+    subst (λ (rows : Rows). IsWellFormed rows × ShowsRows (record { rows = rows; paths = values_in paths }) c.in_ok-segments.segments × AreForEdges rows paths
+    × AreBounded (now rows))
     (sym c.in_ok-rows.ensures) (
       c.requires.well_formed,
       made_from c.args.rows c.requires.well_formed c.as_slice-edges.ensures
@@ -42,4 +47,5 @@ invariant_of-result c =
         below = c.in_ok-paths.ensures.below;
         count = c.in_ok-paths.ensures.count;
       },
+      bounded_none (now c.args.rows) c.none.ensures.0 c.none.ensures.1 c.none.ensures.2,
     )

@@ -1,4 +1,4 @@
-use Rattle.std.proofs.Common.{ap, subst, sym, true, ◌≡◌, ◌∙◌}
+use Rattle.std.proofs.Common.{ap, sym, ◌∙◌}
 use Rattle.std.specs.Prelude.{is_some}
 use Rattle.topo_core.specs.Picture.{edge_row}
 use Rattle.topo_embedded.specs.Halves.{RowsWithPaths, path_of}

@@ -1,12 +1,16 @@
-use Rattle.std.proofs.Common.{arith, refl, ◌≡◌, List, ap, subst, sym, ℕ, ◌∙◌}
+use Rattle.std.proofs.Common.{arith, refl, ◌≡◌, Some, List, ap, subst, sym, ℕ, ◌∙◌}
 use Rattle.topo_core.specs.declared.rows.Rows.{Rows}
 use Rattle.topo_core.specs.Changes.{shown}
+use Rattle.topo_core.specs.Picture.{edge_row}
+use Rattle.topo_core.specs.declared.rows.EdgeRow.{EdgeRow}
 use Rattle.topo_changes.proofs.rows.CrossedRows.{when_err, when_ok}
 use Rattle.topo_table.specs.Places.{ids_in, values_in}
 use Rattle.topo_embedded.specs.Crossing.{ids_of_edges}
 use Rattle.topo_embedded.specs.Halves.{RowsWithPaths, ShowsRows}
 use Rattle.topo_embedded.specs.Padding.{ArePadded}
 use Rattle.topo_embedded.specs.Paths.{AreForEdges}
+use Rattle.topo_embedded.proofs.guided.Begun.{goes_further, goes_same}
+use Rattle.topo_embedded.proofs.guided.Fitting.{ComesFrom, bounded_on, bounded_same, shown_from}
 use Rattle.topo_embedded.proofs.growing.Grown.{kept_shows}
 use Rattle.topo_embedded.proofs.halves.KeptPaths.{ids_shown, kept_ids, one_more_kept, values_pushed}
 use Rattle.topo_embedded.proofs.inserting.Routed.{end_alive, inserted_parts, ready_now, start_alive}
@@ -100,3 +104,26 @@ returns-clause-kept g c =
     (kept_ids rows c.args.self.now.paths c.add_route.new.paths (c.add_route.ensures.same.0 ∙ c.make_room.ensures.ids)
     (c.add_route.ensures.same.1.0 ∙ c.make_room.ensures.places) c.requires.1.1.0)
     c.next_edge-edge.ensures (ids_shown rows c.args.ends.0 c.args.ends.1 c.args.kind c.args.route.now) refl c.push.ensures.slots c.push.ensures.entries)
+
+pub returns-in_err-line-clause-shows : goal.returns-in_err-line-clause-shows
+returns-in_err-line-clause-shows g c =
+    subst (λ ps. ShowsRows (record { rows = c.args.self.now.rows; paths = ps }) c.make_room.new.segments) (sym c.in_err-line.ensures.err)
+    (subst (λ (q : RowsWithPaths). ShowsRows q c.make_room.new.segments) c.requires.0
+    (kept_shows g.p c.args.self.now.segments c.make_room.new.segments c.make_room.ensures.slots c.requires.1.0.shows))
+
+pub returns-in_err-line-clause-bounded : goal.returns-in_err-line-clause-bounded
+returns-in_err-line-clause-bounded g c = bounded_same c.args.self.now _ refl c.make_room.ensures.slots refl c.requires.1.1.1.0
+
+pub returns-then-is_err-clause-bounded : goal.returns-then-is_err-clause-bounded
+returns-then-is_err-clause-bounded g c = bounded_same c.args.self.now _
+    (when_err c.apply_rows.result (sym c.if-is_err.ensures.value) c.apply_rows.ensures.err) c.make_room.ensures.slots refl c.requires.1.1.1.0
+
+pub returns-clause-bounded : goal.returns-clause-bounded
+returns-clause-bounded g c =
+    let rows = c.args.self.now.rows in
+    let made = when_ok c.apply_rows.result (sym c.if-is_err.ensures.value) c.apply_rows.ensures.ok in
+    bounded_on c.args.self.now _
+    (goes_further (goes_same c.make_room.ensures.slots (c.make_places.ensures c.args.self.now.segments.slots)) c.add_route.ensures.bounds)
+    (subst (λ (after : Rows). (e : ℕ) (row : EdgeRow) → edge_row after e ≡ Some row → ComesFrom rows e row) (sym made)
+    (shown_from rows c.args.ends.0 c.args.ends.1 c.args.kind c.args.route.now))
+    (omega (arith, ap (λ (after : Rows). after.next_edge) made)) c.requires.1.1.1.0

@@ -10,7 +10,7 @@ invariant_of-result c =
     let told : ∥ HasFaces (named_in c.args.embedded.now c.size-size.result) (turn_in c.segments-segments.result.now.labels) c.labels-labels.result ∥₁ =
     ∣ walked_faces c.args.embedded.now c.requires.lawful.embedding.well_formed c.segments-segments.result.now c.segments-segments.ensures
     c.labels-labels.ensures.tell c.labels-labels.result c.labels-labels.ensures.above c.size-size.result ∣₁ in
-    (c.size-size.ensures.named, (∣ c.requires.lawful ∣₁, (told, search rules)))
+    (c.size-size.ensures.named, (∣ c.requires.lawful ∣₁, (told, (c.bounds-bounds.ensures c.size-size.result, search rules))))
 
 pub invariant_of-result-2 : goal.invariant_of-result-2
 invariant_of-result-2 c = (

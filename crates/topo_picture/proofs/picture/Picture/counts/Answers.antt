@@ -1,7 +1,5 @@
-use Rattle.std.proofs.Common.{ap, length, subst, sym, ◌∙◌}
-use Rattle.topo_core.specs.declared.rows.Rows.{Rows}
+use Rattle.std.proofs.Common.{ap, length, subst, sym}
 use Rattle.topo_rows.specs.Shown.{IsPicture}
-use Rattle.topo_picture.specs.Totals.{AreCountsOf, HasTotals}
 use Rattle.topo_picture.proofs.picture.Picture.counts.Goals as goal
 
 pub counted-requires : goal.counted-requires

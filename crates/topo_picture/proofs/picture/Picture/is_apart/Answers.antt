@@ -1,4 +1,4 @@
-use Rattle.std.proofs.Common.{Some, IfSome, ap, sym, ◌≡◌, ◌∙◌}
+use Rattle.std.proofs.Common.{IfSome, ap, sym, ◌∙◌}
 use Rattle.topo_core.specs.declared.rows.Rows.{Rows}
 use Rattle.topo_core.specs.Picture.{edge_row}
 use Rattle.topo_changes.specs.Keeping.{viewed_row}
