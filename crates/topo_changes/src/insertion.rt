@@ -1,10 +1,10 @@
 //! Insertion on plain rows. What can fail comes before what cannot, and what was changed before a
 //! failure is changed back.
 
-ghost use Rattle.std.specs.Prelude.{◌≡◌, ◌≢◌, ◌+◌, ◌<◌, ◌≤◌, ◌^◌, ◌↔◌, ℕ, IsTrue, List, true};
+ghost use Rattle.std.specs.Prelude.{◌≡◌, ◌≢◌, ◌+◌, ◌<◌, ◌≤◌, ◌^◌, ℕ, List, true};
 ghost use Rattle.std.specs.Prelude.{nat_lt, IfOk, OnOk, OnErr, length, map};
 ghost use Rattle.std.specs.Prelude.{drop, filter, take, slice_index_or, [], ◌∷◌, ◌++◌};
-ghost use Rattle.std.specs.List.{enumerate_from, list_all};
+ghost use Rattle.std.specs.List.{count_by, enumerate_from, list_all};
 ghost use Rattle.topo_core.specs.Changes.{shown, sign_of, with_end};
 ghost use Rattle.topo_core.specs.Insertions.{IsInsertable};
 ghost use Rattle.topo_core.specs.Lawful.{IsWellFormed};
@@ -22,37 +22,47 @@ use topo_core::routes::Route;
 use topo_core::rows::EdgeRow;
 use topo_table::Table;
 
-/// Whether all ids are before this one. All are looked at, so that several can be at once.
-fn are_below(ids: &[u32], first: u32) -> bool
-    ensures { IsTrue result ↔ list_all (λ x. nat_lt x first) ids.now ≡ true }
+/// How many ids of a path are looked at at once.
+const BLOCK: usize = 32;
+
+/// How many of these ids are before this one. All are looked at, so that several can be at once.
+fn count_below(ids: &[u32], first: u32) -> u32
+    requires { length ids.now < 2 ^ 32 }
+    ensures { result ≡ count_by (λ x. nat_lt x first) ids.now }
 {
-    let mut are_all = true;
+    let mut count = 0;
     for x in ids {
-        are_all &= *x < first;
+        count += (*x < first) as u32;
     }
-    are_all
+    count
+}
+
+/// Passes over the first blocks of a path, in which a segment does not end: where it goes on behind
+/// them, and how many crossings count there before the end.
+fn pass_blocks(path: &[u32], segment: u32, first: u32) -> (usize, u32)
+    ensures within { result.0 ≤ length path.now }
+    ensures same { result.0 + segment_end first result.1 (drop result.0 path.now)
+        ≡ segment_end first segment path.now }
+{
+    let mut place = 0;
+    let mut left = segment;
+    while path.len() - place >= BLOCK {
+        let below = count_below(&path[place..place + BLOCK], first);
+        if below > left {
+            break;
+        }
+        left -= below;
+        place += BLOCK;
+    }
+    (place, left)
 }
 
 /// The place on a path where a segment ends, when only the crossings with ids before `first` count.
-/// Where all before it count, as on most paths, it is that of the segment or behind it.
 fn segment_end(path: &[u32], segment: u32, first: u32) -> usize
     ensures { result ≡ segment_end first segment path.now }
 {
-    let head = path.len().min(segment as usize);
-    if are_below(&path[..head], first) {
-        next_end(path, head, 0, first)
-    } else {
-        next_end(path, 0, segment, first)
-    }
-}
-
-/// As `segment_end`, from a place on, behind which so many crossings count before the end.
-fn next_end(path: &[u32], from: usize, segment: u32, first: u32) -> usize
-    requires { from ≤ length path.now }
-    ensures { result ≡ from + segment_end first segment (drop from path.now) }
-{
-    let mut left = segment;
-    for i in from..path.len() {
+    let (place, mut left) = pass_blocks(path, segment, first);
+    for i in place..path.len() {
         if path[i] < first {
             if left == 0 {
                 return i;

@@ -1,21 +1,20 @@
 //! The command `replay`.
 
-ghost use Rattle.std.specs.Prelude.{◌≡◌, ◌≤◌, ℕ, List, IfOk, IfErr, IfSome, Some};
-ghost use Rattle.std.specs.Prelude.{None, slice_get, string_bytes};
+ghost use Rattle.std.specs.Prelude.{◌≡◌, ℕ, List, IfOk, IfErr, Some};
+ghost use Rattle.std.specs.Prelude.{string_bytes};
 ghost use Rattle.topo_book.specs.Faults.{IsFaultOf, IsIllegalAt};
 ghost use Rattle.topo_core.specs.History.{Replays};
-ghost use Rattle.topo_price.specs.Prices.{AreFloors, IsPromise, first_bad, prices_of};
+ghost use Rattle.topo_price.specs.Prices.{IsPromise, prices_of};
 ghost use Rattle.topo_check.specs.Replays.{IsReplayed, IsTrueReport, IsUntrue, ReplayFailsBy};
 ghost use Rattle.topo_check.specs.Replays.{TellsCalls, TellsUntrue, calls_line};
 ghost use Rattle.topo_forms.specs.Reads.{Gives};
 ghost use Rattle.topo_forms.specs.Scripts.{report_of};
 ghost use Rattle.topo_settings.specs.Settings.{priced, price_table};
-ghost use Rattle.topo_core.specs.declared.rows.TheConstants.{MAX_PRICE};
 
 use std::alloc::{AllocError, Global};
 use std::io::{Read, Write};
 use topo_book::{ReplayFault, replay};
-use topo_core::rows::{Facts, KINDS, Rows};
+use topo_core::rows::Rows;
 use topo_forms::row_forms::MAX_PICTURE_BYTES;
 use topo_forms::{Report, ScriptFault, read_report};
 use topo_picture::Picture;
@@ -96,7 +95,7 @@ fn judge(alloc: Global, report: &Report) -> Result<(), RunFault>
 {
     let prices = report.prices.as_slice();
     let (table, start) = validate(alloc, report.limits, prices, Some(&report.start))?;
-    let replayed = replayed_rows(alloc, report, &start, &table);
+    let replayed = replayed_rows(alloc, report, &start, table);
     drop(start);
     let rows = match replayed {
         Ok(rows) => rows,
@@ -117,10 +116,9 @@ fn replayed_rows(
     alloc: Global,
     report: &Report,
     start: &Picture,
-    table: &PriceTable,
+    table: PriceTable,
 ) -> Result<Rows, ReplayFault>
-    requires own { table.now ≡ price_table report.now.prices }
-    requires good { first_bad (price_table report.now.prices) ≡ None }
+    requires { table ≡ price_table report.now.prices }
     ensures replayed { IfOk result (λ rows. Replays (priced report.now.prices)
         start.now.limits start.now.rows report.now.history rows) }
     ensures first_wrong { IfErr result
@@ -141,10 +139,9 @@ fn priced_replay(
     alloc: Global,
     report: &Report,
     start: &Picture,
-    table: &PriceTable,
+    table: PriceTable,
 ) -> Result<Picture, ReplayFault>
-    requires own { table.now ≡ price_table report.now.prices }
-    requires good { first_bad (price_table report.now.prices) ≡ None }
+    requires { table ≡ price_table report.now.prices }
     ensures replayed { IfOk result (λ p. Replays (priced report.now.prices)
         start.now.limits start.now.rows report.now.history p.rows) }
     ensures first_wrong { IfErr result
@@ -153,17 +150,9 @@ fn priced_replay(
         (IsIllegalAt (priced report.now.prices)
         start.now.limits start.now.rows report.now.history) }
 {
-    let floors = table.floors();
-    asked_replay(
-        alloc,
-        report,
-        start,
-        |facts: &Facts| -> Option<u32>
-            ensures entry { slice_get table.entry.now facts.now.kind ≡ Some result }
-            ensures in_range { IfSome result (λ n. (1 ≤ n) × (n ≤ MAX_PRICE)) }
-        { table.price(facts.kind) },
-        floors,
-    )
+    // For the proof: what the type keeps.
+    table.laws();
+    asked_replay(alloc, report, start, table)
 }
 
 /// The replay of a report's history at the prices that a closure answers.
@@ -172,11 +161,9 @@ fn asked_replay<F: PriceFn + Drop>(
     report: &Report,
     start: &Picture,
     ask: F,
-    floors: [u16; KINDS],
 ) -> Result<Picture, ReplayFault>
     requires callable { F.is_callable ask }
     requires promise { IsPromise (F.may_return ask) }
-    requires floors { AreFloors (prices_of (F.may_return ask)) floors }
     ensures replayed { IfOk result (λ p. Replays (prices_of (F.may_return ask))
         start.now.limits start.now.rows report.now.history p.rows) }
     ensures first_wrong { IfErr result
@@ -185,6 +172,6 @@ fn asked_replay<F: PriceFn + Drop>(
     ensures illegal { IfErr result (IsIllegalAt (prices_of (F.may_return ask))
         start.now.limits start.now.rows report.now.history) }
 {
-    let tariff = Tariff::with_floors(ask, floors);
+    let tariff = Tariff::new(ask);
     replay(alloc, start, report.history.as_slice(), &tariff)
 }

@@ -1,6 +1,6 @@
 -- A dart by its number and that of the first dart of its edge.
-use Rattle.std.proofs.Common.{◌≡◌, ◌+◌, ◌*◌, ◌-◌, ◌<◌, ◌≤◌, ℕ, true, ap, arith, length, Some, refl, sym, subst, ◌∙◌}
-use Rattle.std.specs.Prelude.{◌==◌, find, slice_get, slice_index}
+use Rattle.std.proofs.Common.{◌≡◌, ◌+◌, ◌*◌, ◌-◌, ◌<◌, ◌≤◌, ℕ, true, ap, arith, length, Some, sym, subst, ◌∙◌}
+use Rattle.std.specs.Prelude.{◌==◌, slice_get, slice_index}
 use Rattle.std.specs.List.{position_or_len}
 use Rattle.std.proofs.lemmas.List.Folds.{find_at}
 use Rattle.topo_core.specs.declared.darts.Dart.{Dart}

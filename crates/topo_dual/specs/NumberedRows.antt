@@ -1,5 +1,5 @@
 -- Rows with their darts as numbers: the lists that number them.
-use Rattle.std.proofs.Common.{arith, refl}
+use Rattle.std.proofs.Common.{arith}
 use Rattle.std.specs.Prelude.{◌≡◌, ℕ, ◌<◌, true, List, length, map, slice_index}
 use Rattle.topo_core.specs.declared.darts.Dart.{Dart}
 use Rattle.topo_core.specs.declared.rows.Rows.{Rows}
@@ -50,8 +50,7 @@ pub faces_again : (shown : LawfulRows) → HasFaces (canonical shown.rows) (slic
 faces_again shown = faces_known (canonical shown.rows) (lawful_again shown.rows shown.lawful) (slice_index shown.faces) shown.bound shown.told
 
 -- nothing guides a search
-pub never_guided : (shown : LawfulRows) → AreConsistent (canonical shown.rows) (λ _. all_four 0) (λ _. 0)
+pub never_guided : (shown : LawfulRows) → AreConsistent (canonical shown.rows) (slice_index shown.faces) (λ _. all_four 0) (λ _. 0)
 never_guided shown = record {
-  even = λ k is. refl;
   consistent = λ k is. record { first = omega arith; second = omega arith; third = omega arith; fourth = omega arith };
 }

@@ -120,6 +120,10 @@ impl FaceGraph for Frozen {
         self.as_numbered().edge(dart)
     }
 
+    fn kind(&self, dart: u32) -> u8 {
+        self.as_numbered().kind(dart)
+    }
+
     fn facts(&self, dart: u32) -> Facts {
         self.as_numbered().facts(dart)
     }
@@ -164,7 +168,7 @@ impl FaceGraph for Frozen {
         false
     }
 
-    fn potentials(&self, _dart: u32) -> Potentials {
+    fn potentials(&self, _face: u32) -> Potentials {
         Potentials::all(0)
     }
 

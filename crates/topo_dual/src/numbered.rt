@@ -147,6 +147,10 @@ impl FaceGraph for Numbered<'_> {
         self.embedded.edge(self.lists.half(dart))
     }
 
+    fn kind(&self, dart: u32) -> u8 {
+        self.embedded.kind(self.lists.half(dart))
+    }
+
     fn facts(&self, dart: u32) -> Facts {
         self.embedded.facts(self.lists.half(dart))
     }
@@ -195,7 +199,7 @@ impl FaceGraph for Numbered<'_> {
         false
     }
 
-    fn potentials(&self, _dart: u32) -> Potentials {
+    fn potentials(&self, _face: u32) -> Potentials {
         Potentials::all(0)
     }
 

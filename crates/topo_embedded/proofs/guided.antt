@@ -1,5 +1,4 @@
 -- Potentials that go with the changes of a picture.
-pub mod Evenness
-pub mod Begun
+pub mod Going
 pub mod Fitting
 pub mod Guiding

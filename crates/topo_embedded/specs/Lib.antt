@@ -13,3 +13,4 @@ pub mod Padding
 pub mod Crossing
 pub mod Canonical
 pub mod KnownFaces
+pub mod KnownKinds

@@ -1,7 +1,9 @@
 -- What the parts of an embedding show.
+use Rattle.std.specs.Prelude.{ℕ}
 use Rattle.topo_embedded.specs.declared.parts.Parts.{Parts}
-use Rattle.topo_embedded.specs.Bounds.{AreConsistentOn, FitsRows, at_half, slope_of}
+use Rattle.topo_embedded.specs.Bounds.{AreConsistentOn, FitsRows}
 use Rattle.topo_embedded.specs.Halves.{RowsWithPaths, ShowsRows}
+use Rattle.topo_embedded.specs.KnownKinds.{AreKindsOf}
 use Rattle.topo_table.specs.Places.{values_in}
 
 -- the rows with the halves along each edge
@@ -12,7 +14,10 @@ with_paths p = record { rows = p.rows; paths = values_in p.paths }
 abbrev pub Agree : Parts → Type 0
 Agree p = ShowsRows (with_paths p) p.segments
 
--- the potentials are consistent on the segments, and their slopes fit the rows
-pub record AreBounded (p : Parts) : Type 0 where
-  pub consistent : AreConsistentOn (at_half p.bounds) (slope_of p.bounds) p.segments.slots
-  pub fits : FitsRows p.rows p.bounds
+-- What searches read beside the rows: the potentials are consistent on the segments, for slopes that fit the rows, and the kinds are those
+-- of the edges.
+pub record AreForSearches (p : Parts) : Type 0 where
+  pub slope : ℕ → ℕ
+  pub consistent : AreConsistentOn p.bounds slope p.segments
+  pub fits : FitsRows p.rows p.bounds slope
+  pub kinds : AreKindsOf p.rows p.kinds

@@ -8,7 +8,7 @@ use Rattle.topo_map.specs.Rotation.{Rotation, Slot, is_live, turn_in}
 use Rattle.topo_route.specs.Names.{HasFaces, IsNamed, Named}
 use Rattle.topo_rows.specs.Recovering.{lawful_again}
 use Rattle.topo_route.specs.Potentials.{AreConsistent}
-use Rattle.topo_embedded.specs.Bounds.{BoundsState, at_half, floor_of}
+use Rattle.topo_embedded.specs.Bounds.{BoundsState, at_face, floor_of}
 use Rattle.topo_embedded.specs.Halves.{IsHalf, RowsWithPaths, by_way, half_in}
 use Rattle.topo_embedded.specs.KnownFaces.{faces_known}
 
@@ -34,7 +34,7 @@ named_in p size = record { rows = p.rows; name = half_in p; size = size }
 abbrev pub AreLive : RowsWithPaths → Rotation → Type 0
 AreLive p r = (h : ℕ) → IsHalf p h → is_live r h ≡ true
 
--- lawful rows whose darts have halves of their own below a size, at each key the labels of the faces of its two halves, and potentials of the halves
+-- lawful rows whose darts have halves of their own below a size, at each key the labels of the faces of its two halves, and potentials of the faces
 pub record FaceGraphRows : Type 0 where
   pub embedded : RowsWithPaths
   pub size : ℕ
@@ -44,7 +44,7 @@ pub record FaceGraphRows : Type 0 where
   pub lawful : ∥ Lawful embedded.rows ∥₁
   pub told : ∥ HasFaces (named_in embedded size) (turn_in faces) bound ∥₁
   pub bounds : BoundsState
-  pub consistent : AreConsistent (named_in embedded size) (at_half bounds) (floor_of bounds)
+  pub consistent : AreConsistent (named_in embedded size) (turn_in faces) (at_face bounds) (floor_of bounds)
 
 abbrev pub named_rows : FaceGraphRows → Named
 named_rows w = named_in w.embedded w.size
@@ -55,5 +55,5 @@ names_apart w = w.named
 pub faces_apart : (w : FaceGraphRows) → HasFaces (named_rows w) (turn_in w.faces) w.bound
 faces_apart w = faces_known (named_rows w) (lawful_again w.embedded.rows w.lawful) (turn_in w.faces) w.bound w.told
 
-pub consistent_potentials : (w : FaceGraphRows) → AreConsistent (named_rows w) (at_half w.bounds) (floor_of w.bounds)
+pub consistent_potentials : (w : FaceGraphRows) → AreConsistent (named_rows w) (turn_in w.faces) (at_face w.bounds) (floor_of w.bounds)
 consistent_potentials w = w.consistent

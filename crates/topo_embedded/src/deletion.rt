@@ -14,7 +14,7 @@ ghost use Rattle.topo_changes.proofs.deleting.DeletedMids.{across};
 ghost use Rattle.topo_embedded.specs.Halves.{ShowsRows, path_of};
 ghost use Rattle.topo_embedded.specs.Opening.{IsOpenTo, IsOpened, IsSetOut, IsSmoothedTo};
 ghost use Rattle.topo_embedded.specs.Opening.{leads_in, mids_of, without_half};
-ghost use Rattle.topo_embedded.specs.Parts.{Agree, AreBounded};
+ghost use Rattle.topo_embedded.specs.Parts.{Agree, AreForSearches};
 ghost use Rattle.topo_embedded.specs.Paths.{AreForEdges, IsPathAt, KeepsIds, path_in};
 ghost use Rattle.topo_table.specs.Places.{ids_in, values_in};
 
@@ -164,11 +164,11 @@ impl Parts {
         requires there { is_some (edge_row self.old.rows edge) ≡ true }
         requires shows { Agree self.old }
         requires kept { AreForEdges self.old.rows self.old.paths }
-        requires bounded { AreBounded self.old }
+        requires searches { AreForSearches self.old }
         ensures rows { self.new.rows ≡ without self.old.rows edge }
         ensures shows { Agree self.new }
         ensures kept { AreForEdges self.new.rows self.new.paths }
-        ensures bounded { AreBounded self.new }
+        ensures searches { AreForSearches self.new }
     {
         self.take_out(edge);
     }
@@ -181,11 +181,11 @@ impl Parts {
         requires there { is_some (edge_row self.old.rows edge) ≡ true }
         requires shows { Agree self.old }
         requires kept { AreForEdges self.old.rows self.old.paths }
-        requires bounded { AreBounded self.old }
+        requires searches { AreForSearches self.old }
         ensures rows { self.new.rows ≡ without self.old.rows edge }
         ensures shows { Agree self.new }
         ensures kept { AreForEdges self.new.rows self.new.paths }
-        ensures bounded { AreBounded self.new }
+        ensures searches { AreForSearches self.new }
     {
         self.bounds.clear();
         delete_lists(&mut self.paths, &mut self.segments, edge);

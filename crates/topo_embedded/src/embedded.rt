@@ -9,8 +9,9 @@ ghost use Rattle.topo_core.specs.Picture.{corner, darts, edge_at, edge_row};
 ghost use Rattle.topo_core.specs.Picture.{end_dart, segment_count, system};
 ghost use Rattle.topo_core.specs.Routes.{AreFactsOf};
 ghost use Rattle.topo_core.specs.Systems.{SameFace, face_step, has_dart};
-ghost use Rattle.topo_embedded.specs.Bounds.{at_half, floor_of};
+ghost use Rattle.topo_embedded.specs.Bounds.{at_face, floor_of};
 ghost use Rattle.topo_embedded.specs.Halves.{IsHalf, ShowsRows, half_in, path_of};
+ghost use Rattle.topo_map.specs.Rotation.{face_of};
 ghost use Rattle.topo_embedded.specs.Walking.{named_in};
 ghost use Rattle.topo_rows.specs.Flats.{AreTurnsOf};
 ghost use Rattle.topo_route.specs.Names.{IsNamed};
@@ -19,8 +20,9 @@ ghost use Rattle.topo_core.specs.declared.rows.TheConstants.{KINDS};
 
 mod canonical;
 
-use crate::bounds::{Bounds, are_consistent, potentials_of, slopes_for};
+use crate::bounds::{Bounds, are_consistent};
 use crate::cuts::first_cut;
+use crate::kinds::Kinds;
 use crate::making::{labels_of, paths_of};
 use crate::padding::Crossed;
 use crate::parts::Parts;
@@ -70,7 +72,7 @@ impl Drop for Embedded {
 impl Model for Embedded {
     ghost use Rattle.topo_core.specs.Lawful.{IsWellFormed};
     ghost use Rattle.topo_embedded.specs.Halves.{RowsWithPaths};
-    ghost use Rattle.topo_embedded.specs.Parts.{Agree, AreBounded, with_paths};
+    ghost use Rattle.topo_embedded.specs.Parts.{Agree, AreForSearches, with_paths};
     ghost use Rattle.topo_embedded.specs.Paths.{AreForEdges};
 
     ghost Value = { RowsWithPaths };
@@ -78,7 +80,7 @@ impl Model for Embedded {
     ghost view = { λ e. with_paths e.parts };
 
     ghost invariant = { λ e. IsWellFormed e.parts.rows × Agree e.parts
-        × AreForEdges e.parts.rows e.parts.paths × AreBounded e.parts };
+        × AreForEdges e.parts.rows e.parts.paths × AreForSearches e.parts };
 }
 
 impl Embedded {
@@ -98,11 +100,13 @@ impl Embedded {
         let begins = turns.begins.as_slice();
         let paths = paths_of(alloc, edges, begins, halves.as_slice(), limit)?;
         let rows = KeptRows::of(alloc, rows)?;
+        let kinds = Kinds::of(alloc, &rows)?;
         let parts = Parts {
             rows,
             paths,
             segments,
             bounds: Bounds::none(alloc),
+            kinds,
         };
         Ok(Embedded { parts })
     }
@@ -114,11 +118,13 @@ impl Embedded {
         let rows = self.parts.rows.copy(alloc)?;
         let paths = self.parts.paths.try_copy(alloc)?;
         let segments = self.parts.segments.copy()?;
+        let kinds = self.parts.kinds.try_copy(alloc)?;
         let parts = Parts {
             rows,
             paths,
             segments,
             bounds: Bounds::none(alloc),
+            kinds,
         };
         Ok(Embedded { parts })
     }
@@ -131,7 +137,7 @@ impl Embedded {
         self.parts.rows.reserve(vertices, edges)?;
         self.parts.paths.reserve(edges)?;
         self.parts.segments.reserve(edges)?;
-        self.parts.bounds.make_places(self.parts.segments.limit());
+        self.parts.kinds.reserve(edges);
         Ok(())
     }
 
@@ -142,23 +148,19 @@ impl Embedded {
         &self.parts.rows
     }
 
-    /// The segments, which show the rows.
-    pub(crate) fn segments(&self) -> &Embedding
-        ensures { ShowsRows self.now result.now }
+    /// The segments, which show the rows, and the potentials of their faces with the floors of the
+    /// kinds.
+    pub(crate) fn search_parts(&self) -> (&Embedding, &Bounds)
+        ensures shows { ShowsRows self.now result.0.now }
+        ensures consistent { (size : ℕ)
+            → AreConsistent (named_in self.now size) (face_of result.0.now)
+            (at_face result.1.now) (floor_of result.1.now) }
     {
-        &self.parts.segments
-    }
-
-    /// The potentials of the halves, and the floors of the kinds.
-    pub(crate) fn bounds(&self) -> &Bounds
-        ensures { (size : ℕ)
-            → AreConsistent (named_in self.now size) (at_half result.now) (floor_of result.now) }
-    {
-        &self.parts.bounds
+        (&self.parts.segments, &self.parts.bounds)
     }
 
     /// Takes the potentials out, with their memory.
-    fn drop_potentials(&mut self, alloc: Global)
+    pub fn drop_potentials(&mut self, alloc: Global)
         ensures { self.new ≡ self.old }
     {
         self.parts.bounds = Bounds::none(alloc);
@@ -168,22 +170,15 @@ impl Embedded {
     /// edge is taken out. They are for prices that are no lower than the floors of the kinds of
     /// edges. Where beside a segment they are farther apart than that, nothing guides searches. The
     /// picture stays as it was.
-    pub fn set_potentials(
-        &mut self,
-        alloc: Global,
-        faces: &[Potentials],
-        floors: &[u16],
-    ) -> Result<(), AllocError>
+    pub fn set_potentials(&mut self, alloc: Global, faces: Vec<Potentials>, floors: Vec<u16>)
         ensures { self.new ≡ self.old }
     {
-        self.drop_potentials(alloc);
-        let slopes = slopes_for(alloc, &self.parts.rows, floors)?;
-        let potentials = potentials_of(alloc, &self.parts.segments, faces)?;
-        let bounds = Bounds::new(potentials, slopes, Vec::from_slice(alloc, floors)?);
-        if are_consistent(&self.parts.segments, &bounds) {
+        let bounds = Bounds::new(faces, floors);
+        if are_consistent(&self.parts.rows, &self.parts.segments, &bounds) {
             self.parts.bounds = bounds;
+        } else {
+            self.drop_potentials(alloc);
         }
-        Ok(())
     }
 
     /// Whether anything guides a search.
@@ -267,6 +262,19 @@ impl Embedded {
             → result ≡ d.edge }
     {
         self.parts.segments.edge(half)
+    }
+
+    /// The kind of the edge of a half.
+    pub fn kind(&self, half: Half) -> u8
+        requires { IsHalf self.now half }
+        ensures { (d : Dart) → has_dart (darts self.now.rows) d ≡ true → half_in self.now d ≡ half
+            → result ≡ (edge_at self.now.rows d.edge).kind }
+    {
+        let edge = self.parts.segments.edge(half);
+        match self.parts.kinds.get(edge) {
+            Some(kind) => kind,
+            None => self.known_edge(edge).kind as u8,
+        }
     }
 
     /// The facts of the edge of a half.

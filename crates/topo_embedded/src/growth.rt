@@ -7,12 +7,11 @@ ghost use Rattle.topo_core.specs.Lawful.{IsWellFormed};
 ghost use Rattle.topo_core.specs.Picture.{corner, rotation};
 ghost use Rattle.topo_core.specs.declared.darts.Dart.{Dart};
 ghost use Rattle.topo_embedded.specs.Halves.{half_in};
-ghost use Rattle.topo_embedded.specs.Parts.{Agree, AreBounded, with_paths};
+ghost use Rattle.topo_embedded.specs.Parts.{Agree, AreForSearches, with_paths};
 ghost use Rattle.topo_embedded.specs.Paths.{AreForEdges};
 ghost use Rattle.topo_table.specs.Places.{values_in};
 ghost use Rattle.topo_core.specs.declared.rows.TheConstants.{KINDS};
 
-use crate::bounds::hang;
 use crate::parts::Parts;
 use crate::path::Path;
 use std::alloc::{AllocError, Global};
@@ -38,7 +37,7 @@ impl Parts {
         requires edges { self.old.rows.next_edge + 1 < 2 ^ 32 }
         requires shows { Agree self.old }
         requires kept { AreForEdges self.old.rows self.old.paths }
-        requires bounded { AreBounded self.old }
+        requires searches { AreForSearches self.old }
         requires named { (c : Dart) → corner self.old.rows u position ≡ Some c
             → named ≡ half_in (with_paths self.old) c }
         ensures ok { OnOk result (self.new.rows ≡ grown self.old.rows u position kind) }
@@ -46,16 +45,16 @@ impl Parts {
         ensures err_paths { OnErr result (values_in self.new.paths ≡ values_in self.old.paths) }
         ensures shows { Agree self.new }
         ensures kept { AreForEdges self.new.rows self.new.paths }
-        ensures bounded { AreBounded self.new }
+        ensures searches { AreForSearches self.new }
     {
         self.segments.reserve(1)?;
         self.paths.reserve(1)?;
         let edge = self.rows.next_edge();
         grow_rows(alloc, &mut self.rows, u, position, kind)?;
         self.segments.laws();
-        self.bounds.make_places(self.segments.limit());
-        let half = hang(&mut self.segments, &mut self.bounds, named, edge);
+        let half = self.segments.hang(named, edge);
         self.paths.push(edge, Path::of(half));
+        self.kinds.note(edge, kind);
         Ok(())
     }
 }

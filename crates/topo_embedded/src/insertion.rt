@@ -7,18 +7,18 @@ ghost use Rattle.std.specs.List.{All};
 ghost use Rattle.topo_core.specs.Changes.{shown};
 ghost use Rattle.topo_core.specs.Rotations.{twin};
 ghost use Rattle.topo_map.specs.Rotation.{is_live};
-ghost use Rattle.topo_embedded.specs.Bounds.{GoesOn};
+ghost use Rattle.topo_embedded.specs.Bounds.{BoundsState, GoesOn};
 ghost use Rattle.topo_embedded.specs.Crossing.{AreChordsAdded, AreSplit, IsMarked, IsReady};
 ghost use Rattle.topo_embedded.specs.Crossing.{IsReadyFor, IsRouted, subdivisions_of};
 ghost use Rattle.topo_embedded.specs.Crossing.{subdivided_half, crossed_darts};
 ghost use Rattle.topo_embedded.specs.Halves.{RowsWithPaths};
 ghost use Rattle.topo_embedded.specs.Inserting.{put_halves};
 ghost use Rattle.topo_embedded.specs.Padding.{ArePadded, ArePlaced};
-ghost use Rattle.topo_embedded.specs.Parts.{Agree, AreBounded, with_paths};
+ghost use Rattle.topo_embedded.specs.Parts.{Agree, AreForSearches, with_paths};
 ghost use Rattle.topo_embedded.specs.Paths.{AreForEdges, KeepsIds};
 ghost use Rattle.topo_table.specs.Places.{ids_in, ids_of, values_in};
 
-use crate::bounds::{Bounds, chord, split};
+use crate::bounds::{Bounds, chord};
 use crate::padding::{Crossed, pad, split_path, unpad};
 use crate::parts::Parts;
 use crate::path::Path;
@@ -29,12 +29,7 @@ use topo_map::{Embedding, Half};
 use topo_table::NumberedTable;
 
 /// Splits the segments of the crossed darts, the last one first.
-fn split_crossed(
-    paths: &mut NumberedTable<Path>,
-    segments: &mut Embedding,
-    bounds: &mut Bounds,
-    crossed: &mut [Crossed],
-)
+fn split_crossed(paths: &mut NumberedTable<Path>, segments: &mut Embedding, crossed: &mut [Crossed])
     ghost p: { RowsWithPaths }
     requires ready { IsReady p segments.old crossed.old (values_in paths.old) }
     requires room { length crossed.old ≤ segments.old.room }
@@ -46,14 +41,15 @@ fn split_crossed(
         ≡ map (put_halves (subdivisions_of p.rows crossed.new)) p.paths }
     ensures same { KeepsIds paths.old paths.new }
     ensures room { segments.new.room + length crossed.old ≡ segments.old.room }
-    ensures bounds { GoesOn segments.old.slots segments.new.slots bounds.old bounds.new }
+    ensures bounds { (b : BoundsState) → GoesOn segments.old segments.new b b }
 {
     segments.laws();
     let mut n = crossed.len();
     while n > 0 {
         n -= 1;
         let cross = crossed[n];
-        let beyond = split(segments, bounds, cross.near);
+        segments.laws();
+        let beyond = segments.split(cross.near);
         split_path(paths, &cross, beyond);
         crossed[n] = Crossed { beyond, ..cross };
     }
@@ -89,7 +85,7 @@ fn add_chords(
     requires room { length crossed.now + 1 ≤ segments.old.room }
     requires line { length line.old ≡ length crossed.now + 1 }
     ensures added { AreChordsAdded segments.old segments.new crossed.now start end edge line.new }
-    ensures bounds { GoesOn segments.old.slots segments.new.slots bounds.old bounds.new }
+    ensures bounds { GoesOn segments.old segments.new bounds.old bounds.new }
 {
     segments.laws();
     let mut to = end;
@@ -114,6 +110,7 @@ fn make_room(
     requires few { length crossed.now < 2 ^ 32 }
     requires placed { ArePlaced (ids_in paths.old) crossed.now }
     ensures slots { segments.new.slots ≡ segments.old.slots }
+    ensures labels { segments.new.labels ≡ segments.old.labels }
     ensures room { OnOk result (2 * length crossed.now + 1 ≤ segments.new.room) }
     ensures line { IfOk result (λ line. length line ≡ length crossed.now + 1) }
     ensures padded { OnOk result (ArePadded (ids_in paths.old) (λ hs. hs) (values_in paths.old)
@@ -156,10 +153,10 @@ fn add_route(
     ensures same { KeepsIds paths.old paths.new }
     ensures routed { IsRouted p segments.old segments.new crossed.new corners.0
         corners.1 edge line.new }
-    ensures bounds { GoesOn segments.old.slots segments.new.slots bounds.old bounds.new }
+    ensures bounds { GoesOn segments.old segments.new bounds.old bounds.new }
 {
     segments.laws();
-    split_crossed(paths, segments, bounds, crossed);
+    split_crossed(paths, segments, crossed);
     let start = subdivided(crossed, corners.0);
     let end = subdivided(crossed, corners.1);
     add_chords(segments, bounds, crossed, start, end, edge, line);
@@ -180,7 +177,7 @@ impl Parts {
         requires ready { IsReadyFor (with_paths self.old)
             self.old.segments crossed.old ends.0 ends.1 kind route.now corners.0 corners.1 }
         requires kept { AreForEdges self.old.rows self.old.paths }
-        requires bounded { AreBounded self.old }
+        requires searches { AreForSearches self.old }
         requires edges { self.old.rows.next_edge + 1 < 2 ^ 32 }
         requires crossing_ids { self.old.rows.next_crossing + length route.now.crossed < 2 ^ 32 }
         ensures ok { OnOk result
@@ -189,7 +186,7 @@ impl Parts {
         ensures err_paths { OnErr result (values_in self.new.paths ≡ values_in self.old.paths) }
         ensures shows { Agree self.new }
         ensures kept { AreForEdges self.new.rows self.new.paths }
-        ensures bounded { AreBounded self.new }
+        ensures searches { AreForSearches self.new }
     {
         self.add_edge(alloc, crossed, corners, ends, kind, route)
     }
@@ -209,7 +206,7 @@ impl Parts {
         requires ready { IsReadyFor p self.old.segments crossed.old ends.0 ends.1 kind route.now
             corners.0 corners.1 }
         requires kept { AreForEdges self.old.rows self.old.paths }
-        requires bounded { AreBounded self.old }
+        requires searches { AreForSearches self.old }
         requires edges { self.old.rows.next_edge + 1 < 2 ^ 32 }
         requires crossing_ids { self.old.rows.next_crossing + length route.now.crossed < 2 ^ 32 }
         ensures ok { OnOk result
@@ -218,7 +215,7 @@ impl Parts {
         ensures err_paths { OnErr result (values_in self.new.paths ≡ values_in self.old.paths) }
         ensures shows { Agree self.new }
         ensures kept { AreForEdges self.new.rows self.new.paths }
-        ensures bounded { AreBounded self.new }
+        ensures searches { AreForSearches self.new }
     {
         let edge = self.rows.next_edge();
         let mut line = make_room(alloc, &mut self.paths, &mut self.segments, crossed)?;
@@ -227,7 +224,6 @@ impl Parts {
             return Err(AllocError);
         }
         self.segments.laws();
-        self.bounds.make_places(self.segments.limit());
         let paths = &mut self.paths;
         let bounds = &mut self.bounds;
         add_route(
@@ -240,6 +236,7 @@ impl Parts {
             &mut line,
         );
         paths.push(edge, line);
+        self.kinds.note(edge, kind);
         Ok(())
     }
 }

@@ -132,16 +132,18 @@ pub(crate) fn pad(
     Ok(())
 }
 
-/// Puts the half that goes on beyond a half of the list next to it, on the side where it leads. The
-/// last half of the list goes.
-fn put_beside(path: &mut Path, near: Half, beyond: Half)
+/// Puts the half that goes on beyond the half of a crossed dart next to it, on the side where it
+/// leads. The last half of the path goes. The half is not before the place that the dart had when
+/// no segment was split.
+fn put_beside(path: &mut Path, cross: &Crossed, beyond: Half)
     ensures { (xs ys : List ℕ) (h last : ℕ) → path.old ≡ xs ++ h ∷ (ys ++ last ∷ [])
-        → AreOff near xs → IsOn near h
-        → path.new ≡ xs ++ (piece (record { dart = 0; near = near; beyond = beyond }) h ++ ys) }
+        → cross.now.dart.seg ≤ length xs → AreOff cross.now.near xs → IsOn cross.now.near h
+        → path.new ≡ xs
+        ++ (piece (record { dart = 0; near = cross.now.near; beyond = beyond }) h ++ ys) }
 {
-    let at = path.place_of(near);
+    let at = path.place_from(cross.dart.seg as usize, cross.near);
     if at < path.len() {
-        if path.at(at) == near {
+        if path.at(at) == cross.near {
             path.shift_in(at + 1, beyond);
         } else {
             path.shift_in(at, beyond.twin());
@@ -156,14 +158,15 @@ pub(crate) fn split_path(paths: &mut NumberedTable<Path>, cross: &Crossed, beyon
     ensures path { IsPathSo paths.old paths.new cross.now.dart.edge
         (λ path. (xs ys : List ℕ) (h last : ℕ)
         → path_in paths.old cross.now.dart.edge ≡ xs ++ h ∷ (ys ++ last ∷ [])
-        → AreOff cross.now.near xs → IsOn cross.now.near h → path ≡ xs
+        → cross.now.dart.seg ≤ length xs → AreOff cross.now.near xs → IsOn cross.now.near h
+        → path ≡ xs
         ++ (piece (record { dart = 0; near = cross.now.near; beyond = beyond }) h ++ ys)) }
     ensures same { KeepsIds paths.old paths.new }
 {
     match paths.place_of(cross.dart.edge.number()) {
         Some(place) => {
             let mut path = paths.take(place);
-            put_beside(&mut path, cross.near, beyond);
+            put_beside(&mut path, cross, beyond);
             paths.put(place, path);
         }
         None => unreachable!(),

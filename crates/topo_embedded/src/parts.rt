@@ -6,6 +6,7 @@ ghost use Rattle.topo_core.specs.Picture.{edge_row};
 ghost use Rattle.topo_table.specs.Places.{entries, value_of};
 
 use crate::bounds::Bounds;
+use crate::kinds::Kinds;
 use crate::path::Path;
 use topo_changes::{EdgeView, KeptRows};
 use topo_map::Embedding;
@@ -19,6 +20,7 @@ pub(crate) struct Parts {
     pub(crate) paths: NumberedTable<Path>,
     pub(crate) segments: Embedding,
     pub(crate) bounds: Bounds,
+    pub(crate) kinds: Kinds,
 }
 
 impl Parts {

@@ -182,13 +182,18 @@ impl Path {
         along == half || along == half.twin()
     }
 
-    /// A place before which a half is on no segment. It is not far before the first that it is on.
-    fn place_before(&self, half: Half) -> usize
-        ensures none { (k : ℕ) → k < result
+    /// A place before which a half is on no segment from another place on. It is not far before the
+    /// first that it is on there.
+    fn place_before(&self, from: usize, half: Half) -> usize
+        ensures none { (k : ℕ) → from ≤ k → k < result
             → on_segment half (slice_index_or self.now k 0) ≡ false }
         ensures within { result ≤ length self.now }
     {
         match &self.line {
+            Line::More(_, others) if from > 0 => {
+                let passed = others.len().min(from - 1);
+                1 + passed + blocks_before(&others.as_slice()[passed..], half)
+            }
             Line::More(_, others) if !self.is_at(0, half) => {
                 1 + blocks_before(others.as_slice(), half)
             }
@@ -196,17 +201,25 @@ impl Path {
         }
     }
 
-    /// The place of the first segment that a half is on; the number of segments where there is
-    /// none.
-    pub(crate) fn place_of(&self, half: Half) -> usize
-        ensures { result ≡ position_or_len (on_segment half) self.now }
+    /// As `place_of`, of a half that is on no segment before a place.
+    pub(crate) fn place_from(&self, from: usize, half: Half) -> usize
+        ensures { ((k : ℕ) → k < from → on_segment half (slice_index_or self.now k 0) ≡ false)
+            → result ≡ position_or_len (on_segment half) self.now }
     {
-        for place in self.place_before(half)..self.len() {
+        for place in self.place_before(from, half)..self.len() {
             if self.is_at(place, half) {
                 return place;
             }
         }
         self.len()
+    }
+
+    /// The place of the first segment that a half is on; the number of segments where there is
+    /// none.
+    pub(crate) fn place_of(&self, half: Half) -> usize
+        ensures { result ≡ position_or_len (on_segment half) self.now }
+    {
+        self.place_from(0, half)
     }
 
     /// Puts another half at a place.

@@ -8,7 +8,7 @@ ghost use Rattle.topo_core.specs.Lawful.{Lawful};
 ghost use Rattle.topo_core.specs.Picture.{darts, system};
 ghost use Rattle.topo_core.specs.Rotations.{twin};
 ghost use Rattle.topo_core.specs.Systems.{face_step, has_dart};
-ghost use Rattle.topo_embedded.specs.Bounds.{at_half, floor_of};
+ghost use Rattle.topo_embedded.specs.Bounds.{at_face, floor_of};
 ghost use Rattle.topo_embedded.specs.Halves.{IsHalf, by_way, half_in};
 ghost use Rattle.topo_embedded.specs.Walking.{IsOnPath, end_seg, end_way, named_in};
 ghost use Rattle.topo_map.specs.Rotation.{turn_in};
@@ -77,8 +77,8 @@ pub struct EmbeddedRows<'a> {
     ghost named: { IsNamed (named_in embedded.now size) },
     ghost lawful: { ∥ Lawful embedded.now.rows ∥₁ },
     ghost told: { ∥ HasFaces (named_in embedded.now size) (turn_in segments.now.labels) labels ∥₁ },
-    ghost consistent: { AreConsistent (named_in embedded.now size)
-        (at_half bounds.now) (floor_of bounds.now) },
+    ghost consistent: { AreConsistent (named_in embedded.now size) (turn_in segments.now.labels)
+        (at_face bounds.now) (floor_of bounds.now) },
 }
 
 impl<'a> Model for EmbeddedRows<'a> {
@@ -116,8 +116,7 @@ impl<'a> EmbeddedRows<'a> {
         ensures { result.embedded ≡ embedded.now }
     {
         let size = embedded.size();
-        let segments = embedded.segments();
-        let bounds = embedded.bounds();
+        let (segments, bounds) = embedded.search_parts();
         let labels = segments.labels();
         EmbeddedRows {
             embedded,
@@ -143,7 +142,7 @@ impl<'a> EmbeddedRows<'a> {
 
 impl FaceGraph for EmbeddedRows<'_> {
     ghost use Rattle.topo_rows.specs.Recovering.{lawful_again};
-    ghost use Rattle.topo_embedded.specs.Bounds.{at_half, floor_of};
+    ghost use Rattle.topo_embedded.specs.Bounds.{at_face, floor_of};
     ghost use Rattle.topo_embedded.specs.Walking.{consistent_potentials, faces_apart, named_rows, names_apart};
     ghost use Rattle.topo_map.specs.Rotation.{turn_in};
 
@@ -163,6 +162,10 @@ impl FaceGraph for EmbeddedRows<'_> {
 
     fn edge(&self, dart: u32) -> u32 {
         self.embedded.edge(Half::numbered(dart))
+    }
+
+    fn kind(&self, dart: u32) -> u8 {
+        self.embedded.kind(Half::numbered(dart))
     }
 
     fn facts(&self, dart: u32) -> Facts {
@@ -211,7 +214,7 @@ impl FaceGraph for EmbeddedRows<'_> {
         (next.number(), beyond)
     }
 
-    ghost potentials = { λ w. at_half w.bounds };
+    ghost potentials = { λ w. at_face w.bounds };
 
     ghost floor = { λ w. floor_of w.bounds };
 
@@ -219,8 +222,8 @@ impl FaceGraph for EmbeddedRows<'_> {
         self.bounds.are_there()
     }
 
-    fn potentials(&self, dart: u32) -> Potentials {
-        self.bounds.at(Half::numbered(dart))
+    fn potentials(&self, face: u32) -> Potentials {
+        self.bounds.at(face)
     }
 
     fn floor(&self, kind: u8) -> u16 {

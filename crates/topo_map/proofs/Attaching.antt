@@ -8,7 +8,7 @@ use Rattle.topo_perm.specs.FaceLabels.{LabelsFaces}
 use Rattle.topo_perm.proofs.permutations.Exchange.{IsExchange}
 use Rattle.topo_perm.proofs.permutations.Faces.{twin-twin}
 use Rattle.topo_perm.proofs.permutations.Walks.{face_next-permutation}
-use Rattle.topo_map.specs.Rotation.{half_limit}
+use Rattle.topo_map.specs.Rotation.{PartsLabels, half_limit}
 use Rattle.topo_map.specs.Segments.{put, without, holds, next_in, before_in, face_in, IsKept, IsTurned}
 use Rattle.topo_map.specs.Labels.{painted, IsLabelled, IsPainted}
 use Rattle.topo_map.specs.declared.segments.Segment.{Segment}
@@ -17,6 +17,9 @@ use Rattle.topo_map.proofs.Kept.{live_before, live_next}
 use Rattle.topo_map.proofs.Steps.{whole, live_twin}
 use Rattle.topo_map.proofs.Walked.{painted_kept}
 use Rattle.topo_map.proofs.Painting.{IsCoarse, IsScene, AreEnds, parted, joined, part_painted, share_painted, painted_below, put_exchange, without_exchange}
+use Rattle.topo_map.proofs.Painting.{lies, painted-in}
+use Rattle.topo_map.proofs.Painting.Lies.{Within, Beyond}
+use Rattle.topo_map.proofs.KeptLabels.{painted_beside}
 
 pub faces_permuted : (s : Slab Segment) → IsKept s → IsPermutation (face_next (next_in s)) half_limit
 faces_permuted s k = face_next-permutation (next_in s) half_limit (whole s k).slab.permutation (whole s k).slab.even
@@ -136,6 +139,18 @@ onto s c k = ap (next_in s) (twin-twin (before_in s c)) ∙ k.inverse.onward c
 self : (s : Slab Segment) (x : ℕ) → face_next (next_in s) (twin x) ≡ next_in s x
 self s x = ap (next_in s) (twin-twin x)
 
+-- before it is put in, its two sides lie in one face
+sides : {s : Slab Segment} {x c : ℕ} → IsAttachable s x c → LabelsFaces (holds s) (next_in s) (face_in s) → face_in s (twin x) ≡ face_in s x
+sides {s} {x} on was = was.same_label (twin x) x (live_twin s x (twin x) refl on.live) on.live (step (face_next (next_in s)) (twin x) x (self s x ∙ on.alone))
+
+-- and so do the half before the corner along the face and the twin, if the corner lies there too
+ends : {s : Slab Segment} {x c : ℕ} → IsAttachable s x c → LabelsFaces (holds s) (next_in s) (face_in s) → face_in s x ≡ face_in s c
+    → face_in s (twin (before_in s c)) ≡ face_in s (twin x)
+ends {s} {x} {c} on was same =
+    let i : ℕ = twin (before_in s c) in
+    let hi : holds s i ≡ true = live_twin s (before_in s c) i refl (live_before s c on.kept on.live_corner) in
+    was.same_label i c hi on.live_corner (step (face_next (next_in s)) i c (onto s c on.kept)) ∙ sym same ∙ sym (sides on was)
+
 pub put_parts : {s s1 : Slab Segment} (s2 : Slab Segment) {x c label : ℕ} → IsAttachable s x c → IsLabelled s label
     → face_in s x ≡ face_in s c → IsTurned s s1 (put (next_in s) x c) → face_in s1 ≡ face_in s → IsPainted s1 s2 x label ⊎ IsPainted s1 s2 c label
     → IsLabelled s2 (label + 1)
@@ -143,10 +158,8 @@ put_parts {s} {s1} s2 {x} {c} {label} on was same t e p =
     let i : ℕ = twin (before_in s c) in
     let j : ℕ = twin x in
     let w : IsStep s s1 i j = put_step on t e in
-    let f : ℕ → ℕ = face_next (next_in s) in
     let g : ℕ → ℕ = face_next (next_in s1) in
-    let equal : face_in s i ≡ face_in s j = was.labels.same_label i c w.first on.live_corner (step f i c (onto s c on.kept)) ∙ sym same
-    ∙ sym (was.labels.same_label j x w.second on.live (step f j x (self s x ∙ on.alone))) in
+    let equal : face_in s i ≡ face_in s j = ends on was.labels same in
     elim p [
       | inl v ↦ part_labels s2 x w was equal on.live (inl (step g i x (w.exchange.at_first ∙ self s x ∙ on.alone))) v
       | inr v ↦ part_labels s2 c w was equal on.live_corner (inr (step g j c (w.exchange.at_second ∙ onto s c on.kept))) v
@@ -190,6 +203,74 @@ put_joins {s} {s1} {s2} {x} {c} {unused} on a apart p t e = elim p [
       alone = ap (λ (h : ℕ → ℕ). h x) v.next ∙ on.alone;
       different = on.different;
     }
+
+-- ---- Which labels are kept where it is put in
+
+pub put_parts_beside : {s s1 s2 : Slab Segment} {x c label : ℕ} → IsAttachable s x c → IsLabelled s label → face_in s x ≡ face_in s c
+    → IsTurned s s1 (put (next_in s) x c) → face_in s1 ≡ face_in s → IsPainted s1 s2 x label ⊎ IsPainted s1 s2 c label
+    → PartsLabels (holds s) (face_in s) (face_in s2) x c x
+put_parts_beside {s} {s1} {s2} {x} {c} {label} on was same t e p =
+    let n : ℕ = half_limit in
+    let l : ℕ → ℕ = face_in s in
+    let i : ℕ = twin (before_in s c) in
+    let j : ℕ = twin x in
+    let w : IsStep s s1 i j = put_step on t e in
+    let g : ℕ → ℕ = face_next (next_in s1) in
+    let hg : IsPermutation g n = faces_permuted s1 t.kept in
+    let lx : x < n = on.kept.within x on.live in
+    let lc : c < n = on.kept.within c on.live_corner in
+    let lj : j < n = on.kept.within j w.second in
+    -- along the new faces the old labels are the same
+    let coarse : IsCoarse (holds s) g l i j = parted (next_in s1) (scene s i j on.kept w.first w.second) w.exchange was.labels (ends on was.labels same) in
+    let fresh : (a : ℕ) → holds s a ≡ true → l a ≡ label → ⊥ = λ a h d. (let la : l a < label = was.below a h in let z : ⊥ = omega arith in z) in
+    let paints : (y : ℕ) → holds s y ≡ true → (painted g n y label l x ≡ label) ⊎ (painted g n y label l j ≡ label) → (l y ≡ l x) ⊎ (l y ≡ l c)
+    → IsPainted s1 s2 y label → PartsLabels (holds s) l (face_in s2) x c x =
+    λ y hy side from v. subst (λ (m : ℕ → ℕ). PartsLabels (holds s) l m x c x) (sym (v.faces ∙ ap (λ (m : ℕ → ℕ). painted g n y label m) e))
+    (painted_beside (record {
+      permutation = hg;
+      below = on.kept.within;
+      same_label = coarse.same_label;
+      start = hy;
+      sides = sides on was.labels;
+      painted_side = side;
+      origin = from;
+      used = λ a h d. absurd (fresh a h d);
+    })) in
+    elim p [
+      | inl v ↦ paints x on.live (inl (painted-in g n x label l x hg lx (SameCycle-refl g x))) (inl refl) v
+      | inr v ↦ paints c on.live_corner
+          (inr (painted-in g n c label l j hg lc (SameCycle-sym g n hg j c lj (step g j c (w.exchange.at_second ∙ onto s c on.kept))))) (inr refl) v
+    ]
+
+pub put_joins_beside : {s s1 : Slab Segment} (s2 : Slab Segment) {x c unused : ℕ} → IsAttachable s x c → IsLabelled s unused
+    → IsPainted s s1 x (face_in s c) ⊎ IsPainted s s1 c (face_in s x) → face_in s2 ≡ face_in s1 → PartsLabels (holds s) (face_in s) (face_in s2) x c x
+put_joins_beside {s} {s1} s2 {x} {c} on was p e =
+    let n : ℕ = half_limit in
+    let l : ℕ → ℕ = face_in s in
+    let f : ℕ → ℕ = face_next (next_in s) in
+    let hf : IsPermutation f n = faces_permuted s on.kept in
+    let lx : x < n = on.kept.within x on.live in
+    let lc : c < n = on.kept.within c on.live_corner in
+    let paints : (y z : ℕ) → holds s y ≡ true → painted f n y (l z) l x ≡ l z → (l y ≡ l x) ⊎ (l y ≡ l c)
+    → ((a : ℕ) → holds s a ≡ true → l a ≡ l z → (l a ≡ l x) ⊎ (l a ≡ l c)) → IsPainted s s1 y (l z) → PartsLabels (holds s) l (face_in s2) x c x =
+    λ y z hy side from used v. subst (λ (m : ℕ → ℕ). PartsLabels (holds s) l m x c x) (sym (e ∙ v.faces))
+    (painted_beside (record {
+      permutation = hf;
+      below = on.kept.within;
+      same_label = was.labels.same_label;
+      start = hy;
+      sides = sides on was.labels;
+      painted_side = inl side;
+      origin = from;
+      used = used;
+    })) in
+    elim p [
+      | inl v ↦ paints x c on.live (painted-in f n x (l c) l x hf lx (SameCycle-refl f x)) (inl refl) (λ a h d. inr d) v
+      | inr v ↦ paints c x on.live_corner (elim (lies f n c (l x) l x hf lc) [
+        | Within m k ↦ k
+        | Beyond m k ↦ k
+      ]) (inr refl) (λ a h d. inl d) v
+    ]
 
 -- ---- A half that is taken out
 

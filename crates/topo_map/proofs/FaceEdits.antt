@@ -12,8 +12,8 @@ use Rattle.topo_perm.specs.Joins.{AddsSegment}
 use Rattle.topo_perm.proofs.permutations.Faces.{twin-twin, isolated_face}
 use Rattle.topo_perm.proofs.permutations.Splitting.{without-self}
 use Rattle.topo_perm.proofs.edits.LabelledFaces.{hang_labels, split_labels, smooth_labels}
-use Rattle.topo_map.specs.Rotation.{half_limit, live_in, turn_in, KeepsLabels, Slot}
-use Rattle.topo_map.specs.Segments.{put, without, holds, next_in, before_in, face_in, nexts, AddsFaces, IsKept, IsInserted, IsRemoved, IsTurned, Repaints}
+use Rattle.topo_map.specs.Rotation.{half_limit, live_in, turn_in, AddsFaces, KeepsLabels, Slot}
+use Rattle.topo_map.specs.Segments.{put, without, holds, next_in, before_in, face_in, nexts, IsKept, IsInserted, IsRemoved, IsTurned, Repaints}
 use Rattle.topo_map.specs.Building.{AreBlank, IsJoined, IsListed}
 use Rattle.topo_map.specs.Labels.{IsLabelled, IsSound}
 use Rattle.topo_map.specs.declared.segments.Segment.{Segment}
@@ -50,6 +50,11 @@ new_below s unused k' t below f ll lr a h = grind (arith, cases_eq)
 
 faces_added : (live : ℕ → Bool) (old l m : ℕ → ℕ) (x left right : ℕ) → m ≡ l → AddsFaces live old l x left right → AddsFaces live old m x left right
 faces_added live old l m x left right e f = subst (λ (k : ℕ → ℕ). AddsFaces live old k x left right) (sym e) f
+
+-- the same by other words for its labels
+pub faces_given : {live : ℕ → Bool} {old l m : ℕ → ℕ} {x left right a b : ℕ} → m ≡ l → left ≡ a → right ≡ b → AddsFaces live old l x left right
+    → AddsFaces live old m x a b
+faces_given e el er f = grind arith
 
 pub hung_labels : {s s1 s2 : Slab Segment} (c : ℕ) {x label unused : ℕ} → IsStart s s1 x → holds s c ≡ true → IsTurned s1 s2 (put (next_in s1) x c)
     → AddsFaces (holds s) (face_in s) (face_in s1) x label label → label ≡ face_in s c → face_in s2 ≡ face_in s1 → IsLabelled s unused → IsLabelled s2 unused

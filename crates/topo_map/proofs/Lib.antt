@@ -10,6 +10,7 @@ pub mod Steps
 pub mod Rounds
 pub mod Painting
 pub mod Walked
+pub mod KeptLabels
 pub mod Attaching
 pub mod LabelledAll
 pub mod FaceEdits

@@ -10,9 +10,9 @@ use Rattle.topo_perm.proofs.permutations.Walks.{twin-cases}
 use Rattle.topo_core.specs.declared.darts.Way.TheVariants.{Forward, Back}
 use Rattle.topo_perm.proofs.edits.Bypassing.{half-same, twin-half}
 use Rattle.topo_map.specs.Halves.{half_number}
-use Rattle.topo_map.specs.Rotation.{AddsLabel, KeepsLabels, Slot, turned, turn_in, half_limit}
+use Rattle.topo_map.specs.Rotation.{AddsFaces, AddsLabel, KeepsLabels, Slot, turned, turn_in, half_limit}
 use Rattle.topo_map.specs.Segments.{shown, holds, next_in, before_in, nexts, befores, label_in, face_in, limit_of}
-use Rattle.topo_map.specs.Segments.{room_of, isolated_segment, AddsFaces, AreInverse, IsKept, IsInserted, IsRemoved}
+use Rattle.topo_map.specs.Segments.{room_of, isolated_segment, AreInverse, IsKept, IsInserted, IsRemoved}
 use Rattle.topo_map.specs.declared.segments.Segment.{Segment}
 use Rattle.topo_map.proofs.Maps.{funext}
 use Rattle.topo_map.proofs.Slots.{turn_at, label-there, label-else, face-there, face-else, live-slot, live_at}

@@ -1,6 +1,6 @@
 -- What a contract sees of an embedding: which halves are live, how they turn, the labels of their faces, and the room for more segments.
 -- A half is a number: 2 * key and 2 * key + 1 are the two of the segment at a key.
-use Rattle.std.specs.Prelude.{◌≡◌, ◌≢◌, ℕ, ◌+◌, ◌*◌, ◌/◌, ◌%◌, ◌<◌, ◌≤◌, ◌==◌, Bool, true, cond, List, length, Option, Some, None, is_some, slice_index_or}
+use Rattle.std.specs.Prelude.{◌≡◌, ◌≢◌, ◌⊎◌, ℕ, ◌+◌, ◌*◌, ◌/◌, ◌%◌, ◌<◌, ◌≤◌, ◌==◌, Bool, true, cond, List, length, Option, Some, None, is_some, slice_index_or}
 use Rattle.topo_core.specs.Cycles.{SameCycle, after, map_of, cycles_of}
 use Rattle.topo_core.specs.Rotations.{twin, face_next, faces_of, IsConnected}
 use Rattle.topo_perm.specs.FaceLabels.{LabelsFaces}
@@ -122,6 +122,17 @@ pub record AddsLabel (live : ℕ → Bool) (old new : ℕ → ℕ) (x label : �
   pub here : new x ≡ label
   pub here_twin : new (twin x) ≡ label
   pub others : (a : ℕ) → live a ≡ true → new a ≡ old a
+
+-- the two halves of x have these labels of faces, and what was live keeps its own
+pub record AddsFaces (live : ℕ → Bool) (old new : ℕ → ℕ) (x left right : ℕ) : Type 0 where
+  pub here : new x ≡ left
+  pub here_twin : new (twin x) ≡ right
+  pub others : (a : ℕ) → live a ≡ true → new a ≡ old a
+
+-- A half of a face that the segment of x does not lie at keeps its label. The halves of the faces beside it come from the faces of c and d.
+pub record PartsLabels (live : ℕ → Bool) (old new : ℕ → ℕ) (c d x : ℕ) : Type 0 where
+  pub apart : (a : ℕ) → live a ≡ true → new a ≢ new x → new a ≢ new (twin x) → new a ≡ old a
+  pub beside : (a : ℕ) → live a ≡ true → (new a ≡ new x) ⊎ (new a ≡ new (twin x)) → (old a ≡ old c) ⊎ (old a ≡ old d)
 
 -- what is live has the label that it had
 abbrev pub KeepsLabels : (ℕ → Bool) → (ℕ → ℕ) → (ℕ → ℕ) → Type 0

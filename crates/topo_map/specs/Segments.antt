@@ -1,7 +1,6 @@
 -- How segments lie in a slab. No public clause cites this module.
 use Rattle.std.specs.Prelude.{◌≡◌, ℕ, ◌+◌, ◌-◌, ◌*◌, ◌<◌, ◌≤◌, ◌==◌, nat_le, min, Bool, true, cond, List, [], ◌∷◌, map, Option, None, option_map}
 use Rattle.slab.specs.Slab.{Slab, slab_len}
-use Rattle.topo_core.specs.Rotations.{twin}
 use Rattle.topo_perm.specs.Joins.{AddsSegment}
 use Rattle.topo_map.specs.Rotation.{Slot, Rotation, turn_in, edge_in, live_in, half_limit}
 use Rattle.topo_map.specs.declared.segments.Rest.{Rest}
@@ -115,12 +114,6 @@ pub record Repaints (old new : Slab Segment) (l : ℕ → ℕ) : Type 0 where
   pub edges : label_in new ≡ label_in old
   pub len : slab_len new ≡ slab_len old
   pub capacity : new.capacity ≡ old.capacity
-
--- the halves of x have these labels of faces, and those that were live keep theirs
-pub record AddsFaces (live : ℕ → Bool) (old new : ℕ → ℕ) (x left right : ℕ) : Type 0 where
-  pub here : new x ≡ left
-  pub here_twin : new (twin x) ≡ right
-  pub others : (a : ℕ) → live a ≡ true → new a ≡ old a
 
 -- the same segments, turning by f, with both directions agreeing
 pub record IsTurned (old new : Slab Segment) (f : ℕ → ℕ) : Type 0 where

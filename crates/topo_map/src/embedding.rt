@@ -5,9 +5,9 @@ ghost use Rattle.std.specs.Prelude.{◌<◌, ◌≤◌, ◌^◌, true, IsTrue, I
 ghost use Rattle.topo_core.specs.Cycles.{IsPermutationList, SameCycle};
 ghost use Rattle.topo_core.specs.Edits.{IsChord, IsHang, IsSmooth, IsSplit, IsUnchord};
 ghost use Rattle.topo_core.specs.Rotations.{face_next, twin};
-ghost use Rattle.topo_map.specs.Rotation.{AddsLabel, AreLabelled, CountsFewer, CountsMore};
-ghost use Rattle.topo_map.specs.Rotation.{Grows, IsDegree, IsEmbedding, IsMadeFrom};
-ghost use Rattle.topo_map.specs.Rotation.{IsOneFace, KeepsLabels, PartsFaces, Shrinks};
+ghost use Rattle.topo_map.specs.Rotation.{AddsFaces, AddsLabel, AreLabelled, CountsFewer};
+ghost use Rattle.topo_map.specs.Rotation.{CountsMore, Grows, IsDegree, IsEmbedding, IsMadeFrom};
+ghost use Rattle.topo_map.specs.Rotation.{IsOneFace, KeepsLabels, PartsFaces, PartsLabels, Shrinks};
 ghost use Rattle.topo_map.specs.Rotation.{TellsFaces, edge_of, face_of, half_limit};
 ghost use Rattle.topo_map.specs.Rotation.{is_live, segments as segments_of, turn};
 
@@ -241,6 +241,8 @@ impl Embedding {
         ensures grows { Grows self.old self.new result }
         ensures label { AddsLabel (is_live self.old) (edge_of self.old)
             (edge_of self.new) result edge }
+        ensures faces { AddsFaces (is_live self.old) (face_of self.old) (face_of self.new) result
+            (face_of self.old c) (face_of self.old c) }
         ensures counts { CountsMore self.old self.new 1 0 }
     {
         let label = face(&self.segments, c);
@@ -251,22 +253,27 @@ impl Embedding {
 
     /// A new segment of this edge from the corner before `c` to the corner before `d`; they may be
     /// one corner, and the segment is then a loop. Where they lie in one face, it parts that face
-    /// in two. Answers its half that starts at `c`.
-    pub fn chord(&mut self, c: Half, d: Half, edge: u32) -> Half
+    /// in two. Answers its half that starts at `c`, and whether labels of faces were kept: no more
+    /// than one face, beside the segment, was then labelled anew. Now and then all faces are, since
+    /// their labels have grown too large, and the answer is `false`.
+    pub fn chord(&mut self, c: Half, d: Half, edge: u32) -> (Half, bool)
         requires live { is_live self.old c ≡ true }
         requires live_end { is_live self.old d ≡ true }
         requires room { 0 < self.old.room }
-        ensures edit { IsChord (turn self.old) (turn self.new) half_limit c d result }
-        ensures grows { Grows self.old self.new result }
+        ensures edit { IsChord (turn self.old) (turn self.new) half_limit c d result.0 }
+        ensures grows { Grows self.old self.new result.0 }
         ensures label { AddsLabel (is_live self.old) (edge_of self.old)
-            (edge_of self.new) result edge }
+            (edge_of self.new) result.0 edge }
+        ensures faces { result.1 ≡ true → PartsLabels (is_live self.old) (face_of self.old)
+            (face_of self.new) c d result.0 }
         ensures counts { IsOneFace self.old c d → CountsMore self.old self.new 0 1 }
     {
         let label = face(&self.segments, c);
         let start = insert_isolated(&mut self.segments, edge, label, label);
         put_before(&mut self.segments, start, c);
-        self.unused = attach(&mut self.segments, self.unused, start.twin(), d);
-        start
+        let (unused, kept) = attach(&mut self.segments, self.unused, start.twin(), d);
+        self.unused = unused;
+        (start, kept)
     }
 
     /// A new point on the segment of `h`, and so on its edge. Answers the half that goes on from
@@ -278,6 +285,8 @@ impl Embedding {
         ensures grows { Grows self.old self.new result }
         ensures label { AddsLabel (is_live self.old) (edge_of self.old)
             (edge_of self.new) result (edge_of self.old h) }
+        ensures faces { AddsFaces (is_live self.old) (face_of self.old) (face_of self.new) result
+            (face_of self.old h) (face_of self.old (twin h)) }
         ensures counts { CountsMore self.old self.new 1 0 }
     {
         let end = h.twin();

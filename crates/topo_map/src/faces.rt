@@ -10,7 +10,7 @@ ghost use Rattle.std.specs.Prelude.{◌≡◌, ◌≢◌, ◌⊎◌, ◌+◌, �
 ghost use Rattle.topo_core.specs.Rotations.{face_next, twin};
 ghost use Rattle.topo_map.specs.Building.{AreBlank};
 ghost use Rattle.topo_map.specs.Labels.{IsLabelled, IsPainted};
-ghost use Rattle.topo_map.specs.Rotation.{half_limit};
+ghost use Rattle.topo_map.specs.Rotation.{PartsLabels, half_limit};
 ghost use Rattle.topo_map.specs.Segments.{IsKept, IsTurned, Repaints, face_in};
 ghost use Rattle.topo_map.specs.Segments.{holds, next_in, put, without};
 
@@ -95,8 +95,8 @@ fn part_label(segments: &mut Segments, a: Half, b: Half, label: u32)
 }
 
 /// Puts `x`, a point by itself, before `c`, and labels the faces of both as they lie then. Answers
-/// the label that is unused then.
-pub(crate) fn attach(segments: &mut Segments, unused: u32, x: Half, c: Half) -> u32
+/// the label that is unused then, and whether all other faces kept their labels.
+pub(crate) fn attach(segments: &mut Segments, unused: u32, x: Half, c: Half) -> (u32, bool)
     requires kept { IsKept segments.old }
     requires live { holds segments.old x ≡ true }
     requires live_corner { holds segments.old c ≡ true }
@@ -104,7 +104,9 @@ pub(crate) fn attach(segments: &mut Segments, unused: u32, x: Half, c: Half) -> 
     requires different { c ≢ x }
     requires labels { IsLabelled segments.old unused }
     ensures turned { IsTurned segments.old segments.new (put (next_in segments.old) x c) }
-    ensures labels { IsLabelled segments.new result }
+    ensures labels { IsLabelled segments.new result.0 }
+    ensures faces { result.1 ≡ true → PartsLabels (holds segments.old) (face_in segments.old)
+        (face_in segments.new) x c x }
 {
     if face(segments, x) == face(segments, c) {
         put_before(segments, x, c);
@@ -113,7 +115,7 @@ pub(crate) fn attach(segments: &mut Segments, unused: u32, x: Half, c: Half) -> 
     } else {
         share_label(segments, x, c);
         put_before(segments, x, c);
-        unused
+        (unused, true)
     }
 }
 
@@ -131,7 +133,7 @@ pub(crate) fn detach(segments: &mut Segments, unused: u32, x: Half) -> u32
         let after = next(segments, x);
         take_out(segments, x);
         part_label(segments, x, after, unused);
-        label_after(segments, unused)
+        label_after(segments, unused).0
     } else {
         share_label(segments, x, other);
         take_out(segments, x);
@@ -194,16 +196,17 @@ fn label_limit(segments: &Segments) -> u32 {
 }
 
 /// The label after `given`, which was given last. Where labels have grown too large, all faces are
-/// labelled anew. Answers the label that is unused then.
-fn label_after(segments: &mut Segments, given: u32) -> u32
+/// labelled anew. Answers the label that is unused then, and whether all faces kept their labels.
+fn label_after(segments: &mut Segments, given: u32) -> (u32, bool)
     requires kept { IsKept segments.old }
     requires labels { IsLabelled segments.old (given + 1) }
     ensures same { Repaints segments.old segments.new (face_in segments.new) }
-    ensures labels { IsLabelled segments.new result }
+    ensures labels { IsLabelled segments.new result.0 }
+    ensures faces { result.1 ≡ true → face_in segments.new ≡ face_in segments.old }
 {
     if given < label_limit(segments) {
-        return given + 1;
+        return (given + 1, true);
     }
     unlabel(segments);
-    label_faces(segments)
+    (label_faces(segments), false)
 }

@@ -193,10 +193,11 @@ impl Picture {
         if vertices == 0 {
             return Ok(());
         }
+        self.embedded.drop_potentials(alloc);
         let floors = floors_of(alloc, tariff)?;
         let faces = landmark_distances(alloc, &self.embedded(), tariff, vertices)?;
-        self.embedded
-            .set_potentials(alloc, faces.as_slice(), floors.as_slice())
+        self.embedded.set_potentials(alloc, faces, floors);
+        Ok(())
     }
 
     /// Whether searches are guided.

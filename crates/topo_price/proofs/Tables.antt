@@ -1,10 +1,10 @@
 -- Tables without a bad entry.
-use Rattle.std.proofs.Common.{◌≡◌, ℕ, zero, suc, ◌+◌, ◌≤◌, Bool, true, false, cond, not, List, [], ◌∷◌, length, refl, ap, arith, slice_index_or}
+use Rattle.std.proofs.Common.{◌≡◌, ℕ, zero, suc, ◌+◌, ◌≤◌, Bool, true, false, cond, not, List, [], ◌∷◌, length, refl, sym, ap, subst, ◌∙◌, arith, slice_index_or}
 use Rattle.std.specs.Prelude.{Option, Some, None, IfSome, slice_get}
 use Rattle.std.specs.Prelude.{nat_lt}
 use Rattle.std.specs.List.{position_or_len}
 use Rattle.std.proofs.lemmas.Bool.Decides.{nat_tests}
-use Rattle.topo_price.specs.Prices.{AreTableFloors, is_good, first_bad}
+use Rattle.topo_price.specs.Prices.{IsPromise, first_bad, is_good, table_answers}
 use Rattle.topo_core.specs.declared.rows.TheConstants.{MAX_PRICE}
 
 within : (n : ℕ) → is_good (Some n) ≡ true → (1 ≤ n) × (n ≤ MAX_PRICE)
@@ -44,8 +44,21 @@ good_entry entries h i = good_at entries (past_all (position_or_len (λ entry. n
 pub price_in_range : (entries : List (Option ℕ)) → first_bad entries ≡ None → (i : ℕ) → IfSome (slice_index_or entries i None) (λ n. (1 ≤ n) × (n ≤ MAX_PRICE))
 price_in_range entries h i = good_price (slice_index_or entries i None) (good_entry entries h i)
 
--- the floors of a table are not above its prices
-pub floor_below : (entries : List (Option ℕ)) (floors : List ℕ) → AreTableFloors entries floors → (kind n : ℕ) → slice_get entries kind ≡ Some (Some n)
-    → slice_index_or floors kind 0 ≤ n
-floor_below entries floors are kind n at =
-    let same : slice_index_or floors kind 0 ≡ n = are kind (Some n) at in omega (arith, same)
+-- an entry that is there
+got : (xs : List (Option ℕ)) (k : ℕ) (x : Option ℕ) → slice_get xs k ≡ Some x → slice_index_or xs k None ≡ x
+got [] k x at = cc
+got (y ∷ ys) zero x at = cc
+got (y ∷ ys) (suc k) x at = got ys k x at
+
+-- a table keeps the promise that a tariff wants
+pub table_promise : (entries : List (Option ℕ)) → first_bad entries ≡ None → IsPromise (table_answers entries)
+table_promise entries good = record {
+  positive = λ facts n at. (in_range facts.kind n at).0;
+  at_most = λ facts n at. (in_range facts.kind n at).1;
+  single = λ facts a b at other. some_same a b (sym at ∙ other);
+} where
+  some_same : (a b : Option ℕ) → Some a ≡ Some b → a ≡ b
+  some_same a b same = cc
+
+  in_range : (kind n : ℕ) → slice_get entries kind ≡ Some (Some n) → (1 ≤ n) × (n ≤ MAX_PRICE)
+  in_range kind n at = subst (λ entry. IfSome entry (λ n. (1 ≤ n) × (n ≤ MAX_PRICE))) (got entries kind (Some n) at) (price_in_range entries good kind)

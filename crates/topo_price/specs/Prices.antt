@@ -1,5 +1,5 @@
 -- What a stored closure promises, and what a table of prices may have.
-use Rattle.std.specs.Prelude.{◌≡◌, ℕ, ◌≤◌, nat_le, not, ◌&&◌, Bool, true, List, Option, Some, None, MatchOption, position, slice_get, slice_index_or}
+use Rattle.std.specs.Prelude.{◌≡◌, ℕ, ◌≤◌, nat_le, not, ◌&&◌, Bool, true, List, Option, Some, None, MatchOption, position, slice_get}
 use Rattle.topo_core.specs.declared.rows.Facts.{Facts}
 use Rattle.topo_core.specs.Routes.{Pricing}
 use Rattle.topo_core.specs.declared.rows.TheConstants.{MAX_PRICE}
@@ -22,10 +22,6 @@ prices_of answers facts n = answers facts (Some n)
 abbrev pub IsPriceOf : Pricing → Facts → Option ℕ → Type 0
 IsPriceOf price facts answer = MatchOption answer ((n : ℕ) → price facts n → ⊥) (λ n. price facts n)
 
--- a number for each kind that no price of that kind is below
-abbrev pub AreFloors : Pricing → List ℕ → Type 0
-AreFloors price floors = (facts : Facts) (n : ℕ) → price facts n → slice_index_or floors facts.kind 0 ≤ n
-
 -- ---- Tables of prices by kind
 
 -- an entry that a table may have: none, or from 1 to MAX_PRICE
@@ -37,11 +33,6 @@ is_good (Some n) = nat_le 1 n && nat_le n MAX_PRICE
 abbrev pub first_bad : List (Option ℕ) → Option ℕ
 first_bad entries = position (λ entry. not (is_good entry)) entries
 
--- the floor of a kind with this entry: its price, and the greatest number of sixteen bits where it has none
-abbrev pub price_floor : Option ℕ → ℕ
-price_floor None = 65535
-price_floor (Some n) = n
-
--- the floors of all kinds
-abbrev pub AreTableFloors : List (Option ℕ) → List ℕ → Type 0
-AreTableFloors entries floors = (kind : ℕ) (entry : Option ℕ) → slice_get entries kind ≡ Some entry → slice_index_or floors kind 0 ≡ price_floor entry
+-- what a table answers: the entry of the kind of an edge
+abbrev pub table_answers : List (Option ℕ) → Asking
+table_answers entries facts answer = slice_get entries facts.kind ≡ Some answer

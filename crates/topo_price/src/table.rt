@@ -2,7 +2,7 @@
 
 ghost use Rattle.std.specs.Prelude.{◌≡◌, ◌<◌, ◌≤◌, Some, None, Err, IfSome};
 ghost use Rattle.std.specs.Prelude.{IsSomeAnd, MatchResult, slice_get, length};
-ghost use Rattle.topo_price.specs.Prices.{AreTableFloors, first_bad, is_good, price_floor};
+ghost use Rattle.topo_price.specs.Prices.{IsPromise, first_bad, is_good, table_answers};
 ghost use Rattle.topo_core.specs.declared.rows.TheConstants.{KINDS, MAX_PRICE};
 
 use std::fmt;
@@ -108,28 +108,10 @@ impl PriceTable {
         self.prices[kind as usize]
     }
 
-    /// The price of each kind, and the greatest number where it has none: floors for a tariff that
-    /// asks this table.
-    pub fn floors(&self) -> [u16; KINDS]
-        ensures { AreTableFloors self.now result }
+    /// A table keeps the promise that a tariff wants. This does nothing: its contract is the fact.
+    pub fn laws(&self)
+        ensures { IsPromise (table_answers self.now) }
     {
-        // For the proof: what the type keeps.
         let _prices = &self.prices;
-        let mut floors = [u16::MAX; KINDS];
-        for kind in 0..KINDS {
-            floors[kind] = floor_of(self.price(kind as u8));
-        }
-        floors
-    }
-}
-
-/// The floor of a kind with this entry.
-fn floor_of(entry: Option<u32>) -> u16
-    requires { IfSome entry (λ n. n ≤ MAX_PRICE) }
-    ensures { result ≡ price_floor entry }
-{
-    match entry {
-        Some(price) => price as u16,
-        None => u16::MAX,
     }
 }

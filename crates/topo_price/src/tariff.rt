@@ -1,12 +1,15 @@
 //! The stored closure with its promise.
 
+use crate::table::PriceTable;
 use std::marker::Model;
-use topo_core::rows::{Facts, KINDS};
+use topo_core::rows::Facts;
 
-/// What answers a price: each closure `Fn(&Facts) -> Option<u32>` that threads may share does.
+/// What answers a price: each closure `Fn(&Facts) -> Option<u32>` that threads may share does, and
+/// each `PriceTable`.
 pub trait PriceFn {
-    ghost use Rattle.std.specs.Prelude.{ℕ, Option};
+    ghost use Rattle.std.specs.Prelude.{◌≡◌, ◌<◌, ℕ, IfSome, Option};
     ghost use Rattle.topo_core.specs.declared.rows.Facts.{Facts};
+    ghost use Rattle.topo_core.specs.declared.rows.TheConstants.{KINDS};
 
     /// It may be asked for any edge.
     ghost is_callable: { Self → Type 0 };
@@ -17,6 +20,13 @@ pub trait PriceFn {
     fn price(&self, facts: &Facts) -> Option<u32>
         requires { is_callable self.now }
         ensures { may_return self.now facts.now result };
+
+    /// What it answers for all edges of a kind, where that is known: so a search need not look at
+    /// the other facts of an edge.
+    fn price_of_kind(&self, kind: u8) -> Option<Option<u32>>
+        requires { kind < KINDS }
+        ensures { IfSome result
+            (λ answer. (facts : Facts) → facts.kind ≡ kind → may_return self.now facts answer) };
 }
 
 impl<F: Fn(&Facts) -> Option<u32> + Send + Sync> PriceFn for F {
@@ -29,35 +39,51 @@ impl<F: Fn(&Facts) -> Option<u32> + Send + Sync> PriceFn for F {
     fn price(&self, facts: &Facts) -> Option<u32> {
         self(facts)
     }
+
+    fn price_of_kind(&self, _kind: u8) -> Option<Option<u32>> {
+        None
+    }
 }
 
-/// The stored closure. Contracts see the closure, and its promise always holds. Beside it are
-/// numbers that no price of a kind is below, for searches.
+impl PriceFn for PriceTable {
+    ghost use Rattle.std.specs.Prelude.{⊤};
+    ghost use Rattle.topo_price.specs.Prices.{table_answers};
+
+    ghost is_callable = { λ table. ⊤ };
+
+    ghost may_return = { λ table. table_answers table };
+
+    fn price(&self, facts: &Facts) -> Option<u32> {
+        PriceTable::price(self, facts.kind)
+    }
+
+    fn price_of_kind(&self, kind: u8) -> Option<Option<u32>> {
+        Some(PriceTable::price(self, kind))
+    }
+}
+
+/// The stored closure. Contracts see the closure, and its promise always holds.
 #[derive(Drop)]
 pub struct Tariff<F: PriceFn> {
     ask: F,
-    // none where only 1 is known
-    floors: Option<[u16; KINDS]>,
 }
 
 impl<F: PriceFn> Model for Tariff<F> {
-    ghost use Rattle.std.specs.Prelude.{IfSome};
-    ghost use Rattle.topo_price.specs.Prices.{AreFloors, IsPromise, prices_of};
+    ghost use Rattle.topo_price.specs.Prices.{IsPromise};
 
     ghost Value = { F };
 
     ghost view = { λ t. t.ask };
 
-    ghost invariant = { λ t. F.is_callable t.ask × IsPromise (F.may_return t.ask)
-        × IfSome t.floors (AreFloors (prices_of (F.may_return t.ask))) };
+    ghost invariant = { λ t. F.is_callable t.ask × IsPromise (F.may_return t.ask) };
 }
 
 impl<F: PriceFn> Tariff<F> {
-    ghost use Rattle.std.specs.Prelude.{◌≡◌, ◌<◌, ◌≤◌, ℕ};
+    ghost use Rattle.std.specs.Prelude.{◌≡◌, ◌<◌, ◌≤◌, ℕ, IfSome};
     ghost use Rattle.topo_core.specs.declared.rows.Facts.{Facts};
     ghost use Rattle.topo_core.specs.declared.rows.TheConstants.{KINDS};
     ghost use Rattle.topo_core.specs.Routes.{KeepsPromise};
-    ghost use Rattle.topo_price.specs.Prices.{AreFloors, IsPriceOf, IsPromise, prices_of};
+    ghost use Rattle.topo_price.specs.Prices.{IsPriceOf, IsPromise, prices_of};
 
     /// Stores the closure. The promise is the caller's: it may be asked for any edge, answers none
     /// or from 1 to `MAX_PRICE`, and answers the same for the same facts.
@@ -66,37 +92,36 @@ impl<F: PriceFn> Tariff<F> {
         requires promise { IsPromise (F.may_return ask) }
         ensures { result ≡ ask }
     {
-        Tariff { ask, floors: None }
+        Tariff { ask }
     }
 
-    /// As `new`, with numbers by kind of which it is known that no price of the kind is below. A
-    /// kind that has no price may have any. Searches are guided the more to their target the higher
-    /// they are.
-    pub fn with_floors(ask: F, floors: [u16; KINDS]) -> Tariff<F>
-        requires callable { F.is_callable ask }
-        requires promise { IsPromise (F.may_return ask) }
-        requires floors { AreFloors (prices_of (F.may_return ask)) floors }
-        ensures { result ≡ ask }
+    /// Whether it knows its prices by the kind of an edge alone, as those of a table are. No
+    /// contract rests on it.
+    pub fn is_by_kind(&self) -> bool {
+        self.ask.price_of_kind(0).is_some()
+    }
+
+    /// The price of all edges of a kind, where it is known by the kind alone: none where they must
+    /// not be crossed.
+    pub fn price_of_kind(&self, kind: u8) -> Option<Option<u32>>
+        requires { kind < KINDS }
+        ensures price { IfSome result (λ answer. (facts : Facts) → facts.kind ≡ kind
+            → IsPriceOf (prices_of (F.may_return self.now)) facts answer) }
+        ensures promise { KeepsPromise (prices_of (F.may_return self.now)) }
     {
-        Tariff {
-            ask,
-            floors: Some(floors),
-        }
+        self.ask.price_of_kind(kind)
     }
 
-    /// Whether it has floors of its own. No contract rests on it.
-    pub fn has_floors(&self) -> bool {
-        self.floors.is_some()
-    }
-
-    /// A number that no price of this kind is below.
+    /// A number that no price of this kind is below: its price where that is known, and the
+    /// greatest of sixteen bits where it has none.
     pub fn floor(&self, kind: u8) -> u16
         requires { kind < KINDS }
         ensures { (facts : Facts) (n : ℕ) → facts.kind ≡ kind
             → prices_of (F.may_return self.now) facts n → result ≤ n }
     {
-        match &self.floors {
-            Some(floors) => floors[kind as usize],
+        match self.ask.price_of_kind(kind) {
+            Some(Some(price)) => price.min(u16::MAX as u32) as u16,
+            Some(None) => u16::MAX,
             None => 1,
         }
     }

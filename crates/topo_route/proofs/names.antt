@@ -6,3 +6,4 @@ pub mod Walking
 pub mod Segments
 pub mod Names
 pub mod Canonical
+pub mod Ranges

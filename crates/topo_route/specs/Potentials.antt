@@ -1,7 +1,7 @@
--- Potentials of darts: numbers that bound from below how far two faces are apart.
-use Rattle.std.specs.Prelude.{◌≡◌, ℕ, ◌+◌, ◌-◌, ◌≤◌, max, min}
+-- Potentials of faces: numbers that bound from below how far two faces are apart.
+use Rattle.std.specs.Prelude.{ℕ, ◌+◌, ◌-◌, ◌≤◌, max, min}
 use Rattle.topo_core.specs.Picture.{edge_at}
-use Rattle.topo_route.specs.Names.{IsName, Named, dart_named, next_name, twin_name}
+use Rattle.topo_route.specs.Names.{IsName, Named, dart_named, twin_name}
 use Rattle.topo_route.specs.declared.guide.Guide.{Guide}
 use Rattle.topo_route.specs.declared.potentials.Potentials.{Potentials}
 
@@ -15,11 +15,11 @@ pub record AreWithin (slope : ℕ) (p q : Potentials) : Type 0 where
   pub third : p.third ≤ slope + q.third
   pub fourth : p.fourth ≤ slope + q.fourth
 
--- They are equal along each face, and differ across a segment by no more than the floor of its edge's kind: they are consistent, as one
--- says of what guides A*.
-pub record AreConsistent (g : Named) (potentials : ℕ → Potentials) (floor : ℕ → ℕ) : Type 0 where
-  pub even : (k : ℕ) → IsName g k → potentials (next_name g k) ≡ potentials k
-  pub consistent : (k : ℕ) → IsName g k → AreWithin (floor (edge_at g.rows (dart_named g k).edge).kind) (potentials k) (potentials (twin_name g k))
+-- Across a segment, the potentials of the two faces differ by no more than the floor of its edge's kind: they are consistent, as one says
+-- of what guides A*. Faces are known by their labels.
+pub record AreConsistent (g : Named) (face : ℕ → ℕ) (potentials : ℕ → Potentials) (floor : ℕ → ℕ) : Type 0 where
+  pub consistent : (k : ℕ) → IsName g k
+      → AreWithin (floor (edge_at g.rows (dart_named g k).edge).kind) (potentials (face k)) (potentials (face (twin_name g k)))
 
 -- ---- Bounds
 

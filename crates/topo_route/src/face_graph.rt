@@ -40,6 +40,12 @@ pub trait FaceGraph {
         requires { IsName (named self.now) dart }
         ensures { result ≡ (dart_named (named self.now) dart).edge };
 
+    /// The kind of the edge that it lies on.
+    fn kind(&self, dart: u32) -> u8
+        requires { IsName (named self.now) dart }
+        ensures { result ≡ (edge_at
+            (named self.now).rows (dart_named (named self.now) dart).edge).kind };
+
     /// The facts of the edge that it lies on.
     fn facts(&self, dart: u32) -> Facts
         requires { IsName (named self.now) dart }
@@ -91,7 +97,7 @@ pub trait FaceGraph {
         ensures next { result.0 ≡ next_name (named self.now) dart }
         ensures beyond { result.1 ≡ face_of self.now (twin_name (named self.now) dart) };
 
-    /// The potentials of the face on the left of a dart.
+    /// The potentials of a face, by its label.
     ghost potentials: { Self → ℕ → Potentials };
 
     /// A number for each kind of edge: the potentials beside its segments differ by no more.
@@ -100,10 +106,9 @@ pub trait FaceGraph {
     /// Whether any potentials are more than 0. No contract rests on it.
     fn has_potentials(&self) -> bool;
 
-    /// The potentials of the face on the left of a dart.
-    fn potentials(&self, dart: u32) -> Potentials
-        requires { IsName (named self.now) dart }
-        ensures { result ≡ potentials self.now dart };
+    /// The potentials of a face, by its label.
+    fn potentials(&self, face: u32) -> Potentials
+        ensures { result ≡ potentials self.now face };
 
     /// The floor of a kind.
     fn floor(&self, kind: u8) -> u16
@@ -119,8 +124,7 @@ pub trait FaceGraph {
     ghost has_faces: { (picture : Self)
         → HasFaces (named picture) (face_of picture) (face_bound picture) };
 
-    /// Potentials are equal along each face, and differ across a segment by no more than the floor
-    /// of its edge's kind.
-    ghost is_consistent: { (picture : Self)
-        → AreConsistent (named picture) (potentials picture) (floor picture) };
+    /// Across a segment, potentials differ by no more than the floor of its edge's kind.
+    ghost is_consistent: { (picture : Self) → AreConsistent
+        (named picture) (face_of picture) (potentials picture) (floor picture) };
 }

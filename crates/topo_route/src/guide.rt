@@ -10,7 +10,7 @@ ghost use Rattle.topo_route.specs.Potentials.{IsOfGuide, bound_by, outside};
 
 use crate::face_graph::FaceGraph;
 use crate::potentials::Potentials;
-use crate::steps::corner_at;
+use crate::steps::{corner_at, face_at};
 use topo_core::rows::KINDS;
 use topo_price::tariff::{PriceFn, Tariff};
 
@@ -25,7 +25,8 @@ impl Guide {
     /// That of the faces at a vertex.
     pub(crate) fn to<W: FaceGraph>(graph: &W, u: u32) -> Self
         ensures { (p : ℕ) (c : Dart) → corner (W.named graph.now).rows u p ≡ Some c
-            → IsOfGuide result (W.potentials graph.now ((W.named graph.now).name c)) }
+            → IsOfGuide result
+            (W.potentials graph.now (W.face_of graph.now ((W.named graph.now).name c))) }
     {
         let mut guide = Guide {
             low: Potentials::all(u16::MAX),
@@ -33,7 +34,7 @@ impl Guide {
         };
         for position in 0..graph.degree(u) {
             if let Some(corner) = corner_at(graph, u, position) {
-                guide = guide.with(graph.potentials(corner));
+                guide = guide.with(graph.potentials(face_at(graph, corner)));
             }
         }
         guide

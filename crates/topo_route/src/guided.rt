@@ -33,7 +33,8 @@ pub(crate) fn heights_toward<W: FaceGraph, F: PriceFn>(
     requires some { 0 < length (darts (W.named priced.now.graph.now).rows) }
     requires corners { (p : ℕ) (c : Dart)
         → corner (W.named priced.now.graph.now).rows u p ≡ Some c → IsOfGuide guide.now
-        (W.potentials priced.now.graph.now ((W.named priced.now.graph.now).name c)) }
+        (W.potentials priced.now.graph.now
+        (W.face_of priced.now.graph.now ((W.named priced.now.graph.now).name c))) }
     requires floors { (facts : Facts) (n : ℕ) → facts.kind < KINDS
         → prices_of (F.may_return priced.now.tariff.now) facts n
         → W.floor priced.now.graph.now facts.kind ≤ n }

@@ -4,9 +4,9 @@ ghost use Rattle.std.specs.Prelude.{◌≡◌, ◌≤◌, ◌+◌, ◌↔◌, Is
 ghost use Rattle.topo_route.specs.Potentials.{AreWithin, all_four};
 
 /// How far a face lies from four faces of the picture, the landmarks. What counts of them is that
-/// they are the same at all darts of a face, and that they differ across a segment by no more than
-/// crossing it costs. So the difference between a face's and those of another is never more than
-/// the cheapest way from the one to the other costs.
+/// those of two faces beside each other differ by no more than crossing a segment between them
+/// costs. So the difference between a face's and those of another is never more than the cheapest
+/// way from the one to the other costs.
 ///
 /// Potentials of A* (Hart, Nilsson and Raphael 1968) by landmarks (Goldberg and Harrelson 2005).
 #[derive(Clone, Copy, Debug, PartialEq, Eq)]

@@ -155,7 +155,7 @@ impl Labels {
                 let lowered = height + price;
                 if self.is_lowered_by(*least, face, lowered) {
                     self.lower(other, least, face, twin, lowered)?;
-                    let order = lowered.saturating_add(left_to_go(priced.graph, guide, twin));
+                    let order = lowered.saturating_add(left_to_go(priced.graph, guide, face));
                     self.waiting.push(order, item_of(twin, lowered))?;
                 }
                 Ok(())
@@ -298,8 +298,9 @@ impl Labels {
         ensures settled { IfOk result (λ _. (k : ℕ) → IsName (W.named priced.now.graph.now) k
             → slice_index (dart_heights (W.named priced.now.graph.now)
             (W.face_of priced.now.graph.now) self.new.heights) k
-            < top_of_bound (λ j. bound_by guide.now (W.potentials priced.now.graph.now j))
-            least.new k → IsSettled (prices_of (F.may_return priced.now.tariff.now))
+            < top_of_bound (λ j. bound_by guide.now
+            (W.potentials priced.now.graph.now (W.face_of priced.now.graph.now j))) least.new k
+            → IsSettled (prices_of (F.may_return priced.now.tariff.now))
             (W.named priced.now.graph.now) (reach_of least.new)
             (dart_heights (W.named priced.now.graph.now)
             (W.face_of priced.now.graph.now) self.new.heights) k) }
@@ -476,14 +477,21 @@ fn next_pending<W: FaceGraph>(
     None
 }
 
-/// What is at least left to go from the face of a dart; nothing where the search is not guided.
-fn left_to_go<W: FaceGraph>(graph: &W, guide: Option<&Guide>, dart: u32) -> u64
-    requires { IsName (W.named graph.now) dart }
-{
+/// What is at least left to go from a face, by its label; nothing where the search is not guided.
+fn left_to_go<W: FaceGraph>(graph: &W, guide: Option<&Guide>, face: u32) -> u64 {
     match guide {
-        Some(guide) => guide.bound(graph.potentials(dart)),
+        Some(guide) => guide.bound(graph.potentials(face)),
         None => 0,
     }
+}
+
+/// Whether a height makes up no more than the least sum with what is left to go from a face. While
+/// no sum is known all do, and no potentials are read.
+fn is_near<W: FaceGraph>(graph: &W, guide: &Guide, face: u32, height: u64, least: u64) -> bool
+    ensures { IsTrue result
+        ↔ min (height + bound_by guide.now (W.potentials graph.now face)) unreached ≤ least }
+{
+    least == u64::MAX || height.saturating_add(guide.bound(graph.potentials(face))) <= least
 }
 
 /// As `next_pending`, for a search that is guided to its other end: the next dart that waits with
@@ -506,12 +514,14 @@ fn next_toward<W: FaceGraph>(
         ≡ slice_index (dart_heights (W.named graph.now) (W.face_of graph.now) heights.now) r.0) }
     ensures others { MatchOption result ((k : ℕ) → k < 2 ^ 32 → IsName (W.named graph.now) k
         → slice_index (dart_heights (W.named graph.now) (W.face_of graph.now) heights.now) k
-        < top_of_bound (λ j. bound_by guide.now (W.potentials graph.now j)) least k
+        < top_of_bound
+        (λ j. bound_by guide.now (W.potentials graph.now (W.face_of graph.now j))) least k
         → is_pending (dart_heights (W.named graph.now) (W.face_of graph.now) heights.now)
         waiting.old k ≡ false)
         (λ r. (k : ℕ) → k < 2 ^ 32 → IsName (W.named graph.now) k
         → slice_index (dart_heights (W.named graph.now) (W.face_of graph.now) heights.now) k
-        < top_of_bound (λ j. bound_by guide.now (W.potentials graph.now j)) least k
+        < top_of_bound
+        (λ j. bound_by guide.now (W.potentials graph.now (W.face_of graph.now j))) least k
         → k ≢ r.0 → is_pending (dart_heights (W.named graph.now) (W.face_of graph.now) heights.now)
         waiting.new k ≡ is_pending
         (dart_heights (W.named graph.now) (W.face_of graph.now) heights.now) waiting.old k) }
@@ -522,9 +532,9 @@ fn next_toward<W: FaceGraph>(
     while let Some(item) = waiting.pop() {
         if least_height(item) <= least {
             let dart = dart_of_item(item);
-            let height = heights.get(face_at(graph, dart));
-            let sum = height.saturating_add(guide.bound(graph.potentials(dart)));
-            if sum <= least && item_of(dart, height) == item {
+            let face = face_at(graph, dart);
+            let height = heights.get(face);
+            if item_of(dart, height) == item && is_near(graph, guide, face, height, least) {
                 return Some((dart, height));
             }
         }

@@ -82,7 +82,8 @@ pub(crate) fn corner_at<W: FaceGraph>(graph: &W, v: u32, position: u32) -> Optio
     graph.corner(v, position)
 }
 
-/// The price of crossing a dart.
+/// The price of crossing a dart. Where prices are known by the kind of an edge, its facts are not
+/// read.
 pub(crate) fn price_at<W: FaceGraph, F: PriceFn>(
     graph: &W,
     tariff: &Tariff<F>,
@@ -94,6 +95,14 @@ pub(crate) fn price_at<W: FaceGraph, F: PriceFn>(
     ensures in_range { IfSome result (λ p. (1 ≤ p) × (p ≤ MAX_PRICE)) }
     ensures promise { KeepsPromise (prices_of (F.may_return tariff.now)) }
 {
-    let facts = graph.facts(dart);
-    tariff.price(&facts)
+    // For the proof: what the types keep.
+    let (_edge, _darts) = (graph.edge(dart), graph.size());
+    let known = tariff.price_of_kind(graph.kind(dart));
+    match known {
+        Some(price) => price,
+        None => {
+            let facts = graph.facts(dart);
+            tariff.price(&facts)
+        }
+    }
 }

@@ -1,9 +1,8 @@
 //! The command `run`.
 
-ghost use Rattle.std.specs.Prelude.{◌≡◌, ℕ, List, IfErr, IfOk, None, ◌++◌, ◌∷◌, [], string_bytes};
+ghost use Rattle.std.specs.Prelude.{◌≡◌, ℕ, List, IfErr, IfOk, ◌++◌, ◌∷◌, [], string_bytes};
 ghost use Rattle.topo_forms.specs.Reads.{Gives};
 ghost use Rattle.topo_forms.specs.Scripts.{script_of};
-ghost use Rattle.topo_price.specs.Prices.{first_bad};
 ghost use Rattle.topo_run.specs.Runs.{FailsBy, FailsRun, IsDone, IsFaultOfBytes};
 ghost use Rattle.topo_run.specs.Runs.{IsLineOfBytes, IsRunLine, ShowsRun};
 ghost use Rattle.topo_run.specs.Working.{IsOfService};
@@ -85,7 +84,7 @@ fn run_line<R: Threads + Wait + Sync, T: Gate>(
 {
     let prices = script.prices.as_slice();
     let (table, start) = validate(alloc, script.limits, prices, script.start.as_ref())?;
-    priced_line(rt, alloc, script, start, &table, gate)
+    priced_line(rt, alloc, script, start, table, gate)
 }
 
 /// The line that shows the run of a script at its own prices.
@@ -94,11 +93,10 @@ fn priced_line<R: Threads + Wait + Sync, T: Gate>(
     alloc: Global,
     script: Script,
     start: Picture,
-    table: &PriceTable,
+    table: PriceTable,
     gate: &T,
 ) -> Result<String, RunFault>
-    requires own { table.now ≡ price_table script.prices }
-    requires good { first_bad (price_table script.prices) ≡ None }
+    requires { table ≡ price_table script.prices }
     ensures line { IfOk result
         (λ line. ShowsRun script start.limits start.rows (string_bytes line)) }
     ensures fault { IfErr result IsOfService }

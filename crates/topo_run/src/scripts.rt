@@ -1,9 +1,8 @@
 //! Runs of scripts, and their reports.
 
-ghost use Rattle.std.specs.Prelude.{◌≡◌, IfErr, IfOk, IfSome, None, Some, ◌≤◌, slice_get};
+ghost use Rattle.std.specs.Prelude.{◌≡◌, IfErr, IfOk};
 ghost use Rattle.std.specs.Arc.{arc_value};
-ghost use Rattle.topo_price.specs.Prices.{AreFloors, IsPromise, first_bad, prices_of};
-ghost use Rattle.topo_core.specs.declared.rows.TheConstants.{MAX_PRICE};
+ghost use Rattle.topo_price.specs.Prices.{IsPromise};
 ghost use Rattle.topo_run.specs.Runs.{AnswersPrices, FailsRun, IsReportFrom, IsReportOf};
 ghost use Rattle.topo_run.specs.Working.{IsOfService};
 ghost use Rattle.topo_settings.specs.Limiting.{AreLimits};
@@ -15,7 +14,7 @@ use std::sync::{Arc, Wait};
 use std::thread::Threads;
 use topo_core::limits::Limits;
 use topo_core::listed::Listed;
-use topo_core::rows::{Facts, KINDS, Rows};
+use topo_core::rows::Rows;
 use topo_forms::{LimitRows, Report, Script};
 use topo_picture::Picture;
 use topo_price::table::PriceTable;
@@ -118,17 +117,15 @@ fn asked_report<F: PriceFn + Drop + Send + Sync, R: Threads + Wait + Sync, T: Ga
     script: &Script,
     start: Picture,
     ask: F,
-    floors: [u16; KINDS],
     gate: &T,
 ) -> Result<Report, RunFault>
     requires callable { F.is_callable ask }
     requires promise { IsPromise (F.may_return ask) }
-    requires floors { AreFloors (prices_of (F.may_return ask)) floors }
     requires own { AnswersPrices (F.may_return ask) script.now.prices }
     ensures report { IfOk result (IsReportFrom script.now start.limits start.rows) }
     ensures fault { IfErr result IsOfService }
 {
-    let Ok(tariff) = Arc::new(alloc, Tariff::with_floors(ask, floors)) else {
+    let Ok(tariff) = Arc::new(alloc, Tariff::new(ask)) else {
         return Err(RunFault::Memory);
     };
     run_from(rt, alloc, script, start, tariff, gate)
@@ -140,25 +137,14 @@ pub(crate) fn priced_report<R: Threads + Wait + Sync, T: Gate>(
     alloc: Global,
     script: &Script,
     start: Picture,
-    table: &PriceTable,
+    table: PriceTable,
     gate: &T,
 ) -> Result<Report, RunFault>
-    requires own { table.now ≡ price_table script.now.prices }
-    requires good { first_bad (price_table script.now.prices) ≡ None }
+    requires { table ≡ price_table script.now.prices }
     ensures report { IfOk result (IsReportFrom script.now start.limits start.rows) }
     ensures fault { IfErr result IsOfService }
 {
-    let floors = table.floors();
-    asked_report(
-        rt,
-        alloc,
-        script,
-        start,
-        |facts: &Facts| -> Option<u32>
-            ensures entry { slice_get table.entry.now facts.now.kind ≡ Some result }
-            ensures in_range { IfSome result (λ n. (1 ≤ n) × (n ≤ MAX_PRICE)) }
-        { table.price(facts.kind) },
-        floors,
-        gate,
-    )
+    // For the proof: what the type keeps.
+    table.laws();
+    asked_report(rt, alloc, script, start, table, gate)
 }

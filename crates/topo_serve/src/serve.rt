@@ -1,11 +1,11 @@
 //! The command `serve`.
 
-ghost use Rattle.std.specs.Prelude.{◌≡◌, ◌≤◌, ℕ, List, Option, [], IfErr, IfOk, IfSome, None};
-ghost use Rattle.std.specs.Prelude.{Ok, Some, slice_get, option_copied, string_bytes, ◌++◌, ◌∷◌};
+ghost use Rattle.std.specs.Prelude.{◌≡◌, ℕ, List, Option, [], IfErr, IfOk};
+ghost use Rattle.std.specs.Prelude.{Ok, Some, option_copied, string_bytes, ◌++◌, ◌∷◌};
 ghost use Rattle.std.specs.Io.KnownBytes.{Appends, Keeps};
 ghost use Rattle.topo_book.specs.Books.{IsSameBook};
 ghost use Rattle.topo_forms.specs.Sessions.{opening_of};
-ghost use Rattle.topo_price.specs.Prices.{AreFloors, IsPromise, first_bad, prices_of};
+ghost use Rattle.topo_price.specs.Prices.{IsPromise, prices_of};
 ghost use Rattle.topo_settings.specs.Settings.{IsSound, IsUnsound, price_table, priced, start_of};
 ghost use Rattle.topo_settings.specs.Writing.{AppendsPart};
 ghost use Rattle.topo_serve.specs.Answers.{standing_of};
@@ -15,7 +15,6 @@ ghost use Rattle.topo_serve.specs.Turns.{AnswerFailsBy, BeginFailsBy, BeginsAll,
 ghost use Rattle.topo_serve.specs.Turns.{IsOpened, IsTurn, LineFailsBy, LinesFailBy, OfLine};
 ghost use Rattle.topo_serve.specs.Turns.{OpenedFailsBy, OpenFailsBy, Opens, OpensNoneBy, ServesAll};
 ghost use Rattle.topo_serve.specs.Turns.{Stays, TurnFailsBy, WriteFailsBy, begins_at, streams};
-ghost use Rattle.topo_core.specs.declared.rows.TheConstants.{MAX_PRICE};
 
 use crate::ahead::{Ahead, Part};
 use crate::answers::{answer_line, counts_answer};
@@ -23,7 +22,6 @@ use std::alloc::{AllocError, Global};
 use std::io::{Read, Write};
 use std::sync::Arc;
 use topo_book::Book;
-use topo_core::rows::{Facts, KINDS};
 use topo_forms::row_forms::MAX_PICTURE_BYTES;
 use topo_forms::sessions::MAX_LINE_BYTES;
 use topo_forms::{Opening, ScriptFault, read_opening};
@@ -94,7 +92,7 @@ fn serve_opening<I: Read, O: Write>(
 {
     let (table, start) = set(alloc, opening)?;
     serve_priced(
-        alloc, opening, start, &table, ahead, has_feed, reader, writer,
+        alloc, opening, start, table, ahead, has_feed, reader, writer,
     )
 }
 
@@ -148,14 +146,13 @@ fn serve_priced<I: Read, O: Write>(
     alloc: Global,
     opening: &Opening,
     start: Picture,
-    table: &PriceTable,
+    table: PriceTable,
     ahead: &mut Ahead,
     has_feed: bool,
     reader: &mut I,
     writer: &mut O,
 ) -> Result<(), RunFault>
-    requires own { table.now ≡ price_table opening.now.prices }
-    requires good { first_bad (price_table opening.now.prices) ≡ None }
+    requires { table ≡ price_table opening.now.prices }
     ensures done { IfOk result
         (λ _. BeginsAll has_feed (priced opening.now.prices) start.limits
         (streams (I.remaining reader.old) ahead.old (O.contents writer.old))
@@ -167,20 +164,10 @@ fn serve_priced<I: Read, O: Write>(
         (streams (I.remaining reader.new) ahead.new (O.contents writer.new))
         (begins_at opening.now start.rows)) }
 {
-    let floors = table.floors();
+    // For the proof: what the type keeps.
+    table.laws();
     serve_asked(
-        alloc,
-        opening,
-        start,
-        |facts: &Facts| -> Option<u32>
-            ensures entry { slice_get table.entry.now facts.now.kind ≡ Some result }
-            ensures in_range { IfSome result (λ n. (1 ≤ n) × (n ≤ MAX_PRICE)) }
-        { table.price(facts.kind) },
-        floors,
-        ahead,
-        has_feed,
-        reader,
-        writer,
+        alloc, opening, start, table, ahead, has_feed, reader, writer,
     )
 }
 
@@ -190,7 +177,6 @@ fn serve_asked<F: PriceFn + Drop, I: Read, O: Write>(
     opening: &Opening,
     start: Picture,
     ask: F,
-    floors: [u16; KINDS],
     ahead: &mut Ahead,
     has_feed: bool,
     reader: &mut I,
@@ -198,7 +184,6 @@ fn serve_asked<F: PriceFn + Drop, I: Read, O: Write>(
 ) -> Result<(), RunFault>
     requires callable { F.is_callable ask }
     requires promise { IsPromise (F.may_return ask) }
-    requires floors { AreFloors (prices_of (F.may_return ask)) floors }
     ensures done { IfOk result (λ _. BeginsAll has_feed (prices_of (F.may_return ask)) start.limits
         (streams (I.remaining reader.old) ahead.old (O.contents writer.old))
         (streams (I.remaining reader.new) ahead.new (O.contents writer.new))
@@ -209,7 +194,7 @@ fn serve_asked<F: PriceFn + Drop, I: Read, O: Write>(
         (streams (I.remaining reader.new) ahead.new (O.contents writer.new))
         (begins_at opening.now start.rows)) }
 {
-    let Ok(mut book) = begin(alloc, start, ask, floors) else {
+    let Ok(mut book) = begin(alloc, start, ask) else {
         return Err(RunFault::Memory);
     };
     serve_book(alloc, opening, &mut book, ahead, has_feed, reader, writer)
@@ -260,21 +245,15 @@ fn answer_opening<O: Write>(
 }
 
 /// The book of a session.
-fn begin<F: PriceFn + Drop>(
-    alloc: Global,
-    start: Picture,
-    ask: F,
-    floors: [u16; KINDS],
-) -> Result<Book<F>, AllocError>
+fn begin<F: PriceFn + Drop>(alloc: Global, start: Picture, ask: F) -> Result<Book<F>, AllocError>
     requires callable { F.is_callable ask }
     requires promise { IsPromise (F.may_return ask) }
-    requires floors { AreFloors (prices_of (F.may_return ask)) floors }
     ensures tariff { IfOk result (λ book. book.tariff ≡ ask) }
     ensures start { IfOk result (λ book. book.start ≡ start) }
     ensures history { IfOk result (λ book. book.history ≡ []) }
     ensures picture { IfOk result (λ book. book.picture ≡ start) }
 {
-    let tariff = Arc::new(alloc, Tariff::with_floors(ask, floors))?;
+    let tariff = Arc::new(alloc, Tariff::new(ask))?;
     Book::new(alloc, start, tariff)
 }
 

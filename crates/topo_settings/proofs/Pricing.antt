@@ -1,6 +1,6 @@
 -- Two prices that agree on every edge allow the same runs.
-use Rattle.std.proofs.Common.{◌≡◌, ℕ, ◌≤◌, ◌<◌, List, [], ◌∷◌, Option, Some, None, sym, ap, subst, ◌∙◌, inl}
-use Rattle.std.proofs.Common.{inr, arith, get_or, length, slice_get, Result, Ok, Err, IfOk, IfErr, IfSome}
+use Rattle.std.proofs.Common.{◌≡◌, ℕ, ◌<◌, List, [], ◌∷◌, Option, Some, None, sym, ap, ◌∙◌, inl}
+use Rattle.std.proofs.Common.{inr, arith, get_or, length, slice_get, Result, Ok, Err, IfOk, IfErr}
 use Rattle.std.proofs.lemmas.List.FromFn.{get_or-map-range_with_len, length-map-range_with_len}
 use Rattle.std.proofs.lemmas.Option.{get_or_from_slice_get, slice_get-get_or}
 use Rattle.topo_core.specs.declared.darts.Dart.{Dart}
@@ -19,9 +19,7 @@ use Rattle.topo_core.specs.Routes.{Pricing, Costs, IsPricedRoute, IsFirst}
 use Rattle.topo_core.specs.Steps.{IsRefused, Step}
 use Rattle.topo_core.specs.History.{IsRun, Replays}
 use Rattle.topo_settings.specs.Settings.{price_of_kind, price_table, priced}
-use Rattle.topo_price.specs.Prices.{first_bad}
-use Rattle.topo_price.proofs.Tables.{price_in_range}
-use Rattle.topo_core.specs.declared.rows.TheConstants.{KINDS, MAX_PRICE}
+use Rattle.topo_core.specs.declared.rows.TheConstants.{KINDS}
 
 -- what one asks for, the other does
 abbrev pub Allows : Pricing → Pricing → Type 0
@@ -116,13 +114,6 @@ module _ (price : Pricing) (prices table : List (Option ℕ)) (is : table ≡ pr
   pub replays_by_table : (limits : Limits) (p : Rows) (history : List Entry) (q : Rows) → Replays price limits p history q
       → Replays (priced prices) limits p history q
   replays_by_table = replays_so price (priced prices) there back
-
--- a price of a table without a bad one
-pub good_there : (prices table : List (Option ℕ)) (kind n : ℕ) → table ≡ price_table prices → first_bad (price_table prices) ≡ None
-    → slice_get table kind ≡ Some (Some n) → (1 ≤ n) × (n ≤ MAX_PRICE)
-good_there prices table kind n is good there =
-    subst (λ (o : Option ℕ). IfSome o (λ n. (1 ≤ n) × (n ≤ MAX_PRICE))) (get_or_from_slice_get table kind (Some n) None there)
-    (price_in_range table (subst (λ (ps : List (Option ℕ)). first_bad ps ≡ None) (sym is) good) kind)
 
 pub ok_so : {A E : Type 0} (r : Result A E) (P Q : A → Type 0) → ((a : A) → P a → Q a) → IfOk r P → IfOk r Q
 ok_so (Ok a) P Q f h = f a h

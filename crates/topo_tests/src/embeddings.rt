@@ -29,7 +29,7 @@ fn add(embedding: &mut Embedding, c: Half, d: Half, edit: Edit) -> Option<Half> 
     match edit {
         Edit::Hang(edge) => Some(embedding.hang(c, edge)),
         Edit::Split => Some(embedding.split(c)),
-        Edit::Chord(edge) => Some(embedding.chord(c, d, edge)),
+        Edit::Chord(edge) => Some(embedding.chord(c, d, edge).0),
         Edit::Unchord | Edit::Smooth => None,
     }
 }

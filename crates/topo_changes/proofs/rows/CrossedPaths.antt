@@ -1,12 +1,12 @@
 -- Paths with crossings put on one by one: they are the paths with all of them woven in.
-use Rattle.std.proofs.Common.{◌≡◌, ◌≢◌, ℕ, zero, suc, ◌+◌, ◌<◌, ◌≤◌, ◌⊎◌, append_assoc, append-nil, add-one, Bool, true, false}
+use Rattle.std.proofs.Common.{◌≡◌, ◌≢◌, ℕ, zero, suc, ◌+◌, ◌<◌, ◌≤◌, append_assoc, append-nil, add-one, Bool, true, false}
 use Rattle.std.proofs.Common.{cond, List, [], ◌∷◌, ◌++◌, length, get_or, set, take, drop, refl, sym, ap, ◌∙◌, arith, inl, inr}
 use Rattle.std.specs.Prelude.{◌-◌, ◌==◌, ◌&&◌, nat_lt, map, filter, insert}
-use Rattle.std.specs.List.{list_all, enumerate_from}
-use Rattle.std.proofs.lemmas.List.{get_or-set_same, length-take-le, map-append, set-get_or, take-append-drop, take_more}
+use Rattle.std.specs.List.{count_by, list_all, enumerate_from}
+use Rattle.std.proofs.lemmas.List.{get_or-set_same, drop-drop, length-drop, length-take-le, map-append, set-get_or, take-append-drop, take_more}
 use Rattle.std.proofs.lemmas.List.Elements.{filter-append}
-use Rattle.std.proofs.lemmas.Bool.{eq-eqb, le-ltb, lt-ltb}
-use Rattle.std.proofs.lemmas.Bool.Decides.{nat_tests}
+use Rattle.std.proofs.lemmas.List.Sums.{sum_by-cons}
+use Rattle.std.proofs.lemmas.Bool.{cases_lt, eq-eqb, le-ltb, lt-ltb}
 use Rattle.topo_core.specs.declared.darts.Dart.{Dart}
 use Rattle.topo_core.specs.Items.{IsIn}
 use Rattle.topo_core.specs.Changes.{woven, put_in}
@@ -153,24 +153,25 @@ pub goes_past : (first s x : ℕ) (path : List ℕ) → first ≤ x → segment_
 goes_past first s x path high = ap (λ (b : Bool). cond {A = ℕ} b (cond {A = ℕ} (s == 0) 0 (segment_end first (s - 1) path + 1)) (segment_end first s path + 1))
     (le-ltb x first high)
 
--- where all crossings before the end of a segment count, the next one that does is the end
-pub ends_behind : (first s h : ℕ) (path : List ℕ) → list_all (λ x. nat_lt x first) (take h path) ≡ true → h ≤ s → h ≤ length path
-    → (length path ≤ h) ⊎ (s ≤ h) → h + segment_end first 0 (drop h path) ≡ segment_end first s path
-ends_behind first s zero [] all le few or = refl
-ends_behind first s (suc h) [] all le few or = absurd (omega (arith, few))
-ends_behind first s zero (x ∷ path) all le few (inl past) = absurd (omega (arith, past))
-ends_behind first s zero (x ∷ path) all le few (inr none) =
-    let zero_is : 0 ≡ s = omega (arith, none) in
-    let same : 0 + segment_end first 0 (x ∷ path) ≡ segment_end first 0 (x ∷ path) = omega arith in
-    same ∙ ap (λ n. segment_end first n (x ∷ path)) zero_is
-ends_behind first s (suc h) (x ∷ path) all le few or =
-    let low : x < first = grind (arith, left_true, nat_tests) in
-    let later : (length path ≤ h) ⊎ (s - 1 ≤ h) = elim or [ inl past ↦ inl (omega (arith, past)) | inr none ↦ inr (omega (arith, none)) ] in
-    let rest : h + segment_end first 0 (drop h path) ≡ segment_end first (s - 1) path =
-    ends_behind first (s - 1) h path (right_true (nat_lt x first) (list_all (λ y. nat_lt y first) (take h path)) all)
-    (omega (arith, le)) (omega (arith, few)) later in
-    let here : segment_end first s (x ∷ path) ≡ segment_end first (s - 1) path + 1 = counts first s x path low (omega (arith, le)) in
-    omega (arith, rest, here)
+-- a segment does not end in a part that has no more crossings that count than are left
+passes_part : (first s : ℕ) (part path : List ℕ) → count_by (λ x. nat_lt x first) part ≤ s
+    → length part + segment_end first (s - count_by (λ x. nat_lt x first) part) path ≡ segment_end first s (part ++ path)
+passes_part first s [] path few = grind (arith)
+passes_part first s (x ∷ part) path few =
+    let one = sum_by-cons (λ x. cond {A = ℕ} (nat_lt x first) 1 0) x part in
+    elim (cases_lt x first) [
+      | inl low ↦ (let rest = passes_part first (s - 1) part path in grind (arith, lt-ltb, counts))
+      | inr high ↦ (let rest = passes_part first s part path in grind (arith, le-ltb, goes_past))
+    ]
+
+-- the walk goes on behind a block in which the segment does not end
+pub passes_block : (first s place n end : ℕ) (path : List ℕ) → end ≡ place + n → end ≤ length path
+    → count_by (λ x. nat_lt x first) (take n (drop place path)) ≤ s
+    → end + segment_end first (s - count_by (λ x. nat_lt x first) (take n (drop place path))) (drop end path)
+    ≡ place + segment_end first s (drop place path)
+passes_block first s place n end path is inside few =
+    let parts = take-append-drop n (drop place path) in
+    grind (arith, length-drop, length-take-le, drop-drop, passes_part)
 
 within : (first s : ℕ) (path : List ℕ) → segment_end first s path ≤ length path
 within first s [] = omega arith

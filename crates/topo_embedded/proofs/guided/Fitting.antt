@@ -1,9 +1,10 @@
--- Slopes fit the rows through growths, insertions and deletions.
-use Rattle.std.proofs.Common.{◌≡◌, ◌⊎◌, ℕ, ◌≤◌, cond, List, [], ◌∷◌, None, Option, Some, inl, inr, length, refl, sym, ap, subst, ◌∙◌, arith}
-use Rattle.std.specs.Prelude.{map, slice_index_or}
+-- Slopes and kinds fit the rows through growths, insertions and deletions.
+use Rattle.std.proofs.Common.{◌≡◌, ◌⊎◌, ℕ, zero, suc, ◌+◌, ◌≤◌, ◌++◌, cond, List, [], ◌∷◌, None, Option, Some, inl, inr, length, refl, sym, ap, subst, ◌∙◌, arith}
+use Rattle.std.specs.Prelude.{is_some, map, slice_get, slice_index_or}
 use Rattle.std.specs.Option.{option_map, option_or}
 use Rattle.std.proofs.lemmas.Bool.{cases_Bool, eqb-true}
-use Rattle.std.proofs.lemmas.List.{get_or_past}
+use Rattle.std.proofs.lemmas.List.{length-append}
+use Rattle.std.proofs.lemmas.Option.{slice_get_within}
 use Rattle.std.proofs.lemmas.List.Folds.{find-append}
 use Rattle.std.specs.Prelude.{◌==◌}
 use Rattle.topo_core.specs.declared.darts.Dart.{Dart}
@@ -14,33 +15,37 @@ use Rattle.topo_core.specs.Changes.{grown, shown, without}
 use Rattle.topo_core.specs.Lawful.{IsWellFormed}
 use Rattle.topo_core.specs.Picture.{corner, edge_row}
 use Rattle.topo_table.specs.Places.{present, values_in}
-use Rattle.topo_embedded.specs.Bounds.{AreConsistentOn, BoundsState, FitsRows, GoesOn, at_half, floor_of, slope_of}
+use Rattle.topo_embedded.specs.Bounds.{AreConsistentOn, BoundsState, FitsRows, GoesOn, floor_of, slope_by, slope_of_row}
+use Rattle.topo_embedded.specs.KnownKinds.{AreKindsOf, IsNoted}
 use Rattle.topo_embedded.specs.Halves.{RowsWithPaths, ShowsRows, half_in}
-use Rattle.topo_embedded.specs.Parts.{Agree, AreBounded, with_paths}
+use Rattle.topo_embedded.specs.Parts.{Agree, AreForSearches, with_paths}
 use Rattle.topo_embedded.specs.Paths.{AreForEdges}
 use Rattle.topo_embedded.specs.declared.parts.Parts.{Parts}
 use Rattle.topo_core.specs.Changes.{crossed_row}
 use Rattle.topo_core.proofs.deleting.WithoutRows.{without_known}
-use Rattle.topo_core.proofs.inserting.ShownRows.{newcomer_row, shown_edge_row}
-use Rattle.topo_embedded.proofs.guided.Begun.{none_consistent}
+use Rattle.topo_core.proofs.inserting.ShownRows.{known_edge_below, newcomer_row, shown_edge_row}
+use Rattle.topo_embedded.proofs.guided.Going.{consistent_same, none_consistent}
 use Rattle.topo_embedded.proofs.growing.Grown.{kept_shows}
 use Rattle.topo_embedded.proofs.halves.KeptPaths.{kept_same}
 
 -- the row of an edge is that of an edge with this id and kind before, or of the edge that is new
-abbrev pub ComesFrom : Rows → ℕ → EdgeRow → Type 0
-ComesFrom rows e row = ((old : EdgeRow) × (edge_row rows e ≡ Some old) × (row.kind ≡ old.kind)) ⊎ (e ≡ rows.next_edge)
+abbrev pub ComesFrom : Rows → ℕ → ℕ → EdgeRow → Type 0
+ComesFrom rows kind e row = ((old : EdgeRow) × (edge_row rows e ≡ Some old) × (row.kind ≡ old.kind)) ⊎ ((e ≡ rows.next_edge) × (row.kind ≡ kind))
 
 -- an old row or a new one
 by_row : (rows : Rows) (e : ℕ) (row : EdgeRow) (change : EdgeRow → EdgeRow) (new : EdgeRow) → ((old : EdgeRow) → (change old).kind ≡ old.kind) → (o : Option EdgeRow)
-    → edge_row rows e ≡ o → option_or (option_map change o) (cond {A = Option EdgeRow} (rows.next_edge == e) (Some new) None) ≡ Some row → ComesFrom rows e row
+    → edge_row rows e ≡ o → option_or (option_map change o) (cond {A = Option EdgeRow} (rows.next_edge == e) (Some new) None) ≡ Some row
+    → ComesFrom rows new.kind e row
 by_row rows e row change new keeps (Some old) at is = let same : change old ≡ row = cc in inl (old, at, ap (λ (r : EdgeRow). r.kind) (sym same) ∙ keeps old)
 by_row rows e row change new keeps None at is = elim (cases_Bool (rows.next_edge == e)) [
-  | inl here ↦ inr (sym (eqb-true rows.next_edge e here))
+  | inl here ↦
+      let same : Some new ≡ Some row = ap (λ b. cond {A = Option EdgeRow} b (Some new) None) (sym here) ∙ is in
+      let alike : new ≡ row = cc in inr (sym (eqb-true rows.next_edge e here), ap (λ (r : EdgeRow). r.kind) (sym alike))
   | inr other ↦
       let none : None ≡ Some row = ap (λ b. cond {A = Option EdgeRow} b (Some new) None) (sym other) ∙ is in cc
 ]
 
-pub shown_from : (rows : Rows) (u v kind : ℕ) (r : Route) (e : ℕ) (row : EdgeRow) → edge_row (shown rows u v kind r) e ≡ Some row → ComesFrom rows e row
+pub shown_from : (rows : Rows) (u v kind : ℕ) (r : Route) (e : ℕ) (row : EdgeRow) → edge_row (shown rows u v kind r) e ≡ Some row → ComesFrom rows kind e row
 shown_from rows u v kind r e row at = by_row rows e row (crossed_row rows r) (newcomer_row rows u v kind r) (λ old. refl) (edge_row rows e) refl
     (sym (shown_edge_row rows u v kind r e) ∙ at)
 
@@ -48,7 +53,7 @@ same_map : (o : Option EdgeRow) → option_map (λ row. row) o ≡ o
 same_map None = refl
 same_map (Some row) = refl
 
-pub grown_from : (rows : Rows) (u p kind e : ℕ) (row : EdgeRow) → edge_row (grown rows u p kind) e ≡ Some row → ComesFrom rows e row
+pub grown_from : (rows : Rows) (u p kind e : ℕ) (row : EdgeRow) → edge_row (grown rows u p kind) e ≡ Some row → ComesFrom rows kind e row
 grown_from rows u p kind e row at =
     let new : EdgeRow = record { id = rows.next_edge; a = u; b = length rows.rotations; kind = kind; crossings = [] } in
     let found : edge_row (grown rows u p kind) e ≡ option_or (edge_row rows e) (cond {A = Option EdgeRow} (rows.next_edge == e) (Some new) None) =
@@ -56,72 +61,126 @@ grown_from rows u p kind e row at =
     by_row rows e row (λ old. old) new (λ old. refl) (edge_row rows e) refl
     (ap (λ o. option_or o (cond {A = Option EdgeRow} (rows.next_edge == e) (Some new) None)) (same_map (edge_row rows e)) ∙ sym found ∙ at)
 
-pub without_from : (rows : Rows) (gone e : ℕ) (row : EdgeRow) → edge_row (without rows gone) e ≡ Some row → ComesFrom rows e row
-without_from rows gone e row at = let (apart, (old, was, same)) = without_known rows gone e row at in inl (old, was, ap (λ (r : EdgeRow). r.kind) same)
+pub without_from : (rows : Rows) (gone kind e : ℕ) (row : EdgeRow) → edge_row (without rows gone) e ≡ Some row → ComesFrom rows kind e row
+without_from rows gone kind e row at = let (apart, (old, was, same)) = without_known rows gone e row at in inl (old, was, ap (λ (r : EdgeRow). r.kind) same)
 
 -- an edge that comes later has no slope
-pub fits_on : (rows rows' : Rows) (b b' : BoundsState) → ((e : ℕ) (row : EdgeRow) → edge_row rows' e ≡ Some row → ComesFrom rows e row)
-    → rows.next_edge ≤ rows'.next_edge → b'.slopes ≡ b.slopes → b'.floors ≡ b.floors → FitsRows rows b → FitsRows rows' b'
-fits_on rows rows' b b' from more slopes floors was = record {
+fits_on : (rows rows' : Rows) (kind : ℕ) (b b' : BoundsState) (slope : ℕ → ℕ) → ((e : ℕ) (row : EdgeRow) → edge_row rows' e ≡ Some row → ComesFrom rows kind e row)
+    → rows.next_edge ≤ rows'.next_edge → b'.floors ≡ b.floors → FitsRows rows b slope → FitsRows rows' b' slope
+fits_on rows rows' kind b b' slope from more floors was = record {
   fits = λ e row at.
-      let slope : slope_of b' e ≡ slope_of b e = ap (λ (s : List ℕ). slice_index_or s e 0) slopes in
       let floor : floor_of b' row.kind ≡ floor_of b row.kind = ap (λ (f : List ℕ). slice_index_or f row.kind 0) floors in
       elim (from e row at) [
         | inl old ↦
             let low = was.fits e old.0 old.1 in
-            let kind : floor_of b row.kind ≡ floor_of b old.0.kind = ap (floor_of b) old.2 in
-            omega (arith, slope, floor, low, kind)
+            let same : floor_of b row.kind ≡ floor_of b old.0.kind = ap (floor_of b) old.2 in
+            omega (arith, floor, low, same)
         | inr new ↦
-            let few = was.few in
-            let none : slope_of b e ≡ 0 = get_or_past b.slopes e 0 (omega (arith, few, new)) in
-            omega (arith, slope, none)
+            let none = was.later e (omega (arith, new.0)) in omega (arith, none)
       ];
-  few = let few = was.few in let same : length b'.slopes ≡ length b.slopes = ap length slopes in omega (arith, few, same, more);
+  later = λ e past. was.later e (omega (arith, more, past));
+}
+
+-- ---- Kinds
+
+-- an entry of a list with one more is of the list, or the last
+by_end : (kinds : List ℕ) (last e k : ℕ) → slice_get (kinds ++ last ∷ []) e ≡ Some k → (slice_get kinds e ≡ Some k) ⊎ ((e ≡ length kinds) × (k ≡ last))
+by_end [] last zero k at = let same : Some last ≡ Some k = at in let alike : last ≡ k = cc in inr (refl, sym alike)
+by_end [] last (suc e) k at = cc
+by_end (x ∷ xs) last zero k at = inl at
+by_end (x ∷ xs) last (suc e) k at = elim (by_end xs last e k at) [
+  | inl old ↦ inl old
+  | inr end ↦ inr (ap suc end.0, end.1)
+]
+
+-- what is known goes on where an edge comes that may be noted
+pub kinds_on : (rows rows' : Rows) → IsWellFormed rows → (kind : ℕ) (kinds kinds' : List ℕ)
+    → ((e : ℕ) (row : EdgeRow) → edge_row rows' e ≡ Some row → ComesFrom rows kind e row) → rows'.next_edge ≡ rows.next_edge + 1
+    → IsNoted kinds kinds' rows.next_edge kind → AreKindsOf rows kinds → AreKindsOf rows' kinds'
+kinds_on rows rows' formed kind kinds kinds' from more (inl same) was = subst (AreKindsOf rows') (sym same) (record {
+  known = λ e k row at found. elim (from e row found) [
+    | inl old ↦ old.2 ∙ was.known e k old.0 at old.1
+    | inr new ↦ (let few = was.few in let below = slice_get_within kinds e k at in absurd (omega (arith, few, below, new.0)))
+  ];
+  few = (let few = was.few in omega (arith, few, more));
+})
+kinds_on rows rows' formed kind kinds kinds' from more (inr noted) was = subst (AreKindsOf rows') (sym noted.1) (record {
+  known = λ e k row at found. by_entry e k row (by_end kinds kind e k at) (from e row found);
+  few = (let few = was.few in let long : length (kinds ++ kind ∷ []) ≡ length kinds + 1 = length-append kinds (kind ∷ []) in omega (arith, few, more, long, noted.0));
+}) where
+  by_entry : (e k : ℕ) (row : EdgeRow) → (slice_get kinds e ≡ Some k) ⊎ ((e ≡ length kinds) × (k ≡ kind)) → ComesFrom rows kind e row → row.kind ≡ k
+  by_entry e k row (inl old) (inl was_row) = was_row.2 ∙ was.known e k was_row.0 old was_row.1
+  by_entry e k row (inl old) (inr new) = let below = slice_get_within kinds e k old in absurd (omega (arith, below, new.0, noted.0))
+  by_entry e k row (inr end) (inl was_row) =
+      let below = known_edge_below rows formed.paths e (ap is_some was_row.1) in absurd (omega (arith, below, end.0, noted.0))
+  by_entry e k row (inr end) (inr new) = new.1 ∙ sym end.1
+
+-- the same kinds of rows whose edges were there
+pub kinds_kept : (rows rows' : Rows) (kinds : List ℕ) → ((kind e : ℕ) (row : EdgeRow) → edge_row rows' e ≡ Some row → ComesFrom rows kind e row)
+    → rows'.next_edge ≡ rows.next_edge → AreKindsOf rows kinds → AreKindsOf rows' kinds
+kinds_kept rows rows' kinds from same was = record {
+  known = λ e k row at found. elim (from 0 e row found) [
+    | inl old ↦ old.2 ∙ was.known e k old.0 at old.1
+    | inr new ↦ (let few = was.few in let below = slice_get_within kinds e k at in absurd (omega (arith, few, below, new.0)))
+  ];
+  few = (let few = was.few in omega (arith, few, same));
 }
 
 -- ---- The parts of a picture
 
--- where the rows, the slots and the potentials are the same
-pub bounded_same : (p p' : Parts) → p'.rows ≡ p.rows → p'.segments.slots ≡ p.segments.slots → p'.bounds ≡ p.bounds → AreBounded p → AreBounded p'
-bounded_same p p' rows slots bounds was = record {
-  consistent = subst (λ b. AreConsistentOn (at_half b) (slope_of b) p'.segments.slots) (sym bounds)
-      (subst (λ s. AreConsistentOn (at_half p.bounds) (slope_of p.bounds) s) (sym slots) was.consistent);
-  fits = subst (λ b. FitsRows p'.rows b) (sym bounds) (subst (λ r. FitsRows r p.bounds) (sym rows) was.fits);
+-- where the rows, the slots with their labels, the potentials and the kinds are the same
+pub searches_same : (p p' : Parts) → p'.rows ≡ p.rows → p'.segments.slots ≡ p.segments.slots → p'.segments.labels ≡ p.segments.labels → p'.bounds ≡ p.bounds
+    → p'.kinds ≡ p.kinds → AreForSearches p → AreForSearches p'
+searches_same p p' rows slots labels bounds kinds was = record {
+  slope = was.slope;
+  consistent = subst (λ b. AreConsistentOn b was.slope p'.segments) (sym bounds) (consistent_same p.segments p'.segments p.bounds was.slope slots labels was.consistent);
+  fits = subst (λ b. FitsRows p'.rows b was.slope) (sym bounds) (subst (λ (r : Rows). FitsRows r p.bounds was.slope) (sym rows) was.fits);
+  kinds = subst (AreKindsOf p'.rows) (sym kinds) (subst (λ (r : Rows). AreKindsOf r p.kinds) (sym rows) was.kinds);
 }
 
--- where the potentials go with the segments, and the rows have come from those before
-pub bounded_on : (p p' : Parts) → GoesOn p.segments.slots p'.segments.slots p.bounds p'.bounds
-    → ((e : ℕ) (row : EdgeRow) → edge_row p'.rows e ≡ Some row → ComesFrom p.rows e row) → p.rows.next_edge ≤ p'.rows.next_edge → AreBounded p → AreBounded p'
-bounded_on p p' goes from more was = record {
-  consistent = goes.consistent was.consistent;
-  fits = fits_on p.rows p'.rows p.bounds p'.bounds from more goes.slopes goes.floors was.fits;
+-- where an edge comes: the potentials go with the segments
+pub searches_on : (p p' : Parts) (kind : ℕ) → IsWellFormed p.rows → GoesOn p.segments p'.segments p.bounds p'.bounds
+    → ((e : ℕ) (row : EdgeRow) → edge_row p'.rows e ≡ Some row → ComesFrom p.rows kind e row) → p'.rows.next_edge ≡ p.rows.next_edge + 1
+    → IsNoted p.kinds p'.kinds p.rows.next_edge kind → AreForSearches p → AreForSearches p'
+searches_on p p' kind formed goes from more noted was = record {
+  slope = was.slope;
+  consistent = goes.consistent was.slope was.consistent;
+  fits = fits_on p.rows p'.rows kind p.bounds p'.bounds was.slope from (omega (arith, more)) goes.floors was.fits;
+  kinds = kinds_on p.rows p'.rows formed kind p.kinds p'.kinds from more noted was.kinds;
 }
+
+-- where an edge goes
+pub searches_without : (p p' : Parts) (gone : ℕ) → p'.rows ≡ without p.rows gone → p'.bounds.potentials ≡ [] → p'.bounds.floors ≡ p.bounds.floors
+    → p'.kinds ≡ p.kinds → AreForSearches p → AreForSearches p'
+searches_without p p' gone rows none floors kinds was =
+    let from : (kind e : ℕ) (row : EdgeRow) → edge_row p'.rows e ≡ Some row → ComesFrom p.rows kind e row =
+    λ kind e row at. without_from p.rows gone kind e row (ap (λ (r : Rows). edge_row r e) (sym rows) ∙ at) in
+    let same : p'.rows.next_edge ≡ p.rows.next_edge = ap (λ (r : Rows). r.next_edge) rows in
+    record {
+      slope = was.slope;
+      consistent = none_consistent p'.bounds was.slope p'.segments none;
+      fits = fits_on p.rows p'.rows 0 p.bounds p'.bounds was.slope (from 0) (omega (arith, same)) floors was.fits;
+      kinds = subst (AreKindsOf p'.rows) (sym kinds) (kinds_kept p.rows p'.rows p.kinds from same was.kinds);
+    }
 
 -- nothing guides a search
-pub bounded_none : (p : Parts) → p.bounds.potentials ≡ [] → p.bounds.slopes ≡ [] → p.bounds.floors ≡ [] → AreBounded p
-bounded_none p none no_slopes no_floors = record {
-  consistent = none_consistent p.bounds p.segments.slots none;
-  fits = record {
-    fits = λ e row at. (let zero : slope_of p.bounds e ≡ 0 = ap (λ (s : List ℕ). slice_index_or s e 0) no_slopes in omega (arith, zero));
-    few = let zero : length p.bounds.slopes ≡ 0 = ap length no_slopes in omega (arith, zero);
-  };
+pub searches_none : (p : Parts) → p.bounds.potentials ≡ [] → AreKindsOf p.rows p.kinds → AreForSearches p
+searches_none p none kinds = record {
+  slope = λ _. 0;
+  consistent = none_consistent p.bounds (λ _. 0) p.segments none;
+  fits = record { fits = λ e row at. omega arith; later = λ e past. refl };
+  kinds = kinds;
 }
 
--- the same rows, and potentials that go with the segments
-pub bounded_goes : (p p' : Parts) → p'.rows ≡ p.rows → GoesOn p.segments.slots p'.segments.slots p.bounds p'.bounds → AreBounded p → AreBounded p'
-bounded_goes p p' rows goes was = bounded_on p p' goes (λ e row at. inl (row, ap (λ (r : Rows). edge_row r e) (sym rows) ∙ at, refl))
-    (omega (arith, ap (λ (r : Rows). r.next_edge) rows)) was
-
--- slopes that are made for the rows
-pub made_fits : (rows : Rows) (b : BoundsState) (slopes floors : List ℕ) → b.slopes ≡ slopes → b.floors ≡ floors → length slopes ≡ rows.next_edge
-    → ((e : ℕ) (row : EdgeRow) → edge_row rows e ≡ Some row → slice_index_or slopes e 0 ≤ slice_index_or floors row.kind 0) → FitsRows rows b
-made_fits rows b slopes floors is_slopes is_floors many low = record {
-  fits = λ e row at.
-      let slope : slope_of b e ≡ slice_index_or slopes e 0 = ap (λ (s : List ℕ). slice_index_or s e 0) is_slopes in
-      let floor : floor_of b row.kind ≡ slice_index_or floors row.kind 0 = ap (λ (f : List ℕ). slice_index_or f row.kind 0) is_floors in
-      omega (arith, slope, floor, low e row at);
-  few = let same : length b.slopes ≡ length slopes = ap length is_slopes in omega (arith, same, many);
-}
+-- slopes that are the floors of the rows' kinds
+pub fits_by : (rows : Rows) (b : BoundsState) → IsWellFormed rows → FitsRows rows b (slope_by rows b)
+fits_by rows b formed = record {
+  fits = λ e row at. (let same : slope_by rows b e ≡ floor_of b row.kind = ap (slope_of_row b) at in omega (arith, same));
+  later = λ e past. by_row_there e past (edge_row rows e) refl;
+} where
+  by_row_there : (e : ℕ) → rows.next_edge ≤ e → (o : Option EdgeRow) → edge_row rows e ≡ o → slope_of_row b o ≡ 0
+  by_row_there e past None at = refl
+  by_row_there e past (Some row) at = let below = known_edge_below rows formed.paths e (ap is_some at) in absurd (omega (arith, below, past))
 
 -- what else is kept of the parts, where rows, paths and slots are the same
 pub parts_same : (p p' : Parts) → p'.rows ≡ p.rows → p'.paths.slots ≡ p.paths.slots → p'.segments.slots ≡ p.segments.slots → IsWellFormed p.rows → Agree p

@@ -1,5 +1,5 @@
 -- A list that is looked through block by block.
-use Rattle.std.proofs.Common.{◌≡◌, ◌+◌, ◌-◌, ◌<◌, ◌≤◌, Bool, false, true, ℕ, List, arith, drop, get_or, length, refl, sym, take, ap, ◌∙◌, inl, inr}
+use Rattle.std.proofs.Common.{◌≡◌, ◌+◌, ◌-◌, ◌<◌, ◌≤◌, ◌∷◌, Bool, false, true, ℕ, List, arith, drop, get_or, length, refl, suc, sym, take, ap, ◌∙◌, inl, inr}
 use Rattle.std.specs.List.{list_any}
 use Rattle.std.proofs.lemmas.Bool.{cases_lt, false≢true}
 use Rattle.std.proofs.lemmas.List.{get_or-drop, get_or-take, length-drop, length-take-le}
@@ -26,3 +26,18 @@ none_more p xs begin n end is within before none k less = elim (cases_lt k begin
       ap p (sym read) ∙ none_at p (take n (drop begin xs)) (k - begin) none (omega (arith, is, less, ge, many))
       )
 ]
+
+-- none of the items from a place on, where the first is kept beside the others
+pub none_behind : (p : ℕ → Bool) (first : ℕ) (others path : List ℕ) (from passed found : ℕ) → first ∷ others ≡ path → passed < from
+    → found ≤ length (take (length others - passed) (drop passed others))
+    → ((k : ℕ) → k < found → p (get_or (take (length others - passed) (drop passed others)) k 0) ≡ false) → (k : ℕ) → from ≤ k → k < 1 + passed + found
+    → p (get_or path k 0) ≡ false
+none_behind p first others path from passed found is less within none k begun ended =
+    let n : ℕ = length others - passed in
+    let j : ℕ = k - 1 - passed in
+    let at : k ≡ suc (passed + j) = omega (arith, begun, less) in
+    let all : length (take n (drop passed others)) ≡ n = length-take-le n (drop passed others) (omega (arith, length-drop passed others)) in
+    let here : j < found = omega (arith, ended, begun, less) in
+    ap (λ (hs : List ℕ). p (get_or hs k 0)) (sym is) ∙ ap (λ i. p (get_or (first ∷ others) i 0)) at
+    ∙ ap p (sym (get_or-take n (drop passed others) j 0 (omega (arith, here, within, all)) ∙ get_or-drop passed others j 0))
+    ∙ none j here

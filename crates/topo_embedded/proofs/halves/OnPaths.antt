@@ -1,12 +1,12 @@
 -- Where a crossed half lies among the halves along the edges, while others are split.
-use Rattle.std.proofs.Common.{◌≡◌, ◌≢◌, ◌<◌, ◌+◌, ap, arith, Bool, drop, false, get_or, inl, inr}
+use Rattle.std.proofs.Common.{◌≡◌, ◌≢◌, ◌<◌, ◌≤◌, ◌+◌, ap, arith, Bool, drop, false, get_or, inl, inr}
 use Rattle.std.proofs.Common.{length, List, [], ◌∷◌, ◌++◌, refl, subst, suc, sym, take, true, ℕ, ◌∙◌}
 use Rattle.std.specs.Prelude.{◌&&◌, ◌==◌, cond, flat_map, slice_get, slice_index_or, Some}
 use Rattle.std.specs.List.{AllByRecursion, position_or_len}
 use Rattle.std.proofs.Math.Seq.{drop-cons}
 use Rattle.std.proofs.lemmas.Bool.{and_from, cond-false, false≢true, ne_eqb}
 use Rattle.std.proofs.lemmas.Grind.{flat_map-append}
-use Rattle.std.proofs.lemmas.List.{get_or-drop, get_or-take, length-drop, length-take-le, take-append-drop}
+use Rattle.std.proofs.lemmas.List.{get_or-drop, get_or-take, length-append, length-drop, length-take-le, take-append-drop}
 use Rattle.std.proofs.lemmas.List.Elements.{All-from_get_or, All-from_recursion, recursion_from_All}
 use Rattle.std.proofs.lemmas.Option.{slice_get-get_or}
 use Rattle.topo_core.specs.declared.darts.Dart.{Dart}
@@ -81,34 +81,52 @@ put_one : (js : List Subdivision) (h : ℕ) → AllByRecursion (λ j. IsOff j.ne
 put_one [] h off = refl
 put_one (j ∷ js) h off = ap (flat_map (piece j)) (put_one js h off.1) ∙ pieces_off j (h ∷ []) (off.0, tt)
 
--- a half among others that are off its segment
-pub record IsAmong (near : ℕ) (hs : List ℕ) : Type 0 where
+-- a half among others that are off its segment, not before a place
+pub record IsAmong (near from : ℕ) (hs : List ℕ) : Type 0 where
   pub before : List ℕ
   pub half : ℕ
   pub behind : List ℕ
   pub is : hs ≡ before ++ half ∷ behind
+  pub late : from ≤ length before
   pub on : IsOn near half
   pub before_off : AreOff near before
   pub behind_off : AreOff near behind
 
--- it stays so
-pub still_among : (near : ℕ) (js : List Subdivision) (hs : List ℕ) → NewOff near js → (a : IsAmong near hs) → AllByRecursion (λ j. IsOff j.near a.half) js
-    → IsAmong near (put_halves js hs)
-still_among near js hs new a alone = record {
+-- splits make no list of halves shorter
+piece_some : (j : Subdivision) (h : ℕ) → 1 ≤ length (piece j h)
+piece_some j h = by_tests (h == j.near) (h == twin j.near) where
+  by_tests : (a b : Bool) → 1 ≤ length (cond {A = List ℕ} a (h ∷ j.beyond ∷ []) (cond b (twin j.beyond ∷ h ∷ []) (h ∷ [])))
+  by_tests true b = omega arith
+  by_tests false true = omega arith
+  by_tests false false = omega arith
+
+pieces_no_fewer : (j : Subdivision) (hs : List ℕ) → length hs ≤ length (flat_map (piece j) hs)
+pieces_no_fewer j [] = omega arith
+pieces_no_fewer j (h ∷ hs) = omega (arith, piece_some j h, pieces_no_fewer j hs, length-append (piece j h) (flat_map (piece j) hs))
+
+put_no_fewer : (js : List Subdivision) (hs : List ℕ) → length hs ≤ length (put_halves js hs)
+put_no_fewer [] hs = omega arith
+put_no_fewer (j ∷ js) hs = omega (arith, put_no_fewer js hs, pieces_no_fewer j (put_halves js hs))
+
+-- such a half stays so
+pub still_among : (near from : ℕ) (js : List Subdivision) (hs : List ℕ) → NewOff near js → (a : IsAmong near from hs)
+    → AllByRecursion (λ j. IsOff j.near a.half) js → IsAmong near from (put_halves js hs)
+still_among near from js hs new a alone = record {
   before = put_halves js a.before;
   half = a.half;
   behind = put_halves js a.behind;
   is = ap (put_halves js) a.is ∙ put_append js a.before (a.half ∷ a.behind)
       ∙ ap (λ (xs : List ℕ). put_halves js a.before ++ xs) (put_append js (a.half ∷ []) a.behind
       ∙ ap (λ (xs : List ℕ). xs ++ put_halves js a.behind) (put_one js a.half alone));
+  late = omega (arith, a.late, put_no_fewer js a.before);
   on = a.on;
   before_off = put_off near js a.before a.before_off new;
   behind_off = put_off near js a.behind a.behind_off new;
 }
 
 -- and gets a neighbour
-pub among_split : (j : Subdivision) (hs : List ℕ) (a : IsAmong j.near hs) → flat_map (piece j) hs ≡ a.before ++ (piece j a.half ++ a.behind)
-among_split j hs a = grind (arith, flat_map-append, pieces_stay)
+pub among_split : (j : Subdivision) (from : ℕ) (hs : List ℕ) (a : IsAmong j.near from hs) → flat_map (piece j) hs ≡ a.before ++ (piece j a.half ++ a.behind)
+among_split j from hs a = grind (arith, flat_map-append, pieces_stay)
 
 -- ---- Halves of darts
 
@@ -202,12 +220,13 @@ module _ (p : RowsWithPaths) (good : IsWellFormed p.rows) (r : Rotation) (s : Sh
     on_way Forward x = inl refl
     on_way Back x = inr (sym (twin-twin x))
 
-    pub own_path : IsAmong (half_in p d) hs
+    pub own_path : IsAmong (half_in p d) d.seg hs
     own_path = record {
       before = take d.seg hs;
       half = get_or hs d.seg 0;
       behind = drop (suc d.seg) hs;
       is = sym (take-append-drop d.seg hs) ∙ ap (λ (xs : List ℕ). take d.seg hs ++ xs) (drop-cons hs d.seg 0 long);
+      late = (let short = length-take-le d.seg hs (omega (arith, long)) in omega (arith, short));
       on = on_way d.way (get_or hs d.seg 0);
       before_off = All-from_get_or (IsOff (half_in p d)) (take d.seg hs) 0 (λ i li.
           let short = length-take-le d.seg hs (omega (arith, long)) in

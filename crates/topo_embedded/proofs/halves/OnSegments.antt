@@ -1,5 +1,5 @@
 -- Where a half or its twin stands among the halves of a path.
-use Rattle.std.proofs.Common.{◌≡◌, ◌≢◌, ◌<◌, ap, arith, false, get_or, inl, inr, length, length-append, List, ◌∷◌, ◌++◌, sym, true, ℕ, ◌∙◌}
+use Rattle.std.proofs.Common.{◌≡◌, ◌≢◌, ◌<◌, ◌≤◌, ap, arith, false, get_or, inl, inr, length, length-append, List, ◌∷◌, ◌++◌, sym, true, ℕ, ◌∙◌}
 use Rattle.std.specs.Prelude.{◌==◌, ◌||◌, slice_index_or}
 use Rattle.std.specs.List.{position_or_len}
 use Rattle.std.proofs.lemmas.Bool.{cases_eq, cases_lt, eq-eqb, false≢true, ne_eqb, or_right}
@@ -42,13 +42,25 @@ way_back half h on other = grind (arith, on_is, twin-twin)
 -- ---- The first place
 
 -- behind halves on other segments
+off_before : (half : ℕ) (xs ys : List ℕ) (h k : ℕ) → AreOff half xs → k < length xs → on_segment half (get_or (xs ++ h ∷ ys) k 0) ≡ false
+off_before half xs ys h k off less =
+    ap (on_segment half) (get_or_append_left xs (h ∷ ys) 0 k less) ∙ off_false half (get_or xs k 0) (All-get_or (IsOff half) xs k 0 less off)
+
 pub first_place : (half : ℕ) (path xs ys : List ℕ) (h : ℕ) → path ≡ xs ++ h ∷ ys → AreOff half xs → IsOn half h
     → position_or_len (on_segment half) path ≡ length xs
 first_place half path xs ys h is off on =
     ap (position_or_len (on_segment half)) is
     ∙ position_or_len_is (on_segment half) (xs ++ h ∷ ys) (length xs) 0 (omega (arith, length-append xs (h ∷ ys)))
-    (λ k less. ap (on_segment half) (get_or_append_left xs (h ∷ ys) 0 k less) ∙ off_false half (get_or xs k 0) (All-get_or (IsOff half) xs k 0 less off))
+    (λ k less. off_before half xs ys h k off less)
     (λ inside. ap (on_segment half) (get_or-append_seam xs h ys 0) ∙ on_true half h on)
+
+-- from a place on that is not behind it the half is found
+pub place_from : {half from at : ℕ} {path : List ℕ} (xs ys : List ℕ) (h : ℕ) → path ≡ xs ++ h ∷ ys
+    → (((k : ℕ) → k < from → on_segment half (slice_index_or path k 0) ≡ false) → at ≡ position_or_len (on_segment half) path)
+    → from ≤ length xs → AreOff half xs → IsOn half h → at ≡ length xs
+place_from {half} {path = path} xs ys h is found behind off on =
+    found (λ k less. ap (λ (hs : List ℕ). on_segment half (get_or hs k 0)) is ∙ off_before half xs ys h k off (omega (arith, less, behind)))
+    ∙ first_place half path xs ys h is off on
 
 -- a half of the path is found
 pub record FoundOn (path : List ℕ) (half place : ℕ) : Type 0 where

@@ -1,5 +1,5 @@
 -- One crossed segment more is split.
-use Rattle.std.proofs.Common.{◌≡◌, ◌≢◌, ◌<◌, ◌+◌, ap, append-nil, append_assoc, arith, Bool, drop, false, get_or, length}
+use Rattle.std.proofs.Common.{◌≡◌, ◌≢◌, ◌<◌, ◌≤◌, ◌+◌, ap, append-nil, append_assoc, arith, Bool, drop, false, get_or, length}
 use Rattle.std.proofs.Common.{length-set, List, [], ◌∷◌, ◌++◌, inl, inr, refl, set, subst, suc, sym, take, true, zero, ℕ, ◌∙◌}
 use Rattle.std.specs.Prelude.{◌&&◌, ◌||◌, ◌==◌, cond, find, is_some, map, slice_get, slice_index_or, Some}
 use Rattle.std.specs.List.{All, AllByRecursion, position_or_len}
@@ -181,15 +181,15 @@ module _ (p : RowsWithPaths) (good : IsWellFormed p.rows) (r : Rotation) (s : Sh
     }
 
     -- where the half is on its path
-    among : IsAmong c.near (put_halves js (slice_index_or p.paths (edge_place ids c) []))
+    among : IsAmong c.near c.dart.seg (put_halves js (slice_index_or p.paths (edge_place ids c) []))
     among =
         let own = own_path p good r s c.dart is.there in
-        let there : IsAmong (half_in p c.dart) (put_halves js (slice_index_or p.paths (edge_place ids c) [])) =
-        subst (λ (k : ℕ). IsAmong (half_in p c.dart) (put_halves js (slice_index_or p.paths k []))) (sym (edge_place_is p.rows c))
-        (still_among (half_in p c.dart) js _ (new_off c.dart is.there (crossed_darts cs) js sp.crossed) own
+        let there : IsAmong (half_in p c.dart) c.dart.seg (put_halves js (slice_index_or p.paths (edge_place ids c) [])) =
+        subst (λ (k : ℕ). IsAmong (half_in p c.dart) c.dart.seg (put_halves js (slice_index_or p.paths k []))) (sym (edge_place_is p.rows c))
+        (still_among (half_in p c.dart) c.dart.seg js _ (new_off c.dart is.there (crossed_darts cs) js sp.crossed) own
         (subst (λ (half : ℕ). AllByRecursion (λ j. IsOff j.near half) js) (sym (own_half p good r s c.dart is.there))
         (alone c.dart is.there (crossed_darts cs) js sp.crossed once))) in
-        subst (λ (near : ℕ). IsAmong near (put_halves js (slice_index_or p.paths (edge_place ids c) []))) (sym is.near) there
+        subst (λ (near : ℕ). IsAmong near c.dart.seg (put_halves js (slice_index_or p.paths (edge_place ids c) []))) (sym is.near) there
 
     -- the other paths
     elsewhere : (k : ℕ) → k < length p.paths → k ≢ edge_place ids c
@@ -203,8 +203,8 @@ module _ (p : RowsWithPaths) (good : IsWellFormed p.rows) (r : Rotation) (s : Sh
 
     pub one_put : (all : List Crossed) (n : ℕ) (paths : List (List ℕ)) (list : List ℕ) → n < length all → c ≡ get_or all n c → edge_place ids c < length p.paths
         → ArePadded ids (put_halves js) p.paths (take (n + 1) all) paths
-        → ((xs ys : List ℕ) (h last : ℕ) → get_or paths (edge_place ids c) [] ≡ xs ++ h ∷ (ys ++ last ∷ []) → AreOff c.near xs → IsOn c.near h
-        → list ≡ xs ++ (piece (subdivision c.near x) h ++ ys))
+        → ((xs ys : List ℕ) (h last : ℕ) → get_or paths (edge_place ids c) [] ≡ xs ++ h ∷ (ys ++ last ∷ []) → c.dart.seg ≤ length xs
+        → AreOff c.near xs → IsOn c.near h → list ≡ xs ++ (piece (subdivision c.near x) h ++ ys))
         → ArePadded ids (put_halves (j ∷ js)) p.paths (take n all) (set paths (edge_place ids c) list)
     one_put all n paths list less at placed pad put =
         let hs : List ℕ = slice_index_or p.paths (edge_place ids c) [] in
@@ -216,22 +216,22 @@ module _ (p : RowsWithPaths) (good : IsWellFormed p.rows) (r : Rotation) (s : Sh
         ∙ append_assoc among.before (among.half ∷ among.behind) (rest ++ 0 ∷ [])
         ∙ ap (λ (xs : List ℕ). among.before ++ among.half ∷ xs) (sym (append_assoc among.behind rest (0 ∷ []))) in
         let made : list ≡ among.before ++ (piece j among.half ++ (among.behind ++ rest)) =
-        put among.before (among.behind ++ rest) among.half 0 here among.before_off among.on in
+        put among.before (among.behind ++ rest) among.half 0 here among.late among.before_off among.on in
         one_changed (put_halves (j ∷ js)) (take n all) (edge_place ids c) list pad placed refl
         (λ k lk ne. ap (λ (xs : List ℕ). xs ++ pads ids k (take n all)) (elsewhere k lk ne)
         ∙ ap (λ (xs : List ℕ). put_halves js (slice_index_or p.paths k []) ++ xs)
         (sym (pads_same ids k all n c less (λ e. ne (e ∙ ap (λ (b : Crossed). edge_place ids b) (sym at))))))
         (made ∙ ap (λ (xs : List ℕ). among.before ++ xs) (sym (append_assoc (piece j among.half) among.behind rest))
         ∙ sym (append_assoc among.before (piece j among.half ++ among.behind) rest)
-        ∙ ap (λ (xs : List ℕ). xs ++ rest) (sym (among_split j (put_halves js hs) among)))
+        ∙ ap (λ (xs : List ℕ). xs ++ rest) (sym (among_split j c.dart.seg (put_halves js hs) among)))
         (λ k lk more. pad.some k lk (pads_fewer ids k all n c less more))
 
   -- one step of the loop
   pub split_more : {was cs : List Crossed} (n : ℕ) (c : Crossed) {now now' : Rotation} {x : ℕ} {paths : List (List ℕ)} (list : List ℕ)
       → CrossesOnce (crossed_darts was) → n < length cs → c ≡ get_or cs n c → edge_place ids c < length p.paths → AreSplitFrom p r now was cs (n + 1) paths
       → IsHalfSplit now now' c.near x
-      → ((xs ys : List ℕ) (h last : ℕ) → get_or paths (edge_place ids c) [] ≡ xs ++ h ∷ (ys ++ last ∷ []) → AreOff c.near xs → IsOn c.near h
-      → list ≡ xs ++ (piece (subdivision c.near x) h ++ ys))
+      → ((xs ys : List ℕ) (h last : ℕ) → get_or paths (edge_place ids c) [] ≡ xs ++ h ∷ (ys ++ last ∷ []) → c.dart.seg ≤ length xs
+      → AreOff c.near xs → IsOn c.near h → list ≡ xs ++ (piece (subdivision c.near x) h ++ ys))
       → AreSplitFrom p r now' was (set cs n (record { dart = c.dart; near = c.near; beyond = x })) n (set paths (edge_place ids c) list)
   split_more {cs} n c {now'} {x} {paths} list once less at placed from done put =
       let new : Crossed = record { dart = c.dart; near = c.near; beyond = x } in

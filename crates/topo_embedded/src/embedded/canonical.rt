@@ -108,10 +108,12 @@ impl Embedded {
             paths,
             segments,
             bounds,
+            kinds,
         } = parts;
         drop(paths);
         drop(segments);
         drop(bounds);
+        drop(kinds);
         rows.show(alloc)
     }
 

@@ -1,5 +1,5 @@
 -- Bounds that the potentials of a picture give, by what guides a search.
-use Rattle.std.proofs.Common.{◌≡◌, ℕ, zero, suc, ◌+◌, ◌-◌, ◌<◌, ◌≤◌, Some, ap, refl, subst, sym, ◌∙◌, arith}
+use Rattle.std.proofs.Common.{◌≡◌, ℕ, ◌+◌, ◌-◌, ◌<◌, ◌≤◌, Some, ap, subst, arith}
 use Rattle.std.specs.Prelude.{max, min}
 use Rattle.topo_core.specs.declared.darts.Dart.{Dart}
 use Rattle.topo_core.specs.declared.rows.Facts.{Facts}
@@ -7,15 +7,13 @@ use Rattle.topo_core.specs.declared.rows.TheConstants.{KINDS}
 use Rattle.topo_core.specs.Lawful.{Lawful}
 use Rattle.topo_core.specs.Picture.{corner, edge_at}
 use Rattle.topo_core.specs.Routes.{Pricing, unreached}
-use Rattle.topo_core.specs.Cycles.{after}
-use Rattle.topo_core.specs.Darts.{dart_twin}
-use Rattle.topo_core.proofs.numbering.Numbering.{twin_in}
 use Rattle.topo_route.specs.Guided.{AreBounds, top_of_bound}
-use Rattle.topo_route.specs.Names.{HasFaces, IsName, IsNamed, Named, dart_named, next_name, twin_name}
+use Rattle.topo_route.specs.Names.{HasFaces, IsName, IsNamed, Named, dart_named, twin_name}
 use Rattle.topo_route.specs.Potentials.{AreConsistent, AreWithin, IsOfGuide, bound_by, outside}
 use Rattle.topo_route.specs.declared.guide.Guide.{Guide}
 use Rattle.topo_route.specs.declared.potentials.Potentials.{Potentials}
-use Rattle.topo_route.proofs.names.Names.{after_is, dart_of_name, names_of_face, twin_back, twin_is}
+use Rattle.topo_route.proofs.names.Names.{dart_of_twin, twin_back, twin_is}
+use Rattle.topo_route.proofs.spreading.FaceWalks.{next_face}
 
 outside_consistent : (slope low high n m : ℕ) → n ≤ slope + m → m ≤ slope + n → outside low high n ≤ slope + outside low high m
 outside_consistent slope low high n m above below = grind arith
@@ -47,44 +45,35 @@ bound_home g p of_guide = let low = of_guide.low in let high = of_guide.high in
 pub bound_small : (g : Guide) (p : Potentials) → bound_by g p ≤ 65535
 bound_small g p = omega arith
 
--- what is equal with each step along a face is equal all round it
-module _ (g : Named) (lawful : Lawful g.rows) (has : IsNamed g) (face : ℕ → ℕ) (faces : ℕ) (has_faces : HasFaces g face faces) (bound : ℕ → ℕ)
-    (even : (k : ℕ) → IsName g k → bound (next_name g k) ≡ bound k) where
-  even_along : (steps k : ℕ) → IsName g k → bound (after (next_name g) steps k) ≡ bound k
-  even_along zero k l = refl
-  even_along (suc j) k l = even (after (next_name g) j k) (after_is g lawful has j k l) ∙ even_along j k l
-
-  pub even_bound : (least j k : ℕ) → IsName g j → IsName g k → face j ≡ face k → top_of_bound bound least j ≡ top_of_bound bound least k
-  even_bound least j k lj lk e =
-      let along = names_of_face g lawful has j (dart_named g k) lj (has_faces.one j k lj lk e) in
-      let same : bound k ≡ bound j = ap bound (sym lk.is) ∙ ap bound (sym along.leads) ∙ even_along along.steps j lj in
-      ap (λ n. min (least + 1) unreached - n) (sym same)
+-- darts with one label have one bound, and so the heights below it are the same
+pub label_bound : (face bound : ℕ → ℕ) (least j k : ℕ) → face j ≡ face k
+    → top_of_bound (λ d. bound (face d)) least j ≡ top_of_bound (λ d. bound (face d)) least k
+label_bound face bound least j k e = ap (λ f. min (least + 1) unreached - bound f) e
 
 -- bounds that a guide gives
-module _ (price : Pricing) (g : Named) (lawful : Lawful g.rows) (has : IsNamed g) (u : ℕ) (guide : Guide) (potentials : ℕ → Potentials) (floor : ℕ → ℕ)
-    (consistent : AreConsistent g potentials floor)
+module _ (price : Pricing) (g : Named) (lawful : Lawful g.rows) (has : IsNamed g) (face : ℕ → ℕ) (faces : ℕ) (has_faces : HasFaces g face faces) (u : ℕ)
+    (guide : Guide) (potentials : ℕ → Potentials) (floor : ℕ → ℕ) (consistent : AreConsistent g face potentials floor)
     (floors : (facts : Facts) (n : ℕ) → facts.kind < KINDS → price facts n → floor facts.kind ≤ n)
-    (corners : (p : ℕ) (c : Dart) → corner g.rows u p ≡ Some c → IsOfGuide guide (potentials (g.name c))) where
-  pub are_bounds : AreBounds price g u (λ k. bound_by guide (potentials k))
+    (corners : (p : ℕ) (c : Dart) → corner g.rows u p ≡ Some c → IsOfGuide guide (potentials (face (g.name c)))) where
+  abbrev of_dart : ℕ → Potentials
+  of_dart k = potentials (face k)
+
+  pub are_bounds : AreBounds price g u (λ k. bound_by guide (potentials (face k)))
   are_bounds = record {
-    at_start = λ p c at. bound_home guide (potentials (g.name c)) (corners p c at);
-    even = λ k l. ap (bound_by guide) (consistent.even k l);
+    at_start = λ p c at. bound_home guide (of_dart (g.name c)) (corners p c at);
+    even = λ k l. ap (λ f. bound_by guide (potentials f)) (next_face g lawful has face faces has_faces k l);
     consistent = λ k c l asked.
-        let t = twin_name g k in
         let kind = (edge_at g.rows (dart_named g k).edge).kind in
-        let there = twin_is g lawful has k l in
-        let back = consistent.consistent t there in
         let same_kind : asked.facts.kind ≡ kind = asked.known.kind in
         let low : floor kind ≤ c = subst (λ n. floor n ≤ c) same_kind (floors asked.facts c asked.facts.known_kind asked.asked) in
-        bound_consistent (floor kind) c guide (potentials k) (potentials t) (consistent.consistent k l) (twin_within k l) low;
+        bound_consistent (floor kind) c guide (of_dart k) (of_dart (twin_name g k)) (consistent.consistent k l) (twin_within k l) low;
   }
     where
       -- the twin lies on the same edge
-      twin_within : (k : ℕ) → IsName g k → AreWithin (floor (edge_at g.rows (dart_named g k).edge).kind) (potentials (twin_name g k)) (potentials k)
+      twin_within : (k : ℕ) → IsName g k → AreWithin (floor (edge_at g.rows (dart_named g k).edge).kind) (of_dart (twin_name g k)) (of_dart k)
       twin_within k l =
           let t = twin_name g k in
-          let same : dart_named g t ≡ dart_twin (dart_named g k) = dart_of_name g has (dart_twin (dart_named g k)) (twin_in g.rows (dart_named g k) l.there) in
-          let edge : (dart_named g t).edge ≡ (dart_named g k).edge = ap (λ (d : Dart). d.edge) same in
+          let edge : (dart_named g t).edge ≡ (dart_named g k).edge = ap (λ (d : Dart). d.edge) (dart_of_twin g lawful has k l) in
           let back = consistent.consistent t (twin_is g lawful has k l) in
-          subst (λ j. AreWithin (floor (edge_at g.rows (dart_named g k).edge).kind) (potentials t) (potentials j)) (twin_back g lawful has k l)
-          (subst (λ e. AreWithin (floor (edge_at g.rows e).kind) (potentials t) (potentials (twin_name g t))) edge back)
+          subst (λ j. AreWithin (floor (edge_at g.rows (dart_named g k).edge).kind) (of_dart t) (of_dart j)) (twin_back g lawful has k l)
+          (subst (λ e. AreWithin (floor (edge_at g.rows e).kind) (of_dart t) (of_dart (twin_name g t))) edge back)

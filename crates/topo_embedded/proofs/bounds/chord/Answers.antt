@@ -1,20 +1,18 @@
 use Rattle.std.proofs.Common.{ap, subst, ◌∙◌}
-use Rattle.topo_embedded.specs.Bounds.{BoundsState, IsBegun}
-use Rattle.topo_embedded.proofs.guided.Begun.{goes_chord, goes_to_none, same_four}
+use Rattle.topo_map.specs.Rotation.{face_of}
+use Rattle.topo_embedded.specs.Bounds.{IsGiven, at_face}
+use Rattle.topo_embedded.proofs.guided.Going.{goes_chord, same_four}
 use Rattle.topo_embedded.proofs.bounds.chord.Goals as goal
-use Rattle.topo_embedded.proofs.bounds.chord.Goals.{then-ne, else-ne}
 
-pub returns-clause-bounds : goal.returns-clause-bounds
-returns-clause-bounds c = elim c.if-ne.branch [
-  | then-ne w ↦
-      let cleared = w.clear.ensures in
-      let is = w.bounds-is in
-      goes_to_none (c.begin.ensures.slopes ∙ ap (λ (b : BoundsState). b.slopes) is ∙ cleared.slopes)
-      (c.begin.ensures.floors ∙ ap (λ (b : BoundsState). b.floors) is ∙ cleared.floors)
-      (c.begin.ensures.none (ap (λ (b : BoundsState). b.potentials) is ∙ cleared.potentials))
-  | else-ne w ↦
-      let same = same_four c.at-here.result c.at.result w.if-ne.ensures in
-      goes_chord c.args.c c.args.d c.laws.ensures c.requires.live c.requires.live_end c.chord-half.ensures.edit c.chord-half.ensures.grows c.chord-half.ensures.label
-      c.at-here.ensures (same ∙ c.at.ensures)
-      (subst (λ b. IsBegun b c.begin.new.self c.chord-half.result c.at-here.result c.at-here.result) w.bounds-is c.begin.ensures)
-]
+pub returns-then-are_kept-clause-bounds : goal.returns-then-are_kept-clause-bounds
+returns-then-are_kept-clause-bounds c =
+    let new = c.chord-half.new.self in
+    let before = c.args.bounds.now in
+    let here = c.at-here.result in
+    let edit = c.chord-half.ensures in
+    goes_chord c.laws.ensures edit.grows edit.label before c.give.new.self c.give-then-are_kept.new.self c.args.c c.args.d here
+    (edit.faces c.if-are_kept.true) (c.at-here.ensures ∙ ap (at_face before) c.face.ensures)
+    (same_four here c.at.result c.if-is_even.ensures ∙ c.at.ensures ∙ ap (at_face before) c.face-2.ensures)
+    (subst (λ l. IsGiven before c.give.new.self l here) c.face-then-are_kept.ensures c.give.ensures)
+    (subst (λ l. IsGiven c.give.new.self c.give-then-are_kept.new.self l here) (c.face-then-are_kept-2.ensures ∙ ap (face_of new) c.twin.ensures.twin)
+    c.give-then-are_kept.ensures)

@@ -4,7 +4,7 @@ use Rattle.topo_core.specs.Rotations.{twin}
 use Rattle.topo_map.specs.Rotation.{half_limit, is_live, turn}
 use Rattle.topo_embedded.specs.declared.padding.Crossed.{Crossed}
 use Rattle.topo_embedded.specs.Crossing.{AreChordsAdded, AreChordsAddedFrom}
-use Rattle.topo_embedded.proofs.guided.Begun.{goes_further, goes_nowhere}
+use Rattle.topo_embedded.proofs.guided.Going.{goes_further, goes_nowhere}
 use Rattle.topo_embedded.proofs.inserting.AddedChords.{chords_last, chords_more, chords_none}
 use Rattle.topo_embedded.proofs.insertion.add_chords.Goals as goal
 
@@ -12,7 +12,7 @@ pub loop-n-init : goal.loop-n-init
 loop-n-init c = record {
   added = chords_none c.args.segments.now c.args.crossed.now c.args.end c.args.edge c.args.line.now c.laws.ensures c.requires.end
       c.requires.room c.requires.line;
-  bounds = goes_nowhere c.args.bounds.now c.args.segments.now.slots;
+  bounds = goes_nowhere c.args.segments.now c.args.bounds.now;
 }
 
 pub chord-requires-clause-live : goal.chord-requires-clause-live

@@ -1,5 +1,5 @@
 use Rattle.std.proofs.Common.{arith}
-use Rattle.topo_embedded.proofs.guided.Begun.{goes_further}
+use Rattle.topo_embedded.proofs.guided.Going.{goes_further}
 use Rattle.topo_embedded.proofs.inserting.AddedChords.{subdivided_alive, route_alive}
 use Rattle.topo_embedded.proofs.inserting.Splits.{alive_still}
 use Rattle.topo_embedded.proofs.insertion.add_route.Goals as goal
@@ -15,4 +15,4 @@ add_chords-requires-clause-alive g c = route_alive g.p c.requires.0.formed c.arg
     c.split_crossed.new.crossed c.laws.ensures c.split_crossed.ensures.split c.split_crossed.ensures.marked
 
 pub returns-clause-bounds : goal.returns-clause-bounds
-returns-clause-bounds g c = goes_further c.split_crossed.ensures.bounds c.add_chords.ensures.bounds
+returns-clause-bounds g c = goes_further (c.split_crossed.ensures.bounds c.args.bounds.now) c.add_chords.ensures.bounds

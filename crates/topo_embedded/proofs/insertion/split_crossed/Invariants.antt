@@ -1,5 +1,5 @@
 use Rattle.topo_table.specs.Places.{values_in}
-use Rattle.topo_embedded.specs.Bounds.{GoesOn}
+use Rattle.topo_embedded.specs.Bounds.{BoundsState, GoesOn}
 use Rattle.topo_embedded.specs.Crossing.{AreSplitFrom}
 use Rattle.topo_embedded.specs.Paths.{KeepsIds}
 use Rattle.topo_embedded.proofs.insertion.split_crossed.Given as goal
@@ -8,7 +8,7 @@ abbrev pub invariant-loop-n : goal.invariant-loop-n
 invariant-loop-n g l = record {
   split : AreSplitFrom g.p l.fn.segments l.segments l.fn.crossed l.crossed l.n (values_in l.paths);
   kept : KeepsIds l.fn.paths l.paths;
-  bounds : GoesOn l.fn.segments.slots l.segments.slots l.fn.bounds l.bounds;
+  bounds : (b : BoundsState) → GoesOn l.fn.segments l.segments b b;
 }
 
 abbrev pub decreases-loop-n : goal.decreases-loop-n

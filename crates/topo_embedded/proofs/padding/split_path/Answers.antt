@@ -1,4 +1,4 @@
-use Rattle.std.proofs.Common.{◌≡◌, ◌++◌, ◌∷◌, [], List, subst, sym, true, ℕ, ◌∙◌}
+use Rattle.std.proofs.Common.{◌≡◌, ◌≤◌, ◌++◌, ◌∷◌, [], length, List, subst, sym, true, ℕ, ◌∙◌}
 use Rattle.topo_core.specs.Items.{has_id}
 use Rattle.topo_table.specs.Places.{ids_in}
 use Rattle.topo_table.proofs.PlaceLemmas.{is_empty}
@@ -22,8 +22,8 @@ unreachable-requires c = path_there c.args.paths.now c.number.result
 
 pub returns-clause-path : goal.returns-clause-path
 returns-clause-path c = subst (λ (e : ℕ). IsPathSo c.args.paths.now c.put.new.self e
-    (λ path. (xs ys : List ℕ) (h last : ℕ) → path_in c.args.paths.now e ≡ xs ++ h ∷ (ys ++ last ∷ []) → AreOff c.args.cross.now.near xs
-    → IsOn c.args.cross.now.near h
+    (λ path. (xs ys : List ℕ) (h last : ℕ) → path_in c.args.paths.now e ≡ xs ++ h ∷ (ys ++ last ∷ []) → c.args.cross.now.dart.seg ≤ length xs
+    → AreOff c.args.cross.now.near xs → IsOn c.args.cross.now.near h
     → path ≡ xs ++ (piece (record { dart = 0; near = c.args.cross.now.near; beyond = c.args.beyond }) h ++ ys))) c.number.ensures (record {
       path = c.put_beside.new.path;
       put = path_put c.args.paths.now c.take-path.new.self c.put.new.self c.number.result c.in-Some.place c.in-Some.ensures.there c.in-Some.ensures.rise

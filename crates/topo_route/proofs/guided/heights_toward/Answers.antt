@@ -24,8 +24,9 @@ returns-clause-heights g c =
     let heights = dart_heights named face c.spread_toward.new.self.heights in
     let distances = dart_heights named face c.start_both.new.work.to_start.heights in
     for_toward price named lawful has c.args.u c.args.v (c.requires.right.promise c.requires.some) heights distances
-    (λ k. bound_by guide (potentials k)) c.spread_toward.new.least
-    (are_bounds price named lawful has c.args.u guide potentials (g.W.FaceGraph.floor graph) consistent c.requires.floors c.requires.corners)
-    (λ k l. bound_small guide (potentials k))
+    (λ k. bound_by guide (potentials (face k))) c.spread_toward.new.least
+    (are_bounds price named lawful has face (g.W.FaceGraph.face_bound graph) (g.met.W.FaceGraph.has_faces graph) c.args.u guide potentials
+    (g.W.FaceGraph.floor graph) consistent c.requires.floors c.requires.corners)
+    (λ k l. bound_small guide (potentials (face k)))
     on.costs.costs both.back.costs.costs (meets_lower named c.args.v before heights on.lower both.at_target) both.at_start
     on.sums (omega (arith, on.less, c.spread_toward.auto.least)) on.settled

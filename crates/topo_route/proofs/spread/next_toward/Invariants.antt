@@ -13,7 +13,8 @@ invariant-loop-item g l =
     let face = g.W.FaceGraph.face_of l.graph in
     let heights = dart_heights named face l.heights in
     record {
-      same : (k : ℕ) → k < 2 ^ 32 → IsName named k → slice_index heights k < top_of_bound (λ j. bound_by l.guide (g.W.FaceGraph.potentials l.graph j)) l.least k
+      same : (k : ℕ) → k < 2 ^ 32 → IsName named k
+          → slice_index heights k < top_of_bound (λ j. bound_by l.guide (g.W.FaceGraph.potentials l.graph (face j))) l.least k
           → is_pending heights l.waiting k ≡ is_pending heights l.initial.waiting k;
       fewer : (item : ℕ) → is_waiting l.waiting item ≡ true → is_waiting l.initial.waiting item ≡ true;
       len : length l.waiting ≤ length l.initial.waiting;

@@ -9,5 +9,5 @@ invariant_of-self c = (
       c.requires.there c.delete.ensures.rows,
   c.delete.ensures.shows,
   c.delete.ensures.kept,
-  c.delete.ensures.bounded,
+  c.delete.ensures.searches,
 )

@@ -6,5 +6,5 @@ invariant_of-self c = (
   grown_formed c.grow.result c.self.view_is c.self.invariant.0 c.requires.vertex c.requires.position c.requires.known c.grow.ensures.ok c.grow.ensures.err,
   c.grow.ensures.shows,
   c.grow.ensures.kept,
-  c.grow.ensures.bounded,
+  c.grow.ensures.searches,
 )

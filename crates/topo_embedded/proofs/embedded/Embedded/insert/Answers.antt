@@ -14,7 +14,7 @@ invariant_of-self c = (
   inserted_formed c.insert.result c.self.view_is c.self.invariant.0 c.requires.insertable c.insert.ensures.ok c.insert.ensures.err,
   c.insert.ensures.shows,
   c.insert.ensures.kept,
-  c.insert.ensures.bounded,
+  c.insert.ensures.searches,
 )
 
 pub insert-requires-clause-ready : goal.insert-requires-clause-ready

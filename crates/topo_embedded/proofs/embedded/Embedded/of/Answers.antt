@@ -11,11 +11,15 @@ use Rattle.topo_core.specs.Lawful.{IsWellFormed, has_good_path}
 use Rattle.topo_core.proofs.numbering.Numbering.{turn_permutes}
 use Rattle.topo_rows.proofs.Verdicts.{images_total}
 use Rattle.topo_embedded.specs.Halves.{ShowsRows}
-use Rattle.topo_embedded.specs.Parts.{AreBounded}
+use Rattle.topo_embedded.specs.KnownKinds.{AreKindsOf}
+use Rattle.topo_embedded.specs.Parts.{AreForSearches}
 use Rattle.topo_embedded.specs.declared.parts.Parts.{Parts}
-use Rattle.topo_embedded.proofs.guided.Fitting.{bounded_none}
+use Rattle.topo_embedded.proofs.guided.Fitting.{searches_none}
 use Rattle.topo_embedded.proofs.halves.Made.{labels_length, made_from}
 use Rattle.topo_embedded.proofs.embedded.Embedded.of.Goals as goal
+
+pub of-requires-2 : goal.of-requires-2
+of-requires-2 c = subst IsWellFormed (sym c.in_ok-rows.ensures) c.requires.well_formed
 
 pub from_turns-requires-clause-permutation : goal.from_turns-requires-clause-permutation
 from_turns-requires-clause-permutation c =
@@ -33,9 +37,9 @@ paths_of-requires-clause-rise c = subst (λ (es : List EdgeRow). rises_below c.a
 pub invariant_of-result : goal.invariant_of-result
 invariant_of-result c =
     let paths = c.in_ok-paths.paths in
-    let now = λ (rows : Rows). (let p : Parts = record { rows = rows; paths = paths; segments = c.in_ok-segments.segments; bounds = c.none.result } in p) in
+    let now = λ (rows : Rows). (let p : Parts = record { rows = rows; paths = paths; segments = c.in_ok-segments.segments; bounds = c.none.result; kinds = c.in_ok-kinds.kinds } in p) in
     subst (λ (rows : Rows). IsWellFormed rows × ShowsRows (record { rows = rows; paths = values_in paths }) c.in_ok-segments.segments × AreForEdges rows paths
-    × AreBounded (now rows))
+    × AreForSearches (now rows))
     (sym c.in_ok-rows.ensures) (
       c.requires.well_formed,
       made_from c.args.rows c.requires.well_formed c.as_slice-edges.ensures
@@ -47,5 +51,5 @@ invariant_of-result c =
         below = c.in_ok-paths.ensures.below;
         count = c.in_ok-paths.ensures.count;
       },
-      bounded_none (now c.args.rows) c.none.ensures.0 c.none.ensures.1 c.none.ensures.2,
+      searches_none (now c.args.rows) c.none.ensures.0 (subst (λ (rows : Rows). AreKindsOf rows c.in_ok-kinds.kinds) c.in_ok-rows.ensures c.in_ok-kinds.ensures),
     )

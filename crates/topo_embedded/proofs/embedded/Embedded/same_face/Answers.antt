@@ -1,8 +1,11 @@
-use Rattle.std.proofs.Common.{arith, ◌≡◌, subst, true}
+use Rattle.std.proofs.Common.{arith, ◌≡◌, subst, sym, true}
 use Rattle.std.specs.Prelude.{◌↔◌, IsTrue}
 use Rattle.topo_core.specs.declared.darts.Dart.{Dart}
+use Rattle.topo_core.specs.Cycles.{SameCycle}
+use Rattle.topo_core.specs.Rotations.{face_next}
 use Rattle.topo_core.specs.Picture.{darts, system}
 use Rattle.topo_core.specs.Systems.{SameFace, has_dart}
+use Rattle.topo_map.specs.Rotation.{turn}
 use Rattle.topo_table.specs.Places.{values_in}
 use Rattle.topo_embedded.specs.Halves.{RowsWithPaths, half_in}
 use Rattle.topo_embedded.proofs.halves.Numbers.{half_alive}
@@ -22,4 +25,8 @@ returns c =
     subst (λ (q : RowsWithPaths). (x y : Dart) → has_dart (darts q.rows) x ≡ true → has_dart (darts q.rows) y ≡ true → half_in q x ≡ c.args.half
     → half_in q y ≡ c.args.other → IsTrue c.same_face.result ↔ SameFace (system q.rows) x y) c.self.view_is
     (λ x y hx hy x_is y_is.
-    let faces = same_faces p c.self.invariant.0 r c.self.invariant.1 x y hx hy in grind arith)
+    let told : IsTrue c.same_face.result ↔ SameCycle (face_next (turn r)) (half_in p x) (half_in p y) =
+    subst (λ h. IsTrue c.same_face.result ↔ SameCycle (face_next (turn r)) h (half_in p y)) (sym x_is)
+    (subst (λ h. IsTrue c.same_face.result ↔ SameCycle (face_next (turn r)) c.args.half h) (sym y_is) c.same_face.ensures) in
+    let faces = same_faces p c.self.invariant.0 r c.self.invariant.1 x y hx hy in
+    ((λ yes. faces.0 (told.0 yes)), (λ same. told.1 (faces.1 same))))

@@ -1,6 +1,7 @@
 use Rattle.std.proofs.Common.{arith, refl, ◌≡◌, Some, List, ap, subst, sym, ℕ, ◌∙◌}
 use Rattle.topo_core.specs.declared.rows.Rows.{Rows}
 use Rattle.topo_core.specs.Changes.{shown}
+use Rattle.topo_core.specs.Lawful.{IsWellFormed}
 use Rattle.topo_core.specs.Picture.{edge_row}
 use Rattle.topo_core.specs.declared.rows.EdgeRow.{EdgeRow}
 use Rattle.topo_changes.proofs.rows.CrossedRows.{when_err, when_ok}
@@ -9,8 +10,9 @@ use Rattle.topo_embedded.specs.Crossing.{ids_of_edges}
 use Rattle.topo_embedded.specs.Halves.{RowsWithPaths, ShowsRows}
 use Rattle.topo_embedded.specs.Padding.{ArePadded}
 use Rattle.topo_embedded.specs.Paths.{AreForEdges}
-use Rattle.topo_embedded.proofs.guided.Begun.{goes_further, goes_same}
-use Rattle.topo_embedded.proofs.guided.Fitting.{ComesFrom, bounded_on, bounded_same, shown_from}
+use Rattle.topo_embedded.proofs.guided.Going.{goes_further, goes_same}
+use Rattle.topo_embedded.proofs.guided.Fitting.{ComesFrom, searches_on, searches_same, shown_from}
+use Rattle.topo_embedded.specs.KnownKinds.{IsNoted}
 use Rattle.topo_embedded.proofs.growing.Grown.{kept_shows}
 use Rattle.topo_embedded.proofs.halves.KeptPaths.{ids_shown, kept_ids, one_more_kept, values_pushed}
 use Rattle.topo_embedded.proofs.inserting.Routed.{end_alive, inserted_parts, ready_now, start_alive}
@@ -111,19 +113,26 @@ returns-in_err-line-clause-shows g c =
     (subst (λ (q : RowsWithPaths). ShowsRows q c.make_room.new.segments) c.requires.0
     (kept_shows g.p c.args.self.now.segments c.make_room.new.segments c.make_room.ensures.slots c.requires.1.0.shows))
 
-pub returns-in_err-line-clause-bounded : goal.returns-in_err-line-clause-bounded
-returns-in_err-line-clause-bounded g c = bounded_same c.args.self.now _ refl c.make_room.ensures.slots refl c.requires.1.1.1.0
+pub returns-in_err-line-clause-searches : goal.returns-in_err-line-clause-searches
+returns-in_err-line-clause-searches g c = searches_same c.args.self.now _ refl c.make_room.ensures.slots c.make_room.ensures.labels refl refl c.requires.1.1.1.0
 
-pub returns-then-is_err-clause-bounded : goal.returns-then-is_err-clause-bounded
-returns-then-is_err-clause-bounded g c = bounded_same c.args.self.now _
-    (when_err c.apply_rows.result (sym c.if-is_err.ensures.value) c.apply_rows.ensures.err) c.make_room.ensures.slots refl c.requires.1.1.1.0
+pub returns-then-is_err-clause-searches : goal.returns-then-is_err-clause-searches
+returns-then-is_err-clause-searches g c = searches_same c.args.self.now _
+    (when_err c.apply_rows.result (sym c.if-is_err.ensures.value) c.apply_rows.ensures.err) c.make_room.ensures.slots c.make_room.ensures.labels refl refl
+    c.requires.1.1.1.0
 
-pub returns-clause-bounded : goal.returns-clause-bounded
-returns-clause-bounded g c =
+pub note-requires : goal.note-requires
+note-requires g c = c.requires.1.0.insertable.known
+
+pub returns-clause-searches : goal.returns-clause-searches
+returns-clause-searches g c =
     let rows = c.args.self.now.rows in
     let made = when_ok c.apply_rows.result (sym c.if-is_err.ensures.value) c.apply_rows.ensures.ok in
-    bounded_on c.args.self.now _
-    (goes_further (goes_same c.make_room.ensures.slots (c.make_places.ensures c.args.self.now.segments.slots)) c.add_route.ensures.bounds)
-    (subst (λ (after : Rows). (e : ℕ) (row : EdgeRow) → edge_row after e ≡ Some row → ComesFrom rows e row) (sym made)
+    searches_on c.args.self.now _ c.args.kind
+    (subst (λ (q : RowsWithPaths). IsWellFormed q.rows) c.requires.0 c.requires.1.0.formed)
+    (goes_further (goes_same c.args.self.now.segments c.make_room.new.segments c.args.self.now.bounds c.make_room.ensures.slots c.make_room.ensures.labels)
+    c.add_route.ensures.bounds)
+    (subst (λ (after : Rows). (e : ℕ) (row : EdgeRow) → edge_row after e ≡ Some row → ComesFrom rows c.args.kind e row) (sym made)
     (shown_from rows c.args.ends.0 c.args.ends.1 c.args.kind c.args.route.now))
-    (omega (arith, ap (λ (after : Rows). after.next_edge) made)) c.requires.1.1.1.0
+    (ap (λ (after : Rows). after.next_edge) made)
+    (subst (λ edge. IsNoted c.args.self.now.kinds c.note.new.self edge c.args.kind) c.next_edge-edge.ensures c.note.ensures) c.requires.1.1.1.0

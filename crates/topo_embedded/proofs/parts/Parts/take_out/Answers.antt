@@ -1,6 +1,5 @@
-use Rattle.std.proofs.Common.{ℕ, Some, ap, arith, subst, sym, true, ◌≡◌, ◌∙◌}
+use Rattle.std.proofs.Common.{ap, refl, subst, sym, true, ◌≡◌, ◌∙◌}
 use Rattle.std.specs.Prelude.{is_some}
-use Rattle.topo_core.specs.declared.rows.EdgeRow.{EdgeRow}
 use Rattle.topo_core.specs.declared.rows.Rows.{Rows}
 use Rattle.topo_core.specs.Changes.{without}
 use Rattle.topo_core.specs.Lawful.{Lawful}
@@ -8,8 +7,7 @@ use Rattle.topo_core.specs.Picture.{edge_row}
 use Rattle.topo_table.specs.Places.{values_in}
 use Rattle.topo_embedded.specs.Halves.{ShowsRows}
 use Rattle.topo_embedded.specs.Paths.{AreForEdges}
-use Rattle.topo_embedded.proofs.guided.Begun.{goes_to_none}
-use Rattle.topo_embedded.proofs.guided.Fitting.{ComesFrom, bounded_on, without_from}
+use Rattle.topo_embedded.proofs.guided.Fitting.{searches_without}
 use Rattle.topo_embedded.proofs.parts.Parts.take_out.Goals as goal
 
 pub delete_lists-requires : goal.delete_lists-requires
@@ -33,10 +31,6 @@ pub returns-clause-kept : goal.returns-clause-kept
 returns-clause-kept g c = subst (λ (rows : Rows). AreForEdges rows c.delete_lists.new.paths)
     (ap (λ (rows : Rows). without rows c.args.edge) c.requires.0 ∙ sym c.delete_rows.ensures) c.delete_lists.ensures.kept
 
-pub returns-clause-bounded : goal.returns-clause-bounded
-returns-clause-bounded g c =
-    let rows = c.args.self.now.rows in
-    bounded_on c.args.self.now _ (goes_to_none c.clear.ensures.slopes c.clear.ensures.floors c.clear.ensures.potentials)
-    (subst (λ (after : Rows). (e : ℕ) (row : EdgeRow) → edge_row after e ≡ Some row → ComesFrom rows e row) (sym c.delete_rows.ensures)
-    (without_from rows c.args.edge))
-    (omega (arith, ap (λ (after : Rows). after.next_edge) c.delete_rows.ensures)) c.requires.1.1.1.1.1
+pub returns-clause-searches : goal.returns-clause-searches
+returns-clause-searches g c = searches_without c.args.self.now _ c.args.edge c.delete_rows.ensures c.clear.ensures.potentials c.clear.ensures.floors refl
+    c.requires.1.1.1.1.1

@@ -1,8 +1,8 @@
 use Rattle.std.proofs.Common.{ap, ◌∙◌, subst}
 use Rattle.topo_core.specs.Edits.{IsHang}
-use Rattle.topo_map.specs.Rotation.{AddsLabel, edge_of, CountsMore, Rotation, Grows, half_limit, turn, is_live}
-use Rattle.topo_map.specs.Segments.{label_in, view_of}
-use Rattle.topo_map.proofs.FaceEdits.{hung_labels}
+use Rattle.topo_map.specs.Rotation.{AddsFaces, AddsLabel, edge_of, face_of, CountsMore, Rotation, Grows, half_limit, turn, is_live}
+use Rattle.topo_map.specs.Segments.{face_in, label_in, view_of}
+use Rattle.topo_map.proofs.FaceEdits.{faces_given, hung_labels}
 use Rattle.topo_map.proofs.Steps.{IsHung, alone, hung, label_added}
 use Rattle.topo_map.proofs.embedding.Embedding.hang.Goals as goal
 
@@ -43,3 +43,8 @@ returns-clause-label c =
     subst (λ (r : Rotation). AddsLabel (is_live r) (edge_of r) (label_in c.put_before.new.segments) c.insert_isolated-x.result c.args.edge) c.self.view_is
     (label_added c.self.inside.segments c.insert_isolated-x.new.segments c.put_before.new.segments c.insert_isolated-x.result c.args.edge
     c.put_before.ensures.turned.edges c.insert_isolated-x.ensures.label)
+
+pub returns-clause-faces : goal.returns-clause-faces
+returns-clause-faces c = subst
+    (λ (r : Rotation). AddsFaces (is_live r) (face_of r) (face_in c.put_before.new.segments) c.insert_isolated-x.result (face_of r c.args.c) (face_of r c.args.c))
+    c.self.view_is (faces_given c.put_before.ensures.faces c.face-label.ensures c.face-label.ensures c.insert_isolated-x.ensures.faces)

@@ -1,8 +1,9 @@
 use Rattle.std.proofs.Common.{arith, ap, ◌∙◌, subst, Bool, ℕ}
 use Rattle.topo_core.specs.Edits.{IsSplit}
-use Rattle.topo_map.specs.Rotation.{AddsLabel, edge_of, CountsMore, Rotation, Grows, half_limit, turn, is_live}
-use Rattle.topo_map.specs.Segments.{holds, label_in, view_of}
-use Rattle.topo_map.proofs.FaceEdits.{split_labelled}
+use Rattle.topo_core.specs.Rotations.{twin}
+use Rattle.topo_map.specs.Rotation.{AddsFaces, AddsLabel, edge_of, face_of, CountsMore, Rotation, Grows, half_limit, turn, is_live}
+use Rattle.topo_map.specs.Segments.{face_in, holds, label_in, view_of}
+use Rattle.topo_map.proofs.FaceEdits.{faces_given, split_labelled}
 use Rattle.topo_map.proofs.Steps.{label_added, IsSplitUp, twin_alone, split_alone, splitted, still_live, live_twin}
 use Rattle.topo_map.proofs.embedding.Embedding.split.Goals as goal
 
@@ -74,3 +75,10 @@ returns-clause-label c = subst
     (label_in c.put_before-2.new.segments) c.insert_isolated-x.result n) c.edge-edge.ensures
     (label_added c.self.inside.segments c.insert_isolated-x.new.segments c.put_before-2.new.segments c.insert_isolated-x.result c.edge-edge.result
     (c.put_before-2.ensures.turned.edges ∙ c.take_out.ensures.turned.edges ∙ c.put_before.ensures.turned.edges) c.insert_isolated-x.ensures.label))
+
+pub returns-clause-faces : goal.returns-clause-faces
+returns-clause-faces c = subst
+    (λ (r : Rotation). AddsFaces (is_live r) (face_of r) (face_in c.put_before-2.new.segments) c.insert_isolated-x.result (face_of r c.args.h)
+    (face_of r (twin c.args.h))) c.self.view_is
+    (faces_given (c.put_before-2.ensures.faces ∙ c.take_out.ensures.faces ∙ c.put_before.ensures.faces) c.face-left.ensures
+    (c.face-right.ensures ∙ ap (face_in c.self.inside.segments) c.twin-end.ensures) c.insert_isolated-x.ensures.faces)

@@ -1,10 +1,9 @@
-use Rattle.std.proofs.Common.{◌≡◌, ◌<◌, ◌^◌, ℕ, ap, arith}
+use Rattle.std.proofs.Common.{◌<◌, ◌^◌, ℕ, arith}
 use Rattle.topo_price.specs.Prices.{prices_of}
 use Rattle.topo_route.specs.Guided.{top_of_bound}
-use Rattle.topo_route.specs.Names.{IsName, next_name}
 use Rattle.topo_route.specs.Potentials.{bound_by}
 use Rattle.topo_route.specs.Settling.{reach_of}
-use Rattle.topo_route.proofs.meeting.Bounds.{even_bound}
+use Rattle.topo_route.proofs.meeting.Bounds.{label_bound}
 use Rattle.topo_route.proofs.names.Names.{name_below}
 use Rattle.topo_route.proofs.spreading.Relaxing.{taken_relaxes}
 use Rattle.topo_route.proofs.spreading.Settled.{all_settled, narrowed, taken_reached, waits_named}
@@ -21,9 +20,8 @@ next_toward-requires g c =
     let faces = g.W.FaceGraph.face_bound graph in
     let has_faces = g.met.W.FaceGraph.has_faces graph in
     let now = c.loop-dart.self in
-    let bound = λ (j : ℕ). bound_by c.args.guide.now (g.W.FaceGraph.potentials graph j) in
-    let even : (k : ℕ) → IsName named k → bound (next_name named k) ≡ bound k =
-    λ k l. ap (bound_by c.args.guide.now) ((g.met.W.FaceGraph.is_consistent graph).even k l) in
+    let bound_of = λ (f : ℕ). bound_by c.args.guide.now (g.W.FaceGraph.potentials graph f) in
+    let bound = λ (j : ℕ). bound_of (face j) in
     record {
       one_each = c.loop-dart.invariant.spreads.costs.labelled.one_each;
       names = waits_named price named face faces c.args.v now.heights now.names.items now.waiting
@@ -38,7 +36,7 @@ loop-dart-init g c =
     let named = g.W.FaceGraph.named graph in
     let face = g.W.FaceGraph.face_of graph in
     let faces = g.W.FaceGraph.face_bound graph in
-    let bound = λ (j : ℕ). bound_by c.args.guide.now (g.W.FaceGraph.potentials graph j) in
+    let bound = λ (j : ℕ). bound_by c.args.guide.now (g.W.FaceGraph.potentials graph (face j)) in
     let now = c.args.self.now in
     record {
       spreads = narrowed price named face faces c.args.v now.heights now.names.items now.waiting (λ k. reach_of c.args.least.now)
@@ -60,9 +58,8 @@ relax_face-requires-clause-in_hand g c =
     let faces = g.W.FaceGraph.face_bound graph in
     let has_faces = g.met.W.FaceGraph.has_faces graph in
     let now = c.loop-dart.self in
-    let bound = λ (j : ℕ). bound_by c.args.guide.now (g.W.FaceGraph.potentials graph j) in
-    let even : (k : ℕ) → IsName named k → bound (next_name named k) ≡ bound k =
-    λ k l. ap (bound_by c.args.guide.now) ((g.met.W.FaceGraph.is_consistent graph).even k l) in
+    let bound_of = λ (f : ℕ). bound_by c.args.guide.now (g.W.FaceGraph.potentials graph f) in
+    let bound = λ (j : ℕ). bound_of (face j) in
     let short : c.in-Some.dart < 2 ^ 32 =
     omega (arith, c.size-darts.ensures, c.size-darts.type_inv, name_below named has c.in-Some.dart c.in-Some.ensures.name) in
     taken_reached price named face faces c.args.v now.heights now.names.items now.waiting (top_of_bound bound c.loop-dart.least) (reach_of c.loop-dart.least) named.size c.in-Some.dart short
@@ -79,9 +76,8 @@ loop-dart-preserved g c =
     let faces = g.W.FaceGraph.face_bound graph in
     let has_faces = g.met.W.FaceGraph.has_faces graph in
     let now = c.loop-dart.self in
-    let bound = λ (j : ℕ). bound_by c.args.guide.now (g.W.FaceGraph.potentials graph j) in
-    let even : (k : ℕ) → IsName named k → bound (next_name named k) ≡ bound k =
-    λ k l. ap (bound_by c.args.guide.now) ((g.met.W.FaceGraph.is_consistent graph).even k l) in
+    let bound_of = λ (f : ℕ). bound_by c.args.guide.now (g.W.FaceGraph.potentials graph f) in
+    let bound = λ (j : ℕ). bound_of (face j) in
     let small : named.size < 2 ^ 32 = omega (arith, c.size-darts.ensures, c.size-darts.type_inv) in
     let relaxes = c.in_ok-relax_face.ensures in
     let short : c.in-Some.dart < 2 ^ 32 =
@@ -89,7 +85,7 @@ loop-dart-preserved g c =
     let top = top_of_bound bound in
     record {
       spreads = taken_relaxes price named lawful has face faces has_faces c.args.v c.args.other.now (top c.loop-dart.least) (top c.relax_face.new.least) small
-          (even_bound named lawful has face faces has_faces bound even c.loop-dart.least) c.loop-dart.invariant.spreads c.in-Some.ensures.name
+          (λ j k lj lk e. label_bound face bound_of c.loop-dart.least j k e) c.loop-dart.invariant.spreads c.in-Some.ensures.name
           (λ k s l less. c.in-Some.ensures.others k s l less) c.in-Some.ensures.fewer relaxes
           (λ k. omega (arith, relaxes.less));
       sums = relaxes.sums;
@@ -108,15 +104,14 @@ returns g c =
     let faces = g.W.FaceGraph.face_bound graph in
     let has_faces = g.met.W.FaceGraph.has_faces graph in
     let now = c.loop-dart.self in
-    let bound = λ (j : ℕ). bound_by c.args.guide.now (g.W.FaceGraph.potentials graph j) in
-    let even : (k : ℕ) → IsName named k → bound (next_name named k) ≡ bound k =
-    λ k l. ap (bound_by c.args.guide.now) ((g.met.W.FaceGraph.is_consistent graph).even k l) in
+    let bound_of = λ (f : ℕ). bound_by c.args.guide.now (g.W.FaceGraph.potentials graph f) in
+    let bound = λ (j : ℕ). bound_of (face j) in
     let small : named.size < 2 ^ 32 = omega (arith, c.size-darts.ensures, c.size-darts.type_inv) in
     let top = top_of_bound bound c.loop-dart.least in
     record {
       costs = c.loop-dart.invariant.spreads.costs;
       settled = all_settled price named face faces c.args.v now.heights now.names.items now.waiting has small top (reach_of c.loop-dart.least)
-          (even_bound named lawful has face faces has_faces bound even c.loop-dart.least)
+          (λ j k lj lk e. label_bound face bound_of c.loop-dart.least j k e)
           c.loop-dart.invariant.spreads (λ k s l less. c.in_default.ensures.others k s l less);
       sums = c.loop-dart.invariant.sums;
       less = c.loop-dart.invariant.less;

@@ -13,7 +13,7 @@ invariant-loop-dart g l =
     let faces = g.W.FaceGraph.face_bound l.priced.graph.now in
     record {
       spreads : Spreads (prices_of (g.F.PriceFn.may_return l.priced.tariff.now)) named face faces l.v
-          (top_of_bound (λ j. bound_by l.guide (g.W.FaceGraph.potentials l.priced.graph.now j)) l.least)
+          (top_of_bound (λ j. bound_by l.guide (g.W.FaceGraph.potentials l.priced.graph.now (face j))) l.least)
           (reach_of l.least) l.self.heights l.self.names.items l.self.waiting named.size;
       sums : AreSums named (dart_heights named face l.self.heights) (dart_heights named face l.other) l.least;
       less : l.least ≤ l.initial.least;

@@ -1,8 +1,0 @@
-use Rattle.std.proofs.Common.{◌≡◌, ◌<◌, false, ℕ}
-use Rattle.std.specs.Prelude.{slice_index_or}
-use Rattle.topo_embedded.specs.Halves.{on_segment}
-use Rattle.topo_embedded.proofs.path.Path.place_of.Given as goal
-
--- the half is on none of the segments so far
-abbrev pub invariant-loop-place : goal.invariant-loop-place
-invariant-loop-place l = (k : ℕ) → k < l.place → on_segment l.half (slice_index_or l.self k 0) ≡ false
