@@ -21,7 +21,8 @@ enum Edit {
     Smooth,
 }
 
-/// A new segment from `c`, where `c` and `d` are there and there is room; none for another edit.
+/// A new segment from `c`, where `c` and `d` are there and there is room; none for another edit. So
+/// few labels are given here that faces keep theirs.
 fn add(embedding: &mut Embedding, c: Half, d: Half, edit: Edit) -> Option<Half> {
     if !embedding.contains(c) || !embedding.contains(d) || embedding.room() == 0 {
         return None;
@@ -29,7 +30,10 @@ fn add(embedding: &mut Embedding, c: Half, d: Half, edit: Edit) -> Option<Half> 
     match edit {
         Edit::Hang(edge) => Some(embedding.hang(c, edge)),
         Edit::Split => Some(embedding.split(c)),
-        Edit::Chord(edge) => Some(embedding.chord(c, d, edge).0),
+        Edit::Chord(edge) => {
+            let (half, are_kept) = embedding.chord(c, d, edge);
+            if are_kept { Some(half) } else { None }
+        }
         Edit::Unchord | Edit::Smooth => None,
     }
 }

@@ -5,10 +5,8 @@ ghost use Rattle.topo_price.specs.Prices.{IsPromise};
 use crate::searches::are_ends;
 use std::alloc::Global;
 use std::process::Abort;
-use std::sync::Arc;
 use std::sync::atomic::{AtomicU32, Ordering};
 use std::test::Fail;
-use topo_book::Book;
 use topo_core::rows::Facts;
 use topo_picture::Picture;
 use topo_price::tariff::{PriceFn, Tariff};
@@ -79,37 +77,6 @@ fn is_guided<F: PriceFn + Drop>(
     told
 }
 
-/// An insertion keeps what guides searches, and a deletion takes it out.
-fn stays_until_a_deletion<F: PriceFn>(
-    rt: &impl Abort,
-    alloc: Global,
-    book: &mut Book<F>,
-) -> Result<(), Fail> {
-    let (u, v) = ENDS;
-    let reply = book.insert(alloc, 0, u, v, 0)?;
-    drop(reply);
-    assert!(rt; book.picture().has_guided_searches());
-    let reply = book.delete(alloc, 0, 0)?;
-    drop(reply);
-    assert!(rt; !book.picture().has_guided_searches());
-    Ok(())
-}
-
-/// The same of a book that begins with the grid, measured at prices that are known by kind.
-fn is_kept<F: PriceFn + Drop>(rt: &impl Abort, alloc: Global, ask: F) -> Result<(), Fail>
-    requires callable { F.is_callable ask }
-    requires promise { IsPromise (F.may_return ask) }
-{
-    let tariff = Arc::new(alloc, Tariff::new(ask))?;
-    assert!(rt; tariff.is_by_kind());
-    let mut picture = GRID.picture(alloc)?;
-    picture.guide_searches(alloc, &tariff)?;
-    let mut book = Book::new(alloc, picture, tariff)?;
-    let told = stays_until_a_deletion(rt, alloc, &mut book);
-    drop(book);
-    told
-}
-
 #[test]
 fn a_search_of_a_measured_picture_asks_for_fewer_prices(rt: HostRuntime) -> Result<(), Fail> {
     let table = table_of(Some(1), &[])?;
@@ -119,11 +86,4 @@ fn a_search_of_a_measured_picture_asks_for_fewer_prices(rt: HostRuntime) -> Resu
         table.price(facts.kind)
     };
     is_guided(&rt, rt.alloc(), ask, &asked)
-}
-
-#[test]
-fn an_insertion_keeps_what_guides_searches(rt: HostRuntime) -> Result<(), Fail> {
-    let table = table_of(Some(1), &[])?;
-    table.laws();
-    is_kept(&rt, rt.alloc(), table)
 }
