@@ -74,11 +74,11 @@ class Allocations(unittest.TestCase):
         self.check("check", path_picture(), 2)
 
     def test_a_script(self):
-        self.check("run", growths(), 3)
+        self.check("run", growths(), 2)
 
     def test_a_report(self):
         done = subprocess.run([find_program(), "run"], input=own_layout(growths()), capture_output=True, timeout=60, check=True)
-        self.check("replay", json.loads(done.stdout), 6)
+        self.check("replay", json.loads(done.stdout), 3)
 
 
 if __name__ == "__main__":

@@ -1,5 +1,5 @@
 -- What a book is, and what is true of it at all times.
-use Rattle.std.specs.Prelude.{◌≡◌, ◌≢◌, ◌<◌, ◌≤◌, ℕ, IfSome, List, [], ◌∷◌, length, take, Option, Some, None, is_some}
+use Rattle.std.specs.Prelude.{◌≡◌, ◌≢◌, ◌<◌, ◌≤◌, ◌++◌, ℕ, IfSome, List, [], ◌∷◌, length, take, Option, Some, None, is_some}
 use Rattle.topo_core.specs.declared.rows.Rows.{Rows}
 use Rattle.topo_core.specs.declared.limits.Limits.{Limits}
 use Rattle.topo_core.specs.declared.calls.Call.{Call}
@@ -48,6 +48,12 @@ IsSameBook old new = (new.tariff ≡ old.tariff) × (new.start ≡ old.start) ×
 -- the history and the picture are as they were
 abbrev pub IsUnchanged : {F : Type 0} → BookState F → BookState F → Type 0
 IsUnchanged old new = (new.history ≡ old.history) × (new.picture ≡ old.picture)
+
+-- the call was answered so: the reply is that of a step from the picture before to the one now, and stands in the last entry
+pub record IsAnswered {F : Type 0} (price : Pricing) (caller : ℕ) (call : Call) (reply : Reply) (old new : BookState F) : Type 0 where
+  pub step : Step price old.picture.limits old.picture.rows call reply new.picture.rows
+  pub entered : new.history ≡ old.history ++ record { caller = caller; call = call; reply = reply } ∷ []
+  pub no_memory : reply ≢ Refused Memory
 
 -- a call made ready: its entry, and the picture after it where it is accepted
 pub record NextState : Type 0 where

@@ -1,6 +1,6 @@
 //! The object of one thread, with its history.
 
-ghost use Rattle.std.specs.Prelude.{◌≡◌, IfOk, []};
+ghost use Rattle.std.specs.Prelude.{◌≡◌, true, IfOk, Some, []};
 ghost use Rattle.std.specs.Arc.{arc_value};
 
 use crate::next::Next;
@@ -80,6 +80,17 @@ fn last_rows(alloc: Global, picture: Arc<Picture>) -> Result<Rows, AllocError>
     }
 }
 
+/// A copy of the reply of an entry, where it is to be told.
+fn told_reply(alloc: Global, entry: &Entry, is_told: bool) -> Result<Option<Reply>, AllocError>
+    ensures { IfOk result (λ told. is_told ≡ true → told ≡ Some entry.now.reply) }
+{
+    if !is_told {
+        return Ok(None);
+    }
+    let reply = entry.reply.copy(alloc)?;
+    Ok(Some(reply))
+}
+
 /// Whether a call is an insertion whose route has to be looked for.
 fn is_search(call: Call, source: RouteSource<PricedRoute>) -> bool {
     matches!((call, source), (Call::Insert { .. }, RouteSource::Search))
@@ -116,7 +127,9 @@ impl<F: PriceFn> Book<F> {
     ghost use Rattle.topo_core.specs.declared.calls.Reply.TheVariants.{Refused};
     ghost use Rattle.topo_rows.specs.Shown.{IsPicture};
     ghost use Rattle.topo_price.specs.Prices.{prices_of};
-    ghost use Rattle.topo_book.specs.Books.{CanFollow, IsDue, IsReplica, IsSameBook};
+    ghost use Rattle.std.specs.Prelude.{Option, Some};
+    ghost use Rattle.topo_core.specs.declared.calls.Reply.{Reply};
+    ghost use Rattle.topo_book.specs.Books.{CanFollow, IsAnswered, IsDue, IsReplica, IsSameBook};
     ghost use Rattle.topo_book.specs.Books.{IsUnchanged, ReplaysLawfully, picture_after};
     ghost use Rattle.topo_book.specs.RouteSources.{IsSourceFor};
     ghost use Rattle.topo_book.specs.Sparing.{HaveSpared};
@@ -604,6 +617,59 @@ impl<F: PriceFn> Book<F> {
         }
     }
 
+    /// Carries the call out and enters it. Its reply stands in the history, and is not copied.
+    /// Whatever fails, fails before anything changes.
+    pub fn enter(&mut self, alloc: Global, caller: u32, call: Call) -> Result<(), AllocError>
+        ensures answered { OnOk result ((reply : Reply) × IsAnswered
+            (prices_of (F.may_return self.old.tariff)) caller call reply self.old self.new) }
+        ensures unchanged { OnErr result (IsUnchanged self.old self.new) }
+        ensures same_book { IsSameBook self.old self.new }
+    {
+        self.enter_from(alloc, caller, call, RouteSource::Search, false)?;
+        Ok(())
+    }
+
+    /// Carries the call out and enters it. Answers a copy of the reply where it is to be told.
+    fn enter_from(
+        &mut self,
+        alloc: Global,
+        caller: u32,
+        call: Call,
+        source: RouteSource<PricedRoute>,
+        is_told: bool,
+    ) -> Result<Option<Reply>, AllocError>
+        requires { IsSourceFor (prices_of (F.may_return self.old.tariff))
+            self.old.picture.rows call source }
+        ensures answered { IfOk result (λ told. (reply : Reply)
+            × IsAnswered (prices_of (F.may_return self.old.tariff))
+            caller call reply self.old self.new × (is_told ≡ true → told ≡ Some reply)) }
+        ensures unchanged { OnErr result (IsUnchanged self.old self.new) }
+        ensures same_book { IsSameBook self.old self.new }
+    {
+        let Some(picture) = Arc::get_mut(&mut self.picture) else {
+            let reply = self.call_on_copy(alloc, caller, call, source)?;
+            return Ok(Some(reply));
+        };
+        self.history.reserve(1)?;
+        let reply = decide_in_place(
+            alloc,
+            picture,
+            &self.tariff,
+            call,
+            source,
+            &mut self.scratch,
+        )?;
+        let entry = Entry {
+            caller,
+            call,
+            reply,
+        };
+        let told = told_reply(alloc, &entry, is_told)?;
+        apply_entry(alloc, picture, &self.tariff, &entry)?;
+        self.history.push_reserved(entry);
+        Ok(told)
+    }
+
     /// Carries the call out and enters it. Whatever fails, fails before anything changes.
     fn call_in_place(
         &mut self,
@@ -622,27 +688,10 @@ impl<F: PriceFn> Book<F> {
         ensures unchanged { OnErr result (IsUnchanged self.old self.new) }
         ensures same_book { IsSameBook self.old self.new }
     {
-        let Some(picture) = Arc::get_mut(&mut self.picture) else {
-            return self.call_on_copy(alloc, caller, call, source);
-        };
-        self.history.reserve(1)?;
-        let reply = decide_in_place(
-            alloc,
-            picture,
-            &self.tariff,
-            call,
-            source,
-            &mut self.scratch,
-        )?;
-        let entry = Entry {
-            caller,
-            call,
-            reply,
-        };
-        let told = entry.reply.copy(alloc)?;
-        apply_entry(alloc, picture, &self.tariff, &entry)?;
-        self.history.push_reserved(entry);
-        Ok(told)
+        match self.enter_from(alloc, caller, call, source, true)? {
+            Some(reply) => Ok(reply),
+            None => unreachable!(),
+        }
     }
 
     /// As `call_in_place`, where readers share the picture now: the call is made ready on another,

@@ -1,16 +1,20 @@
 //! The rows of a picture as it keeps them: each edge and each crossing is found by its id in one
 //! look, and goes at its own cost.
 
-ghost use Rattle.std.specs.Prelude.{◌≡◌, ◌==◌, ◌+◌, ◌<◌, ◌++◌, ◌∷◌, [], true, IfOk};
-ghost use Rattle.std.specs.Prelude.{if◌then◌else◌, length, map, option_map};
+ghost use Rattle.std.specs.Prelude.{◌≡◌, ◌==◌, ◌+◌, ◌<◌, ◌++◌, ◌∷◌, [], true, IfOk, None, OnOk};
+ghost use Rattle.std.specs.Prelude.{if◌then◌else◌, length, map, option_map, slice_get};
+ghost use Rattle.std.specs.Option.{option_map_or};
+ghost use Rattle.indexmap.specs.IndexMap.{set_value_at};
 ghost use Rattle.topo_core.specs.Items.{rises_below};
 ghost use Rattle.topo_core.specs.Lawful.{has_good_crossings, has_good_paths};
 ghost use Rattle.topo_core.specs.Picture.{cross_row, edge_row, rotation};
 ghost use Rattle.topo_changes.specs.Keeping.{crossing_row, edge_of, edges_of, rows_of, viewed_row};
-ghost use Rattle.topo_table.specs.Places.{AreBelow};
+ghost use Rattle.topo_table.specs.Places.{AreBelow, entry_at};
 
 use crate::copies::copy_path;
-use crate::rotation::{Rotation, copied_rotations, listed_rotations, rotations_of};
+use crate::rotation::{
+    Rotation, copied_rotations, listed_rotations, rotations_as_lists, rotations_of,
+};
 use std::alloc::{AllocError, Global};
 use std::marker::Model;
 use topo_core::darts::Sign;
@@ -147,6 +151,30 @@ impl KeptRows {
             crossings: Listed::from_vec(crossings),
             next_edge: self.next_edge,
             next_crossing: self.next_crossing,
+        })
+    }
+
+    /// The same as plain rows. The lists of the vertices and the paths of the edges are handed over
+    /// and not copied.
+    pub fn into_rows(self, alloc: Global) -> Result<Rows, AllocError>
+        ensures { IfOk result (λ rows. rows ≡ self) }
+    {
+        let KeptRows {
+            rotations,
+            edges,
+            crossings,
+            next_edge,
+            next_crossing,
+        } = self;
+        let rotations = rotations_as_lists(alloc, rotations)?;
+        let edges = edges_as_list(alloc, edges)?;
+        let crossings = list_of(alloc, &crossings)?;
+        Ok(Rows {
+            rotations: Listed::from_vec(rotations),
+            edges: Listed::from_vec(edges),
+            crossings: Listed::from_vec(crossings),
+            next_edge,
+            next_crossing,
         })
     }
 
@@ -346,6 +374,48 @@ fn edge_copy(alloc: Global, id: u32, body: &EdgeBody) -> Result<EdgeRow, AllocEr
         kind: body.kind,
         crossings,
     })
+}
+
+/// Takes the edge at a place out, if there is one, and puts it behind the rows. There is room.
+fn move_edge(
+    edges: &mut Table<EdgeBody>,
+    rows: &mut Vec<EdgeRow>,
+    place: usize,
+) -> Result<(), AllocError>
+    requires { place < length edges.old.slots }
+    ensures rows { OnOk result (rows.new.items ≡ rows.old.items
+        ++ map edge_of (option_map_or entry_at (slice_get edges.old.slots place) [])) }
+    ensures emptied { edges.new.slots ≡ set_value_at edges.old.slots place None }
+{
+    let Some((id, _body)) = edges.at(place) else {
+        return Ok(());
+    };
+    let EdgeBody {
+        a,
+        b,
+        kind,
+        crossings,
+    } = edges.take(place);
+    rows.push(EdgeRow {
+        id,
+        a,
+        b,
+        kind,
+        crossings,
+    })?;
+    Ok(())
+}
+
+/// The rows of a table of edges, which ends.
+fn edges_as_list(alloc: Global, edges: Table<EdgeBody>) -> Result<Vec<EdgeRow>, AllocError>
+    ensures { IfOk result (λ rows. rows.items ≡ edges_of edges) }
+{
+    let mut rows = Vec::with_capacity(alloc, edges.len())?;
+    let mut left = edges;
+    for place in 0..left.places() {
+        move_edge(&mut left, &mut rows, place)?;
+    }
+    Ok(rows)
 }
 
 /// A copy of the rows of a table of edges.

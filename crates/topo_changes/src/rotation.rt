@@ -151,6 +151,16 @@ impl Rotation {
         Ok(ids)
     }
 
+    /// The ids as one list. It takes no memory.
+    fn into_ids(self) -> Vec<u32>
+        ensures { result.items ≡ self }
+    {
+        let Rotation { mut head, mut tail } = self;
+        join(&mut head, &mut tail);
+        drop(tail);
+        head
+    }
+
     /// Puts an id in at a place.
     fn insert(&mut self, place: usize, e: u32) -> Result<(), AllocError>
         requires { place ≤ length self.old }
@@ -233,6 +243,20 @@ pub(crate) fn listed_rotations(
     for rotation in rotations {
         let ids = rotation.copied(alloc)?;
         lists.push(Listed::from_vec(ids))?;
+    }
+    Ok(lists)
+}
+
+/// The lists of these rotations, which end.
+pub(crate) fn rotations_as_lists(
+    alloc: Global,
+    rotations: Listed<Rotation>,
+) -> Result<Vec<Listed<u32>>, AllocError>
+    ensures { IfOk result (λ lists. lists.items ≡ rotations) }
+{
+    let mut lists = Vec::with_capacity(alloc, rotations.len())?;
+    for rotation in rotations.into_vec() {
+        lists.push(Listed::from_vec(rotation.into_ids()))?;
     }
     Ok(lists)
 }

@@ -1,13 +1,16 @@
 //! Potentials of the faces, which guide a search to its target. They are made for a picture as it
 //! is, and go with the changes that come after.
 
-ghost use Rattle.std.specs.Prelude.{◌≡◌, ◌<◌, [], true};
+ghost use Rattle.std.specs.Prelude.{◌≡◌, ◌<◌, [], ℕ, is_some, true};
 ghost use Rattle.topo_core.specs.Edits.{IsChord};
 ghost use Rattle.topo_core.specs.Lawful.{IsWellFormed};
+ghost use Rattle.topo_core.specs.Picture.{edge_row};
 ghost use Rattle.topo_embedded.specs.Bounds.{AreConsistentOn, GoesOn, IsConsistentAt, IsGiven};
 ghost use Rattle.topo_embedded.specs.Bounds.{at_face, floor_of, slope_by};
+ghost use Rattle.topo_embedded.specs.KnownKinds.{AreKindsOf};
 ghost use Rattle.topo_map.specs.Rotation.{AddsLabel, Grows, edge_of, half_limit, is_live, turn};
 
+use crate::kinds::Kinds;
 use std::alloc::Global;
 use std::marker::Model;
 use topo_changes::KeptRows;
@@ -140,39 +143,54 @@ pub(crate) fn chord(
     half
 }
 
-/// The floor of the kind of an edge, and 0 where there is no such edge.
-fn slope(rows: &KeptRows, bounds: &Bounds, edge: u32) -> u16
-    requires { IsWellFormed rows.now }
+/// The floor of the kind of an edge that is there.
+fn slope(rows: &KeptRows, kinds: &Kinds, bounds: &Bounds, edge: u32) -> u16
+    requires formed { IsWellFormed rows.now }
+    requires kinds { AreKindsOf rows.now kinds.now }
+    requires there { is_some (edge_row rows.now edge) ≡ true }
     ensures { result ≡ slope_by rows.now bounds.now edge }
 {
-    match rows.edge(edge) {
-        Some(found) => bounds.floor(found.kind as u8),
-        None => 0,
-    }
+    bounds.floor(kinds.kind(rows, edge))
 }
 
 /// Whether the potentials on the left of a half are above those on its right by no more than the
 /// floor of the kind of its edge.
-fn is_consistent_at(rows: &KeptRows, segments: &Embedding, bounds: &Bounds, half: Half) -> bool
+fn is_consistent_at(
+    rows: &KeptRows,
+    kinds: &Kinds,
+    segments: &Embedding,
+    bounds: &Bounds,
+    half: Half,
+) -> bool
     requires formed { IsWellFormed rows.now }
+    requires kinds { AreKindsOf rows.now kinds.now }
     requires live { is_live segments.now half ≡ true }
+    requires there { is_some (edge_row rows.now (edge_of segments.now half)) ≡ true }
     ensures { result ≡ true
         → IsConsistentAt bounds.now (slope_by rows.now bounds.now) segments.now half }
 {
     let here = bounds.at(segments.face(half));
     let there = bounds.at(segments.face(segments.twin(half)));
-    here.are_within(slope(rows, bounds, segments.edge(half)), &there)
+    here.are_within(slope(rows, kinds, bounds, segments.edge(half)), &there)
 }
 
-/// The same for all halves.
-pub(crate) fn are_consistent(rows: &KeptRows, segments: &Embedding, bounds: &Bounds) -> bool
+/// The same for all halves, which lie on edges that are there.
+pub(crate) fn are_consistent(
+    rows: &KeptRows,
+    kinds: &Kinds,
+    segments: &Embedding,
+    bounds: &Bounds,
+) -> bool
     requires formed { IsWellFormed rows.now }
+    requires kinds { AreKindsOf rows.now kinds.now }
+    requires there { (a : ℕ) → is_live segments.now a ≡ true
+        → is_some (edge_row rows.now (edge_of segments.now a)) ≡ true }
     ensures { result ≡ true
         → AreConsistentOn bounds.now (slope_by rows.now bounds.now) segments.now }
 {
     for number in 0..segments.limit() {
         let half = Half::numbered(number as u32);
-        if segments.contains(half) && !is_consistent_at(rows, segments, bounds, half) {
+        if segments.contains(half) && !is_consistent_at(rows, kinds, segments, bounds, half) {
             return false;
         }
     }

@@ -166,15 +166,23 @@ impl Embedded {
         self.parts.bounds = Bounds::none(alloc);
     }
 
-    /// Gives the faces potentials, by their labels, which guide searches from then on, as long as no
-    /// edge is taken out. They are for prices that are no lower than the floors of the kinds of
-    /// edges. Where beside a segment they are farther apart than that, nothing guides searches. The
-    /// picture stays as it was.
+    /// Gives the faces potentials, by their labels, which guide searches from then on. They go when
+    /// an edge is taken out, when an insertion has all faces labelled anew, and when it finds no
+    /// place for those of a new face. They are for prices that are no lower than the floors of the
+    /// kinds of edges. Where beside a segment they are farther apart than that, nothing guides
+    /// searches. The picture stays as it was.
     pub fn set_potentials(&mut self, alloc: Global, faces: Vec<Potentials>, floors: Vec<u16>)
         ensures { self.new ≡ self.old }
     {
         let bounds = Bounds::new(faces, floors);
-        if are_consistent(&self.parts.rows, &self.parts.segments, &bounds) {
+        let Parts {
+            rows,
+            segments,
+            kinds,
+            ..
+        } = &self.parts;
+        segments.laws();
+        if are_consistent(rows, kinds, segments, &bounds) {
             self.parts.bounds = bounds;
         } else {
             self.drop_potentials(alloc);
@@ -271,10 +279,7 @@ impl Embedded {
             → result ≡ (edge_at self.now.rows d.edge).kind }
     {
         let edge = self.parts.segments.edge(half);
-        match self.parts.kinds.get(edge) {
-            Some(kind) => kind,
-            None => self.known_edge(edge).kind as u8,
-        }
+        self.parts.kinds.kind(&self.parts.rows, edge)
     }
 
     /// The facts of the edge of a half.

@@ -1,10 +1,9 @@
 //! The kinds of the edges, by their ids, a byte each. So a search knows the price of an edge by its
 //! kind without the row of the edge, which often has to come from memory first.
 
-ghost use Rattle.std.specs.Prelude.{◌≡◌, ◌<◌, IfOk, Some, slice_get};
+ghost use Rattle.std.specs.Prelude.{◌≡◌, ◌<◌, IfOk, is_some, option_map, slice_get, true};
 ghost use Rattle.topo_core.specs.Lawful.{IsWellFormed};
-ghost use Rattle.topo_core.specs.Picture.{edge_row};
-ghost use Rattle.topo_core.specs.declared.rows.EdgeRow.{EdgeRow};
+ghost use Rattle.topo_core.specs.Picture.{edge_at, edge_row};
 ghost use Rattle.topo_core.specs.declared.rows.TheConstants.{KINDS};
 ghost use Rattle.topo_embedded.specs.KnownKinds.{AreKindsOf, IsNoted};
 
@@ -34,14 +33,14 @@ impl Model for Kinds {
     ghost view = { λ k. k.kinds.items };
 }
 
-/// The kind of an edge of rows, and 0 where there is no such edge.
-fn kind_in(rows: &KeptRows, edge: u32) -> u8
+/// The kind of an edge of rows, none where there is no such edge.
+fn kind_in(rows: &KeptRows, edge: u32) -> Option<u8>
     requires { IsWellFormed rows.now }
-    ensures { (row : EdgeRow) → edge_row rows.now edge ≡ Some row → row.kind ≡ result }
+    ensures { result ≡ option_map (λ row. row.kind) (edge_row rows.now edge) }
 {
     match rows.edge(edge) {
-        Some(found) => found.kind as u8,
-        None => 0,
+        Some(found) => Some(found.kind as u8),
+        None => None,
     }
 }
 
@@ -53,7 +52,7 @@ impl Kinds {
     {
         let mut kinds = Vec::with_capacity(alloc, rows.next_edge() as usize)?;
         for edge in 0..rows.next_edge() {
-            kinds.push(kind_in(rows, edge))?;
+            kinds.push(kind_in(rows, edge).unwrap_or(0))?;
         }
         Ok(Kinds { kinds })
     }
@@ -73,11 +72,28 @@ impl Kinds {
         let _lacks = self.kinds.reserve(more).is_err();
     }
 
-    /// The kind of an edge, if it is known.
-    pub(crate) fn get(&self, edge: u32) -> Option<u8>
+    // The kind of an edge, if it is known.
+    fn get(&self, edge: u32) -> Option<u8>
         ensures { result ≡ slice_get self.now edge }
     {
         self.kinds.get(edge as usize).copied()
+    }
+
+    /// The kind of an edge of the rows that these are of. The row is read only where the kind is
+    /// not known.
+    pub(crate) fn kind(&self, rows: &KeptRows, edge: u32) -> u8
+        requires formed { IsWellFormed rows.now }
+        requires kinds { AreKindsOf rows.now self.now }
+        requires there { is_some (edge_row rows.now edge) ≡ true }
+        ensures { result ≡ (edge_at rows.now edge).kind }
+    {
+        match self.get(edge) {
+            Some(kind) => kind,
+            None => match kind_in(rows, edge) {
+                Some(kind) => kind,
+                None => unreachable!(),
+            },
+        }
     }
 
     /// Notes the kind of an edge, if those of all edges before it are known. Out of memory it stays

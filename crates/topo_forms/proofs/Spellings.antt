@@ -1,8 +1,12 @@
 -- What tokens spell, a token at a time.
 use Rattle.std.proofs.Common.{◌≡◌, ℕ, ◌+◌, ◌-◌, ◌<◌, ◌≤◌, List, [], ◌∷◌, ◌++◌, length, Option, Some, None, Ok, ◌^◌, ◌==◌, slice_index}
-use Rattle.std.proofs.Common.{false, IfSome, IsUtf8, option_and_then, refl, ap, ◌∙◌, arith, append_assoc, subst, lt-ltb, sym}
-use Rattle.std.specs.Option.{SomeIff}
-use Rattle.fast_float.specs.Text.{minus, Parts, scan, digits_of, IsInteger}
+use Rattle.std.proofs.Common.{false, Result, Err, IfSome, IsUtf8, option_and_then, refl, ap, ◌∙◌, arith, append_assoc, append-nil, subst, lt-ltb, sym}
+use Rattle.std.proofs.lemmas.Bool.{ne_eqb}
+use Rattle.std.proofs.lemmas.Float.Parse.{scan_numeral-text_of}
+use Rattle.std.proofs.lemmas.Str.Parse.{digit_at}
+use Rattle.std.specs.Result.{result_ok}
+use Rattle.std.specs.Str.Parse.{AllDigits, IsNumeral, ParsesUnsigned, digits_value, without_leading_plus}
+use Rattle.fast_float.specs.Text.{minus, plus, Parts, scan, text_of, IsWellFormed}
 use Rattle.json.specs.Token.{Token}
 use Rattle.json.specs.Lex.{tokens}
 use Rattle.json.specs.Json as json
@@ -10,7 +14,7 @@ use Rattle.json.specs.Json.{parse_map, after_end_array, read_key, items, members
 use Rattle.json.proofs.Grammar.{left, value_is, value-begin_array, value-begin_object, skip_value-shorter}
 use Rattle.json.proofs.Grammar.{read_key-shorter, items_end, items_more, members_end, members_more}
 use Rattle.serde_json.specs.Data.{Data, unsigned, number, string, array, object, Items, item, no_items, Members, no_members, put}
-use Rattle.serde_json.specs.Read.{of_json, of_members, number_of, number_from, max_depth, read}
+use Rattle.serde_json.specs.Read.{of_json, of_members, number_of, max_depth, read}
 use Rattle.topo_forms.specs.declared.path.Path.{Path}
 use Rattle.topo_forms.specs.Paths.{element_of}
 use Rattle.topo_forms.specs.Reads.{Read, and_then, number_below, list_form, items_from, value_of}
@@ -20,16 +24,39 @@ use Rattle.topo_forms.proofs.Steps.{went}
 
 -- ---- Values of one token
 
-unsigned_if_whole : (p : Parts) → IsInteger p × (digits_of p < 2 ^ 64) → number_from false p ≡ Some (unsigned (digits_of p))
-unsigned_if_whole p h = rw (lt-ltb _ _ h.0.0, h.0.1, h.0.2, lt-ltb _ _ h.1)
+-- the parts of digits alone
+abbrev numeral : List ℕ → Parts
+numeral s = record { whole = s; point = false; fraction = []; exponent_negative = false; exponent = []; len = length s }
 
-pub whole_number_is : (text bytes : List ℕ) (p : Parts) (o : Option ℕ) → bytes ≡ text → (slice_index bytes 0 == minus) ≡ false → p ≡ scan bytes
-    → SomeIff o (IsInteger p × (digits_of p < 2 ^ 64)) (digits_of p) → IfSome o (λ n. number_of text ≡ Some (unsigned n))
+scan_numeral-is : (s : List ℕ) → AllDigits 10 s → scan s ≡ numeral s
+scan_numeral-is s digits =
+    let text : text_of (numeral s) ≡ s = append-nil s in
+    let formed : IsWellFormed (numeral s) = record {
+      whole_digits = digits;
+      fraction_digits = tt;
+      exponent_digits = tt;
+      no_point = λ e. refl;
+      no_exponent = λ e. refl;
+      len_is = ap length (sym text);
+    } in
+    ap scan (sym text) ∙ scan_numeral-text_of (numeral s) formed
+
+number_of_numeral : (s : List ℕ) → IsNumeral 10 s → digits_value 10 s < 2 ^ 64 → number_of s ≡ Some (unsigned (digits_value 10 s))
 unfolding number_of
-whole_number_is text bytes p None same first parts found = tt
-whole_number_is text bytes p (Some n) same first parts found =
-    let e : number_of bytes ≡ number_from false (scan bytes) = rw first in
-    ap number_of (sym same) ∙ e ∙ ap (number_from false) (sym parts) ∙ unsigned_if_whole p found.0 ∙ ap (λ k. Some (unsigned k)) (sym found.1)
+number_of_numeral s h less =
+    let digit = digit_at s 0 h.1 h.0 in
+    let first : (slice_index s 0 == minus) ≡ false = ne_eqb _ _ (λ e. omega arith) in
+    rw (first, scan_numeral-is s h.1, append-nil, lt-ltb _ _ h.0, lt-ltb _ _ less)
+
+pub whole_number_is : {E : Type 0} (text : List ℕ) (r : Result ℕ E) (o : Option ℕ) → (slice_index text 0 == plus) ≡ false → ParsesUnsigned 64 10 text r
+    → o ≡ result_ok r → IfSome o (λ n. number_of text ≡ Some (unsigned n))
+whole_number_is text r None first parsed ok = tt
+whole_number_is text (Err e) (Some n) first parsed ok = absurd cc
+whole_number_is text (Ok m) (Some n) first parsed ok =
+    let bare : without_leading_plus text ≡ text = rw first in
+    let read : (IsNumeral 10 text × (digits_value 10 text < 2 ^ 64)) × (m ≡ digits_value 10 text) = rw bare at parsed in
+    let value : n ≡ digits_value 10 text = cc in
+    number_of_numeral text read.0.0 read.0.1 ∙ ap (λ k. Some (unsigned k)) (sym value)
 
 pub number_read : (bound n : ℕ) (path : Path) → n < bound → number_below bound path (number (unsigned n)) ≡ Ok n
 unfolding number_below and_then

@@ -4,7 +4,7 @@ ghost use Rattle.std.specs.Prelude.{◌≡◌, IfSome, codes};
 ghost use Rattle.topo_forms.specs.CallForms.{call_form};
 ghost use Rattle.topo_forms.specs.TokenParts.{SpellsCall};
 
-use crate::tokens::{FromTokens, begin_array, end_array, last_numbers, next_text};
+use crate::tokens::{FromTokens, begin_array, end_array, is_text, last_numbers, next_text};
 use json::Reader;
 use std::alloc::Global;
 use topo_core::calls::Call;
@@ -38,11 +38,11 @@ fn token_delete(alloc: Global, reader: &mut Reader<'_>) -> Option<Call>
 pub fn call_after(alloc: Global, word: &str, reader: &mut Reader<'_>) -> Option<Call>
     ensures { IfSome result (λ call. SpellsCall word.now reader.old call reader.new) }
 {
-    if word == "grow" {
+    if is_text(word, "grow") {
         token_grow(alloc, reader)
-    } else if word == "insert" {
+    } else if is_text(word, "insert") {
         token_insert(alloc, reader)
-    } else if word == "delete" {
+    } else if is_text(word, "delete") {
         token_delete(alloc, reader)
     } else {
         None

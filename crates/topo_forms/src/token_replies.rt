@@ -12,7 +12,7 @@ ghost use Rattle.topo_forms.specs.TokenParts.{SpellsRefusal};
 
 use crate::path::Key;
 use crate::tokens::{
-    FromTokens, begin_array, begin_object, end_array, end_object, next_member, next_name,
+    FromTokens, begin_array, begin_object, end_array, end_object, is_text, next_member, next_name,
     next_number, next_text, next_three, next_two,
 };
 use json::Reader;
@@ -30,9 +30,9 @@ impl FromTokens for Way {
 
     fn from_tokens(_alloc: Global, reader: &mut Reader<'_>) -> Option<Self> {
         let text = next_text(reader)?;
-        if text == "forward" {
+        if is_text(text, "forward") {
             Some(Way::Forward)
-        } else if text == "back" {
+        } else if is_text(text, "back") {
             Some(Way::Back)
         } else {
             None
@@ -80,7 +80,7 @@ fn token_plain(number: u64, name: &str, reader: &mut Reader<'_>) -> Option<Refus
     ensures { IfSome result (λ why. SpellsRefusal number name.now reader.old why reader.new) }
 {
     let (text, why) = refusal_of(number)?;
-    if name != text {
+    if !is_text(name, text) {
         return None;
     }
     end_array(reader)?;
@@ -100,7 +100,7 @@ fn token_cut(alloc: Global, reader: &mut Reader<'_>) -> Option<Refusal>
 fn token_why(alloc: Global, number: u64, name: &str, reader: &mut Reader<'_>) -> Option<Refusal>
     ensures { IfSome result (λ why. SpellsRefusal number name.now reader.old why reader.new) }
 {
-    if number == 6 && name == "Cut" {
+    if number == 6 && is_text(name, "Cut") {
         token_cut(alloc, reader)
     } else {
         token_plain(number, name, reader)
@@ -173,13 +173,13 @@ fn reply_after(alloc: Global, name: &str, reader: &mut Reader<'_>) -> Option<Rep
     ensures { IfSome result
         (λ reply. Spells 3 reply_form (begin_object ∷ key name.now ∷ reader.old) reply reader.new) }
 {
-    if name == "deleted" {
+    if is_text(name, "deleted") {
         token_deleted(alloc, reader)
-    } else if name == "refused" {
+    } else if is_text(name, "refused") {
         token_refused(alloc, reader)
-    } else if name == "crossed" {
+    } else if is_text(name, "crossed") {
         token_inserted(alloc, reader)
-    } else if name == "edge" {
+    } else if is_text(name, "edge") {
         token_grown(alloc, reader)
     } else {
         None

@@ -6,7 +6,9 @@ ghost use Rattle.topo_forms.specs.RowForms.{sign_form, edge_form, crossing_form,
 ghost use Rattle.topo_forms.specs.Tokens.{Spells};
 
 use crate::path::Key;
-use crate::tokens::{FromTokens, begin_object, end_object, next_text, next_three, next_two};
+use crate::tokens::{
+    FromTokens, begin_object, end_object, is_text, next_text, next_three, next_two,
+};
 use json::Reader;
 use std::alloc::Global;
 use topo_core::darts::Sign;
@@ -19,9 +21,9 @@ impl FromTokens for Sign {
 
     fn from_tokens(_alloc: Global, reader: &mut Reader<'_>) -> Option<Self> {
         let text = next_text(reader)?;
-        if text == "ltr" {
+        if is_text(text, "ltr") {
             Some(Sign::LeftToRight)
-        } else if text == "rtl" {
+        } else if is_text(text, "rtl") {
             Some(Sign::RightToLeft)
         } else {
             None

@@ -16,8 +16,8 @@ use crate::token_calls::call_after;
 use crate::token_reports::kept_prices;
 use crate::token_rows::token_members;
 use crate::tokens::{
-    FromTokens, begin_array, begin_object, end_object, last_numbers, next_member, next_name,
-    next_text,
+    FromTokens, begin_array, begin_object, end_object, is_text, last_numbers, next_member,
+    next_name, next_text,
 };
 use json::{Reader, Token};
 use std::alloc::Global;
@@ -48,7 +48,7 @@ fn token_command(alloc: Global, word: &str, reader: &mut Reader<'_>) -> Option<C
     ensures { IfSome result (λ command. Spells 1 command_form
         (begin_array ∷ string word.now ∷ reader.old) command reader.new) }
 {
-    if word == "planned" {
+    if is_text(word, "planned") {
         token_planned(alloc, reader)
     } else {
         token_plain(alloc, word, reader)
@@ -74,7 +74,7 @@ impl FromTokens for Option<Rows> {
 
     fn from_tokens(alloc: Global, reader: &mut Reader<'_>) -> Option<Self> {
         match reader.next() {
-            Some(Token::String(text)) if text == "seed" => Some(None),
+            Some(Token::String(text)) if is_text(text, "seed") => Some(None),
             Some(Token::BeginObject) => {
                 let rows = token_members(alloc, reader)?;
                 Some(Some(rows))
@@ -94,7 +94,7 @@ fn optional_member<'a, T: FromTokens>(
     ensures { IfSome result (λ r. SpellsOptional T.nesting T.form (key_name wanted)
         (key name.now ∷ reader.old) r.0 (key r.1.now ∷ reader.new)) }
 {
-    if name != wanted.name() {
+    if !is_text(name, wanted.name()) {
         return Some((None, name));
     }
     let found = T::from_tokens(alloc, reader)?;
@@ -151,7 +151,7 @@ fn token_ending(
     ensures { IfSome result
         (λ found. SpellsLists (key name.now ∷ reader.old) found.0 found.1 reader.new) }
 {
-    if name != Key::Version.name() {
+    if !is_text(name, Key::Version.name()) {
         return None;
     }
     let version = u32::from_tokens(alloc, reader)?;

@@ -10,7 +10,7 @@ use crate::script_forms::GREATEST_LIMITS;
 use crate::sessions::Opening;
 use crate::token_reports::kept_prices;
 use crate::token_scripts::optional_members;
-use crate::tokens::{FromTokens, begin_object, end_object, next_name};
+use crate::tokens::{FromTokens, begin_object, end_object, is_text, next_name};
 use json::Reader;
 use std::alloc::Global;
 use topo_core::listed::Listed;
@@ -20,7 +20,7 @@ fn token_version(alloc: Global, name: &str, reader: &mut Reader<'_>) -> Option<u
     ensures { IfSome result
         (λ version. SpellsVersion (key name.now ∷ reader.old) version reader.new) }
 {
-    if name != Key::Version.name() {
+    if !is_text(name, Key::Version.name()) {
         return None;
     }
     let version = u32::from_tokens(alloc, reader)?;

@@ -1,7 +1,8 @@
 //! Forms read from the tokens of a text, without a tree of values.
 
-ghost use Rattle.std.specs.Prelude.{◌≡◌, ◌==◌, ◌+◌, ◌∷◌, slice_index, IfSome, Some, None};
-ghost use Rattle.fast_float.specs.Text.{minus};
+ghost use Rattle.std.specs.Prelude.{◌≡◌, ◌==◌, ◌↔◌, ◌+◌, ◌∷◌, IfSome, IsTrue, None, Some};
+ghost use Rattle.std.specs.Prelude.{slice_index};
+ghost use Rattle.fast_float.specs.Text.{plus};
 ghost use Rattle.json.specs.Token.{begin_object, begin_array, key, string};
 ghost use Rattle.json.specs.Json.{after_end_array, read_key};
 ghost use Rattle.serde_json.specs.Data.{unsigned};
@@ -12,7 +13,7 @@ ghost use Rattle.topo_forms.specs.Tokens.{Spells, SpellsItems, SpellsMember, Spe
 ghost use Rattle.topo_forms.specs.Tokens.{SpellsNumbers, SpellsText, SpellsThree, SpellsTwo};
 
 use crate::path::Key;
-use fast_float::Numeral;
+use fast_float::parse_u64;
 use json::{Reader, Scratch, Token};
 use std::alloc::Global;
 use topo_core::ids::{EdgeId, VertexId};
@@ -42,17 +43,36 @@ pub fn whole_number(text: &str) -> Option<u64>
     ensures { IfSome result (λ n. number_of text.now ≡ Some (unsigned n)) }
 {
     let bytes = text.as_bytes();
-    if has_minus(bytes) {
+    if has_plus(bytes) {
         return None;
     }
-    Numeral::scan(bytes).to_u64()
+    parse_u64(bytes).ok()
 }
 
-/// Whether the first byte is a minus.
-fn has_minus(bytes: &[u8]) -> bool
-    ensures { result ≡ (slice_index bytes.now 0 == minus) }
+/// Whether the first byte is a plus, which `parse_u64` passes over.
+fn has_plus(bytes: &[u8]) -> bool
+    ensures { result ≡ (slice_index bytes.now 0 == plus) }
 {
-    !bytes.is_empty() && bytes[0] == b'-'
+    !bytes.is_empty() && bytes[0] == b'+'
+}
+
+/// Whether two texts are the same. With a literal it becomes one comparison.
+#[inline(always)]
+pub fn is_text(text: &str, literal: &str) -> bool
+    ensures { IsTrue result ↔ text.now ≡ literal.now }
+{
+    let bytes = text.as_bytes();
+    let wanted = literal.as_bytes();
+    if bytes.len() != wanted.len() {
+        return false;
+    }
+    let mut same = true;
+    let mut i = wanted.len();
+    while i > 0 {
+        i -= 1;
+        same = (bytes[i] == wanted[i]) & same;
+    }
+    same
 }
 
 /// The whole number that is the next token.
@@ -182,16 +202,18 @@ pub fn end_object(reader: &mut Reader<'_>) -> Option<()>
 }
 
 /// Takes this key.
+#[inline(always)]
 fn take_key(key: Key, reader: &mut Reader<'_>) -> Option<()>
     ensures { IfSome result (λ _. read_key reader.old ≡ Some (Some (key_name key), reader.new)) }
 {
     match reader.next_key() {
-        Ok(Some(name)) if name == key.name() => Some(()),
+        Ok(Some(name)) if is_text(name, key.name()) => Some(()),
         _ => None,
     }
 }
 
 /// What the next member spells, which has this key.
+#[inline(always)]
 pub fn next_member<T: FromTokens>(alloc: Global, key: Key, reader: &mut Reader<'_>) -> Option<T>
     ensures { IfSome result
         (λ a. SpellsMember T.nesting T.form (key_name key) reader.old a reader.new) }
@@ -201,6 +223,7 @@ pub fn next_member<T: FromTokens>(alloc: Global, key: Key, reader: &mut Reader<'
 }
 
 /// What the next two members spell, which have these keys.
+#[inline(always)]
 pub fn next_two<A: FromTokens, B: FromTokens>(
     alloc: Global,
     first: Key,
@@ -216,6 +239,7 @@ pub fn next_two<A: FromTokens, B: FromTokens>(
 }
 
 /// What the next three members spell, which have these keys.
+#[inline(always)]
 pub fn next_three<A: FromTokens, B: FromTokens, C: FromTokens>(
     alloc: Global,
     first: Key,

@@ -117,17 +117,15 @@ pub record Shrinks (old new : Rotation) (x : ℕ) : Type 0 where
   pub same_limit : new.limit ≡ old.limit
   pub embedding : IsEmbedding new
 
--- the two halves of x have this label, and those that were live keep theirs
-pub record AddsLabel (live : ℕ → Bool) (old new : ℕ → ℕ) (x label : ℕ) : Type 0 where
-  pub here : new x ≡ label
-  pub here_twin : new (twin x) ≡ label
-  pub others : (a : ℕ) → live a ≡ true → new a ≡ old a
-
 -- the two halves of x have these labels of faces, and what was live keeps its own
 pub record AddsFaces (live : ℕ → Bool) (old new : ℕ → ℕ) (x left right : ℕ) : Type 0 where
   pub here : new x ≡ left
   pub here_twin : new (twin x) ≡ right
   pub others : (a : ℕ) → live a ≡ true → new a ≡ old a
+
+-- the two halves of x have this label of an edge, and what was live keeps its own
+abbrev pub AddsLabel : (ℕ → Bool) → (ℕ → ℕ) → (ℕ → ℕ) → ℕ → ℕ → Type 0
+AddsLabel live old new x label = AddsFaces live old new x label label
 
 -- A half of a face that the segment of x does not lie at keeps its label. The halves of the faces beside it come from the faces of c and d.
 pub record PartsLabels (live : ℕ → Bool) (old new : ℕ → ℕ) (c d x : ℕ) : Type 0 where

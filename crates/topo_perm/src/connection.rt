@@ -19,27 +19,21 @@ pub(crate) fn other_dart(dart: usize, darts: usize) -> usize
 
 /// Marks a dart and puts it at the end of the order, unless it is marked; the new length of the
 /// order.
-fn visit(seen: &mut [bool], order: &mut [usize], found: usize, dart: usize) -> usize
+fn visit(seen: &mut [bool], order: &mut [u32], found: usize, dart: u32) -> usize
     requires dart_within { dart < length seen.old }
     requires room { mark seen.old dart ≡ false → found < length order.old }
     ensures { IsVisit seen.old seen.new order.old order.new found result dart }
 {
-    if seen[dart] {
+    if seen[dart as usize] {
         return found;
     }
-    seen[dart] = true;
+    seen[dart as usize] = true;
     order[found] = dart;
     found + 1
 }
 
 /// Marks what is joined to `start`, and puts it into the order behind what was found before.
-fn reach(
-    images: &[u32],
-    seen: &mut [bool],
-    order: &mut [usize],
-    before: usize,
-    start: usize,
-) -> usize
+fn reach(images: &[u32], seen: &mut [bool], order: &mut [u32], before: usize, start: u32) -> usize
     requires permutation { IsPermutationList images.now }
     requires even { length images.now % 2 ≡ 0 }
     requires within { start < length images.now }
@@ -57,16 +51,16 @@ fn reach(
         if done == found {
             return found;
         }
-        let dart = order[done];
+        let dart = order[done] as usize;
         let other = other_dart(dart, images.len());
-        found = visit(seen, order, found, images[dart] as usize);
-        found = visit(seen, order, found, other);
+        found = visit(seen, order, found, images[dart]);
+        found = visit(seen, order, found, other as u32);
     }
     found
 }
 
 /// Counts the components, each at its least dart.
-fn count_components(images: &[u32], seen: &mut [bool], order: &mut [usize]) -> u64
+fn count_components(images: &[u32], seen: &mut [bool], order: &mut [u32]) -> u64
     requires permutation { IsPermutationList images.now }
     requires even { length images.now % 2 ≡ 0 }
     requires seen_length { length seen.old ≡ length images.now }
@@ -79,7 +73,7 @@ fn count_components(images: &[u32], seen: &mut [bool], order: &mut [usize]) -> u
     for start in 0..images.len() {
         if !seen[start] {
             count += 1;
-            found = reach(images, seen, order, found, start);
+            found = reach(images, seen, order, found, start as u32);
         }
     }
     count

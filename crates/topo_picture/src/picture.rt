@@ -179,9 +179,10 @@ impl Picture {
         EmbeddedRows::new(&self.embedded)
     }
 
-    /// Guides searches to their targets from then on, as long as no edge is taken out: it measures
-    /// how far all faces are from four vertices at these prices, which takes as long as some
-    /// searches of the whole picture. The picture stays as it is, and a copy of it has none of this.
+    /// Guides searches to their targets from then on, until an edge is taken out or an insertion has
+    /// all faces labelled anew. It measures how far all faces are from four vertices at these
+    /// prices, which takes as long as some searches of the whole picture. The picture stays as it
+    /// is, and a copy of it has none of this.
     pub fn guide_searches<F: PriceFn>(
         &mut self,
         alloc: Global,

@@ -1,3 +1,4 @@
+pub mod Below
 pub mod OneList
 pub mod Passing
 pub mod Telling

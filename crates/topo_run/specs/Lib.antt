@@ -1,2 +1,3 @@
+pub mod Headings
 pub mod Runs
 pub mod Working

@@ -17,21 +17,13 @@ use topo_price::tariff::{PriceFn, Tariff};
 use topo_service::Gate;
 use topo_settings::RunFault;
 
-/// Carries a command out as the call of caller 0. A planned insertion is looked for as any other.
-fn enter<F: PriceFn>(
-    alloc: Global,
-    book: &mut Book<F>,
-    command: Command,
-) -> Result<Reply, AllocError>
-    ensures entered { IfOk result (λ reply. book.new.history ≡ book.old.history
-        ++ record { caller = 0; call = call_of command; reply = reply } ∷ []) }
-    ensures same_book { IsSameBook book.old book.new }
+/// The call that a command makes.
+fn call_of(command: Command) -> Call
+    ensures { result ≡ call_of command }
 {
     match command {
-        Command::Plain(Call::Grow { u, position, kind }) => book.grow(alloc, 0, u, position, kind),
-        Command::Plain(Call::Insert { u, v, kind }) => book.insert(alloc, 0, u, v, kind),
-        Command::Plain(Call::Delete { edge }) => book.delete(alloc, 0, edge),
-        Command::Planned { u, v, kind } => book.insert(alloc, 0, u, v, kind),
+        Command::Plain(call) => call,
+        Command::Planned { u, v, kind } => Call::Insert { u, v, kind },
     }
 }
 
@@ -49,11 +41,11 @@ fn carry_out<F: PriceFn, T: Gate>(
 {
     for (index, command) in list.iter().enumerate() {
         gate.before(0, index);
-        let made = enter(alloc, book, *command);
+        let made = book.enter(alloc, 0, call_of(*command));
         gate.after(0, index);
-        let Ok(_reply) = made else {
+        if made.is_err() {
             return false;
-        };
+        }
     }
     true
 }

@@ -7,7 +7,7 @@ ghost use Rattle.topo_run.specs.Runs.{FailsBy, FailsRun, IsDone, IsFaultOfBytes}
 ghost use Rattle.topo_run.specs.Runs.{IsLineOfBytes, IsRunLine, ShowsRun};
 ghost use Rattle.topo_run.specs.Working.{IsOfService};
 ghost use Rattle.topo_script.specs.ReportTexts.{report_text};
-ghost use Rattle.topo_settings.specs.Settings.{price_table};
+ghost use Rattle.topo_settings.specs.Settings.{price_table, start_of};
 
 use crate::scripts::priced_report;
 use std::alloc::{AllocError, Global};
@@ -96,13 +96,13 @@ fn priced_line<R: Threads + Wait + Sync, T: Gate>(
     table: PriceTable,
     gate: &T,
 ) -> Result<String, RunFault>
-    requires { table ≡ price_table script.prices }
+    requires prices { table ≡ price_table script.prices }
+    requires start { start.rows ≡ start_of script.start }
     ensures line { IfOk result
         (λ line. ShowsRun script start.limits start.rows (string_bytes line)) }
     ensures fault { IfErr result IsOfService }
 {
-    let report = priced_report(rt, alloc, &script, start, table, gate)?;
-    drop(script);
+    let report = priced_report(rt, alloc, script, start, table, gate)?;
     match report_line(alloc, &report) {
         Ok(line) => Ok(line),
         Err(_) => Err(RunFault::Memory),

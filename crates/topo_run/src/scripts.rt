@@ -3,15 +3,17 @@
 ghost use Rattle.std.specs.Prelude.{◌≡◌, IfErr, IfOk};
 ghost use Rattle.std.specs.Arc.{arc_value};
 ghost use Rattle.topo_price.specs.Prices.{IsPromise};
+ghost use Rattle.topo_run.specs.Headings.{IsReportBelow};
 ghost use Rattle.topo_run.specs.Runs.{AnswersPrices, FailsRun, IsReportFrom, IsReportOf};
 ghost use Rattle.topo_run.specs.Working.{IsOfService};
 ghost use Rattle.topo_settings.specs.Limiting.{AreLimits};
-ghost use Rattle.topo_settings.specs.Settings.{price_table};
+ghost use Rattle.topo_settings.specs.Settings.{price_table, start_of};
 
 use crate::serving::run_lists;
 use std::alloc::{AllocError, Global};
 use std::sync::{Arc, Wait};
 use std::thread::Threads;
+use topo_core::calls::Command;
 use topo_core::limits::Limits;
 use topo_core::listed::Listed;
 use topo_core::rows::Rows;
@@ -46,7 +48,18 @@ pub fn run_script<F: PriceFn + Drop + Send + Sync, R: Threads + Wait + Sync, T: 
 {
     let prices = script.prices.as_slice();
     let (_table, start) = validate(alloc, script.limits, prices, script.start.as_ref())?;
-    run_from(rt, alloc, script, start, tariff, gate)
+    let Ok(heading) = heading_of(alloc, script, &start) else {
+        return Err(RunFault::Memory);
+    };
+    run_from(
+        rt,
+        alloc,
+        heading,
+        script.workers.as_slice(),
+        start,
+        tariff,
+        gate,
+    )
 }
 
 /// What a report says before its history.
@@ -83,23 +96,20 @@ fn limit_rows(limits: &Limits) -> LimitRows
     }
 }
 
-/// The report of a run of the script's lists from this start.
+/// The report of a run of these lists from this start, below its heading.
 fn run_from<F: PriceFn + Drop + Send + Sync, R: Threads + Wait + Sync, T: Gate>(
     rt: &R,
     alloc: Global,
-    script: &Script,
+    heading: Heading,
+    lists: &[Listed<Command>],
     start: Picture,
     tariff: Arc<Tariff<F>>,
     gate: &T,
 ) -> Result<Report, RunFault>
-    requires { AnswersPrices (F.may_return (arc_value tariff)) script.now.prices }
-    ensures report { IfOk result (IsReportFrom script.now start.limits start.rows) }
+    requires { AnswersPrices (F.may_return (arc_value tariff)) heading.prices }
+    ensures report { IfOk result (IsReportBelow heading lists.now start.limits start.rows) }
     ensures fault { IfErr result IsOfService }
 {
-    let Ok(heading) = heading_of(alloc, script, &start) else {
-        return Err(RunFault::Memory);
-    };
-    let lists = script.workers.as_slice();
     let outcome = run_lists(rt, alloc, start, tariff, lists, gate)?;
     Ok(Report {
         limits: heading.limits,
@@ -110,41 +120,68 @@ fn run_from<F: PriceFn + Drop + Send + Sync, R: Threads + Wait + Sync, T: Gate>(
     })
 }
 
-/// The report of a script at the prices that a closure answers.
+/// The same at the prices that a closure answers.
 fn asked_report<F: PriceFn + Drop + Send + Sync, R: Threads + Wait + Sync, T: Gate>(
     rt: &R,
     alloc: Global,
-    script: &Script,
+    heading: Heading,
+    lists: &[Listed<Command>],
     start: Picture,
     ask: F,
     gate: &T,
 ) -> Result<Report, RunFault>
     requires callable { F.is_callable ask }
     requires promise { IsPromise (F.may_return ask) }
-    requires own { AnswersPrices (F.may_return ask) script.now.prices }
-    ensures report { IfOk result (IsReportFrom script.now start.limits start.rows) }
+    requires own { AnswersPrices (F.may_return ask) heading.prices }
+    ensures report { IfOk result (IsReportBelow heading lists.now start.limits start.rows) }
     ensures fault { IfErr result IsOfService }
 {
     let Ok(tariff) = Arc::new(alloc, Tariff::new(ask)) else {
         return Err(RunFault::Memory);
     };
-    run_from(rt, alloc, script, start, tariff, gate)
+    run_from(rt, alloc, heading, lists, start, tariff, gate)
 }
 
-/// The report of a script at its own prices.
+/// The rows of a start: those that a script gave for it, and else those of the picture itself.
+fn rows_of_start(alloc: Global, given: Option<Rows>, start: &Picture) -> Result<Rows, AllocError>
+    requires { start.now.rows ≡ start_of given }
+    ensures { IfOk result (λ rows. rows ≡ start.now.rows) }
+{
+    match given {
+        Some(rows) => Ok(rows),
+        None => start.rows(alloc),
+    }
+}
+
+/// The report of a script at its own prices. What the script holds goes over into the report.
 pub(crate) fn priced_report<R: Threads + Wait + Sync, T: Gate>(
     rt: &R,
     alloc: Global,
-    script: &Script,
+    script: Script,
     start: Picture,
     table: PriceTable,
     gate: &T,
 ) -> Result<Report, RunFault>
-    requires { table ≡ price_table script.now.prices }
-    ensures report { IfOk result (IsReportFrom script.now start.limits start.rows) }
+    requires prices { table ≡ price_table script.prices }
+    requires start { start.rows ≡ start_of script.start }
+    ensures report { IfOk result (IsReportFrom script start.limits start.rows) }
     ensures fault { IfErr result IsOfService }
 {
     // For the proof: what the type keeps.
     table.laws();
-    asked_report(rt, alloc, script, start, table, gate)
+    let Script {
+        limits: _,
+        prices,
+        start: given,
+        workers,
+    } = script;
+    let Ok(rows) = rows_of_start(alloc, given, &start) else {
+        return Err(RunFault::Memory);
+    };
+    let heading = Heading {
+        limits: limit_rows(&start.limits()),
+        prices,
+        start: rows,
+    };
+    asked_report(rt, alloc, heading, workers.as_slice(), start, table, gate)
 }

@@ -24,6 +24,8 @@ pub(crate) enum Step {
     Grow(u32, u32, u32, u32),
     /// It makes an insertion in place, by its caller, ends and kind, and tells the reply.
     Insert(u32, u32, u32, u32),
+    /// It makes a growth in place, by its caller and vertex, and tells the last entry then.
+    Untold(u32, u32),
     /// It makes a growth of this caller ready and enters it. It tells what it is made ready as,
     /// whether with a picture, and after how many entries it is entered.
     Enter(u32),
@@ -129,6 +131,10 @@ fn take<F: PriceFn>(
         Step::Insert(caller, u, v, kind) => {
             Ok(text_of(alloc, book.insert(alloc, caller, u, v, kind)?)?)
         }
+        Step::Untold(caller, u) => {
+            book.enter(alloc, caller, grow(u))?;
+            Ok(format!(in alloc; "{:?}", book.history().last())?)
+        }
         Step::Enter(caller) => Ok(enter(alloc, book, caller)?),
         Step::History => Ok(format!(in alloc; "{:?}", book.history())?),
         Step::Sizes => {
@@ -193,6 +199,20 @@ const BOTH: &str = "[Entry { caller: 5, call: Grow { u: 0, position: 0, kind: 0 
 
 /// Stories of books that begin with the seed, which has room for three vertices and three edges.
 const STORIES: &[&[(Step, &str)]] = &[
+    // a growth and a refusal of which nobody is told
+    &[
+        (
+            Step::Untold(4, 1),
+            "Some(Entry { caller: 4, call: Grow { u: 1, position: 0, kind: 0 }, \
+            reply: Grown { vertex: VertexId(2), edge: EdgeId(1) } })",
+        ),
+        (
+            Step::Untold(6, 9),
+            "Some(Entry { caller: 6, call: Grow { u: 9, position: 0, kind: 0 }, \
+            reply: Refused(NoVertex) })",
+        ),
+        (Step::Sizes, "2 3 Ok(3)"),
+    ],
     // a growth, four refusals and another growth, each with its caller
     &[
         (

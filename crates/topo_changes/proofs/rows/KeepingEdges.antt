@@ -1,15 +1,16 @@
 -- Edges in a table: what is found by an id, a path that changes, and what more of them and fewer of them come to.
-use Rattle.std.proofs.Common.{◌≡◌, ◌≢◌, ℕ, zero, suc, ◌+◌, ◌<◌, ◌≤◌, Bool, true, false, cond, not, List, [], ◌∷◌, ◌++◌, length, take, get_or}
+use Rattle.std.proofs.Common.{◌≡◌, ◌≢◌, ℕ, zero, suc, ◌+◌, ◌<◌, ◌≤◌, Bool, true, false, cond, not, List, [], ◌∷◌, ◌++◌, drop, length, take, get_or}
 use Rattle.std.proofs.Common.{refl, sym, ap, subst, ◌∙◌, arith, inl, inr, Option, Some, None}
 use Rattle.std.specs.Prelude.{◌==◌, filter, find, is_some, map, nat_lt, slice_get}
 use Rattle.std.specs.List.{list_all}
 use Rattle.std.specs.List.Sorted.{IsStrictlyIncreasing}
 use Rattle.std.specs.Map.{values_of}
-use Rattle.std.specs.Option.{option_map}
+use Rattle.std.specs.Option.{option_map, option_map_or}
 use Rattle.std.proofs.lemmas.Bool.{eq-eqb, eqb-true, false≢true}
 use Rattle.std.proofs.lemmas.Grind.{flat_map-append}
-use Rattle.std.proofs.lemmas.List.{append-nil, get_or-map, length-map, map-append, take_all, take_more}
+use Rattle.std.proofs.lemmas.List.{append-nil, append_assoc, get_or-map, length-map, map-append, take_all, take_more}
 use Rattle.indexmap.specs.IndexMap.{set_value_at}
+use Rattle.indexmap.specs.Layout.{length-set_value_at}
 use Rattle.topo_core.specs.declared.rows.EdgeRow.{EdgeRow}
 use Rattle.topo_core.specs.declared.rows.Rows.{Rows}
 use Rattle.topo_core.specs.Picture.{edge_row}
@@ -19,7 +20,7 @@ use Rattle.topo_table.specs.Places.{AreBelow, IsLiveAt, KeepsPlaces, Places, ent
 use Rattle.topo_table.specs.Places.{entry_at, ids_in, ids_of, present, value_of, with_value, without_id}
 use Rattle.std.proofs.lemmas.Bool.Decides.{nat_tests}
 use Rattle.topo_table.proofs.PlaceLemmas.{AreBelow-push, EntriesRise-present, IsBelowAll, Rises, Rises-from_increasing, is_changed, present-push}
-use Rattle.topo_table.proofs.PlaceLemmas.{value_of-below, was_value, with_value-below}
+use Rattle.topo_table.proofs.PlaceLemmas.{set_value_at-same, slot_value, value_of-below, was_value, with_value-below}
 use Rattle.topo_changes.specs.declared.kept.EdgeBody.{EdgeBody}
 use Rattle.topo_changes.specs.Inserting.{repathed}
 use Rattle.topo_changes.specs.Keeping.{edge_of, edges_of}
@@ -290,3 +291,72 @@ module _ (rows : List EdgeRow) (limit : ℕ) (rise : rises_below limit (map (λ 
       edges_more i row table skipped more path inside h (copied ∙ ap (λ (r : EdgeRow). r.crossings) read) entries_same
       (subst (λ (r : EdgeRow). AreBelow r.id skipped.slots) read below)
       (subst (λ (r : EdgeRow). more.slots ≡ skipped.slots ++ (r.id, Some (record { a = r.a; b = r.b; kind = r.kind; crossings = path })) ∷ []) read is)
+
+-- ---- Edges that are handed over
+
+-- the entry at a place of a table, if there is one
+abbrev pub entry_there : List (ℕ × Option EdgeBody) → ℕ → List (ℕ × EdgeBody)
+entry_there slots i = option_map_or entry_at (slice_get slots i) []
+
+-- the edge at a place, as it is taken out
+pub edge_taken : (slots : List (ℕ × Option EdgeBody)) (i id : ℕ) (b taken : EdgeBody) {row : EdgeRow} (rows : List EdgeRow) {more : List EdgeRow}
+    → slice_get slots i ≡ Some (id, Some b) → slice_get (values_of slots) i ≡ Some (Some taken) → row ≡ edge_of (id, taken) → more ≡ rows ++ row ∷ []
+    → more ≡ rows ++ map edge_of (entry_there slots i)
+edge_taken slots i id b taken {row} rows at read made now =
+    let same : taken ≡ b = some_same (some_same (sym read ∙ slot_value slots i (id, Some b) at)) in
+    now ∙ ap (λ (r : EdgeRow). rows ++ r ∷ []) (made ∙ ap (λ b. edge_of (id, b)) same)
+    ∙ sym (ap (λ (s : Option (ℕ × Option EdgeBody)). rows ++ map edge_of (option_map_or entry_at s [])) at)
+
+-- a place that was empty before
+pub none_taken : (slots : List (ℕ × Option EdgeBody)) (i id : ℕ) → slice_get slots i ≡ Some (id, None) → slots ≡ set_value_at slots i None
+none_taken slots i id at = sym (set_value_at-same slots i None (slot_value slots i (id, None) at))
+
+present_more : (slots : List (ℕ × Option EdgeBody)) (i : ℕ) → present (take (suc i) slots) ≡ present (take i slots) ++ entry_there slots i
+present_more [] zero = refl
+present_more [] (suc i) = refl
+present_more (s ∷ slots) zero = append-nil (entry_at s)
+present_more (s ∷ slots) (suc i) =
+    ap (λ es. entry_at s ++ es) (present_more slots i) ∙ sym (append_assoc (entry_at s) (present (take i slots)) (entry_there slots i))
+
+got_first : {A : Type 0} (xs : List A) (i : ℕ) → slice_get xs i ≡ slice_get (drop i xs) 0
+got_first [] zero = refl
+got_first [] (suc i) = refl
+got_first (x ∷ xs) zero = refl
+got_first (x ∷ xs) (suc i) = got_first xs i
+
+drop_next : {A : Type 0} (xs : List A) (i : ℕ) → drop (suc i) xs ≡ drop 1 (drop i xs)
+drop_next [] zero = refl
+drop_next [] (suc i) = refl
+drop_next (x ∷ xs) zero = refl
+drop_next (x ∷ xs) (suc i) = drop_next xs i
+
+drop_emptied : (slots : List (ℕ × Option EdgeBody)) (i : ℕ) → drop (suc i) (set_value_at slots i None) ≡ drop (suc i) slots
+drop_emptied [] i = refl
+drop_emptied (s ∷ slots) zero = refl
+drop_emptied (s ∷ slots) (suc i) = drop_emptied slots i
+
+-- the edges at the first i places are handed over, and the others are left
+pub record AreHandedOver (slots : List (ℕ × Option EdgeBody)) (i : ℕ) (left : List (ℕ × Option EdgeBody)) (rows : List EdgeRow) : Type 0 where
+  pub rows_are : rows ≡ map edge_of (present (take i slots))
+  pub others : drop i left ≡ drop i slots
+  pub many : length left ≡ length slots
+
+-- one more
+pub one_more_over : (slots : List (ℕ × Option EdgeBody)) (i : ℕ) (left next : List (ℕ × Option EdgeBody)) (rows more : List EdgeRow)
+    → AreHandedOver slots i left rows → more ≡ rows ++ map edge_of (entry_there left i) → next ≡ set_value_at left i None
+    → AreHandedOver slots (i + 1) next more
+one_more_over slots i left next rows more h now emptied =
+    let same : slice_get left i ≡ slice_get slots i =
+    got_first left i ∙ ap (λ (ss : List (ℕ × Option EdgeBody)). slice_get ss 0) h.others ∙ sym (got_first slots i) in
+    subst (λ n. AreHandedOver slots n next more) (sym (add_one i)) (record {
+      rows_are = now ∙ ap (λ rows. rows ++ map edge_of (entry_there left i)) h.rows_are
+          ∙ ap (λ (s : Option (ℕ × Option EdgeBody)). map edge_of (present (take i slots)) ++ map edge_of (option_map_or entry_at s [])) same
+          ∙ sym (ap (map edge_of) (present_more slots i) ∙ edges_of_more (present (take i slots)) (entry_there slots i));
+      others = ap (drop (suc i)) emptied ∙ drop_emptied left i ∙ drop_next left i ∙ ap (drop 1) h.others ∙ sym (drop_next slots i);
+      many = ap length emptied ∙ length-set_value_at left i None ∙ h.many;
+    })
+
+-- all of them
+pub all_over : (table : Places EdgeBody) (i : ℕ) (left : List (ℕ × Option EdgeBody)) (rows : List EdgeRow) → length table.slots ≤ i
+    → AreHandedOver table.slots i left rows → rows ≡ edges_of table
+all_over table i left rows past h = h.rows_are ∙ ap (λ ss. map edge_of (present ss)) (take_all i table.slots past)

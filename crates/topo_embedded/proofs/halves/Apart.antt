@@ -1,21 +1,23 @@
 -- Each dart has a half of its own, and where a half lies on the path of its edge.
 use Rattle.std.proofs.Common.{◌≡◌, ◌<◌, ◌≤◌, ap, arith, length, refl, subst, sym, suc, true, zero, ℕ, ◌∙◌}
-use Rattle.std.specs.Prelude.{slice_index_or}
+use Rattle.std.specs.Prelude.{Option, is_some, slice_index_or, unwrap_or}
 use Rattle.topo_core.specs.declared.darts.Dart.{Dart}
 use Rattle.topo_core.specs.declared.darts.Way.{Way}
 use Rattle.topo_core.specs.declared.darts.Way.TheVariants.{Forward, Back}
 use Rattle.topo_core.specs.Cycles.{count_below}
 use Rattle.topo_core.specs.Darts.{dart_twin, reversed}
 use Rattle.topo_core.specs.Lawful.{IsWellFormed}
-use Rattle.topo_core.specs.Picture.{darts, index_of, turn_images}
+use Rattle.topo_core.specs.Picture.{darts, edge_row, index_of, turn_images}
 use Rattle.topo_core.specs.Rotations.{twin}
 use Rattle.topo_core.specs.Systems.{has_dart}
-use Rattle.topo_core.proofs.numbering.Numbering.{images_length, index_apart, index_less}
+use Rattle.topo_core.proofs.deleting.WithoutPlaces.{edge_of_dart}
+use Rattle.topo_core.proofs.numbering.Numbering.{has_at, images_length, index_apart, index_less}
+use Rattle.topo_core.proofs.systems.SystemDarts.{get_there}
 use Rattle.topo_perm.proofs.permutations.Faces.{twin-twin}
 use Rattle.topo_perm.proofs.permutations.Points.{count_below-into}
-use Rattle.topo_map.specs.Rotation.{Rotation, edge_of, half_limit, is_live}
+use Rattle.topo_map.specs.Rotation.{IsEmbedding, Rotation, edge_of, half_limit, is_live}
 use Rattle.topo_route.specs.Names.{IsNamed}
-use Rattle.topo_embedded.specs.Halves.{RowsWithPaths, ShowsRows, by_way, half_at, half_in, path_of}
+use Rattle.topo_embedded.specs.Halves.{RowsWithPaths, IsHalf, ShowsRows, by_way, half_at, half_in, path_of}
 use Rattle.topo_embedded.specs.Walking.{named_in}
 use Rattle.topo_embedded.proofs.halves.Numbers.{half_alive, half_of_number}
 
@@ -71,8 +73,27 @@ module _ (p : RowsWithPaths) (good : IsWellFormed p.rows) (r : Rotation) (s : Sh
   pub darts_limited : length (darts p.rows) ≤ half_limit
   darts_limited = at_most half_limit s.renumbers.turn.numbers.within
 
+  -- each live half is that of a dart
+  live_half : IsEmbedding r → (a : ℕ) → is_live r a ≡ true → IsHalf p a
+  live_half whole a alive =
+      let numbers = s.renumbers.turn.numbers in
+      let below = whole.within a alive in
+      let inside : s.back a < length (darts p.rows) = subst (λ (n : ℕ). s.back a < n) (images_length p.rows) (numbers.back_within a below alive) in
+      let at = get_there (darts p.rows) (s.back a) inside in
+      record {
+        dart = at.0;
+        there = has_at (darts p.rows) (s.back a) at.0 at.1;
+        is = ap (λ (o : Option Dart). half_in p (unwrap_or o (record { edge = 0; seg = 0; way = Forward }))) (sym at.1) ∙ numbers.back_returns a below alive;
+      }
+
   -- ---- The dart of a half, as it is read
 
   module _ (d : Dart) (h : has_dart (darts p.rows) d ≡ true) (half : ℕ) (is : half_in p d ≡ half) where
     pub label_is : (label : ℕ) → label ≡ edge_of r half → label ≡ d.edge
     label_is label label_read = label_read ∙ ap (edge_of r) (sym is) ∙ s.labels d h
+
+  -- the edge of a live half is there
+  pub live_edge : IsEmbedding r → (a : ℕ) → is_live r a ≡ true → is_some (edge_row p.rows (edge_of r a)) ≡ true
+  live_edge whole a alive =
+      let half = live_half whole a alive in
+      ap (λ (e : ℕ). is_some (edge_row p.rows e)) (label_is half.dart half.there a half.is (edge_of r a) refl) ∙ edge_of_dart p.rows good half.dart half.there

@@ -114,7 +114,7 @@ impl Embedded {
         drop(segments);
         drop(bounds);
         drop(kinds);
-        rows.show(alloc)
+        rows.into_rows(alloc)
     }
 
     /// How many vertices there are.

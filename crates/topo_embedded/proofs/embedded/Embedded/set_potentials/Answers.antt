@@ -1,6 +1,12 @@
 use Rattle.topo_embedded.proofs.guided.Fitting.{fits_by}
 use Rattle.topo_embedded.specs.Bounds.{slope_by}
+use Rattle.topo_embedded.specs.Parts.{with_paths}
+use Rattle.topo_embedded.proofs.halves.Apart.{live_edge}
 use Rattle.topo_embedded.proofs.embedded.Embedded.set_potentials.Goals as goal
+
+pub are_consistent-requires-clause-there : goal.are_consistent-requires-clause-there
+are_consistent-requires-clause-there c =
+    let parts = c.self.inside.parts in live_edge (with_paths parts) c.self.invariant.0 parts.segments c.self.invariant.1 c.laws.ensures
 
 pub invariant_of-self : goal.invariant_of-self
 invariant_of-self c =

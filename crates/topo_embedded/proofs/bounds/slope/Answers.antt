@@ -1,7 +1,0 @@
-use Rattle.std.proofs.Common.{arith, sym}
-use Rattle.topo_changes.specs.Keeping.{viewed_row}
-use Rattle.topo_embedded.proofs.halves.Reading.{kind_known}
-use Rattle.topo_embedded.proofs.bounds.slope.Goals as goal
-
-pub overflow_cast-found : goal.overflow_cast-found
-overflow_cast-found c = let known = kind_known c.args.rows.now c.requires.paths c.args.edge (viewed_row c.in-Some.found) (sym c.in-Some.ensures) in omega (arith, known)
