@@ -40,6 +40,11 @@ def own_layout(form: Dict[str, Any]) -> bytes:
     return json.dumps(form, sort_keys=True, separators=(",", ":")).encode()
 
 
+def spaced_layout(form: Dict[str, Any]) -> bytes:
+    """The text with its keys in order, and all that may stand between tokens between them."""
+    return json.dumps(form, sort_keys=True, indent=" \t", separators=("\r,", " : ")).encode() + b"\n"
+
+
 def other_layout(form: Dict[str, Any]) -> bytes:
     """The text with its keys in the opposite order."""
     return json.dumps(dict(sorted(form.items(), reverse=True)), separators=(",", ":")).encode()
@@ -64,10 +69,11 @@ class Allocations(unittest.TestCase):
         return is_refused
 
     def check(self, verb: str, form: Dict[str, Any], for_each: int) -> None:
-        """A text in the program's own layout takes at most so many allocations for each vertex or call. In another layout
-        it takes more, so the bound tells the two ways to read apart."""
+        """A text in the program's own layout takes at most so many allocations for each vertex or call, also with gaps
+        between its tokens. In another layout it takes more, so the bound tells the two ways to read apart."""
         most = for_each * COUNT + SOME
         self.assertFalse(self.makes_more_than(verb, own_layout(form), most))
+        self.assertFalse(self.makes_more_than(verb, spaced_layout(form), most))
         self.assertTrue(self.makes_more_than(verb, other_layout(form), most))
 
     def test_a_picture(self):

@@ -1,4 +1,5 @@
 pub mod Bytes
+pub mod Fronts
 pub mod Items
 pub mod Lookups
 pub mod PriceLists

@@ -1,12 +1,6 @@
 -- What tokens spell, a token at a time.
-use Rattle.std.proofs.Common.{◌≡◌, ℕ, ◌+◌, ◌-◌, ◌<◌, ◌≤◌, List, [], ◌∷◌, ◌++◌, length, Option, Some, None, Ok, ◌^◌, ◌==◌, slice_index}
-use Rattle.std.proofs.Common.{false, Result, Err, IfSome, IsUtf8, option_and_then, refl, ap, ◌∙◌, arith, append_assoc, append-nil, subst, lt-ltb, sym}
-use Rattle.std.proofs.lemmas.Bool.{ne_eqb}
-use Rattle.std.proofs.lemmas.Float.Parse.{scan_numeral-text_of}
-use Rattle.std.proofs.lemmas.Str.Parse.{digit_at}
-use Rattle.std.specs.Result.{result_ok}
-use Rattle.std.specs.Str.Parse.{AllDigits, IsNumeral, ParsesUnsigned, digits_value, without_leading_plus}
-use Rattle.fast_float.specs.Text.{minus, plus, Parts, scan, text_of, IsWellFormed}
+use Rattle.std.proofs.Common.{◌≡◌, ℕ, ◌+◌, ◌-◌, ◌<◌, ◌≤◌, List, [], ◌∷◌, ◌++◌, length, Option, Some, None, Ok}
+use Rattle.std.proofs.Common.{IfSome, IsUtf8, option_and_then, refl, ap, ◌∙◌, arith, append_assoc, subst, lt-ltb, sym}
 use Rattle.json.specs.Token.{Token}
 use Rattle.json.specs.Lex.{tokens}
 use Rattle.json.specs.Json as json
@@ -14,7 +8,7 @@ use Rattle.json.specs.Json.{parse_map, after_end_array, read_key, items, members
 use Rattle.json.proofs.Grammar.{left, value_is, value-begin_array, value-begin_object, skip_value-shorter}
 use Rattle.json.proofs.Grammar.{read_key-shorter, items_end, items_more, members_end, members_more}
 use Rattle.serde_json.specs.Data.{Data, unsigned, number, string, array, object, Items, item, no_items, Members, no_members, put}
-use Rattle.serde_json.specs.Read.{of_json, of_members, number_of, max_depth, read}
+use Rattle.serde_json.specs.Read.{of_json, of_members, max_depth, read}
 use Rattle.topo_forms.specs.declared.path.Path.{Path}
 use Rattle.topo_forms.specs.Paths.{element_of}
 use Rattle.topo_forms.specs.Reads.{Read, and_then, number_below, list_form, items_from, value_of}
@@ -23,40 +17,6 @@ use Rattle.topo_forms.proofs.Bytes.{within as within_limit, json_of-read}
 use Rattle.topo_forms.proofs.Steps.{went}
 
 -- ---- Values of one token
-
--- the parts of digits alone
-abbrev numeral : List ℕ → Parts
-numeral s = record { whole = s; point = false; fraction = []; exponent_negative = false; exponent = []; len = length s }
-
-scan_numeral-is : (s : List ℕ) → AllDigits 10 s → scan s ≡ numeral s
-scan_numeral-is s digits =
-    let text : text_of (numeral s) ≡ s = append-nil s in
-    let formed : IsWellFormed (numeral s) = record {
-      whole_digits = digits;
-      fraction_digits = tt;
-      exponent_digits = tt;
-      no_point = λ e. refl;
-      no_exponent = λ e. refl;
-      len_is = ap length (sym text);
-    } in
-    ap scan (sym text) ∙ scan_numeral-text_of (numeral s) formed
-
-number_of_numeral : (s : List ℕ) → IsNumeral 10 s → digits_value 10 s < 2 ^ 64 → number_of s ≡ Some (unsigned (digits_value 10 s))
-unfolding number_of
-number_of_numeral s h less =
-    let digit = digit_at s 0 h.1 h.0 in
-    let first : (slice_index s 0 == minus) ≡ false = ne_eqb _ _ (λ e. omega arith) in
-    rw (first, scan_numeral-is s h.1, append-nil, lt-ltb _ _ h.0, lt-ltb _ _ less)
-
-pub whole_number_is : {E : Type 0} (text : List ℕ) (r : Result ℕ E) (o : Option ℕ) → (slice_index text 0 == plus) ≡ false → ParsesUnsigned 64 10 text r
-    → o ≡ result_ok r → IfSome o (λ n. number_of text ≡ Some (unsigned n))
-whole_number_is text r None first parsed ok = tt
-whole_number_is text (Err e) (Some n) first parsed ok = absurd cc
-whole_number_is text (Ok m) (Some n) first parsed ok =
-    let bare : without_leading_plus text ≡ text = rw first in
-    let read : (IsNumeral 10 text × (digits_value 10 text < 2 ^ 64)) × (m ≡ digits_value 10 text) = rw bare at parsed in
-    let value : n ≡ digits_value 10 text = cc in
-    number_of_numeral text read.0.0 read.0.1 ∙ ap (λ k. Some (unsigned k)) (sym value)
 
 pub number_read : (bound n : ℕ) (path : Path) → n < bound → number_below bound path (number (unsigned n)) ≡ Ok n
 unfolding number_below and_then
@@ -93,6 +53,25 @@ deeper inner outer form ts a rest within s = record {
 }
 
 -- ---- Arrays
+
+not_closed : (a : json.Parse json.Items) (o : json.Parse json.Members) (ts : List Token) (p : json.Json × List Token) → value_with a o ts ≡ Some p
+    → after_end_array ts ≡ None
+not_closed a o [] p e = refl
+not_closed a o (Token.begin_object ∷ ts) p e = refl
+not_closed a o (Token.end_object ∷ ts) p e = refl
+not_closed a o (Token.begin_array ∷ ts) p e = refl
+not_closed a o (Token.end_array ∷ ts) p e = absurd cc
+not_closed a o (Token.key s ∷ ts) p e = refl
+not_closed a o (Token.string s ∷ ts) p e = refl
+not_closed a o (Token.number s ∷ ts) p e = refl
+not_closed a o (Token.boolean b ∷ ts) p e = refl
+not_closed a o (Token.null ∷ ts) p e = refl
+not_closed a o (Token.bad ∷ ts) p e = refl
+
+-- tokens that spell a value do not begin with the end of an array
+pub spells-going : {A : Type 0} (nesting : ℕ) (form : Path → Data → Read A) (ts : List Token) (a : A) (rest : List Token) → Spells nesting form ts a rest
+    → after_end_array ts ≡ None
+spells-going nesting form ts a rest s = not_closed _ _ ts (s.written, rest) (sym (value_is nesting ts) ∙ s.begins nesting (omega arith))
 
 pub tokens-shorter : {A : Type 0} (nesting : ℕ) (form : Path → Data → Read A) (ts : List Token) (a : A) (rest : List Token) → Spells nesting form ts a rest
     → length rest < length ts
@@ -148,20 +127,6 @@ module _ {A : Type 0} (nesting : ℕ) (form : Path → Data → Read A) where
       (so_far (x ∷ xs) rest (item_then now mid rest x xs going s left_over))
 
 -- ---- Arrays of a few elements
-
-not_closed : (a : json.Parse json.Items) (o : json.Parse json.Members) (ts : List Token) (p : json.Json × List Token) → value_with a o ts ≡ Some p
-    → after_end_array ts ≡ None
-not_closed a o [] p e = refl
-not_closed a o (Token.begin_object ∷ ts) p e = refl
-not_closed a o (Token.end_object ∷ ts) p e = refl
-not_closed a o (Token.begin_array ∷ ts) p e = refl
-not_closed a o (Token.end_array ∷ ts) p e = absurd cc
-not_closed a o (Token.key s ∷ ts) p e = refl
-not_closed a o (Token.string s ∷ ts) p e = refl
-not_closed a o (Token.number s ∷ ts) p e = refl
-not_closed a o (Token.boolean b ∷ ts) p e = refl
-not_closed a o (Token.null ∷ ts) p e = refl
-not_closed a o (Token.bad ∷ ts) p e = refl
 
 pub few_done : {nesting : ℕ} {ts rest : List Token} → after_end_array ts ≡ Some rest → GoesOn nesting ts no_items rest
 few_done {ts} {rest} e = record {

@@ -3,6 +3,7 @@ pub mod FaultTexts
 pub mod Paths
 pub mod Prices
 pub mod Reads
+pub mod Readers
 pub mod ReplyForms
 pub mod RowForms
 pub mod Scripts

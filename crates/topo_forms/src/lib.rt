@@ -10,6 +10,7 @@ pub mod fault;
 pub mod form;
 pub mod path;
 pub mod prices;
+mod reader;
 mod replies;
 pub mod reports;
 pub mod row_forms;

@@ -4,13 +4,13 @@ ghost use Rattle.std.specs.Prelude.{◌≡◌, IfSome, codes};
 ghost use Rattle.topo_forms.specs.CallForms.{call_form};
 ghost use Rattle.topo_forms.specs.TokenParts.{SpellsCall};
 
-use crate::tokens::{FromTokens, begin_array, end_array, is_text, last_numbers, next_text};
-use json::Reader;
+use crate::reader::{TokenReader, is_text};
+use crate::tokens::{FromTokens, last_numbers};
 use std::alloc::Global;
 use topo_core::calls::Call;
 
 /// What follows the word of a call that grows.
-fn token_grow(alloc: Global, reader: &mut Reader<'_>) -> Option<Call>
+fn token_grow(alloc: Global, reader: &mut TokenReader<'_>) -> Option<Call>
     ensures { IfSome result (λ call. SpellsCall (codes "grow") reader.old call reader.new) }
 {
     let (u, position, kind) = last_numbers(alloc, reader)?;
@@ -18,7 +18,7 @@ fn token_grow(alloc: Global, reader: &mut Reader<'_>) -> Option<Call>
 }
 
 /// What follows the word of a call that inserts.
-fn token_insert(alloc: Global, reader: &mut Reader<'_>) -> Option<Call>
+fn token_insert(alloc: Global, reader: &mut TokenReader<'_>) -> Option<Call>
     ensures { IfSome result (λ call. SpellsCall (codes "insert") reader.old call reader.new) }
 {
     let (u, v, kind) = last_numbers(alloc, reader)?;
@@ -26,16 +26,16 @@ fn token_insert(alloc: Global, reader: &mut Reader<'_>) -> Option<Call>
 }
 
 /// What follows the word of a call that deletes.
-fn token_delete(alloc: Global, reader: &mut Reader<'_>) -> Option<Call>
+fn token_delete(alloc: Global, reader: &mut TokenReader<'_>) -> Option<Call>
     ensures { IfSome result (λ call. SpellsCall (codes "delete") reader.old call reader.new) }
 {
     let edge = u32::from_tokens(alloc, reader)?;
-    end_array(reader)?;
+    reader.end_array()?;
     Some(Call::Delete { edge })
 }
 
 /// What follows the word of a call.
-pub fn call_after(alloc: Global, word: &str, reader: &mut Reader<'_>) -> Option<Call>
+pub fn call_after(alloc: Global, word: &[u8], reader: &mut TokenReader<'_>) -> Option<Call>
     ensures { IfSome result (λ call. SpellsCall word.now reader.old call reader.new) }
 {
     if is_text(word, "grow") {
@@ -54,9 +54,9 @@ impl FromTokens for Call {
 
     ghost nesting = { 1 };
 
-    fn from_tokens(alloc: Global, reader: &mut Reader<'_>) -> Option<Self> {
-        begin_array(reader)?;
-        let word = next_text(reader)?;
+    fn from_tokens(alloc: Global, reader: &mut TokenReader<'_>) -> Option<Self> {
+        reader.begin_array()?;
+        let word = reader.next_text()?;
         call_after(alloc, word, reader)
     }
 }

@@ -11,11 +11,8 @@ ghost use Rattle.topo_forms.specs.Tokens.{Spells};
 ghost use Rattle.topo_forms.specs.TokenParts.{SpellsRefusal};
 
 use crate::path::Key;
-use crate::tokens::{
-    FromTokens, begin_array, begin_object, end_array, end_object, is_text, next_member, next_name,
-    next_number, next_text, next_three, next_two,
-};
-use json::Reader;
+use crate::reader::{TokenReader, is_text};
+use crate::tokens::{FromTokens, next_member, next_three, next_two};
 use std::alloc::Global;
 use topo_core::calls::{Entry, Refusal, Reply};
 use topo_core::darts::{Dart, Way};
@@ -28,8 +25,8 @@ impl FromTokens for Way {
 
     ghost nesting = { 0 };
 
-    fn from_tokens(_alloc: Global, reader: &mut Reader<'_>) -> Option<Self> {
-        let text = next_text(reader)?;
+    fn from_tokens(_alloc: Global, reader: &mut TokenReader<'_>) -> Option<Self> {
+        let text = reader.next_text()?;
         if is_text(text, "forward") {
             Some(Way::Forward)
         } else if is_text(text, "back") {
@@ -45,12 +42,12 @@ impl FromTokens for Dart {
 
     ghost nesting = { 1 };
 
-    fn from_tokens(alloc: Global, reader: &mut Reader<'_>) -> Option<Self> {
-        begin_array(reader)?;
+    fn from_tokens(alloc: Global, reader: &mut TokenReader<'_>) -> Option<Self> {
+        reader.begin_array()?;
         let edge = EdgeId::from_tokens(alloc, reader)?;
         let seg = u32::from_tokens(alloc, reader)?;
         let way = Way::from_tokens(alloc, reader)?;
-        end_array(reader)?;
+        reader.end_array()?;
         Some(Dart { edge, seg, way })
     }
 }
@@ -76,28 +73,33 @@ fn refusal_of(number: u64) -> Option<(&'static str, Refusal)>
 }
 
 /// What follows the number and the name of a refusal without a segment.
-fn token_plain(number: u64, name: &str, reader: &mut Reader<'_>) -> Option<Refusal>
+fn token_plain(number: u64, name: &[u8], reader: &mut TokenReader<'_>) -> Option<Refusal>
     ensures { IfSome result (λ why. SpellsRefusal number name.now reader.old why reader.new) }
 {
     let (text, why) = refusal_of(number)?;
     if !is_text(name, text) {
         return None;
     }
-    end_array(reader)?;
+    reader.end_array()?;
     Some(why)
 }
 
 /// What follows the number and the name of a refusal with a segment.
-fn token_cut(alloc: Global, reader: &mut Reader<'_>) -> Option<Refusal>
+fn token_cut(alloc: Global, reader: &mut TokenReader<'_>) -> Option<Refusal>
     ensures { IfSome result (λ why. SpellsRefusal 6 (codes "Cut") reader.old why reader.new) }
 {
     let segment = u32::from_tokens(alloc, reader)?;
-    end_array(reader)?;
+    reader.end_array()?;
     Some(Refusal::Cut(segment))
 }
 
 /// What follows the number and the name of a refusal.
-fn token_why(alloc: Global, number: u64, name: &str, reader: &mut Reader<'_>) -> Option<Refusal>
+fn token_why(
+    alloc: Global,
+    number: u64,
+    name: &[u8],
+    reader: &mut TokenReader<'_>,
+) -> Option<Refusal>
     ensures { IfSome result (λ why. SpellsRefusal number name.now reader.old why reader.new) }
 {
     if number == 6 && is_text(name, "Cut") {
@@ -112,54 +114,54 @@ impl FromTokens for Refusal {
 
     ghost nesting = { 1 };
 
-    fn from_tokens(alloc: Global, reader: &mut Reader<'_>) -> Option<Self> {
-        begin_array(reader)?;
-        let number = next_number(reader)?;
-        let name = next_text(reader)?;
+    fn from_tokens(alloc: Global, reader: &mut TokenReader<'_>) -> Option<Self> {
+        reader.begin_array()?;
+        let number = reader.next_number()?;
+        let name = reader.next_text()?;
         token_why(alloc, number, name, reader)
     }
 }
 
 /// What follows the key of a deletion.
-fn token_deleted(alloc: Global, reader: &mut Reader<'_>) -> Option<Reply>
+fn token_deleted(alloc: Global, reader: &mut TokenReader<'_>) -> Option<Reply>
     ensures { IfSome result (λ reply. Spells 3 reply_form
         (begin_object ∷ key (codes "deleted") ∷ reader.old) reply reader.new) }
 {
     let edge = EdgeId::from_tokens(alloc, reader)?;
-    end_object(reader)?;
+    reader.end_object()?;
     Some(Reply::Deleted(edge))
 }
 
 /// What follows the key of a refusal.
-fn token_refused(alloc: Global, reader: &mut Reader<'_>) -> Option<Reply>
+fn token_refused(alloc: Global, reader: &mut TokenReader<'_>) -> Option<Reply>
     ensures { IfSome result (λ reply. Spells 3 reply_form
         (begin_object ∷ key (codes "refused") ∷ reader.old) reply reader.new) }
 {
     let why = Refusal::from_tokens(alloc, reader)?;
-    end_object(reader)?;
+    reader.end_object()?;
     Some(Reply::Refused(why))
 }
 
 /// What follows the first key of a growth.
-fn token_grown(alloc: Global, reader: &mut Reader<'_>) -> Option<Reply>
+fn token_grown(alloc: Global, reader: &mut TokenReader<'_>) -> Option<Reply>
     ensures { IfSome result (λ reply. Spells 3 reply_form
         (begin_object ∷ key (codes "edge") ∷ reader.old) reply reader.new) }
 {
     let edge = EdgeId::from_tokens(alloc, reader)?;
     let vertex = next_member(alloc, Key::Vertex, reader)?;
-    end_object(reader)?;
+    reader.end_object()?;
     Some(Reply::Grown { vertex, edge })
 }
 
 /// What follows the first key of an insertion.
-fn token_inserted(alloc: Global, reader: &mut Reader<'_>) -> Option<Reply>
+fn token_inserted(alloc: Global, reader: &mut TokenReader<'_>) -> Option<Reply>
     ensures { IfSome result (λ reply. Spells 3 reply_form
         (begin_object ∷ key (codes "crossed") ∷ reader.old) reply reader.new) }
 {
     let crossed = Listed::from_tokens(alloc, reader)?;
     let (id, end) = next_two(alloc, Key::Edge, Key::End, reader)?;
     let (price, start) = next_two(alloc, Key::Price, Key::Start, reader)?;
-    end_object(reader)?;
+    reader.end_object()?;
     let route = Route {
         start,
         crossed,
@@ -169,7 +171,7 @@ fn token_inserted(alloc: Global, reader: &mut Reader<'_>) -> Option<Reply>
 }
 
 /// What follows the first key of a reply.
-fn reply_after(alloc: Global, name: &str, reader: &mut Reader<'_>) -> Option<Reply>
+fn reply_after(alloc: Global, name: &[u8], reader: &mut TokenReader<'_>) -> Option<Reply>
     ensures { IfSome result
         (λ reply. Spells 3 reply_form (begin_object ∷ key name.now ∷ reader.old) reply reader.new) }
 {
@@ -191,9 +193,9 @@ impl FromTokens for Reply {
 
     ghost nesting = { 3 };
 
-    fn from_tokens(alloc: Global, reader: &mut Reader<'_>) -> Option<Self> {
-        begin_object(reader)?;
-        let name = next_name(reader)?;
+    fn from_tokens(alloc: Global, reader: &mut TokenReader<'_>) -> Option<Self> {
+        reader.begin_object()?;
+        let name = reader.next_name()?;
         reply_after(alloc, name, reader)
     }
 }
@@ -203,10 +205,10 @@ impl FromTokens for Entry {
 
     ghost nesting = { 4 };
 
-    fn from_tokens(alloc: Global, reader: &mut Reader<'_>) -> Option<Self> {
-        begin_object(reader)?;
+    fn from_tokens(alloc: Global, reader: &mut TokenReader<'_>) -> Option<Self> {
+        reader.begin_object()?;
         let (call, caller, reply) = next_three(alloc, Key::Call, Key::Caller, Key::Reply, reader)?;
-        end_object(reader)?;
+        reader.end_object()?;
         Some(Entry {
             caller,
             call,

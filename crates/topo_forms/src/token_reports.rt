@@ -8,10 +8,10 @@ ghost use Rattle.topo_forms.specs.Scripts.{limits_form, nulls_of, price_form, re
 
 use crate::path::Key;
 use crate::prices::{MAX_PRICES, without_ones};
+use crate::reader::TokenReader;
 use crate::reports::Report;
 use crate::scripts::LimitRows;
-use crate::tokens::{FromTokens, begin_object, end_object, next_three, short, whole_number};
-use json::{Reader, Token};
+use crate::tokens::{FromTokens, next_three, short};
 use std::alloc::Global;
 use topo_core::listed::Listed;
 use topo_core::rows::Rows;
@@ -21,8 +21,8 @@ impl FromTokens for LimitRows {
 
     ghost nesting = { 1 };
 
-    fn from_tokens(alloc: Global, reader: &mut Reader<'_>) -> Option<Self> {
-        begin_object(reader)?;
+    fn from_tokens(alloc: Global, reader: &mut TokenReader<'_>) -> Option<Self> {
+        reader.begin_object()?;
         let (crossings, edges, vertices) = next_three(
             alloc,
             Key::Crossings,
@@ -30,7 +30,7 @@ impl FromTokens for LimitRows {
             Key::Vertices,
             reader,
         )?;
-        end_object(reader)?;
+        reader.end_object()?;
         Some(LimitRows {
             vertices,
             edges,
@@ -44,15 +44,13 @@ impl FromTokens for Option<u32> {
 
     ghost nesting = { 0 };
 
-    fn from_tokens(_alloc: Global, reader: &mut Reader<'_>) -> Option<Self> {
-        match reader.next() {
-            Some(Token::Null) => Some(None),
-            Some(Token::Number(text)) => {
-                let price = short(whole_number(text)?)?;
-                Some(Some(price))
-            }
-            _ => None,
+    fn from_tokens(_alloc: Global, reader: &mut TokenReader<'_>) -> Option<Self> {
+        if reader.take_null() {
+            return Some(None);
         }
+        let number = reader.next_number()?;
+        let price = short(number)?;
+        Some(Some(price))
     }
 }
 
@@ -87,7 +85,7 @@ pub fn kept_prices(prices: Listed<Option<u32>>, version: u32) -> Option<Listed<O
 }
 
 /// What follows the picture of a report: its prices, without the ones at their end, and its start.
-fn token_ending(alloc: Global, reader: &mut Reader<'_>) -> Option<(Listed<Option<u32>>, Rows)>
+fn token_ending(alloc: Global, reader: &mut TokenReader<'_>) -> Option<(Listed<Option<u32>>, Rows)>
     ensures { IfSome result (λ found. SpellsEnding reader.old found.0 found.1 reader.new) }
 {
     let (prices, start, version) = next_three(
@@ -97,7 +95,7 @@ fn token_ending(alloc: Global, reader: &mut Reader<'_>) -> Option<(Listed<Option
         Key::Version,
         reader,
     )?;
-    let closed = end_object(reader);
+    let closed = reader.end_object();
     let kept = closed.and(kept_prices(prices, version));
     kept.zip(Some(start))
 }
@@ -107,8 +105,8 @@ impl FromTokens for Report {
 
     ghost nesting = { 6 };
 
-    fn from_tokens(alloc: Global, reader: &mut Reader<'_>) -> Option<Self> {
-        begin_object(reader)?;
+    fn from_tokens(alloc: Global, reader: &mut TokenReader<'_>) -> Option<Self> {
+        reader.begin_object()?;
         let head = next_three(alloc, Key::History, Key::Limits, Key::Picture, reader)?;
         let ending = token_ending(alloc, reader);
         let ((history, limits, picture), (prices, start)) = Some(head).zip(ending)?;

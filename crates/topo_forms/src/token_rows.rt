@@ -6,10 +6,8 @@ ghost use Rattle.topo_forms.specs.RowForms.{sign_form, edge_form, crossing_form,
 ghost use Rattle.topo_forms.specs.Tokens.{Spells};
 
 use crate::path::Key;
-use crate::tokens::{
-    FromTokens, begin_object, end_object, is_text, next_text, next_three, next_two,
-};
-use json::Reader;
+use crate::reader::{TokenReader, is_text};
+use crate::tokens::{FromTokens, next_three, next_two};
 use std::alloc::Global;
 use topo_core::darts::Sign;
 use topo_core::rows::{CrossRow, EdgeRow, Rows};
@@ -19,8 +17,8 @@ impl FromTokens for Sign {
 
     ghost nesting = { 0 };
 
-    fn from_tokens(_alloc: Global, reader: &mut Reader<'_>) -> Option<Self> {
-        let text = next_text(reader)?;
+    fn from_tokens(_alloc: Global, reader: &mut TokenReader<'_>) -> Option<Self> {
+        let text = reader.next_text()?;
         if is_text(text, "ltr") {
             Some(Sign::LeftToRight)
         } else if is_text(text, "rtl") {
@@ -36,11 +34,11 @@ impl FromTokens for EdgeRow {
 
     ghost nesting = { 2 };
 
-    fn from_tokens(alloc: Global, reader: &mut Reader<'_>) -> Option<Self> {
-        begin_object(reader)?;
+    fn from_tokens(alloc: Global, reader: &mut TokenReader<'_>) -> Option<Self> {
+        reader.begin_object()?;
         let (a, b) = next_two(alloc, Key::A, Key::B, reader)?;
         let (crossings, id, kind) = next_three(alloc, Key::Crossings, Key::Id, Key::Kind, reader)?;
-        end_object(reader)?;
+        reader.end_object()?;
         Some(EdgeRow {
             id,
             a,
@@ -56,11 +54,11 @@ impl FromTokens for CrossRow {
 
     ghost nesting = { 1 };
 
-    fn from_tokens(alloc: Global, reader: &mut Reader<'_>) -> Option<Self> {
-        begin_object(reader)?;
+    fn from_tokens(alloc: Global, reader: &mut TokenReader<'_>) -> Option<Self> {
+        reader.begin_object()?;
         let (crossed, id) = next_two(alloc, Key::Crossed, Key::Id, reader)?;
         let (newcomer, sign) = next_two(alloc, Key::Newcomer, Key::Sign, reader)?;
-        end_object(reader)?;
+        reader.end_object()?;
         Some(CrossRow {
             id,
             crossed,
@@ -70,36 +68,28 @@ impl FromTokens for CrossRow {
     }
 }
 
-/// What follows the brace that opens rows.
-pub fn token_members(alloc: Global, reader: &mut Reader<'_>) -> Option<Rows>
-    ensures { IfSome result
-        (λ rows. Spells 4 rows_form (begin_object ∷ reader.old) rows reader.new) }
-{
-    let (crossings, edges) = next_two(alloc, Key::Crossings, Key::Edges, reader)?;
-    let (next_crossing, next_edge, rotations) = next_three(
-        alloc,
-        Key::NextCrossing,
-        Key::NextEdge,
-        Key::Rotations,
-        reader,
-    )?;
-    end_object(reader)?;
-    Some(Rows {
-        rotations,
-        edges,
-        crossings,
-        next_edge,
-        next_crossing,
-    })
-}
-
 impl FromTokens for Rows {
     ghost form = { rows_form };
 
     ghost nesting = { 4 };
 
-    fn from_tokens(alloc: Global, reader: &mut Reader<'_>) -> Option<Self> {
-        begin_object(reader)?;
-        token_members(alloc, reader)
+    fn from_tokens(alloc: Global, reader: &mut TokenReader<'_>) -> Option<Self> {
+        reader.begin_object()?;
+        let (crossings, edges) = next_two(alloc, Key::Crossings, Key::Edges, reader)?;
+        let (next_crossing, next_edge, rotations) = next_three(
+            alloc,
+            Key::NextCrossing,
+            Key::NextEdge,
+            Key::Rotations,
+            reader,
+        )?;
+        reader.end_object()?;
+        Some(Rows {
+            rotations,
+            edges,
+            crossings,
+            next_edge,
+            next_crossing,
+        })
     }
 }

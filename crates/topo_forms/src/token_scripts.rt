@@ -10,23 +10,19 @@ ghost use Rattle.topo_forms.specs.Tokens.{Spells, SpellsMember, SpellsOptional, 
 ghost use Rattle.topo_forms.specs.TokenParts.{SpellsLists};
 
 use crate::path::Key;
+use crate::reader::{TokenReader, is_text};
 use crate::script_forms::{GREATEST_LIMITS, MAX_WORKERS};
 use crate::scripts::Script;
 use crate::token_calls::call_after;
 use crate::token_reports::kept_prices;
-use crate::token_rows::token_members;
-use crate::tokens::{
-    FromTokens, begin_array, begin_object, end_object, is_text, last_numbers, next_member,
-    next_name, next_text,
-};
-use json::{Reader, Token};
+use crate::tokens::{FromTokens, last_numbers, next_member};
 use std::alloc::Global;
 use topo_core::calls::Command;
 use topo_core::listed::Listed;
 use topo_core::rows::Rows;
 
 /// What follows the word of a planned insertion.
-fn token_planned(alloc: Global, reader: &mut Reader<'_>) -> Option<Command>
+fn token_planned(alloc: Global, reader: &mut TokenReader<'_>) -> Option<Command>
     ensures { IfSome result (λ command. Spells 1 command_form
         (begin_array ∷ string (codes "planned") ∷ reader.old) command reader.new) }
 {
@@ -35,7 +31,7 @@ fn token_planned(alloc: Global, reader: &mut Reader<'_>) -> Option<Command>
 }
 
 /// What follows the word of a call.
-fn token_plain(alloc: Global, word: &str, reader: &mut Reader<'_>) -> Option<Command>
+fn token_plain(alloc: Global, word: &[u8], reader: &mut TokenReader<'_>) -> Option<Command>
     ensures { IfSome result (λ command. Spells 1 command_form
         (begin_array ∷ string word.now ∷ reader.old) command reader.new) }
 {
@@ -44,7 +40,7 @@ fn token_plain(alloc: Global, word: &str, reader: &mut Reader<'_>) -> Option<Com
 }
 
 /// What follows the word of a command.
-fn token_command(alloc: Global, word: &str, reader: &mut Reader<'_>) -> Option<Command>
+fn token_command(alloc: Global, word: &[u8], reader: &mut TokenReader<'_>) -> Option<Command>
     ensures { IfSome result (λ command. Spells 1 command_form
         (begin_array ∷ string word.now ∷ reader.old) command reader.new) }
 {
@@ -60,10 +56,22 @@ impl FromTokens for Command {
 
     ghost nesting = { 1 };
 
-    fn from_tokens(alloc: Global, reader: &mut Reader<'_>) -> Option<Self> {
-        begin_array(reader)?;
-        let word = next_text(reader)?;
+    fn from_tokens(alloc: Global, reader: &mut TokenReader<'_>) -> Option<Self> {
+        reader.begin_array()?;
+        let word = reader.next_text()?;
         token_command(alloc, word, reader)
+    }
+}
+
+/// The word for the start that no script need spell.
+fn token_seed(reader: &mut TokenReader<'_>) -> Option<Option<Rows>>
+    ensures { IfSome result (λ start. Spells 4 start_form reader.old start reader.new) }
+{
+    let text = reader.next_text()?;
+    if is_text(text, "seed") {
+        Some(None)
+    } else {
+        None
     }
 }
 
@@ -72,14 +80,12 @@ impl FromTokens for Option<Rows> {
 
     ghost nesting = { 4 };
 
-    fn from_tokens(alloc: Global, reader: &mut Reader<'_>) -> Option<Self> {
-        match reader.next() {
-            Some(Token::String(text)) if is_text(text, "seed") => Some(None),
-            Some(Token::BeginObject) => {
-                let rows = token_members(alloc, reader)?;
-                Some(Some(rows))
-            }
-            _ => None,
+    fn from_tokens(alloc: Global, reader: &mut TokenReader<'_>) -> Option<Self> {
+        if reader.is_at_text() {
+            token_seed(reader)
+        } else {
+            let rows = Rows::from_tokens(alloc, reader)?;
+            Some(Some(rows))
         }
     }
 }
@@ -88,9 +94,9 @@ impl FromTokens for Option<Rows> {
 fn optional_member<'a, T: FromTokens>(
     alloc: Global,
     wanted: Key,
-    name: &'a str,
-    reader: &mut Reader<'a>,
-) -> Option<(Option<T>, &'a str)>
+    name: &'a [u8],
+    reader: &mut TokenReader<'a>,
+) -> Option<(Option<T>, &'a [u8])>
     ensures { IfSome result (λ r. SpellsOptional T.nesting T.form (key_name wanted)
         (key name.now ∷ reader.old) r.0 (key r.1.now ∷ reader.new)) }
 {
@@ -98,7 +104,7 @@ fn optional_member<'a, T: FromTokens>(
         return Some((None, name));
     }
     let found = T::from_tokens(alloc, reader)?;
-    let next = next_name(reader)?;
+    let next = reader.next_name()?;
     Some((Some(found), next))
 }
 
@@ -109,9 +115,9 @@ pub(crate) fn optional_members<'a, A: FromTokens, B: FromTokens, C: FromTokens>(
     first: Key,
     second: Key,
     third: Key,
-    name: &'a str,
-    reader: &mut Reader<'a>,
-) -> Option<((Option<A>, Option<B>, Option<C>), &'a str)>
+    name: &'a [u8],
+    reader: &mut TokenReader<'a>,
+) -> Option<((Option<A>, Option<B>, Option<C>), &'a [u8])>
     ensures { IfSome result (λ r. SpellsOptionals A.nesting B.nesting C.nesting A.form B.form C.form
         (key_name first) (key_name second) (key_name third)
         (key name.now ∷ reader.old) r.0.0 r.0.1 r.0.2 (key r.1.now ∷ reader.new)) }
@@ -129,7 +135,7 @@ pub(crate) fn optional_members<'a, A: FromTokens, B: FromTokens, C: FromTokens>(
 }
 
 /// One to sixteen lists of commands.
-fn token_workers(alloc: Global, reader: &mut Reader<'_>) -> Option<Listed<Listed<Command>>>
+fn token_workers(alloc: Global, reader: &mut TokenReader<'_>) -> Option<Listed<Listed<Command>>>
     ensures { IfSome result
         (λ workers. SpellsMember 3 workers_form (key_name Workers) reader.old workers reader.new) }
 {
@@ -145,8 +151,8 @@ fn token_workers(alloc: Global, reader: &mut Reader<'_>) -> Option<Listed<Listed
 /// What follows the members of a script that may be missing: its version and its lists.
 fn token_ending(
     alloc: Global,
-    name: &str,
-    reader: &mut Reader<'_>,
+    name: &[u8],
+    reader: &mut TokenReader<'_>,
 ) -> Option<(u32, Listed<Listed<Command>>)>
     ensures { IfSome result
         (λ found. SpellsLists (key name.now ∷ reader.old) found.0 found.1 reader.new) }
@@ -156,7 +162,7 @@ fn token_ending(
     }
     let version = u32::from_tokens(alloc, reader)?;
     let workers = token_workers(alloc, reader);
-    end_object(reader).and(Some(version)).zip(workers)
+    reader.end_object().and(Some(version)).zip(workers)
 }
 
 impl FromTokens for Script {
@@ -164,9 +170,9 @@ impl FromTokens for Script {
 
     ghost nesting = { 5 };
 
-    fn from_tokens(alloc: Global, reader: &mut Reader<'_>) -> Option<Self> {
-        begin_object(reader)?;
-        let name = next_name(reader)?;
+    fn from_tokens(alloc: Global, reader: &mut TokenReader<'_>) -> Option<Self> {
+        reader.begin_object()?;
+        let name = reader.next_name()?;
         let Some((front, name)) = optional_members(
             alloc,
             Key::Limits,

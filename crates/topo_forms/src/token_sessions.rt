@@ -6,17 +6,17 @@ ghost use Rattle.topo_forms.specs.Sessions.{opening_form};
 ghost use Rattle.topo_forms.specs.TokenParts.{SpellsVersion};
 
 use crate::path::Key;
+use crate::reader::{TokenReader, is_text};
 use crate::script_forms::GREATEST_LIMITS;
 use crate::sessions::Opening;
 use crate::token_reports::kept_prices;
 use crate::token_scripts::optional_members;
-use crate::tokens::{FromTokens, begin_object, end_object, is_text, next_name};
-use json::Reader;
+use crate::tokens::FromTokens;
 use std::alloc::Global;
 use topo_core::listed::Listed;
 
 /// What follows the members of an opening that may be missing: its version.
-fn token_version(alloc: Global, name: &str, reader: &mut Reader<'_>) -> Option<u32>
+fn token_version(alloc: Global, name: &[u8], reader: &mut TokenReader<'_>) -> Option<u32>
     ensures { IfSome result
         (λ version. SpellsVersion (key name.now ∷ reader.old) version reader.new) }
 {
@@ -24,7 +24,7 @@ fn token_version(alloc: Global, name: &str, reader: &mut Reader<'_>) -> Option<u
         return None;
     }
     let version = u32::from_tokens(alloc, reader)?;
-    end_object(reader).and(Some(version))
+    reader.end_object().and(Some(version))
 }
 
 impl FromTokens for Opening {
@@ -32,9 +32,9 @@ impl FromTokens for Opening {
 
     ghost nesting = { 5 };
 
-    fn from_tokens(alloc: Global, reader: &mut Reader<'_>) -> Option<Self> {
-        begin_object(reader)?;
-        let name = next_name(reader)?;
+    fn from_tokens(alloc: Global, reader: &mut TokenReader<'_>) -> Option<Self> {
+        reader.begin_object()?;
+        let name = reader.next_name()?;
         let Some((front, name)) = optional_members(
             alloc,
             Key::Limits,

@@ -17,6 +17,10 @@ const OTHERWISE: &str =
     "edges":[{"id":0,"a":0,"b":1,"kind":1,"crossings":[]},{"a":1,"b":2,"crossings":[0],"id":1,"kind":2},{"a":2,"b":0,"crossings":[],"id":2,"kind":3},{"a":3,"b":0,"crossings":[],"id":3,"kind":0},{"a":3,"b":1,"crossings":[],"id":4,"kind":0},{"a":3,"b":2,"crossings":[],"id":5,"kind":0},{"a":4,"b":0,"crossings":[],"id":6,"kind":0},{"a":4,"b":1,"crossings":[],"id":7,"kind":0},{"a":4,"b":2,"crossings":[],"id":8,"kind":0},{"a":3,"b":4,"crossings":[0],"\u0069d":9,"kind":0}],
     "next_crossing":1 } "#;
 
+/// `JOINED` with each blank that may stand between tokens.
+const SPACED: &str =
+    "\n{ \"crossings\" :[ {\"crossed\":\t1,\"id\":0 , \"newcomer\":9,\r\n\"sign\":\"rtl\" } ] ,\"edges\":[{\"a\":0,\"b\":1,\"crossings\":[ ],\"id\":0,\"kind\":1},{\"a\":1,\"b\":2,\"crossings\":[0 ],\"id\":1,\"kind\":2\n},{\"a\":2,\"b\":0,\"crossings\":[],\"id\":2,\"kind\":3},{\"a\":3,\"b\":0,\"crossings\":[],\"id\":3,\"kind\":0},{\"a\":3,\"b\":1,\"crossings\":[],\"id\":4,\"kind\":0},{\"a\":3,\"b\":2,\"crossings\":[],\"id\":5,\"kind\":0},{\"a\":4,\"b\":0,\"crossings\":[],\"id\":6,\"kind\":0},{\"a\":4,\"b\":1,\"crossings\":[],\"id\":7,\"kind\":0},{\"a\":4,\"b\":2,\"crossings\":[],\"id\":8,\"kind\":0},{\"a\":3,\"b\":4,\"crossings\":[0],\"id\":9,\"kind\":0}],\"next_crossing\":1,\"next_edge\":10,\"rotations\":[[0,3,2,6],[0,7,1,4],[1,8,2,5],[3,4,9,5],[6,8,9,7]]}\t\n";
+
 /// A report with a number of its own for each field.
 const EACH_FIELD: &str =
     r#"{"history":[{"call":["grow",20,21,22],"caller":23,"reply":{"edge":24,"vertex":25}},{"call":["insert",26,27,28],"caller":29,"reply":{"crossed":[[30,31,"back"],[32,33,"forward"]],"edge":34,"end":35,"price":36,"start":37}},{"call":["delete",38],"caller":39,"reply":{"refused":[6,"Cut",40]}},{"call":["delete",41],"caller":42,"reply":{"deleted":43}},{"call":["delete",44],"caller":45,"reply":{"refused":[4,"NoEdge"]}}],"limits":{"crossings":46,"edges":47,"vertices":48},"picture":{"crossings":[{"crossed":49,"id":50,"newcomer":51,"sign":"rtl"}],"edges":[{"a":52,"b":53,"crossings":[54],"id":55,"kind":56}],"next_crossing":57,"next_edge":58,"rotations":[[59],[60,61]]},"prices":[62,null,63],"start":{"crossings":[],"edges":[],"next_crossing":64,"next_edge":65,"rotations":[]},"version":2}"#;
@@ -45,6 +49,7 @@ fn report_rewritten(alloc: Global, text: &str) -> Result<String, Fail> {
 const TEXTS: &[(&str, &str, bool)] = &[
     (JOINED, JOINED, false),
     (OTHERWISE, JOINED, false),
+    (SPACED, JOINED, false),
     (EACH_FIELD, EACH_FIELD, true),
     (EACH_OTHERWISE, EACH_FIELD, true),
 ];

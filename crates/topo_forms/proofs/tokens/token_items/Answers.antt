@@ -1,7 +1,7 @@
-use Rattle.std.proofs.Common.{◌≡◌, ◌∷◌, [], ◌++◌, length, None, Some, sym, ap, ◌∙◌, subst, rules, arith, append-nil}
+use Rattle.std.proofs.Common.{◌≡◌, ◌∷◌, [], ◌++◌, length, Some, sym, ap, ◌∙◌, subst, rules, arith, append-nil}
 use Rattle.json.specs.Json.{after_end_array}
 use Rattle.topo_forms.specs.Tokens.{Spells, SpellsItems}
-use Rattle.topo_forms.proofs.Spellings.{tokens-shorter, items_done, item_found}
+use Rattle.topo_forms.proofs.Spellings.{tokens-shorter, spells-going, items_done, item_found}
 use Rattle.topo_forms.proofs.tokens.token_items.Goals as goal
 
 pub items-init : goal.items-init
@@ -10,19 +10,19 @@ items-init g c xs rest h = subst (λ found. SpellsItems g.T.FromTokens.nesting g
 
 pub items-smaller : goal.items-smaller
 items-smaller g c =
-    let going : (after_end_array c.items.reader ≡ None) × (c.take_end_array.new.self ≡ c.items.reader) = grind arith in
+    let kept : c.take_end_array.new.self ≡ c.items.reader = search rules in
     let less = tokens-shorter g.T.FromTokens.nesting g.T.FromTokens.form c.take_end_array.new.self c.in_ok-item.item c.from_tokens.new.reader
     c.in_ok-item.ensures in
-    omega (arith, less, ap length going.1)
+    omega (arith, less, ap length kept)
 
 pub items-preserved : goal.items-preserved
 items-preserved g c =
-    let going : (after_end_array c.items.reader ≡ None) × (c.take_end_array.new.self ≡ c.items.reader) = grind arith in
+    let kept : c.take_end_array.new.self ≡ c.items.reader = search rules in
+    let spelled = subst (λ ts. Spells g.T.FromTokens.nesting g.T.FromTokens.form ts c.in_ok-item.item c.from_tokens.new.reader) kept c.in_ok-item.ensures in
+    let going = spells-going g.T.FromTokens.nesting g.T.FromTokens.form c.items.reader c.in_ok-item.item c.from_tokens.new.reader spelled in
     let pushed : c.push.new.self.items ≡ c.items.found.items ++ c.in_ok-item.item ∷ [] = search rules in
     item_found g.T.FromTokens.nesting g.T.FromTokens.form c.args.reader.now c.items.reader c.from_tokens.new.reader c.items.found.items c.push.new.self.items
-    c.in_ok-item.item going.0
-    (subst (λ ts. Spells g.T.FromTokens.nesting g.T.FromTokens.form ts c.in_ok-item.item c.from_tokens.new.reader) going.1 c.in_ok-item.ensures)
-    pushed c.items.invariant
+    c.in_ok-item.item going spelled pushed c.items.invariant
 
 pub returns : goal.returns
 returns g c =

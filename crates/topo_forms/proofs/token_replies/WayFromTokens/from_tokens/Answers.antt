@@ -8,10 +8,10 @@ pub returns-then-is_text : goal.returns-then-is_text
 unfolding way_form
 returns-then-is_text c =
     let is : c.in_ok-text.text.now ≡ codes "forward" = search rules in
-    word_tokens way_form (codes "forward") c.in_ok-text.text.now Forward c.args.reader.now c.next_text.new.reader c.in_ok-text.ensures is (λ path. refl)
+    word_tokens way_form (codes "forward") c.in_ok-text.text.now Forward c.args.reader.now c.next_text.new.self c.in_ok-text.ensures is (λ path. refl)
 
 pub returns-then-is_text-2 : goal.returns-then-is_text-2
 unfolding way_form
 returns-then-is_text-2 c =
     let is : c.in_ok-text.text.now ≡ codes "back" = search rules in
-    word_tokens way_form (codes "back") c.in_ok-text.text.now Back c.args.reader.now c.next_text.new.reader c.in_ok-text.ensures is (λ path. refl)
+    word_tokens way_form (codes "back") c.in_ok-text.text.now Back c.args.reader.now c.next_text.new.self c.in_ok-text.ensures is (λ path. refl)

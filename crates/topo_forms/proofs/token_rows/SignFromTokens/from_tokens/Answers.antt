@@ -8,10 +8,10 @@ pub returns-then-is_text : goal.returns-then-is_text
 unfolding sign_form
 returns-then-is_text c =
     let is : c.in_ok-text.text.now ≡ codes "ltr" = search rules in
-    word_tokens sign_form (codes "ltr") c.in_ok-text.text.now LeftToRight c.args.reader.now c.next_text.new.reader c.in_ok-text.ensures is (λ path. refl)
+    word_tokens sign_form (codes "ltr") c.in_ok-text.text.now LeftToRight c.args.reader.now c.next_text.new.self c.in_ok-text.ensures is (λ path. refl)
 
 pub returns-then-is_text-2 : goal.returns-then-is_text-2
 unfolding sign_form
 returns-then-is_text-2 c =
     let is : c.in_ok-text.text.now ≡ codes "rtl" = search rules in
-    word_tokens sign_form (codes "rtl") c.in_ok-text.text.now RightToLeft c.args.reader.now c.next_text.new.reader c.in_ok-text.ensures is (λ path. refl)
+    word_tokens sign_form (codes "rtl") c.in_ok-text.text.now RightToLeft c.args.reader.now c.next_text.new.self c.in_ok-text.ensures is (λ path. refl)

@@ -5,5 +5,5 @@ use Rattle.topo_forms.proofs.tokens.U32FromTokens.from_tokens.Goals as goal
 
 pub returns : goal.returns
 returns c =
-    number_tokens (2 ^ 32) c.in_ok-number-2.number c.args.reader.now c.next_number.new.reader
-    (subst (λ (n : ℕ). SpellsNumber c.args.reader.now n c.next_number.new.reader) (sym c.in_ok-number-2.ensures) c.in_ok-number.ensures) (omega arith)
+    number_tokens (2 ^ 32) c.in_ok-number-2.number c.args.reader.now c.next_number.new.self
+    (subst (λ (n : ℕ). SpellsNumber c.args.reader.now n c.next_number.new.self) (sym c.in_ok-number-2.ensures) c.in_ok-number.ensures) (omega arith)

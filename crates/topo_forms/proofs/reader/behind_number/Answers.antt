@@ -1,0 +1,14 @@
+use Rattle.std.proofs.Common.{◌≡◌, ◌<◌, ◌+◌, ◌∷◌, ap, ◌∙◌, rules, arith}
+use Rattle.topo_forms.proofs.Fronts.{digit_text}
+use Rattle.topo_forms.proofs.reader.behind_number.Goals as goal
+
+pub returns-then-first-eq0 : goal.returns-then-first-eq0
+returns-then-first-eq0 c =
+    let front : c.args.bytes.now ≡ (48 + c.in_ok-first.first) ∷ c.in_ok-first.rest.now = search rules in
+    front ∙ ap (λ d. (48 + d) ∷ c.in_ok-first.rest.now) c.if-first-eq0.true ∙ digit_text 0 c.in_ok-first.rest.now (omega arith)
+
+pub returns : goal.returns
+returns c =
+    let front : c.args.bytes.now ≡ (48 + c.in_ok-first.first) ∷ c.in_ok-first.rest.now = search rules in
+    let small : c.in_ok-first.first < 10 = search rules in
+    front ∙ digit_text c.in_ok-first.first c.in_ok-first.rest.now small ∙ c.in_ok-number.ensures
