@@ -31,8 +31,9 @@ def path_picture() -> Dict[str, Any]:
 
 
 def growths() -> Dict[str, Any]:
-    """A script that grows a star."""
-    return {"version": 1, "workers": [[["grow", 0, 0, 0]] * COUNT]}
+    """A script that grows a star, and then has a command for each other kind of reply."""
+    others = [["insert", 1, 3, 0], ["planned", 2, 5, 1], ["delete", 1], ["delete", 0], ["delete", COUNT + 2], ["delete", COUNT + 9]]
+    return {"prices": [1, 2, None], "version": 2, "workers": [[["grow", 0, 0, 0]] * COUNT + others]}
 
 
 def own_layout(form: Dict[str, Any]) -> bytes:
