@@ -14,7 +14,7 @@ use crate::steps::{apply_entry, decide_in_place};
 use std::alloc::{AllocError, Global};
 use std::fmt;
 use thiserror::Error;
-use topo_core::calls::Entry;
+use topo_core::calls::{Entry, Reply};
 use topo_picture::Picture;
 use topo_price::tariff::{PriceFn, Tariff};
 
@@ -130,8 +130,27 @@ fn replay_all<F: PriceFn>(
     Ok(())
 }
 
+/// How many vertices and how many edges entries add, if their replies are the ones due. No contract
+/// rests on it.
+fn most_added(entries: &[Entry]) -> (usize, usize) {
+    let mut vertices = 0usize;
+    let mut edges = 0usize;
+    for entry in entries {
+        match entry.reply {
+            Reply::Grown { .. } => {
+                vertices = vertices.saturating_add(1);
+                edges = edges.saturating_add(1);
+            }
+            Reply::Inserted(_) => edges = edges.saturating_add(1),
+            Reply::Deleted(_) | Reply::Refused(_) => {}
+        }
+    }
+    (vertices, edges)
+}
+
 /// The picture that the entries lead to from the start, each call carried out again. A reply that
-/// is not the one due in the picture at that point ends it. The start is copied, and stays.
+/// is not the one due in the picture at that point ends it. The start is copied, and stays. Room for
+/// what the entries add is made first.
 pub fn replay<F: PriceFn>(
     alloc: Global,
     start: &Picture,
@@ -151,6 +170,10 @@ pub fn replay<F: PriceFn>(
     let Ok(mut picture) = start.copy(alloc) else {
         return Err(ReplayFault::Memory);
     };
+    let (vertices, edges) = most_added(entries);
+    if picture.reserve(vertices, edges).is_err() {
+        return Err(ReplayFault::Memory);
+    }
     let Ok(mut scratch) = Scratch::new(alloc) else {
         return Err(ReplayFault::Memory);
     };

@@ -1,5 +1,6 @@
 -- A reader of tokens: what is left of its text.
 use Rattle.std.specs.Prelude.{ℕ, List, Bool, ◌||◌, ◌==◌}
+use Rattle.json.specs.Ascii as ascii
 use Rattle.json.specs.Lex as lex
 use Rattle.json.specs.Lex.{between, punctuate}
 use Rattle.json.specs.Token.{Token}
@@ -20,4 +21,4 @@ tokens_left a = punctuate (place_of a.place) (lex.lex between a.rest.now)
 
 -- a comma, or the end of an array or an object, is next
 abbrev pub ends_value : List ℕ → Bool
-ends_value t = (head t == 44) || (head t == 93) || (head t == 125)
+ends_value t = (head t == ascii.comma) || (head t == ascii.close_bracket) || (head t == ascii.close_brace)

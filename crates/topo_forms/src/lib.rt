@@ -8,6 +8,7 @@
 mod calls;
 pub mod fault;
 pub mod form;
+mod lexing;
 pub mod path;
 pub mod prices;
 mod reader;

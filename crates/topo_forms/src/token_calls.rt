@@ -4,7 +4,8 @@ ghost use Rattle.std.specs.Prelude.{◌≡◌, IfSome, codes};
 ghost use Rattle.topo_forms.specs.CallForms.{call_form};
 ghost use Rattle.topo_forms.specs.TokenParts.{SpellsCall};
 
-use crate::reader::{TokenReader, is_text};
+use crate::lexing::bytes_are;
+use crate::reader::TokenReader;
 use crate::tokens::{FromTokens, last_numbers};
 use std::alloc::Global;
 use topo_core::calls::Call;
@@ -38,11 +39,11 @@ fn token_delete(alloc: Global, reader: &mut TokenReader<'_>) -> Option<Call>
 pub fn call_after(alloc: Global, word: &[u8], reader: &mut TokenReader<'_>) -> Option<Call>
     ensures { IfSome result (λ call. SpellsCall word.now reader.old call reader.new) }
 {
-    if is_text(word, "grow") {
+    if bytes_are(word, "grow") {
         token_grow(alloc, reader)
-    } else if is_text(word, "insert") {
+    } else if bytes_are(word, "insert") {
         token_insert(alloc, reader)
-    } else if is_text(word, "delete") {
+    } else if bytes_are(word, "delete") {
         token_delete(alloc, reader)
     } else {
         None

@@ -10,8 +10,9 @@ ghost use Rattle.topo_forms.specs.ReplyForms.{reply_form, entry_form};
 ghost use Rattle.topo_forms.specs.Tokens.{Spells};
 ghost use Rattle.topo_forms.specs.TokenParts.{SpellsRefusal};
 
+use crate::lexing::bytes_are;
 use crate::path::Key;
-use crate::reader::{TokenReader, is_text};
+use crate::reader::TokenReader;
 use crate::tokens::{FromTokens, next_member, next_three, next_two};
 use std::alloc::Global;
 use topo_core::calls::{Entry, Refusal, Reply};
@@ -27,9 +28,9 @@ impl FromTokens for Way {
 
     fn from_tokens(_alloc: Global, reader: &mut TokenReader<'_>) -> Option<Self> {
         let text = reader.next_text()?;
-        if is_text(text, "forward") {
+        if bytes_are(text, "forward") {
             Some(Way::Forward)
-        } else if is_text(text, "back") {
+        } else if bytes_are(text, "back") {
             Some(Way::Back)
         } else {
             None
@@ -77,7 +78,7 @@ fn token_plain(number: u64, name: &[u8], reader: &mut TokenReader<'_>) -> Option
     ensures { IfSome result (λ why. SpellsRefusal number name.now reader.old why reader.new) }
 {
     let (text, why) = refusal_of(number)?;
-    if !is_text(name, text) {
+    if !bytes_are(name, text) {
         return None;
     }
     reader.end_array()?;
@@ -102,7 +103,7 @@ fn token_why(
 ) -> Option<Refusal>
     ensures { IfSome result (λ why. SpellsRefusal number name.now reader.old why reader.new) }
 {
-    if number == 6 && is_text(name, "Cut") {
+    if number == 6 && bytes_are(name, "Cut") {
         token_cut(alloc, reader)
     } else {
         token_plain(number, name, reader)
@@ -175,13 +176,13 @@ fn reply_after(alloc: Global, name: &[u8], reader: &mut TokenReader<'_>) -> Opti
     ensures { IfSome result
         (λ reply. Spells 3 reply_form (begin_object ∷ key name.now ∷ reader.old) reply reader.new) }
 {
-    if is_text(name, "deleted") {
+    if bytes_are(name, "deleted") {
         token_deleted(alloc, reader)
-    } else if is_text(name, "refused") {
+    } else if bytes_are(name, "refused") {
         token_refused(alloc, reader)
-    } else if is_text(name, "crossed") {
+    } else if bytes_are(name, "crossed") {
         token_inserted(alloc, reader)
-    } else if is_text(name, "edge") {
+    } else if bytes_are(name, "edge") {
         token_grown(alloc, reader)
     } else {
         None

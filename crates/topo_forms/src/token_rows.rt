@@ -5,8 +5,9 @@ ghost use Rattle.json.specs.Token.{begin_object};
 ghost use Rattle.topo_forms.specs.RowForms.{sign_form, edge_form, crossing_form, rows_form};
 ghost use Rattle.topo_forms.specs.Tokens.{Spells};
 
+use crate::lexing::bytes_are;
 use crate::path::Key;
-use crate::reader::{TokenReader, is_text};
+use crate::reader::TokenReader;
 use crate::tokens::{FromTokens, next_three, next_two};
 use std::alloc::Global;
 use topo_core::darts::Sign;
@@ -19,9 +20,9 @@ impl FromTokens for Sign {
 
     fn from_tokens(_alloc: Global, reader: &mut TokenReader<'_>) -> Option<Self> {
         let text = reader.next_text()?;
-        if is_text(text, "ltr") {
+        if bytes_are(text, "ltr") {
             Some(Sign::LeftToRight)
-        } else if is_text(text, "rtl") {
+        } else if bytes_are(text, "rtl") {
             Some(Sign::RightToLeft)
         } else {
             None

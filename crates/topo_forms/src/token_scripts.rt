@@ -9,8 +9,9 @@ ghost use Rattle.topo_forms.specs.Scripts.{script_form, start_form, workers_form
 ghost use Rattle.topo_forms.specs.Tokens.{Spells, SpellsMember, SpellsOptional, SpellsOptionals};
 ghost use Rattle.topo_forms.specs.TokenParts.{SpellsLists};
 
+use crate::lexing::bytes_are;
 use crate::path::Key;
-use crate::reader::{TokenReader, is_text};
+use crate::reader::TokenReader;
 use crate::script_forms::{GREATEST_LIMITS, MAX_WORKERS};
 use crate::scripts::Script;
 use crate::token_calls::call_after;
@@ -44,7 +45,7 @@ fn token_command(alloc: Global, word: &[u8], reader: &mut TokenReader<'_>) -> Op
     ensures { IfSome result (λ command. Spells 1 command_form
         (begin_array ∷ string word.now ∷ reader.old) command reader.new) }
 {
-    if is_text(word, "planned") {
+    if bytes_are(word, "planned") {
         token_planned(alloc, reader)
     } else {
         token_plain(alloc, word, reader)
@@ -68,7 +69,7 @@ fn token_seed(reader: &mut TokenReader<'_>) -> Option<Option<Rows>>
     ensures { IfSome result (λ start. Spells 4 start_form reader.old start reader.new) }
 {
     let text = reader.next_text()?;
-    if is_text(text, "seed") {
+    if bytes_are(text, "seed") {
         Some(None)
     } else {
         None
@@ -100,7 +101,7 @@ fn optional_member<'a, T: FromTokens>(
     ensures { IfSome result (λ r. SpellsOptional T.nesting T.form (key_name wanted)
         (key name.now ∷ reader.old) r.0 (key r.1.now ∷ reader.new)) }
 {
-    if !is_text(name, wanted.name()) {
+    if !bytes_are(name, wanted.name()) {
         return Some((None, name));
     }
     let found = T::from_tokens(alloc, reader)?;
@@ -157,7 +158,7 @@ fn token_ending(
     ensures { IfSome result
         (λ found. SpellsLists (key name.now ∷ reader.old) found.0 found.1 reader.new) }
 {
-    if !is_text(name, Key::Version.name()) {
+    if !bytes_are(name, Key::Version.name()) {
         return None;
     }
     let version = u32::from_tokens(alloc, reader)?;

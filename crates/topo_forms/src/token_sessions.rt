@@ -5,8 +5,9 @@ ghost use Rattle.json.specs.Token.{key};
 ghost use Rattle.topo_forms.specs.Sessions.{opening_form};
 ghost use Rattle.topo_forms.specs.TokenParts.{SpellsVersion};
 
+use crate::lexing::bytes_are;
 use crate::path::Key;
-use crate::reader::{TokenReader, is_text};
+use crate::reader::TokenReader;
 use crate::script_forms::GREATEST_LIMITS;
 use crate::sessions::Opening;
 use crate::token_reports::kept_prices;
@@ -20,7 +21,7 @@ fn token_version(alloc: Global, name: &[u8], reader: &mut TokenReader<'_>) -> Op
     ensures { IfSome result
         (λ version. SpellsVersion (key name.now ∷ reader.old) version reader.new) }
 {
-    if !is_text(name, Key::Version.name()) {
+    if !bytes_are(name, Key::Version.name()) {
         return None;
     }
     let version = u32::from_tokens(alloc, reader)?;

@@ -3,8 +3,8 @@ use Rattle.topo_forms.specs.Paths.{key_name}
 use Rattle.topo_forms.specs.Tokens.{Spells}
 use Rattle.topo_forms.proofs.token_scripts.optional_member.Goals as goal
 
-pub returns-then-not-is_text : goal.returns-then-not-is_text
-returns-then-not-is_text g c = refl
+pub returns-then-not-bytes_are : goal.returns-then-not-bytes_are
+returns-then-not-bytes_are g c = refl
 
 pub returns : goal.returns
 returns g c =

@@ -1,5 +1,5 @@
 use Rattle.std.proofs.Common.{◌≡◌, ◌∷◌, true, sym, ap, ◌∙◌, rules}
-use Rattle.json.specs.Lex.{lex, between, punctuate, fresh, may_begin}
+use Rattle.json.specs.Lex.{lex, between, punctuate, may_begin}
 use Rattle.json.specs.Token.{begin_object}
 use Rattle.topo_forms.specs.Readers.{place_of}
 use Rattle.topo_forms.proofs.Fronts.{begun_object}
@@ -11,4 +11,4 @@ returns c =
     let seen : c.args.self.now ≡ punctuate p (lex between c.self.inside.rest.now) = search rules in
     let allowed : may_begin p ≡ true = search rules in
     seen ∙ begun_object p c.self.inside.rest.now c.in_ok-rest.rest.now allowed c.in_ok-rest.ensures
-    ∙ ap (λ l. begin_object ∷ punctuate fresh l) (sym c.behind_gap-self-inside.ensures)
+    ∙ ap (λ ts. begin_object ∷ ts) (sym c.go_inside.ensures)

@@ -12,4 +12,4 @@ returns c =
     let seen : c.args.self.now ≡ punctuate p (lex between c.self.inside.rest.now) = search rules in
     let allowed : may_close p ≡ true = search rules in
     ap read_key (seen ∙ closed_object p c.self.inside.rest.now c.in_ok-rest.rest.now allowed c.in_ok-rest.ensures
-    ∙ ap (λ ts. end_object ∷ ts) (sym c.behind_value-place.ensures))
+    ∙ ap (λ ts. end_object ∷ ts) (sym c.go_behind.ensures))

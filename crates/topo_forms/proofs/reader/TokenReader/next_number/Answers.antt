@@ -19,6 +19,6 @@ returns c =
       decimal n,
       seen ∙ ap (punctuate p) (number_front n c.self.inside.rest.now rest fits c.in_ok-number.ensures ended)
           ∙ number_token p (decimal n) (lex between rest) allowed
-          ∙ ap (λ ts. number (decimal n) ∷ ts) (sym c.behind_value-place.ensures),
+          ∙ ap (λ ts. number (decimal n) ∷ ts) (sym c.go_behind.ensures),
       number_of-decimal n fits,
     )

@@ -16,4 +16,4 @@ returns c =
     let last : begins_colon (lex between behind) ≡ false =
     ap begins_colon (sym c.behind_gap-rest.ensures) ∙ no_colon c.behind_gap-rest.result.now ended in
     seen ∙ ap (punctuate p) c.in_ok-text.ensures ∙ text_token p text (lex between behind) allowed last
-    ∙ ap (λ ts. string text ∷ ts) (ap (punctuate after_value) (sym c.behind_gap-rest.ensures) ∙ sym c.behind_value-place.ensures)
+    ∙ ap (λ ts. string text ∷ ts) (ap (punctuate after_value) (sym c.behind_gap-rest.ensures) ∙ sym c.go_behind.ensures)

@@ -12,4 +12,4 @@ returns-in-Some c =
     let seen : c.args.self.now ≡ punctuate p (lex between c.self.inside.rest.now) = search rules in
     let allowed : may_close p ≡ true = search rules in
     ap after_end_array (seen ∙ closed_array p c.self.inside.rest.now c.in-Some.rest.now allowed c.in-Some.ensures
-    ∙ ap (λ ts. end_array ∷ ts) (sym c.behind_value-place.ensures))
+    ∙ ap (λ ts. end_array ∷ ts) (sym c.go_behind.ensures))

@@ -1,7 +1,7 @@
 use Rattle.std.proofs.Common.{◌≡◌, ◌∷◌, true, sym, subst, ap, ◌∙◌, rules}
 use Rattle.json.specs.Lex.{lex, between, token, punctuate, may_begin}
 use Rattle.json.specs.Print.{escape}
-use Rattle.json.specs.Token.{string}
+use Rattle.json.specs.Token.{key, string}
 use Rattle.topo_forms.specs.Paths.{key_name}
 use Rattle.topo_forms.specs.Readers.{place_of}
 use Rattle.topo_forms.proofs.Fronts.{key_escape, key_token}
@@ -19,4 +19,4 @@ returns c =
     let quoted : lex between c.self.inside.rest.now ≡ token (string name) ∷ lex between c.in_ok-named.named.now =
     c.in_ok-named.ensures ∙ ap (λ t. token (string t) ∷ lex between c.in_ok-named.named.now) c.name.ensures in
     seen ∙ ap (punctuate p) (quoted ∙ ap (λ l. token (string name) ∷ l) c.in_ok-rest.ensures)
-    ∙ key_token p name (lex between c.in_ok-rest.rest.now) allowed
+    ∙ key_token p name (lex between c.in_ok-rest.rest.now) allowed ∙ ap (λ ts. key name ∷ ts) (sym c.go_inside.ensures)

@@ -14,4 +14,4 @@ returns-in-Some c =
     let allowed : may_begin p ≡ true = search rules in
     let ended : ends_word rest ≡ true = search rules in
     seen ∙ ap (punctuate p) (null_front c.self.inside.rest.now rest c.in-Some.ensures ended)
-    ∙ null_token p (lex between rest) allowed ∙ ap (λ ts. null ∷ ts) (sym c.behind_value-place.ensures)
+    ∙ null_token p (lex between rest) allowed ∙ ap (λ ts. null ∷ ts) (sym c.go_behind.ensures)

@@ -4,14 +4,14 @@ use Rattle.topo_forms.specs.ReplyForms.{way_form}
 use Rattle.topo_forms.proofs.Spellings.{word_tokens}
 use Rattle.topo_forms.proofs.token_replies.WayFromTokens.from_tokens.Goals as goal
 
-pub returns-then-is_text : goal.returns-then-is_text
+pub returns-then-bytes_are : goal.returns-then-bytes_are
 unfolding way_form
-returns-then-is_text c =
+returns-then-bytes_are c =
     let is : c.in_ok-text.text.now ≡ codes "forward" = search rules in
     word_tokens way_form (codes "forward") c.in_ok-text.text.now Forward c.args.reader.now c.next_text.new.self c.in_ok-text.ensures is (λ path. refl)
 
-pub returns-then-is_text-2 : goal.returns-then-is_text-2
+pub returns-then-bytes_are-2 : goal.returns-then-bytes_are-2
 unfolding way_form
-returns-then-is_text-2 c =
+returns-then-bytes_are-2 c =
     let is : c.in_ok-text.text.now ≡ codes "back" = search rules in
     word_tokens way_form (codes "back") c.in_ok-text.text.now Back c.args.reader.now c.next_text.new.self c.in_ok-text.ensures is (λ path. refl)

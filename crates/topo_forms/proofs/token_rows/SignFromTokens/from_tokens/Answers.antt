@@ -4,14 +4,14 @@ use Rattle.topo_forms.specs.RowForms.{sign_form}
 use Rattle.topo_forms.proofs.Spellings.{word_tokens}
 use Rattle.topo_forms.proofs.token_rows.SignFromTokens.from_tokens.Goals as goal
 
-pub returns-then-is_text : goal.returns-then-is_text
+pub returns-then-bytes_are : goal.returns-then-bytes_are
 unfolding sign_form
-returns-then-is_text c =
+returns-then-bytes_are c =
     let is : c.in_ok-text.text.now ≡ codes "ltr" = search rules in
     word_tokens sign_form (codes "ltr") c.in_ok-text.text.now LeftToRight c.args.reader.now c.next_text.new.self c.in_ok-text.ensures is (λ path. refl)
 
-pub returns-then-is_text-2 : goal.returns-then-is_text-2
+pub returns-then-bytes_are-2 : goal.returns-then-bytes_are-2
 unfolding sign_form
-returns-then-is_text-2 c =
+returns-then-bytes_are-2 c =
     let is : c.in_ok-text.text.now ≡ codes "rtl" = search rules in
     word_tokens sign_form (codes "rtl") c.in_ok-text.text.now RightToLeft c.args.reader.now c.next_text.new.self c.in_ok-text.ensures is (λ path. refl)

@@ -1,6 +1,6 @@
 use Rattle.std.proofs.Common.{◌≡◌, length}
 use Rattle.json.specs.Lex.{lex, between}
-use Rattle.topo_forms.proofs.reader.behind_gap.Given as goal
+use Rattle.topo_forms.proofs.lexing.behind_gap.Given as goal
 
 -- only a gap was passed
 abbrev pub invariant-loop-rest : goal.invariant-loop-rest

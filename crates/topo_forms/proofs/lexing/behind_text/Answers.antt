@@ -1,7 +1,7 @@
 use Rattle.std.proofs.Common.{◌≡◌, ◌∷◌, take, sym, ap, ◌∙◌, subst}
 use Rattle.json.specs.Print.{escape}
 use Rattle.topo_forms.proofs.Fronts.{plain_escape, text_front, text_split}
-use Rattle.topo_forms.proofs.reader.behind_text.Goals as goal
+use Rattle.topo_forms.proofs.lexing.behind_text.Goals as goal
 
 pub returns : goal.returns
 returns c =

@@ -1,5 +1,5 @@
 use Rattle.std.proofs.Common.{◌≡◌, ◌++◌, ◌<◌, decimal, length}
-use Rattle.topo_forms.proofs.reader.behind_digits.Given as goal
+use Rattle.topo_forms.proofs.lexing.behind_digits.Given as goal
 
 -- the digits that were passed write the number
 abbrev pub invariant-loop-digit : goal.invariant-loop-digit

@@ -1,5 +1,5 @@
 use Rattle.std.proofs.Common.{◌≡◌, ◌≤◌, length, drop, bytes_eq}
-use Rattle.topo_forms.proofs.reader.is_text.Given as goal
+use Rattle.topo_forms.proofs.lexing.bytes_are.Given as goal
 
 -- the bytes from here on were compared
 abbrev pub invariant-loop-i : goal.invariant-loop-i

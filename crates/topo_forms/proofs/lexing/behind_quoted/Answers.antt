@@ -1,6 +1,6 @@
 use Rattle.std.proofs.Common.{◌∷◌, ◌++◌, ap, ◌∙◌}
 use Rattle.topo_forms.proofs.Fronts.{text_front}
-use Rattle.topo_forms.proofs.reader.behind_quoted.Goals as goal
+use Rattle.topo_forms.proofs.lexing.behind_quoted.Goals as goal
 
 pub returns : goal.returns
 returns c =

@@ -1,6 +1,6 @@
 use Rattle.std.proofs.Common.{◌≡◌, ◌<◌, ◌+◌, ◌∷◌, ap, ◌∙◌, rules, arith}
 use Rattle.topo_forms.proofs.Fronts.{digit_text}
-use Rattle.topo_forms.proofs.reader.behind_number.Goals as goal
+use Rattle.topo_forms.proofs.lexing.behind_number.Goals as goal
 
 pub returns-then-first-eq0 : goal.returns-then-first-eq0
 returns-then-first-eq0 c =

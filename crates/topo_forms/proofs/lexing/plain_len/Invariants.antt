@@ -1,7 +1,7 @@
 use Rattle.std.proofs.Common.{◌≡◌, ◌+◌, ◌-◌, ◌≤◌, drop, length}
 use Rattle.std.specs.List.{prefix_len}
 use Rattle.json.specs.Run.{is_plain}
-use Rattle.topo_forms.proofs.reader.plain_len.Given as goal
+use Rattle.topo_forms.proofs.lexing.plain_len.Given as goal
 
 -- all bytes before i are plain
 abbrev pub invariant-loop-i : goal.invariant-loop-i

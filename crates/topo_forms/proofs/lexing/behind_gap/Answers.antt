@@ -1,7 +1,7 @@
 use Rattle.std.proofs.Common.{◌<◌, length, ap, ◌∙◌, rules, arith}
 use Rattle.json.specs.Lex.{lex, between}
 use Rattle.topo_forms.proofs.Fronts.{gap_passed_at}
-use Rattle.topo_forms.proofs.reader.behind_gap.Goals as goal
+use Rattle.topo_forms.proofs.lexing.behind_gap.Goals as goal
 
 pub loop-rest-preserved : goal.loop-rest-preserved
 loop-rest-preserved c =

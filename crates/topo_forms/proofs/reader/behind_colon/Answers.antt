@@ -1,9 +1,0 @@
-use Rattle.std.proofs.Common.{◌∷◌, sym, ap, ◌∙◌}
-use Rattle.json.specs.Lex.{colon}
-use Rattle.topo_forms.proofs.Fronts.{colon_front}
-use Rattle.topo_forms.proofs.reader.behind_colon.Goals as goal
-
-pub returns : goal.returns
-returns c =
-    sym c.behind_gap.ensures ∙ colon_front c.behind_gap.result.now c.in_ok-rest.rest.now c.in_ok-rest.ensures
-    ∙ ap (λ l. colon ∷ l) (sym c.behind_gap-2.ensures)
