@@ -2,6 +2,7 @@ pub mod Bytes
 pub mod Fronts
 pub mod Items
 pub mod Lookups
+pub mod Objects
 pub mod PriceLists
 pub mod TokenCalls
 pub mod TokenReplies

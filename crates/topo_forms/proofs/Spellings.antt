@@ -4,15 +4,15 @@ use Rattle.std.proofs.Common.{IfSome, IsUtf8, option_and_then, refl, ap, ◌∙�
 use Rattle.json.specs.Token.{Token}
 use Rattle.json.specs.Lex.{tokens}
 use Rattle.json.specs.Json as json
-use Rattle.json.specs.Json.{parse_map, after_end_array, read_key, items, members, value, value_with}
-use Rattle.json.proofs.Grammar.{left, value_is, value-begin_array, value-begin_object, skip_value-shorter}
-use Rattle.json.proofs.Grammar.{read_key-shorter, items_end, items_more, members_end, members_more}
-use Rattle.serde_json.specs.Data.{Data, unsigned, number, string, array, object, Items, item, no_items, Members, no_members, put}
-use Rattle.serde_json.specs.Read.{of_json, of_members, max_depth, read}
+use Rattle.json.specs.Json.{parse_map, after_end_array, items, value, value_with}
+use Rattle.json.proofs.Grammar.{left, value_is, value-begin_array, skip_value-shorter}
+use Rattle.json.proofs.Grammar.{items_end, items_more}
+use Rattle.serde_json.specs.Data.{Data, unsigned, number, string, array, Items, item, no_items}
+use Rattle.serde_json.specs.Read.{of_json, max_depth, read}
 use Rattle.topo_forms.specs.declared.path.Path.{Path}
 use Rattle.topo_forms.specs.Paths.{element_of}
 use Rattle.topo_forms.specs.Reads.{Read, and_then, number_below, list_form, items_from, value_of}
-use Rattle.topo_forms.specs.Tokens.{Spells, SpellsItems, GoesOn, SpellsMember, SpellsNumber, SpellsNumbers, SpellsText}
+use Rattle.topo_forms.specs.Tokens.{Spells, SpellsItems, GoesOn, SpellsNumber, SpellsNumbers, SpellsText}
 use Rattle.topo_forms.proofs.Bytes.{within as within_limit, json_of-read}
 use Rattle.topo_forms.proofs.Steps.{went}
 
@@ -174,44 +174,6 @@ few_tokens nesting {mid} ds e more read = record {
   spelled = array ds;
   begins = λ depth le. ap (value depth) e ∙ value-begin_array depth mid (omega arith)
       ∙ ap (parse_map json.array) (more.begins (depth - 1) (length mid) (omega arith) (omega arith));
-  means = rw more.means;
-  reads = read;
-}
-
--- ---- Objects
-
--- the tokens go on with members up to the end of an object, and these, put to the old ones, are `ms`
-pub record MembersTo (nesting : ℕ) (ts : List Token) (old ms : Members) (rest : List Token) : Type 0 where
-  pub written : json.Members
-  pub begins : (depth n : ℕ) → nesting ≤ depth → length ts ≤ n → members (value depth) n ts ≡ Some (written, rest)
-  pub means : of_members written old ≡ Some ms
-
-pub members_done : {nesting : ℕ} {ts rest : List Token} {old : Members} → read_key ts ≡ Some (None, rest) → MembersTo nesting ts old old rest
-members_done {ts} {rest} e = record {
-  written = json.no_members;
-  begins = λ depth n d le. members_end (value depth) n ts rest le e;
-  means = refl;
-}
-
-pub member_then : {A : Type 0} {inner nesting : ℕ} {form : Path → Data → Read A} {name : List ℕ} {ts : List Token} {a : A} {mid rest : List Token}
-    {old ms : Members} → (m : SpellsMember inner form name ts a mid) → inner ≤ nesting → MembersTo nesting mid (put name m.2.spelled old) ms rest
-    → MembersTo nesting ts old ms rest
-member_then {inner} {form} {name} {ts} {a} {mid} m within more =
-    let less = read_key-shorter ts (Some name) m.0 m.1 in
-    let lesser = tokens-shorter inner form m.0 a mid m.2 in record {
-      written = json.member name m.2.written more.written;
-      begins = λ depth n d le. members_more (value depth) n name ts m.0 mid m.2.written (omega arith) m.1 (m.2.begins depth (omega arith))
-          ∙ ap (parse_map (json.member name m.2.written)) (more.begins depth (n - 1) d (omega arith));
-      means = rw m.2.means more.means;
-    }
-
-pub object_tokens : {A : Type 0} (nesting : ℕ) {form : Path → Data → Read A} {ts mid rest : List Token} {a : A} (ms : Members) → ts ≡ Token.begin_object ∷ mid
-    → MembersTo nesting mid no_members ms rest → ((path : Path) → form path (object ms) ≡ Ok a) → Spells (nesting + 1) form ts a rest
-object_tokens nesting {mid} ms e more read = record {
-  written = json.object more.written;
-  spelled = object ms;
-  begins = λ depth le. ap (value depth) e ∙ value-begin_object depth mid (omega arith)
-      ∙ ap (parse_map json.object) (more.begins (depth - 1) (length mid) (omega arith) (omega arith));
   means = rw more.means;
   reads = read;
 }

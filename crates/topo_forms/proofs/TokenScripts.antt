@@ -1,32 +1,33 @@
 -- Tokens that spell scripts.
-use Rattle.std.proofs.Common.{◌≡◌, ℕ, ◌≤◌, Bool, true, List, [], ◌∷◌, codes, Option, Some, None, IfSome, Ok, unwrap_or, refl, sym, ap, subst, ◌∙◌, arith}
-use Rattle.std.specs.Option.{option_and, option_zip}
-use Rattle.json.specs.Token.{Token, begin_object}
-use Rattle.json.specs.Json.{read_key}
-use Rattle.serde_json.specs.Data.{Data, object, Members, no_members, put}
+use Rattle.std.proofs.Common.{◌≡◌, ℕ, ◌<◌, ◌≤◌, Bool, true, List, [], ◌∷◌, length, Option, Some, None, Ok, unwrap_or, refl, sym, ap, subst, ◌∙◌}
+use Rattle.std.specs.Option.{is_none}
+use Rattle.std.specs.List.{list_any}
+use Rattle.json.specs.Token.{Token}
+use Rattle.serde_json.specs.Data.{Data, object, Members}
 use Rattle.serde_json.specs.Find.{get}
-use Rattle.topo_core.specs.declared.calls.Command.{Command}
 use Rattle.topo_core.specs.declared.rows.Rows.{Rows}
 use Rattle.topo_forms.specs.declared.path.Key.{Key}
 use Rattle.topo_forms.specs.declared.path.Key.TheVariants.{Limits, Prices, Start, Version, Workers}
 use Rattle.topo_forms.specs.declared.path.Path.{Path}
+use Rattle.topo_forms.specs.declared.script_forms.TheConstants.{MAX_WORKERS}
 use Rattle.topo_forms.specs.declared.scripts.LimitRows.{LimitRows}
 use Rattle.topo_forms.specs.declared.scripts.Script.{Script}
+use Rattle.topo_forms.specs.CallForms.{command_form}
 use Rattle.topo_forms.specs.Paths.{key_name, whole}
+use Rattle.topo_core.specs.declared.rows.TheConstants.{KINDS}
+use Rattle.topo_forms.specs.Prices.{without_ones}
 use Rattle.topo_forms.specs.Reads.{Read, and_then, number_form, list_form, has_keys, member_or}
 use Rattle.topo_forms.specs.Scripts.{greatest_limits, limits_form, nulls_of, nulls_in, price_form, prices_form, start_form, workers_form, script_form}
-use Rattle.topo_forms.specs.Tokens.{Spells, SpellsMember, SpellsOptional, SpellsOptionals}
-use Rattle.topo_forms.specs.TokenParts.{ArePricesOf, SpellsLists}
+use Rattle.topo_forms.specs.Slots.{members_of, IsHeld, SpellsValue}
+use Rattle.topo_forms.specs.Tokens.{Spells}
+use Rattle.topo_forms.specs.TokenParts.{ArePricesOf}
 use Rattle.topo_forms.proofs.Lookups.{member_read}
-use Rattle.topo_forms.proofs.TokenReports.{prices_read, zip_ends, zip_starts}
-use Rattle.topo_forms.proofs.Spellings.{MembersTo, members_done, member_then, object_tokens}
+use Rattle.topo_forms.proofs.Objects.{IsDue, IsMaybe, maybe, then, object_tokens}
 use Rattle.topo_forms.proofs.Steps.{went}
+use Rattle.topo_forms.proofs.TokenReports.{prices_read}
+use Rattle.topo_forms.proofs.TokenStarts.{workers_read}
 
 -- ---- Members that may be missing
-
-abbrev pub optional : List ℕ → Option Data → Members → Members
-optional name None ms = ms
-optional name (Some d) ms = put name d ms
 
 -- what is read of such a member
 abbrev pub AreRead : {A : Type 0} → (Path → Data → Read A) → A → Option Data → A → Type 0
@@ -40,31 +41,20 @@ unfolding member_or
 optional_read form default path k d None a there read = rw there (ap (λ x. Ok x) read)
 optional_read form default path k d (Some found) a there read = rw there (member_read form path k d there read)
 
-module _ {A : Type 0} (nesting : ℕ) (form : Path → Data → Read A) (name : List ℕ) (ts mid : List Token) where
-  abbrev pub data_of : (o : Option A) → SpellsOptional nesting form name ts o mid → Option Data
-  data_of None m = None
-  data_of (Some a) m = Some m.2.spelled
+pub or_default : {A : Type 0} (form : Path → Data → Read A) (default : A) (o : Option A) (d : Option Data) → IsHeld form o d → AreRead form default d (unwrap_or o default)
+or_default form default None None held = refl
+or_default form default None (Some d) held = absurd held
+or_default form default (Some a) None held = absurd held
+or_default form default (Some a) (Some d) held = held
 
-  pub optional_then : {outer : ℕ} {rest : List Token} {old ms : Members} (o : Option A) (m : SpellsOptional nesting form name ts o mid) → nesting ≤ outer
-      → MembersTo outer mid (optional name (data_of o m) old) ms rest → MembersTo outer ts old ms rest
-  optional_then {outer} {rest} {old} {ms} None m within more = subst (λ us. MembersTo outer us old ms rest) (sym m) more
-  optional_then (Some a) m within more = member_then m within more
-
-  pub or_default : (default : A) (o : Option A) (m : SpellsOptional nesting form name ts o mid) → AreRead form default (data_of o m) (unwrap_or o default)
-  or_default default None m = refl
-  or_default default (Some a) m = m.2.reads
-
-pub prices_or_none : (n : ℕ) (ts mid : List Token) (o : Option (List (Option ℕ)))
-    (m : SpellsOptional 1 (list_form (price_form true)) (key_name Prices) ts o mid) (kept : List (Option ℕ))
-    → (h : ArePricesOf n (unwrap_or o []) kept) → AreRead (prices_form h.0) [] (data_of 1 (list_form (price_form true)) (key_name Prices) ts mid o m) kept
-prices_or_none n ts mid None m kept h = sym h.4
-prices_or_none n ts mid (Some ps) m kept h = λ path. prices_read h.0 path m.2.spelled ps kept (m.2.reads path) h.2 h.3 h.4
+prices_or_none : (n : ℕ) (o : Option (List (Option ℕ))) (d : Option Data) (kept : List (Option ℕ)) → IsHeld (list_form (price_form true)) o d
+    → (h : ArePricesOf n (unwrap_or o []) kept) → AreRead (prices_form h.0) [] d kept
+prices_or_none n None None kept held h = sym h.4
+prices_or_none n None (Some d) kept held h = absurd held
+prices_or_none n (Some ps) None kept held h = absurd held
+prices_or_none n (Some ps) (Some d) kept held h = λ path. prices_read h.0 path d ps kept (held path) h.2 h.3 h.4
 
 -- ---- The limits, the prices and the start, which may be missing
-
-abbrev pub SpellsFront : List Token → Option LimitRows → Option (List (Option ℕ)) → Option (Option Rows) → List Token → Type 0
-SpellsFront ts l p s rest =
-    SpellsOptionals 1 1 4 limits_form (list_form (price_form true)) start_form (key_name Limits) (key_name Prices) (key_name Start) ts l p s rest
 
 -- what each of them is read as
 pub record AreFront (l p s : Option Data) (nulls : Bool) (limits : LimitRows) (prices : List (Option ℕ)) (start : Option Rows) : Type 0 where
@@ -72,45 +62,30 @@ pub record AreFront (l p s : Option Data) (nulls : Bool) (limits : LimitRows) (p
   pub of_prices : AreRead (prices_form nulls) [] p prices
   pub of_start : AreRead start_form None s start
 
-module _ (r0 r1 : List Token) (l : Option LimitRows) (p : Option (List (Option ℕ))) (s : Option (Option Rows)) (front : SpellsFront r0 l p s r1) where
-  abbrev pub limits_data : Option Data
-  limits_data = data_of 1 limits_form (key_name Limits) r0 front.one l front.first
-
-  abbrev pub prices_data : Option Data
-  prices_data = data_of 1 (list_form (price_form true)) (key_name Prices) front.one front.two p front.second
-
-  abbrev pub start_data : Option Data
-  start_data = data_of 4 start_form (key_name Start) front.two r1 s front.third
-
-  pub front_then : {rest : List Token} {ms : Members}
-      → MembersTo 4 r1 (optional (codes "start") start_data (optional (codes "prices") prices_data (optional (codes "limits") limits_data no_members))) ms rest
-      → MembersTo 4 r0 no_members ms rest
-  front_then more =
-      optional_then 1 limits_form _ r0 front.one l front.first (omega arith)
-      (optional_then 1 (list_form (price_form true)) _ front.one front.two p front.second (omega arith)
-      (optional_then 4 start_form _ front.two r1 s front.third (omega arith) more))
-
-  pub front_read : (n : ℕ) {limits : LimitRows} {prices : List (Option ℕ)} {start : Option Rows} → limits ≡ unwrap_or l greatest_limits
-      → (kept : ArePricesOf n (unwrap_or p []) prices) → start ≡ unwrap_or s None → AreFront limits_data prices_data start_data kept.0 limits prices start
-  front_read n {prices} same kept begun = record {
-    of_limits = subst (AreRead limits_form greatest_limits limits_data) (sym same) (or_default 1 limits_form _ r0 front.one greatest_limits l front.first);
-    of_prices = prices_or_none n front.one front.two p front.second prices kept;
-    of_start = subst (AreRead start_form None start_data) (sym begun) (or_default 4 start_form _ front.two r1 None s front.third);
-  }
-
--- them, and the ending that is zipped to them
-pub zip_front : {B : Type 0} (front : Option LimitRows × Option (List (Option ℕ)) × Option (Option Rows)) (ending : Option B) (P : B → Type 0)
-    {p : (Option LimitRows × Option (List (Option ℕ)) × Option (Option Rows)) × B} {r0 r1 : List Token} → SpellsFront r0 front.0 front.1 front.2 r1
-    → IfSome ending P → Some p ≡ option_zip (Some front) ending → SpellsFront r0 p.0.0 p.0.1 p.0.2 r1 × P p.1
-zip_front front ending P {p} {r0} {r1} members ends zipped =
-    let z = zip_ends front ending p P zipped ends in
-    (subst (λ (f : Option LimitRows × Option (List (Option ℕ)) × Option (Option Rows)). SpellsFront r0 f.0 f.1 f.2 r1) z.0 members, z.1)
+pub front_read : {os p1 p2 p3 : List (Option Data)} {l : Option LimitRows} {p : Option (List (Option ℕ))} {s : Option (Option Rows)} {limits : LimitRows}
+    {prices none given : List (Option ℕ)} {start : Option Rows} (n : ℕ) (first : IsMaybe limits_form l os p1) (second : IsMaybe (list_form (price_form true)) p p1 p2)
+    (third : IsMaybe start_form s p2 p3) → limits ≡ unwrap_or l greatest_limits → none ≡ [] → given ≡ unwrap_or p none → (kept : ArePricesOf n given prices)
+    → start ≡ unwrap_or s None → AreFront first.spelled second.spelled third.spelled kept.0 limits prices start
+front_read {p = p} {prices = prices} n first second third same empty given_is kept begun =
+    let is = given_is ∙ ap (unwrap_or p) empty in record {
+      of_limits = subst (AreRead limits_form greatest_limits first.spelled) (sym same) (or_default limits_form greatest_limits _ first.spelled first.read);
+      of_prices = prices_or_none n p second.spelled prices second.read (
+        kept.0,
+        kept.1,
+        subst (λ ps. length ps ≤ KINDS) is kept.2,
+        λ h. sym (ap (list_any is_none) is) ∙ kept.3 h,
+        kept.4 ∙ ap without_ones is,
+      );
+      of_start = subst (AreRead start_form None third.spelled) (sym begun) (or_default start_form None _ third.spelled third.read);
+    }
 
 -- ---- Scripts
 
+abbrev script_order : List Key
+script_order = Limits ∷ Prices ∷ Start ∷ Version ∷ Workers ∷ []
+
 abbrev script_members : Option Data → Option Data → Option Data → Data → Data → Members
-script_members l p s v w =
-    put (codes "workers") w (put (codes "version") v (optional (codes "start") s (optional (codes "prices") p (optional (codes "limits") l no_members))))
+script_members l p s v w = members_of script_order (l ∷ p ∷ s ∷ Some v ∷ Some w ∷ [])
 
 abbrev script_object : Option Data → Option Data → Option Data → Data → Data → Data
 script_object l p s v w = object (script_members l p s v w)
@@ -162,41 +137,13 @@ script_read {x} {n} {l} {p} {s} v w {nulls} of front version workers =
     ∙ went _ _ x.start (optional_read start_form None whole Start d s x.start there.start front.of_start)
     ∙ went _ _ x.workers (member_read workers_form whole Workers d there.workers workers)
 
-pub script_tokens : {x : Script} {l : Option LimitRows} {p : Option (List (Option ℕ))} {s : Option (Option Rows)} {n : ℕ} {ts r0 r1 rest : List Token}
-    → ts ≡ begin_object ∷ r0 → SpellsFront r0 l p s r1 → SpellsLists r1 n x.workers rest
-    → x.limits ≡ unwrap_or l greatest_limits → ArePricesOf n (unwrap_or p []) x.prices → x.start ≡ unwrap_or s None → Spells 5 (λ path. script_form) ts x rest
-script_tokens {l} {p} {s} {n} {r0} {r1} e front lists same kept begun =
-    let version = lists.first.2 in
-    let workers = lists.second.2 in
-    let ms = script_members (limits_data r0 r1 l p s front) (prices_data r0 r1 l p s front) (start_data r0 r1 l p s front) version.spelled workers.spelled in
-    object_tokens 4 ms e
-    (front_then r0 r1 l p s front (member_then lists.first (omega arith) (member_then lists.second (omega arith) (members_done lists.closed))))
-    (λ path. script_read version.spelled workers.spelled kept.1 (front_read r0 r1 l p s front n same kept begun) version.reads workers.reads)
-
--- ---- Parts that are zipped
-
-pub lists_tokens : {U : Type 0} (ts : List Token) {mid : List Token} {n : ℕ} (version : SpellsMember 0 number_form (key_name Version) ts n mid)
-    (end rest : List Token) (workers : Option (List (List Command))) (closed : Option U) {both_there : Option ℕ} {r : Option (ℕ × List (List Command))}
-    → IfSome workers (λ ws. SpellsMember 3 workers_form (key_name Workers) mid ws end)
-    → IfSome closed (λ _. read_key end ≡ Some (None, rest)) → both_there ≡ option_and closed (Some n) → r ≡ option_zip both_there workers
-    → IfSome r (λ found. SpellsLists ts found.0 found.1 rest)
-lists_tokens ts version end rest workers None {r} lists close there is = let none : r ≡ None = is
-    ∙ ap (λ o. option_zip o workers) there in rw none tt
-lists_tokens ts version end rest None (Some u) {r} lists close there is = let none : r ≡ None = is
-    ∙ ap (λ o. option_zip o None) there in rw none tt
-lists_tokens ts {n} version end rest (Some ws) (Some u) {r} lists close there is =
-    let found : r ≡ Some (n, ws) = is ∙ ap (λ o. option_zip o (Some ws)) there in
-    rw found (record { mid = _; end = end; first = version; second = lists; closed = close })
-
-pub script_zipped : {l : Option LimitRows} {p : Option (List (Option ℕ))} {s : Option (Option Rows)} {n : ℕ} {ws : List (List Command)}
-    {none given : List (Option ℕ)} (kept : Option (List (Option ℕ))) {q : List (Option ℕ) × (Option (Option Rows) × List (List Command))}
-    {limits : LimitRows} {start : Option Rows} {ts r0 r1 rest : List Token} → ts ≡ begin_object ∷ r0 → SpellsFront r0 l p s r1 → SpellsLists r1 n ws rest
-    → none ≡ [] → given ≡ unwrap_or p none → IfSome kept (ArePricesOf n given) → Some q ≡ option_zip kept (Some (s, ws))
-    → limits ≡ unwrap_or l greatest_limits → start ≡ unwrap_or q.1.0 None
-    → Spells 5 (λ path. script_form) ts (record { limits = limits; prices = q.0; start = start; workers = q.1.1 }) rest
-script_zipped {p} {s} {n} {ws} {given} kept {q} {r1} {rest} e front lists empty given_is is_kept zipped limits_is start_is =
-    let w = zip_starts kept (s, ws) q (ArePricesOf n given) zipped is_kept in
-    let prices : ArePricesOf n (unwrap_or p []) q.0 = subst (λ ps. ArePricesOf n ps q.0) (given_is ∙ ap (unwrap_or p) empty) w.0 in
-    let workers : ws ≡ q.1.1 = ap (λ r. r.1) w.1 in
-    let begun : s ≡ q.1.0 = ap (λ r. r.0) w.1 in
-    script_tokens e front (subst (λ us. SpellsLists r1 n us rest) workers lists) limits_is prices (start_is ∙ ap (λ o. unwrap_or o None) (sym begun))
+pub script_tokens : {x : Script} {l : Option LimitRows} {p : Option (List (Option ℕ))} {s : Option (Option Rows)} {m n : ℕ} {ts rest : List Token}
+    {os p1 p2 p3 p4 : List (Option Data)} (given : List (Option ℕ)) → SpellsValue n ts (object (members_of script_order os)) rest → n ≤ 5
+    → (limits : IsMaybe limits_form l os p1) (prices : IsMaybe (list_form (price_form true)) p p1 p2) (start : IsMaybe start_form s p2 p3)
+    → IsDue number_form m p3 p4 → IsDue (list_form (list_form command_form)) x.workers p4 [] → 0 < length x.workers → length x.workers ≤ MAX_WORKERS
+    → (kept : ArePricesOf m given x.prices) → AreFront limits.spelled prices.spelled start.spelled kept.0 x.limits x.prices x.start
+    → Spells 5 (λ path. script_form) ts x rest
+script_tokens given v within limits prices start version workers some few kept front =
+    object_tokens script_order (limits.spelled ∷ prices.spelled ∷ start.spelled ∷ Some version.spelled ∷ Some workers.spelled ∷ []) v within
+    (maybe limits (maybe prices (maybe start (then version workers.is))))
+    (λ path. script_read version.spelled workers.spelled kept.1 front version.reads (λ p. workers_read p workers.spelled _ (workers.reads p) some few))

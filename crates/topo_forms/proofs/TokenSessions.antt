@@ -1,12 +1,11 @@
 -- Tokens that spell openings of sessions, and commands that lines ask for.
-use Rattle.std.proofs.Common.{◌≡◌, ℕ, Bool, false, List, [], ◌∷◌, codes, Option, Some, None, IfSome, Ok, Err, unwrap_or, refl, sym, ap, subst, ◌∙◌, arith}
-use Rattle.std.specs.Option.{option_and, option_zip}
-use Rattle.json.specs.Token.{Token, begin_object}
-use Rattle.json.specs.Json.{read_key}
-use Rattle.serde_json.specs.Data.{Data, null, boolean, number, string, array, object, Members, no_members, put}
+use Rattle.std.proofs.Common.{◌≡◌, ℕ, ◌≤◌, Bool, true, false, List, [], ◌∷◌, codes, Option, Some, None, Ok, Err, refl, ◌∙◌}
+use Rattle.json.specs.Token.{Token}
+use Rattle.serde_json.specs.Data.{Data, null, boolean, number, string, array, object, Members}
 use Rattle.serde_json.specs.Find.{get}
 use Rattle.topo_core.specs.declared.calls.Command.{Command}
 use Rattle.topo_core.specs.declared.rows.Rows.{Rows}
+use Rattle.topo_forms.specs.declared.path.Key.{Key}
 use Rattle.topo_forms.specs.declared.path.Key.TheVariants.{Limits, Prices, Start, Version}
 use Rattle.topo_forms.specs.declared.path.Path.{Path}
 use Rattle.topo_forms.specs.declared.scripts.LimitRows.{LimitRows}
@@ -14,21 +13,23 @@ use Rattle.topo_forms.specs.declared.sessions.Opening.{Opening}
 use Rattle.topo_forms.specs.declared.sessions.Request.TheVariants.{Carry}
 use Rattle.topo_forms.specs.CallForms.{call_form, command_form, plain_form}
 use Rattle.topo_forms.specs.Paths.{key_name, whole}
-use Rattle.topo_forms.specs.Reads.{Read, ◌>>=◌, and_then, is_text, number_form, has_keys, value_of}
-use Rattle.topo_forms.specs.Scripts.{greatest_limits, limits_form, nulls_of, prices_form, start_form}
+use Rattle.topo_forms.specs.Reads.{Read, ◌>>=◌, and_then, is_text, list_form, number_form, has_keys, value_of}
+use Rattle.topo_forms.specs.Scripts.{greatest_limits, limits_form, nulls_of, price_form, prices_form, start_form}
 use Rattle.topo_forms.specs.Sessions.{carry_form, opening_form, request_form, request_of}
-use Rattle.topo_forms.specs.Tokens.{Spells, SpellsMember}
-use Rattle.topo_forms.specs.TokenParts.{ArePricesOf, SpellsVersion}
-use Rattle.topo_forms.proofs.TokenReports.{zip_starts}
-use Rattle.topo_forms.proofs.TokenScripts.{optional, optional_read, version_read, AreFront, SpellsFront, front_read, front_then}
-use Rattle.topo_forms.proofs.TokenScripts.{limits_data, prices_data, start_data}
-use Rattle.topo_forms.proofs.Spellings.{members_done, member_then, object_tokens}
+use Rattle.topo_forms.specs.Slots.{members_of, SpellsValue}
+use Rattle.topo_forms.specs.Tokens.{Spells}
+use Rattle.topo_forms.specs.TokenParts.{ArePricesOf}
+use Rattle.topo_forms.proofs.Objects.{IsDue, IsMaybe, maybe, object_tokens}
+use Rattle.topo_forms.proofs.TokenScripts.{optional_read, version_read, AreFront}
 use Rattle.topo_forms.proofs.Steps.{went}
 
 -- ---- Openings
 
+abbrev opening_order : List Key
+opening_order = Limits ∷ Prices ∷ Start ∷ Version ∷ []
+
 abbrev opening_members : Option Data → Option Data → Option Data → Data → Members
-opening_members l p s v = put (codes "version") v (optional (codes "start") s (optional (codes "prices") p (optional (codes "limits") l no_members)))
+opening_members l p s v = members_of opening_order (l ∷ p ∷ s ∷ Some v ∷ [])
 
 abbrev opening_object : Option Data → Option Data → Option Data → Data → Data
 opening_object l p s v = object (opening_members l p s v)
@@ -72,34 +73,15 @@ opening_read {x} {n} {l} {p} {s} v {nulls} of front version =
     ∙ went _ _ x.prices (optional_read (prices_form nulls) [] whole Prices d p x.prices there.prices front.of_prices)
     ∙ went _ _ x.start (optional_read start_form None whole Start d s x.start there.start front.of_start)
 
-opening_tokens : {x : Opening} {l : Option LimitRows} {p : Option (List (Option ℕ))} {s : Option (Option Rows)} {n : ℕ} {ts r0 r1 rest : List Token}
-    → ts ≡ begin_object ∷ r0 → SpellsFront r0 l p s r1 → SpellsVersion r1 n rest
-    → x.limits ≡ unwrap_or l greatest_limits → ArePricesOf n (unwrap_or p []) x.prices → x.start ≡ unwrap_or s None → Spells 5 (λ path. opening_form) ts x rest
-opening_tokens {l} {p} {s} {n} {r0} {r1} e front ending same kept begun =
-    let version = ending.member.2 in
-    let ms = opening_members (limits_data r0 r1 l p s front) (prices_data r0 r1 l p s front) (start_data r0 r1 l p s front) version.spelled in
-    object_tokens 4 ms e
-    (front_then r0 r1 l p s front (member_then ending.member (omega arith) (members_done ending.closed)))
-    (λ path. opening_read version.spelled kept.1 (front_read r0 r1 l p s front n same kept begun) version.reads)
-
--- ---- Parts that are zipped
-
-pub version_tokens : {U : Type 0} (ts : List Token) {mid : List Token} {n : ℕ} (version : SpellsMember 0 number_form (key_name Version) ts n mid)
-    (rest : List Token) (closed : Option U) {r : Option ℕ}
-    → IfSome closed (λ _. read_key mid ≡ Some (None, rest)) → r ≡ option_and closed (Some n) → IfSome r (λ found. SpellsVersion ts found rest)
-version_tokens ts version rest None close is = rw is tt
-version_tokens ts {mid} version rest (Some u) close is = rw is (record { end = mid; member = version; closed = close })
-
-pub opening_zipped : {l : Option LimitRows} {p : Option (List (Option ℕ))} {s : Option (Option Rows)} {n : ℕ} {none given : List (Option ℕ)}
-    (kept : Option (List (Option ℕ))) {q : List (Option ℕ) × Option (Option Rows)} {limits : LimitRows} {start : Option Rows} {ts r0 r1 rest : List Token}
-    → ts ≡ begin_object ∷ r0 → SpellsFront r0 l p s r1 → SpellsVersion r1 n rest
-    → none ≡ [] → given ≡ unwrap_or p none → IfSome kept (ArePricesOf n given) → Some q ≡ option_zip kept (Some s)
-    → limits ≡ unwrap_or l greatest_limits → start ≡ unwrap_or q.1 None
-    → Spells 5 (λ path. opening_form) ts (record { limits = limits; prices = q.0; start = start }) rest
-opening_zipped {p} {s} {n} {given} kept {q} e front version empty given_is is_kept zipped limits_is start_is =
-    let w = zip_starts kept s q (ArePricesOf n given) zipped is_kept in
-    let prices : ArePricesOf n (unwrap_or p []) q.0 = subst (λ ps. ArePricesOf n ps q.0) (given_is ∙ ap (unwrap_or p) empty) w.0 in
-    opening_tokens e front version limits_is prices (start_is ∙ ap (λ o. unwrap_or o None) (sym w.1))
+pub opening_tokens : {x : Opening} {l : Option LimitRows} {p : Option (List (Option ℕ))} {s : Option (Option Rows)} {m n : ℕ} {ts rest : List Token}
+    {os p1 p2 p3 : List (Option Data)} (given : List (Option ℕ)) → SpellsValue n ts (object (members_of opening_order os)) rest → n ≤ 5
+    → (limits : IsMaybe limits_form l os p1) (prices : IsMaybe (list_form (price_form true)) p p1 p2) (start : IsMaybe start_form s p2 p3)
+    → IsDue number_form m p3 [] → (kept : ArePricesOf m given x.prices)
+    → AreFront limits.spelled prices.spelled start.spelled kept.0 x.limits x.prices x.start → Spells 5 (λ path. opening_form) ts x rest
+opening_tokens given v within limits prices start version kept front =
+    object_tokens opening_order (limits.spelled ∷ prices.spelled ∷ start.spelled ∷ Some version.spelled ∷ []) v within
+    (maybe limits (maybe prices (maybe start version.is)))
+    (λ path. opening_read version.spelled kept.1 front version.reads)
 
 -- ---- Requests
 

@@ -5,14 +5,12 @@ use Rattle.serde_json.specs.Data.{Data, null, boolean, number, string, array, ob
 use Rattle.serde_json.specs.Events.{items_len}
 use Rattle.topo_core.specs.declared.calls.Command.{Command}
 use Rattle.topo_core.specs.declared.rows.Rows.{Rows}
-use Rattle.topo_forms.specs.declared.path.Key.TheVariants.{Workers}
 use Rattle.topo_forms.specs.declared.path.Path.{Path}
 use Rattle.topo_forms.specs.CallForms.{command_form}
-use Rattle.topo_forms.specs.Paths.{key_name}
 use Rattle.topo_forms.specs.Reads.{and_then, is_text, list_form, has_keys}
 use Rattle.topo_forms.specs.RowForms.{rows_form}
 use Rattle.topo_forms.specs.Scripts.{picture_form, start_form, workers_form}
-use Rattle.topo_forms.specs.Tokens.{Spells, SpellsMember}
+use Rattle.topo_forms.specs.Tokens.{Spells}
 use Rattle.topo_forms.proofs.TokenReports.{counted}
 use Rattle.topo_forms.proofs.Spellings.{word_tokens, deeper}
 use Rattle.topo_forms.proofs.Steps.{went}
@@ -48,7 +46,7 @@ seed_tokens text ts rest e is = deeper 0 4 start_form ts None rest (omega arith)
 
 -- ---- Lists of commands
 
-workers_read : (path : Path) (d : Data) (ws : List (List Command)) → list_form (list_form command_form) path d ≡ Ok ws → 0 < length ws → length ws ≤ MAX_WORKERS
+pub workers_read : (path : Path) (d : Data) (ws : List (List Command)) → list_form (list_form command_form) path d ≡ Ok ws → 0 < length ws → length ws ≤ MAX_WORKERS
     → workers_form path d ≡ Ok ws
 unfolding list_form workers_form and_then
 workers_read path null ws e some few = absurd cc
@@ -61,18 +59,3 @@ workers_read path (array ds) ws e some few =
     let less : items_len ds ≤ MAX_WORKERS = omega arith in
     rw (lt-ltb 0 (items_len ds) more, le-leb (items_len ds) MAX_WORKERS less) e
 workers_read path (object ms) ws e some few = absurd cc
-
-pub workers_tokens : (ws : List (List Command)) (ts rest : List Token) → SpellsMember 3 (list_form (list_form command_form)) (key_name Workers) ts ws rest
-    → 0 < length ws → length ws ≤ MAX_WORKERS
-    → SpellsMember 3 workers_form (key_name Workers) ts ws rest
-workers_tokens ws ts rest m some few = (
-  m.0,
-  m.1,
-  record {
-    written = m.2.written;
-    spelled = m.2.spelled;
-    begins = m.2.begins;
-    means = m.2.means;
-    reads = λ path. workers_read path m.2.spelled ws (m.2.reads path) some few;
-  },
-)

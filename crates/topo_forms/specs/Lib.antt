@@ -8,5 +8,6 @@ pub mod ReplyForms
 pub mod RowForms
 pub mod Scripts
 pub mod Sessions
+pub mod Slots
 pub mod Tokens
 pub mod TokenParts

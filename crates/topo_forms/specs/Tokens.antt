@@ -1,7 +1,7 @@
 -- Forms that the tokens of a text spell.
-use Rattle.std.specs.Prelude.{◌≡◌, ℕ, ◌≤◌, List, ◌∷◌, length, Option, Some, None, Ok}
+use Rattle.std.specs.Prelude.{◌≡◌, ℕ, ◌≤◌, List, ◌∷◌, length, Some, Ok}
 use Rattle.json.specs.Token.{Token, number}
-use Rattle.json.specs.Json.{Json, Items as JsonItems, value, items, read_key, after_end_array}
+use Rattle.json.specs.Json.{Json, Items as JsonItems, value, items, after_end_array}
 use Rattle.serde_json.specs.Data.{Data, Items, unsigned}
 use Rattle.serde_json.specs.Read.{of_json, of_items, number_of, max_depth}
 use Rattle.topo_forms.specs.declared.path.Path.{Path}
@@ -15,15 +15,6 @@ pub record Spells {A : Type 0} (nesting : ℕ) (form : Path → Data → Read A)
   pub begins : (depth : ℕ) → nesting ≤ depth → value depth ts ≡ Some (written, rest)
   pub means : of_json written ≡ Some spelled
   pub reads : (path : Path) → form path spelled ≡ Ok a
-
--- The tokens begin with this key and then spell `a`.
-abbrev pub SpellsMember : {A : Type 0} → ℕ → (Path → Data → Read A) → List ℕ → List Token → A → List Token → Type 0
-SpellsMember nesting form name ts a rest = (s : List Token) × (read_key ts ≡ Some (Some name, s)) × Spells nesting form s a rest
-
--- The same of a member that may be missing: then nothing is passed.
-abbrev pub SpellsOptional : {A : Type 0} → ℕ → (Path → Data → Read A) → List ℕ → List Token → Option A → List Token → Type 0
-SpellsOptional nesting form name ts None rest = ts ≡ rest
-SpellsOptional nesting form name ts (Some a) rest = SpellsMember nesting form name ts a rest
 
 -- The tokens go on with elements up to the end of an array. They nest no deeper than the number, and
 -- from any place on the form reads them as `xs`.
@@ -50,19 +41,6 @@ SpellsText nesting form limit bytes a = nesting ≤ max_depth → (path : Path) 
 abbrev pub SpellsNumber : List Token → ℕ → List Token → Type 0
 SpellsNumber ts n rest = (s : List ℕ) × (ts ≡ number s ∷ rest) × (number_of s ≡ Some (unsigned n))
 
--- The tokens begin with these two members, and with these three.
-pub record SpellsTwo {A B : Type 0} (na nb : ℕ) (form_a : Path → Data → Read A) (form_b : Path → Data → Read B) (name_a name_b : List ℕ) (ts : List Token)
-    (a : A) (b : B) (rest : List Token) : Type 0 where
-  pub mid : List Token
-  pub first : SpellsMember na form_a name_a ts a mid
-  pub second : SpellsMember nb form_b name_b mid b rest
-
-pub record SpellsThree {A B C : Type 0} (na nb nc : ℕ) (form_a : Path → Data → Read A) (form_b : Path → Data → Read B) (form_c : Path → Data → Read C)
-    (name_a name_b name_c : List ℕ) (ts : List Token) (a : A) (b : B) (c : C) (rest : List Token) : Type 0 where
-  pub mid : List Token
-  pub two : SpellsTwo na nb form_a form_b name_a name_b ts a b mid
-  pub third : SpellsMember nc form_c name_c mid c rest
-
 -- The tokens go on with three numbers to the end of an array.
 pub record SpellsNumbers (ts : List Token) (a b c : ℕ) (rest : List Token) : Type 0 where
   pub one : List Token
@@ -72,12 +50,3 @@ pub record SpellsNumbers (ts : List Token) (a b c : ℕ) (rest : List Token) : T
   pub second : Spells 0 number_form one b two
   pub third : Spells 0 number_form two c three
   pub closed : after_end_array three ≡ Some rest
-
--- The tokens begin with three members that may be missing.
-pub record SpellsOptionals {A B C : Type 0} (na nb nc : ℕ) (form_a : Path → Data → Read A) (form_b : Path → Data → Read B) (form_c : Path → Data → Read C)
-    (name_a name_b name_c : List ℕ) (ts : List Token) (a : Option A) (b : Option B) (c : Option C) (rest : List Token) : Type 0 where
-  pub one : List Token
-  pub two : List Token
-  pub first : SpellsOptional na form_a name_a ts a one
-  pub second : SpellsOptional nb form_b name_b one b two
-  pub third : SpellsOptional nc form_c name_c two c rest

@@ -18,6 +18,7 @@ pub mod row_forms;
 pub mod script_forms;
 pub mod scripts;
 pub mod sessions;
+mod slots;
 mod token_calls;
 mod token_replies;
 mod token_reports;

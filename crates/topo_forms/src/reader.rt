@@ -6,8 +6,8 @@
 
 ghost use Rattle.std.specs.Prelude.{◌≡◌, ◌∷◌, [], IfSome, IsTrue, MatchBool, None, Some};
 ghost use Rattle.json.specs.Json.{after_end_array, read_key};
-ghost use Rattle.json.specs.Lex.{after_value, between, fresh, lex, may_begin};
-ghost use Rattle.json.specs.Lex.{may_close, punctuate, tokens};
+ghost use Rattle.json.specs.Lex.{after_value, between, colon, fresh, lex, may_begin};
+ghost use Rattle.json.specs.Lex.{may_close, punctuate, token, tokens};
 ghost use Rattle.json.specs.Token.{begin_array, begin_object, key, null, string};
 ghost use Rattle.topo_forms.specs.Paths.{key_name};
 ghost use Rattle.topo_forms.specs.Readers.{place_of};
@@ -74,6 +74,17 @@ fn may_close(place: Place) -> bool
     }
 }
 
+/// What follows this key and its colon, where they stand at the front.
+#[inline(always)]
+fn behind_key(bytes: &[u8], wanted: Key) -> Option<&[u8]>
+    ensures { IfSome result (λ rest. lex between bytes.now
+        ≡ token (string (key_name wanted)) ∷ colon ∷ lex between rest.now) }
+{
+    let named = behind_quoted(bytes, wanted.name())?;
+    let rest = behind_colon(named)?;
+    Some(rest)
+}
+
 /// What follows a value, or the comma behind it where one stands there, and what may stand there.
 #[inline(always)]
 fn behind_value(bytes: &[u8]) -> (&[u8], Place)
@@ -95,6 +106,16 @@ impl<'a> TokenReader<'a> {
         TokenReader {
             rest: behind_gap(bytes),
             place: Place::Fresh,
+        }
+    }
+
+    /// Another reader of the same tokens.
+    pub fn copy(&self) -> TokenReader<'a>
+        ensures { result ≡ self.now }
+    {
+        TokenReader {
+            rest: self.rest,
+            place: self.place,
         }
     }
 
@@ -185,44 +206,40 @@ impl<'a> TokenReader<'a> {
         }
     }
 
-    /// Takes the brace that closes an object.
+    /// Takes the brace that closes an object, if it is next.
     #[inline(always)]
-    pub fn end_object(&mut self) -> Option<()>
-        ensures { IfSome result (λ _. read_key self.old ≡ Some (None, self.new)) }
+    pub fn take_end_object(&mut self) -> bool
+        ensures { MatchBool result (read_key self.old ≡ Some (None, self.new))
+            (self.new ≡ self.old) }
     {
         if !may_close(self.place) {
-            return None;
+            return false;
         }
-        let rest = behind(self.rest, b'}')?;
-        self.go_behind(rest);
-        Some(())
+        match behind(self.rest, b'}') {
+            Some(rest) => {
+                self.go_behind(rest);
+                true
+            }
+            None => false,
+        }
     }
 
-    /// Takes this key.
+    /// Takes this key and its colon, if they are next.
     #[inline(always)]
-    pub fn take_key(&mut self, wanted: Key) -> Option<()>
-        ensures { IfSome result (λ _. self.old ≡ key (key_name wanted) ∷ self.new) }
+    pub fn take_key(&mut self, wanted: Key) -> bool
+        ensures { MatchBool result (self.old ≡ key (key_name wanted) ∷ self.new)
+            (self.new ≡ self.old) }
     {
         if !may_begin(self.place) {
-            return None;
+            return false;
         }
-        let named = behind_quoted(self.rest, wanted.name())?;
-        let rest = behind_colon(named)?;
-        self.go_inside(rest);
-        Some(())
-    }
-
-    /// Takes a key.
-    pub fn next_name(&mut self) -> Option<&'a [u8]>
-        ensures { IfSome result (λ name. self.old ≡ key name.now ∷ self.new) }
-    {
-        if !may_begin(self.place) {
-            return None;
+        match behind_key(self.rest, wanted) {
+            Some(rest) => {
+                self.go_inside(rest);
+                true
+            }
+            None => false,
         }
-        let (name, named) = behind_text(self.rest)?;
-        let rest = behind_colon(named)?;
-        self.go_inside(rest);
-        Some(name)
     }
 
     /// Takes a text.

@@ -1,7 +1,6 @@
 //! Histories, read from the tokens of a text.
 
-ghost use Rattle.std.specs.Prelude.{◌≡◌, ◌∷◌, IfSome, Ok, codes};
-ghost use Rattle.json.specs.Token.{begin_object, key};
+ghost use Rattle.std.specs.Prelude.{◌≡◌, IfSome, Ok, codes};
 ghost use Rattle.serde_json.specs.Data.{array, item, no_items, number as number_data};
 ghost use Rattle.serde_json.specs.Data.{string as string_data, unsigned};
 ghost use Rattle.topo_forms.specs.declared.path.Path.{Path};
@@ -13,11 +12,12 @@ ghost use Rattle.topo_forms.specs.TokenParts.{SpellsRefusal};
 use crate::lexing::bytes_are;
 use crate::path::Key;
 use crate::reader::TokenReader;
-use crate::tokens::{FromTokens, next_member, next_three, next_two};
+use crate::slots::{NoSlot, Slot, read_object};
+use crate::tokens::FromTokens;
 use std::alloc::Global;
-use topo_core::calls::{Entry, Refusal, Reply};
+use topo_core::calls::{Call, Entry, Refusal, Reply};
 use topo_core::darts::{Dart, Way};
-use topo_core::ids::EdgeId;
+use topo_core::ids::{EdgeId, VertexId};
 use topo_core::listed::Listed;
 use topo_core::routes::{Inserted, Route};
 
@@ -123,46 +123,49 @@ impl FromTokens for Refusal {
     }
 }
 
-/// What follows the key of a deletion.
+/// A deletion that is next.
 fn token_deleted(alloc: Global, reader: &mut TokenReader<'_>) -> Option<Reply>
-    ensures { IfSome result (λ reply. Spells 3 reply_form
-        (begin_object ∷ key (codes "deleted") ∷ reader.old) reply reader.new) }
+    ensures { IfSome result (λ reply. Spells 3 reply_form reader.old reply reader.new) }
 {
-    let edge = EdgeId::from_tokens(alloc, reader)?;
-    reader.end_object()?;
+    let slots: Slot<EdgeId, NoSlot> = read_object(alloc, &[Key::Deleted], reader)?;
+    let (edge, _slots) = slots.due()?;
     Some(Reply::Deleted(edge))
 }
 
-/// What follows the key of a refusal.
+/// A refusal that is next.
 fn token_refused(alloc: Global, reader: &mut TokenReader<'_>) -> Option<Reply>
-    ensures { IfSome result (λ reply. Spells 3 reply_form
-        (begin_object ∷ key (codes "refused") ∷ reader.old) reply reader.new) }
+    ensures { IfSome result (λ reply. Spells 3 reply_form reader.old reply reader.new) }
 {
-    let why = Refusal::from_tokens(alloc, reader)?;
-    reader.end_object()?;
+    let slots: Slot<Refusal, NoSlot> = read_object(alloc, &[Key::Refused], reader)?;
+    let (why, _slots) = slots.due()?;
     Some(Reply::Refused(why))
 }
 
-/// What follows the first key of a growth.
+/// A growth that is next.
 fn token_grown(alloc: Global, reader: &mut TokenReader<'_>) -> Option<Reply>
-    ensures { IfSome result (λ reply. Spells 3 reply_form
-        (begin_object ∷ key (codes "edge") ∷ reader.old) reply reader.new) }
+    ensures { IfSome result (λ reply. Spells 3 reply_form reader.old reply reader.new) }
 {
-    let edge = EdgeId::from_tokens(alloc, reader)?;
-    let vertex = next_member(alloc, Key::Vertex, reader)?;
-    reader.end_object()?;
+    let keys = [Key::Edge, Key::Vertex];
+    let slots: Slot<EdgeId, Slot<VertexId, NoSlot>> = read_object(alloc, &keys, reader)?;
+    let (edge, slots) = slots.due()?;
+    let (vertex, _slots) = slots.due()?;
     Some(Reply::Grown { vertex, edge })
 }
 
-/// What follows the first key of an insertion.
+/// The slots of an insertion, in the order of its keys.
+type InsertedSlots = Slot<Listed<Dart>, Slot<EdgeId, Slot<u32, Slot<u64, Slot<u32, NoSlot>>>>>;
+
+/// An insertion that is next.
 fn token_inserted(alloc: Global, reader: &mut TokenReader<'_>) -> Option<Reply>
-    ensures { IfSome result (λ reply. Spells 3 reply_form
-        (begin_object ∷ key (codes "crossed") ∷ reader.old) reply reader.new) }
+    ensures { IfSome result (λ reply. Spells 3 reply_form reader.old reply reader.new) }
 {
-    let crossed = Listed::from_tokens(alloc, reader)?;
-    let (id, end) = next_two(alloc, Key::Edge, Key::End, reader)?;
-    let (price, start) = next_two(alloc, Key::Price, Key::Start, reader)?;
-    reader.end_object()?;
+    let keys = [Key::Crossed, Key::Edge, Key::End, Key::Price, Key::Start];
+    let slots: InsertedSlots = read_object(alloc, &keys, reader)?;
+    let (crossed, slots) = slots.due()?;
+    let (id, slots) = slots.due()?;
+    let (end, slots) = slots.due()?;
+    let (price, slots) = slots.due()?;
+    let (start, _slots) = slots.due()?;
     let route = Route {
         start,
         crossed,
@@ -171,35 +174,33 @@ fn token_inserted(alloc: Global, reader: &mut TokenReader<'_>) -> Option<Reply>
     Some(Reply::Inserted(Inserted { id, route, price }))
 }
 
-/// What follows the first key of a reply.
-fn reply_after(alloc: Global, name: &[u8], reader: &mut TokenReader<'_>) -> Option<Reply>
-    ensures { IfSome result
-        (λ reply. Spells 3 reply_form (begin_object ∷ key name.now ∷ reader.old) reply reader.new) }
-{
-    if bytes_are(name, "deleted") {
-        token_deleted(alloc, reader)
-    } else if bytes_are(name, "refused") {
-        token_refused(alloc, reader)
-    } else if bytes_are(name, "crossed") {
-        token_inserted(alloc, reader)
-    } else if bytes_are(name, "edge") {
-        token_grown(alloc, reader)
-    } else {
-        None
-    }
-}
-
 impl FromTokens for Reply {
     ghost form = { reply_form };
 
     ghost nesting = { 3 };
 
+    // One of another kind is seen by its first key, or by its second.
     fn from_tokens(alloc: Global, reader: &mut TokenReader<'_>) -> Option<Self> {
-        reader.begin_object()?;
-        let name = reader.next_name()?;
-        reply_after(alloc, name, reader)
+        let begins = reader.copy();
+        if let Some(grown) = token_grown(alloc, reader) {
+            return Some(grown);
+        }
+        *reader = begins.copy();
+        if let Some(inserted) = token_inserted(alloc, reader) {
+            return Some(inserted);
+        }
+        *reader = begins.copy();
+        if let Some(deleted) = token_deleted(alloc, reader) {
+            return Some(deleted);
+        }
+        *reader = begins;
+        let refused = token_refused(alloc, reader)?;
+        Some(refused)
     }
 }
+
+/// The slots of an entry, in the order of its keys.
+type EntrySlots = Slot<Call, Slot<u32, Slot<Reply, NoSlot>>>;
 
 impl FromTokens for Entry {
     ghost form = { entry_form };
@@ -207,9 +208,11 @@ impl FromTokens for Entry {
     ghost nesting = { 4 };
 
     fn from_tokens(alloc: Global, reader: &mut TokenReader<'_>) -> Option<Self> {
-        reader.begin_object()?;
-        let (call, caller, reply) = next_three(alloc, Key::Call, Key::Caller, Key::Reply, reader)?;
-        reader.end_object()?;
+        let keys = [Key::Call, Key::Caller, Key::Reply];
+        let slots: EntrySlots = read_object(alloc, &keys, reader)?;
+        let (call, slots) = slots.due()?;
+        let (caller, slots) = slots.due()?;
+        let (reply, _slots) = slots.due()?;
         Some(Entry {
             caller,
             call,

@@ -3,7 +3,7 @@
 ghost use Rattle.std.specs.Prelude.{◌≡◌, IfSome, Ok, true};
 ghost use Rattle.std.specs.Option.{is_none};
 ghost use Rattle.std.specs.List.{list_any};
-ghost use Rattle.topo_forms.specs.TokenParts.{ArePricesOf, SpellsEnding};
+ghost use Rattle.topo_forms.specs.TokenParts.{ArePricesOf};
 ghost use Rattle.topo_forms.specs.Scripts.{limits_form, nulls_of, price_form, report_form};
 
 use crate::path::Key;
@@ -11,10 +11,15 @@ use crate::prices::{MAX_PRICES, without_ones};
 use crate::reader::TokenReader;
 use crate::reports::Report;
 use crate::scripts::LimitRows;
-use crate::tokens::{FromTokens, next_three, short};
+use crate::slots::{NoSlot, Slot, read_object};
+use crate::tokens::{FromTokens, short};
 use std::alloc::Global;
+use topo_core::calls::Entry;
 use topo_core::listed::Listed;
 use topo_core::rows::Rows;
+
+/// The slots of limits, in the order of their keys.
+type LimitsSlots = Slot<u32, Slot<u32, Slot<u32, NoSlot>>>;
 
 impl FromTokens for LimitRows {
     ghost form = { limits_form };
@@ -22,15 +27,11 @@ impl FromTokens for LimitRows {
     ghost nesting = { 1 };
 
     fn from_tokens(alloc: Global, reader: &mut TokenReader<'_>) -> Option<Self> {
-        reader.begin_object()?;
-        let (crossings, edges, vertices) = next_three(
-            alloc,
-            Key::Crossings,
-            Key::Edges,
-            Key::Vertices,
-            reader,
-        )?;
-        reader.end_object()?;
+        let keys = [Key::Crossings, Key::Edges, Key::Vertices];
+        let slots: LimitsSlots = read_object(alloc, &keys, reader)?;
+        let (crossings, slots) = slots.due()?;
+        let (edges, slots) = slots.due()?;
+        let (vertices, _slots) = slots.due()?;
         Some(LimitRows {
             vertices,
             edges,
@@ -84,21 +85,11 @@ pub fn kept_prices(prices: Listed<Option<u32>>, version: u32) -> Option<Listed<O
     Some(without_ones(prices))
 }
 
-/// What follows the picture of a report: its prices, without the ones at their end, and its start.
-fn token_ending(alloc: Global, reader: &mut TokenReader<'_>) -> Option<(Listed<Option<u32>>, Rows)>
-    ensures { IfSome result (λ found. SpellsEnding reader.old found.0 found.1 reader.new) }
-{
-    let (prices, start, version) = next_three(
-        alloc,
-        Key::Prices,
-        Key::Start,
-        Key::Version,
-        reader,
-    )?;
-    let closed = reader.end_object();
-    let kept = closed.and(kept_prices(prices, version));
-    kept.zip(Some(start))
-}
+/// The slots of a report, in the order of its keys.
+type ReportSlots = Slot<
+    Listed<Entry>,
+    Slot<LimitRows, Slot<Rows, Slot<Listed<Option<u32>>, Slot<Rows, Slot<u32, NoSlot>>>>>,
+>;
 
 impl FromTokens for Report {
     ghost form = { λ path. report_form };
@@ -106,10 +97,22 @@ impl FromTokens for Report {
     ghost nesting = { 6 };
 
     fn from_tokens(alloc: Global, reader: &mut TokenReader<'_>) -> Option<Self> {
-        reader.begin_object()?;
-        let head = next_three(alloc, Key::History, Key::Limits, Key::Picture, reader)?;
-        let ending = token_ending(alloc, reader);
-        let ((history, limits, picture), (prices, start)) = Some(head).zip(ending)?;
+        let keys = [
+            Key::History,
+            Key::Limits,
+            Key::Picture,
+            Key::Prices,
+            Key::Start,
+            Key::Version,
+        ];
+        let slots: ReportSlots = read_object(alloc, &keys, reader)?;
+        let (history, slots) = slots.due()?;
+        let (limits, slots) = slots.due()?;
+        let (picture, slots) = slots.due()?;
+        let (prices, slots) = slots.due()?;
+        let (start, slots) = slots.due()?;
+        let (version, _slots) = slots.due()?;
+        let prices = kept_prices(prices, version)?;
         Some(Report {
             limits,
             prices,

@@ -1,16 +1,15 @@
 //! Rows, read from the tokens of a text.
 
-ghost use Rattle.std.specs.Prelude.{◌≡◌, ◌∷◌, IfSome};
-ghost use Rattle.json.specs.Token.{begin_object};
 ghost use Rattle.topo_forms.specs.RowForms.{sign_form, edge_form, crossing_form, rows_form};
-ghost use Rattle.topo_forms.specs.Tokens.{Spells};
 
 use crate::lexing::bytes_are;
 use crate::path::Key;
 use crate::reader::TokenReader;
-use crate::tokens::{FromTokens, next_three, next_two};
+use crate::slots::{NoSlot, Slot, read_object};
+use crate::tokens::FromTokens;
 use std::alloc::Global;
 use topo_core::darts::Sign;
+use topo_core::listed::Listed;
 use topo_core::rows::{CrossRow, EdgeRow, Rows};
 
 impl FromTokens for Sign {
@@ -30,16 +29,22 @@ impl FromTokens for Sign {
     }
 }
 
+/// The slots of an edge, in the order of its keys.
+type EdgeSlots = Slot<u32, Slot<u32, Slot<Listed<u32>, Slot<u32, Slot<u32, NoSlot>>>>>;
+
 impl FromTokens for EdgeRow {
     ghost form = { edge_form };
 
     ghost nesting = { 2 };
 
     fn from_tokens(alloc: Global, reader: &mut TokenReader<'_>) -> Option<Self> {
-        reader.begin_object()?;
-        let (a, b) = next_two(alloc, Key::A, Key::B, reader)?;
-        let (crossings, id, kind) = next_three(alloc, Key::Crossings, Key::Id, Key::Kind, reader)?;
-        reader.end_object()?;
+        let keys = [Key::A, Key::B, Key::Crossings, Key::Id, Key::Kind];
+        let slots: EdgeSlots = read_object(alloc, &keys, reader)?;
+        let (a, slots) = slots.due()?;
+        let (b, slots) = slots.due()?;
+        let (crossings, slots) = slots.due()?;
+        let (id, slots) = slots.due()?;
+        let (kind, _slots) = slots.due()?;
         Some(EdgeRow {
             id,
             a,
@@ -50,16 +55,21 @@ impl FromTokens for EdgeRow {
     }
 }
 
+/// The slots of a crossing, in the order of its keys.
+type CrossingSlots = Slot<u32, Slot<u32, Slot<u32, Slot<Sign, NoSlot>>>>;
+
 impl FromTokens for CrossRow {
     ghost form = { crossing_form };
 
     ghost nesting = { 1 };
 
     fn from_tokens(alloc: Global, reader: &mut TokenReader<'_>) -> Option<Self> {
-        reader.begin_object()?;
-        let (crossed, id) = next_two(alloc, Key::Crossed, Key::Id, reader)?;
-        let (newcomer, sign) = next_two(alloc, Key::Newcomer, Key::Sign, reader)?;
-        reader.end_object()?;
+        let keys = [Key::Crossed, Key::Id, Key::Newcomer, Key::Sign];
+        let slots: CrossingSlots = read_object(alloc, &keys, reader)?;
+        let (crossed, slots) = slots.due()?;
+        let (id, slots) = slots.due()?;
+        let (newcomer, slots) = slots.due()?;
+        let (sign, _slots) = slots.due()?;
         Some(CrossRow {
             id,
             crossed,
@@ -69,22 +79,31 @@ impl FromTokens for CrossRow {
     }
 }
 
+/// The slots of a picture, in the order of its keys.
+type RowsSlots = Slot<
+    Listed<CrossRow>,
+    Slot<Listed<EdgeRow>, Slot<u32, Slot<u32, Slot<Listed<Listed<u32>>, NoSlot>>>>,
+>;
+
 impl FromTokens for Rows {
     ghost form = { rows_form };
 
     ghost nesting = { 4 };
 
     fn from_tokens(alloc: Global, reader: &mut TokenReader<'_>) -> Option<Self> {
-        reader.begin_object()?;
-        let (crossings, edges) = next_two(alloc, Key::Crossings, Key::Edges, reader)?;
-        let (next_crossing, next_edge, rotations) = next_three(
-            alloc,
+        let keys = [
+            Key::Crossings,
+            Key::Edges,
             Key::NextCrossing,
             Key::NextEdge,
             Key::Rotations,
-            reader,
-        )?;
-        reader.end_object()?;
+        ];
+        let slots: RowsSlots = read_object(alloc, &keys, reader)?;
+        let (crossings, slots) = slots.due()?;
+        let (edges, slots) = slots.due()?;
+        let (next_crossing, slots) = slots.due()?;
+        let (next_edge, slots) = slots.due()?;
+        let (rotations, _slots) = slots.due()?;
         Some(Rows {
             rotations,
             edges,

@@ -1,32 +1,24 @@
 //! Openings of sessions, read from the tokens of a text.
 
-ghost use Rattle.std.specs.Prelude.{◌∷◌, IfSome};
-ghost use Rattle.json.specs.Token.{key};
 ghost use Rattle.topo_forms.specs.Sessions.{opening_form};
-ghost use Rattle.topo_forms.specs.TokenParts.{SpellsVersion};
 
-use crate::lexing::bytes_are;
 use crate::path::Key;
 use crate::reader::TokenReader;
 use crate::script_forms::GREATEST_LIMITS;
+use crate::scripts::LimitRows;
 use crate::sessions::Opening;
+use crate::slots::{NoSlot, Slot, read_object};
 use crate::token_reports::kept_prices;
-use crate::token_scripts::optional_members;
 use crate::tokens::FromTokens;
 use std::alloc::Global;
 use topo_core::listed::Listed;
+use topo_core::rows::Rows;
 
-/// What follows the members of an opening that may be missing: its version.
-fn token_version(alloc: Global, name: &[u8], reader: &mut TokenReader<'_>) -> Option<u32>
-    ensures { IfSome result
-        (λ version. SpellsVersion (key name.now ∷ reader.old) version reader.new) }
-{
-    if !bytes_are(name, Key::Version.name()) {
-        return None;
-    }
-    let version = u32::from_tokens(alloc, reader)?;
-    reader.end_object().and(Some(version))
-}
+/// The slots of an opening, in the order of its keys.
+type OpeningSlots = Slot<
+    LimitRows,
+    Slot<Listed<Option<u32>>, Slot<Option<Rows>, Slot<u32, NoSlot>>>,
+>;
 
 impl FromTokens for Opening {
     ghost form = { λ path. opening_form };
@@ -34,22 +26,22 @@ impl FromTokens for Opening {
     ghost nesting = { 5 };
 
     fn from_tokens(alloc: Global, reader: &mut TokenReader<'_>) -> Option<Self> {
-        reader.begin_object()?;
-        let name = reader.next_name()?;
-        let Some((front, name)) = optional_members(
-            alloc,
-            Key::Limits,
-            Key::Prices,
-            Key::Start,
-            name,
-            reader,
-        ) else {
-            return None;
-        };
-        let version = token_version(alloc, name, reader);
-        let ((limits, prices, start), version) = Some(front).zip(version)?;
-        let kept = kept_prices(prices.unwrap_or(Listed::new(alloc)), version);
-        let (prices, start) = kept.zip(Some(start))?;
+        let keys = [Key::Limits, Key::Prices, Key::Start, Key::Version];
+        let slots: OpeningSlots = read_object(alloc, &keys, reader)?;
+        let Slot {
+            found: limits,
+            rest: slots,
+        } = slots;
+        let Slot {
+            found: prices,
+            rest: slots,
+        } = slots;
+        let Slot {
+            found: start,
+            rest: slots,
+        } = slots;
+        let (version, _slots) = slots.due()?;
+        let prices = kept_prices(prices.unwrap_or(Listed::new(alloc)), version)?;
         Some(Opening {
             limits: limits.unwrap_or(GREATEST_LIMITS),
             prices,

@@ -1,19 +1,17 @@
 //! Forms read from the tokens of a text, without a tree of values.
 
 ghost use Rattle.std.specs.Prelude.{◌≡◌, ◌+◌, IfSome};
-ghost use Rattle.topo_forms.specs.Paths.{key_name};
 ghost use Rattle.topo_forms.specs.Reads.{number_form, long_form, list_form};
-ghost use Rattle.topo_forms.specs.Tokens.{Spells, SpellsItems, SpellsMember, SpellsNumber};
-ghost use Rattle.topo_forms.specs.Tokens.{SpellsNumbers, SpellsText, SpellsThree, SpellsTwo};
+ghost use Rattle.topo_forms.specs.Tokens.{Spells, SpellsItems, SpellsNumber};
+ghost use Rattle.topo_forms.specs.Tokens.{SpellsNumbers, SpellsText};
 
-use crate::path::Key;
 use crate::reader::TokenReader;
 use std::alloc::Global;
 use topo_core::ids::{EdgeId, VertexId};
 use topo_core::listed::Listed;
 
-/// A type whose form can be read from tokens, as our own writer writes them: the keys of an object
-/// in order, and numbers as digits. Nothing is read from other tokens, though they may spell the
+/// A type whose form can be read from tokens, as our own writer writes them, but for the
+/// order of keys: numbers as digits, and texts with no escape. Nothing is read from other tokens, though they may spell the
 /// form too. Its `nesting` says how deep the arrays and objects of the form nest at most.
 pub trait FromTokens: Drop {
     ghost use Rattle.std.specs.Prelude.{ℕ};
@@ -104,54 +102,6 @@ fn token_items<T: FromTokens>(alloc: Global, reader: &mut TokenReader<'_>) -> Op
         found.push(item).ok()?;
     }
     Some(Listed::from_vec(found))
-}
-
-/// What the next member spells, which has this key.
-#[inline(always)]
-pub fn next_member<T: FromTokens>(
-    alloc: Global,
-    key: Key,
-    reader: &mut TokenReader<'_>,
-) -> Option<T>
-    ensures { IfSome result
-        (λ a. SpellsMember T.nesting T.form (key_name key) reader.old a reader.new) }
-{
-    reader.take_key(key)?;
-    T::from_tokens(alloc, reader)
-}
-
-/// What the next two members spell, which have these keys.
-#[inline(always)]
-pub fn next_two<A: FromTokens, B: FromTokens>(
-    alloc: Global,
-    first: Key,
-    second: Key,
-    reader: &mut TokenReader<'_>,
-) -> Option<(A, B)>
-    ensures { IfSome result (λ found. SpellsTwo A.nesting B.nesting A.form B.form (key_name first)
-        (key_name second) reader.old found.0 found.1 reader.new) }
-{
-    let a = next_member(alloc, first, reader)?;
-    let b = next_member(alloc, second, reader)?;
-    Some((a, b))
-}
-
-/// What the next three members spell, which have these keys.
-#[inline(always)]
-pub fn next_three<A: FromTokens, B: FromTokens, C: FromTokens>(
-    alloc: Global,
-    first: Key,
-    second: Key,
-    third: Key,
-    reader: &mut TokenReader<'_>,
-) -> Option<(A, B, C)>
-    ensures { IfSome result (λ found. SpellsThree A.nesting B.nesting C.nesting A.form B.form C.form
-        (key_name first) (key_name second)
-        (key_name third) reader.old found.0 found.1 found.2 reader.new) }
-{
-    let (a, b) = next_two(alloc, first, second, reader)?;
-    let c = next_member(alloc, third, reader)?;
-    Some((a, b, c))
 }
 
 /// The three numbers that the tokens up to the end of an array spell.

@@ -1,12 +1,19 @@
-use Rattle.std.proofs.Common.{◌∷◌, ◌∙◌, ap}
+use Rattle.std.proofs.Common.{true, arith}
 use Rattle.std.proofs.lemmas.List.{nil_from_length}
-use Rattle.json.specs.Token.{begin_object}
-use Rattle.topo_forms.proofs.TokenScripts.{zip_front}
-use Rattle.topo_forms.proofs.TokenSessions.{opening_zipped}
+use Rattle.topo_forms.specs.Reads.{list_form, number_form}
+use Rattle.topo_forms.specs.Scripts.{limits_form, price_form, start_form}
+use Rattle.topo_forms.proofs.Objects.{due_held, due_last, maybe_held}
+use Rattle.topo_forms.proofs.TokenScripts.{front_read}
+use Rattle.topo_forms.proofs.TokenSessions.{opening_tokens}
 use Rattle.topo_forms.proofs.token_sessions.OpeningFromTokens.from_tokens.Goals as goal
 
 pub returns : goal.returns
 returns c =
-    let z = zip_front c.in-Some.front c.token_version-version.result _ c.in-Some.ensures c.token_version-version.ensures c.in_ok-limits.ensures in
-    opening_zipped c.kept_prices-kept.result (c.in_ok-begin_object.ensures ∙ ap (λ ts. begin_object ∷ ts) c.in_ok-name.ensures) z.0 z.1
-    (nil_from_length _ c.new.ensures) c.unwrap_or.ensures c.kept_prices-kept.ensures c.in_ok-prices.ensures c.unwrap_or-2.ensures c.unwrap_or-3.ensures
+    let o = c.in_ok-slots.ensures in
+    let limits = maybe_held limits_form _ o.values o.held in
+    let prices = maybe_held (list_form (price_form true)) _ limits.values limits.held in
+    let start = maybe_held start_form _ prices.values prices.held in
+    let version = due_last (due_held number_form _ c.in_ok-version.ensures start.held) in
+    opening_tokens c.unwrap_or.result o.value (omega arith) limits.first prices.first start.first version c.in_ok-prices.ensures
+    (front_read c.in_ok-version.version limits.first prices.first start.first c.unwrap_or-2.ensures (nil_from_length _ c.new.ensures) c.unwrap_or.ensures
+    c.in_ok-prices.ensures c.unwrap_or-3.ensures)

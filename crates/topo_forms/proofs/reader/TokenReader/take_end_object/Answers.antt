@@ -4,12 +4,12 @@ use Rattle.json.specs.Lex.{lex, between, punctuate, may_close}
 use Rattle.json.specs.Token.{end_object}
 use Rattle.topo_forms.specs.Readers.{place_of}
 use Rattle.topo_forms.proofs.Fronts.{closed_object}
-use Rattle.topo_forms.proofs.reader.TokenReader.end_object.Goals as goal
+use Rattle.topo_forms.proofs.reader.TokenReader.take_end_object.Goals as goal
 
-pub returns : goal.returns
-returns c =
+pub returns-in-Some : goal.returns-in-Some
+returns-in-Some c =
     let p = place_of c.self.inside.place in
     let seen : c.args.self.now ≡ punctuate p (lex between c.self.inside.rest.now) = search rules in
     let allowed : may_close p ≡ true = search rules in
-    ap read_key (seen ∙ closed_object p c.self.inside.rest.now c.in_ok-rest.rest.now allowed c.in_ok-rest.ensures
+    ap read_key (seen ∙ closed_object p c.self.inside.rest.now c.in-Some.rest.now allowed c.in-Some.ensures
     ∙ ap (λ ts. end_object ∷ ts) (sym c.go_behind.ensures))

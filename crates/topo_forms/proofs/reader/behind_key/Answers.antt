@@ -1,0 +1,16 @@
+use Rattle.std.proofs.Common.{◌≡◌, ◌∷◌, sym, subst, ap, ◌∙◌}
+use Rattle.json.specs.Lex.{lex, between, token}
+use Rattle.json.specs.Print.{escape}
+use Rattle.json.specs.Token.{string}
+use Rattle.topo_forms.specs.Paths.{key_name}
+use Rattle.topo_forms.proofs.Fronts.{key_escape}
+use Rattle.topo_forms.proofs.reader.behind_key.Goals as goal
+
+pub behind_quoted-requires : goal.behind_quoted-requires
+behind_quoted-requires c = subst (λ t. escape t ≡ t) (sym c.name.ensures) (key_escape c.args.wanted)
+
+pub returns : goal.returns
+returns c =
+    let name = key_name c.args.wanted in
+    c.in_ok-named.ensures ∙ ap (λ t. token (string t) ∷ lex between c.in_ok-named.named.now) c.name.ensures
+    ∙ ap (λ l. token (string name) ∷ l) c.in_ok-rest.ensures
