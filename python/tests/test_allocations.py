@@ -1,5 +1,5 @@
-"""How many allocations the program makes for a large text: one that is laid out as the program lays it out is read from
-its tokens, without a tree of values."""
+"""How many allocations the program makes for a large text: one with no escape is read from its tokens, without a tree of
+values, whatever the order of its keys and the gaps between its tokens."""
 
 import json
 import os
@@ -46,9 +46,22 @@ def spaced_layout(form: Dict[str, Any]) -> bytes:
     return json.dumps(form, sort_keys=True, indent=" \t", separators=("\r,", " : ")).encode() + b"\n"
 
 
-def other_layout(form: Dict[str, Any]) -> bytes:
+def backwards(form: Any) -> Any:
+    """The same with the keys of each object in the opposite order."""
+    if isinstance(form, dict):
+        return {key: backwards(form[key]) for key in sorted(form, reverse=True)}
+    return [backwards(part) for part in form] if isinstance(form, list) else form
+
+
+def backward_layout(form: Dict[str, Any]) -> bytes:
     """The text with its keys in the opposite order."""
-    return json.dumps(dict(sorted(form.items(), reverse=True)), separators=(",", ":")).encode()
+    return json.dumps(backwards(form), separators=(",", ":")).encode()
+
+
+def escaped_layout(form: Dict[str, Any]) -> bytes:
+    """The text with an escape in its last key."""
+    key = max(form)
+    return own_layout(form).replace(f'"{key}":'.encode(), f'"\\u{ord(key[0]):04x}{key[1:]}":'.encode())
 
 
 @needs_program
@@ -70,12 +83,13 @@ class Allocations(unittest.TestCase):
         return is_refused
 
     def check(self, verb: str, form: Dict[str, Any], for_each: int) -> None:
-        """A text in the program's own layout takes at most so many allocations for each vertex or call, also with gaps
-        between its tokens. In another layout it takes more, so the bound tells the two ways to read apart."""
+        """A text takes at most so many allocations for each vertex or call, also with gaps between its tokens, and with its
+        keys in another order. With an escape it takes more, so the bound tells the two ways to read apart."""
         most = for_each * COUNT + SOME
         self.assertFalse(self.makes_more_than(verb, own_layout(form), most))
         self.assertFalse(self.makes_more_than(verb, spaced_layout(form), most))
-        self.assertTrue(self.makes_more_than(verb, other_layout(form), most))
+        self.assertFalse(self.makes_more_than(verb, backward_layout(form), most))
+        self.assertTrue(self.makes_more_than(verb, escaped_layout(form), most))
 
     def test_a_picture(self):
         self.check("check", path_picture(), 2)
