@@ -149,8 +149,8 @@ fn most_added(entries: &[Entry]) -> (usize, usize) {
 }
 
 /// The picture that the entries lead to from the start, each call carried out again. A reply that
-/// is not the one due in the picture at that point ends it. The start is copied, and stays. Room for
-/// what the entries add is made first.
+/// is not the one due in the picture at that point ends it. The start is copied, and stays. Room
+/// for what the entries add is made first.
 pub fn replay<F: PriceFn>(
     alloc: Global,
     start: &Picture,

@@ -55,8 +55,8 @@ impl SearchCost {
         }
     }
 
-    /// Whether a picture with so many faces is to be measured: for the first time, or again where it
-    /// has half as many faces more.
+    /// Whether a picture with so many faces is to be measured: for the first time, or again where
+    /// it has half as many faces more.
     fn is_due(&self, is_measured: bool, faces: u32) -> bool {
         if is_measured {
             faces / 3 * 2 > self.faces_measured

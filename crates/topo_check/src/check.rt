@@ -96,6 +96,7 @@ fn size_line(alloc: Global, counts: &Counts) -> Result<String, AllocError>
         faces,
     } = *counts;
     format!(in alloc;
-        "lawful vertices={vertices} crossings={crossings} edges={edges} segments={segments} faces={faces}\n"
+        "lawful vertices={vertices} crossings={crossings} edges={edges} segments={segments} \
+         faces={faces}\n"
     )
 }

@@ -15,15 +15,25 @@ pub(crate) const SCRIPT: &str = "{\"version\":1,\"workers\":[[[\"grow\",1,0,0],[
 
 /// The report of the script, and the line of its replay.
 pub(crate) const REPORT: &str = concat!(
-    r#"{"history":[{"call":["grow",1,0,0],"caller":0,"reply":{"edge":1,"vertex":2}},{"call":["grow",1,1,7],"caller":0,"reply":{"edge":2,"vertex":3}}],"limits":{"crossings":1048576,"edges":65536,"vertices":65536},"picture":{"crossings":[],"edges":[{"a":0,"b":1,"crossings":[],"id":0,"kind":0},{"a":1,"b":2,"crossings":[],"id":1,"kind":0},{"a":1,"b":3,"crossings":[],"id":2,"kind":7}],"next_crossing":0,"next_edge":3,"rotations":[[0],[0,2,1],[1],[2]]},"prices":[],"start":{"crossings":[],"edges":[{"a":0,"b":1,"crossings":[],"id":0,"kind":0}],"next_crossing":0,"next_edge":1,"rotations":[[0],[0]]},"version":1}"#,
+    r#"{"history":[{"call":["grow",1,0,0],"caller":0,"reply":{"edge":1,"vertex":2}},"#,
+    r#"{"call":["grow",1,1,7],"caller":0,"reply":{"edge":2,"vertex":3}}],"#,
+    r#""limits":{"crossings":1048576,"edges":65536,"vertices":65536},"#,
+    r#""picture":{"crossings":[],"edges":[{"a":0,"b":1,"crossings":[],"id":0,"kind":0},"#,
+    r#"{"a":1,"b":2,"crossings":[],"id":1,"kind":0},{"a":1,"b":3,"crossings":[],"id":2,"#,
+    r#""kind":7}],"next_crossing":0,"next_edge":3,"rotations":[[0],[0,2,1],[1],[2]]},"#,
+    r#""prices":[],"start":{"crossings":[],"edges":[{"a":0,"b":1,"crossings":[],"id":0,"#,
+    r#""kind":0}],"next_crossing":0,"next_edge":1,"rotations":[[0],[0]]},"version":1}"#,
     "\n"
 );
 
 pub(crate) const REPLAYED: &str = "replayed 2 calls\n";
 
 /// Two edges that cross.
-pub(crate) const CROSSED: &str =
-    r#"{"crossings":[{"crossed":0,"id":0,"newcomer":1,"sign":"ltr"}],"edges":[{"a":0,"b":1,"crossings":[0],"id":0,"kind":0},{"a":2,"b":3,"crossings":[0],"id":1,"kind":0}],"next_crossing":1,"next_edge":2,"rotations":[[0],[0],[1],[1]]}"#;
+pub(crate) const CROSSED: &str = concat!(
+    r#"{"crossings":[{"crossed":0,"id":0,"newcomer":1,"sign":"ltr"}],"edges":[{"a":0,"b":1,"#,
+    r#""crossings":[0],"id":0,"kind":0},{"a":2,"b":3,"crossings":[0],"id":1,"kind":0}],"#,
+    r#""next_crossing":1,"next_edge":2,"rotations":[[0],[0],[1],[1]]}"#,
+);
 
 /// The line of that picture.
 pub(crate) const SIZE: &str = "lawful vertices=4 crossings=1 edges=2 segments=4 faces=1\n";

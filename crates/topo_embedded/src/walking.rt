@@ -143,7 +143,8 @@ impl<'a> EmbeddedRows<'a> {
 impl FaceGraph for EmbeddedRows<'_> {
     ghost use Rattle.topo_rows.specs.Recovering.{lawful_again};
     ghost use Rattle.topo_embedded.specs.Bounds.{at_face, floor_of};
-    ghost use Rattle.topo_embedded.specs.Walking.{consistent_potentials, faces_apart, named_rows, names_apart};
+    ghost use Rattle.topo_embedded.specs.Walking.{consistent_potentials, faces_apart, named_rows};
+    ghost use Rattle.topo_embedded.specs.Walking.{names_apart};
     ghost use Rattle.topo_map.specs.Rotation.{turn_in};
 
     ghost named = { named_rows };

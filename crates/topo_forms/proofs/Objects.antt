@@ -1,5 +1,6 @@
 -- Members that are put to others in any order are those of their keys.
-use Rattle.std.proofs.Common.{◌≡◌, ℕ, ◌+◌, ◌-◌, ◌<◌, ◌≤◌, List, [], ◌∷◌, length, Option, Some, None, is_some, true, false, Ordering, Less, Equal, Greater, Ok, inl, inr, refl, sym, ap, ◌∙◌, subst, arith}
+use Rattle.std.proofs.Common.{◌≡◌, ℕ, ◌+◌, ◌-◌, ◌<◌, ◌≤◌, List, [], ◌∷◌, length, Option, Some, None, is_some}
+use Rattle.std.proofs.Common.{true, false, Ordering, Less, Equal, Greater, Ok, inl, inr, refl, sym, ap, ◌∙◌, subst, arith}
 use Rattle.std.proofs.lemmas.Bool.{and_parts}
 use Rattle.std.specs.Ordering.{nat_cmp, match_ordering}
 use Rattle.std.specs.Cmp.Lexicographic.{slice_cmp}
@@ -65,9 +66,11 @@ pub fills_put : (name : List ℕ) (d : Data) (ks : List Key) (os ps : List (Opti
 fills_put name d [] os ps sorted fills = absurd fills
 fills_put name d (k ∷ ks) [] ps sorted fills = absurd fills
 fills_put name d (k ∷ ks) (o ∷ os) [] sorted fills = absurd fills
-fills_put name d (k ∷ ks) (None ∷ os) (p ∷ ps) sorted (inl here) = rw (here.0, here.2, sym here.3) (put_front k d ks os (and_parts (are_behind k ks) (are_sorted ks) sorted).0)
+fills_put name d (k ∷ ks) (None ∷ os) (p ∷ ps) sorted (inl here) = rw (here.0, here.2, sym here.3)
+    (put_front k d ks os (and_parts (are_behind k ks) (are_sorted ks) sorted).0)
 fills_put name d (k ∷ ks) (Some e ∷ os) (p ∷ ps) sorted (inl here) = absurd cc
-fills_put name d (k ∷ ks) (None ∷ os) (p ∷ ps) sorted (inr there) = rw (sym there.0) (fills_put name d ks os ps (and_parts (are_behind k ks) (are_sorted ks) sorted).1 there.1)
+fills_put name d (k ∷ ks) (None ∷ os) (p ∷ ps) sorted (inr there) = rw (sym there.0)
+    (fills_put name d ks os ps (and_parts (are_behind k ks) (are_sorted ks) sorted).1 there.1)
 fills_put name d (k ∷ ks) (Some e ∷ os) (p ∷ ps) sorted (inr there) =
     let both = and_parts (are_behind k ks) (are_sorted ks) sorted in
     name_behind k name d ks os ps there.1 both.0 e (members_of ks os)
@@ -230,7 +233,8 @@ pub record IsMaybe {A : Type 0} (form : Path → Data → Read A) (o : Option A)
   pub is : os ≡ spelled ∷ ps
   pub read : IsHeld form o spelled
 
-pub record Maybe {A R : Type 0} (form : Path → Data → Read A) (holds : R → List (Option Data) → Type 0) (o : Option A) (r : R) (os : List (Option Data)) : Type 0 where
+pub record Maybe {A R : Type 0} (form : Path → Data → Read A) (holds : R → List (Option Data) → Type 0)
+    (o : Option A) (r : R) (os : List (Option Data)) : Type 0 where
   pub values : List (Option Data)
   pub first : IsMaybe form o os values
   pub held : holds r values

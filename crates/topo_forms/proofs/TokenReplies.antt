@@ -143,7 +143,8 @@ entry_keys : (path : Path) (call caller reply : Data)
 unfolding has_keys and_then
 entry_keys path call caller reply = refl
 
-pub entry_tokens : {x : Entry} {n : ℕ} {ts rest : List Token} {os p1 p2 : List (Option Data)} → SpellsValue n ts (object (members_of entry_order os)) rest → n ≤ 4
+pub entry_tokens : {x : Entry} {n : ℕ} {ts rest : List Token} {os p1 p2 : List (Option Data)} → SpellsValue n ts
+    (object (members_of entry_order os)) rest → n ≤ 4
     → IsDue call_form x.call os p1 → IsDue number_form x.caller p1 p2 → IsDue reply_form x.reply p2 [] → Spells 4 entry_form ts x rest
 unfolding entry_form
 entry_tokens {x} v within call caller reply =

@@ -41,7 +41,8 @@ unfolding member_or
 optional_read form default path k d None a there read = rw there (ap (λ x. Ok x) read)
 optional_read form default path k d (Some found) a there read = rw there (member_read form path k d there read)
 
-pub or_default : {A : Type 0} (form : Path → Data → Read A) (default : A) (o : Option A) (d : Option Data) → IsHeld form o d → AreRead form default d (unwrap_or o default)
+pub or_default : {A : Type 0} (form : Path → Data → Read A) (default : A) (o : Option A)
+    (d : Option Data) → IsHeld form o d → AreRead form default d (unwrap_or o default)
 or_default form default None None held = refl
 or_default form default None (Some d) held = absurd held
 or_default form default (Some a) None held = absurd held
@@ -63,7 +64,8 @@ pub record AreFront (l p s : Option Data) (nulls : Bool) (limits : LimitRows) (p
   pub of_start : AreRead start_form None s start
 
 pub front_read : {os p1 p2 p3 : List (Option Data)} {l : Option LimitRows} {p : Option (List (Option ℕ))} {s : Option (Option Rows)} {limits : LimitRows}
-    {prices none given : List (Option ℕ)} {start : Option Rows} (n : ℕ) (first : IsMaybe limits_form l os p1) (second : IsMaybe (list_form (price_form true)) p p1 p2)
+    {prices none given : List (Option ℕ)} {start : Option Rows} (n : ℕ) (first : IsMaybe limits_form l os p1)
+    (second : IsMaybe (list_form (price_form true)) p p1 p2)
     (third : IsMaybe start_form s p2 p3) → limits ≡ unwrap_or l greatest_limits → none ≡ [] → given ≡ unwrap_or p none → (kept : ArePricesOf n given prices)
     → start ≡ unwrap_or s None → AreFront first.spelled second.spelled third.spelled kept.0 limits prices start
 front_read {p = p} {prices = prices} n first second third same empty given_is kept begun =

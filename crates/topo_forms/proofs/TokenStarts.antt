@@ -46,7 +46,8 @@ seed_tokens text ts rest e is = deeper 0 4 start_form ts None rest (omega arith)
 
 -- ---- Lists of commands
 
-pub workers_read : (path : Path) (d : Data) (ws : List (List Command)) → list_form (list_form command_form) path d ≡ Ok ws → 0 < length ws → length ws ≤ MAX_WORKERS
+pub workers_read : (path : Path) (d : Data) (ws : List (List Command)) → list_form
+    (list_form command_form) path d ≡ Ok ws → 0 < length ws → length ws ≤ MAX_WORKERS
     → workers_form path d ≡ Ok ws
 unfolding list_form workers_form and_then
 workers_read path null ws e some few = absurd cc

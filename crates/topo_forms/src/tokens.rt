@@ -10,9 +10,10 @@ use std::alloc::Global;
 use topo_core::ids::{EdgeId, VertexId};
 use topo_core::listed::Listed;
 
-/// A type whose form can be read from tokens, as our own writer writes them, but for the
-/// order of keys: numbers as digits, and texts with no escape. Nothing is read from other tokens, though they may spell the
-/// form too. Its `nesting` says how deep the arrays and objects of the form nest at most.
+/// A type whose form can be read from tokens, as our own writer writes them, but for the order of
+/// keys: numbers as digits, and texts with no escape. Nothing is read from other tokens, though
+/// they may spell the form too. Its `nesting` says how deep the arrays and objects of the form nest
+/// at most.
 pub trait FromTokens: Drop {
     ghost use Rattle.std.specs.Prelude.{ℕ};
     ghost use Rattle.serde_json.specs.Data.{Data};

@@ -144,8 +144,8 @@ impl Picture {
         embedded.into_rows(alloc)
     }
 
-    /// Room for so many more vertices and edges, as far as the limits let them come, so that what is
-    /// kept of them need not move as it grows. The picture stays as it is.
+    /// Room for so many more vertices and edges, as far as the limits let them come, so that what
+    /// is kept of them need not move as it grows. The picture stays as it is.
     pub fn reserve(&mut self, vertices: usize, edges: usize) -> Result<(), AllocError>
         ensures { self.new ≡ self.old }
     {
@@ -179,8 +179,8 @@ impl Picture {
         EmbeddedRows::new(&self.embedded)
     }
 
-    /// Guides searches to their targets from then on, until an edge is taken out or an insertion has
-    /// all faces labelled anew. It measures how far all faces are from four vertices at these
+    /// Guides searches to their targets from then on, until an edge is taken out or an insertion
+    /// has all faces labelled anew. It measures how far all faces are from four vertices at these
     /// prices, which takes as long as some searches of the whole picture. The picture stays as it
     /// is, and a copy of it has none of this.
     pub fn guide_searches<F: PriceFn>(

@@ -3,8 +3,8 @@
 //!
 //! A price is from 1 to `MAX_PRICE`, and an edge without one must not be crossed. `Tariff::new`
 //! takes the promise as its condition, and from then on the type keeps it: `price` answers the
-//! promised number wherever the tariff goes. A `PriceTable` may stand in the place of a closure: its
-//! prices are known by the kind of an edge alone, and with them searches are faster.
+//! promised number wherever the tariff goes. A `PriceTable` may stand in the place of a closure:
+//! its prices are known by the kind of an edge alone, and with them searches are faster.
 #![tactic(auto)]
 
 pub mod table;

@@ -22,9 +22,9 @@ pub(crate) struct Entry {
     below: usize,
 }
 
-/// Items in buckets by what they are ordered by modulo 2001, the least first. Contracts see the list
-/// of the items: which of them comes out first is speed alone. A bucket is a chain of entries, from
-/// one more than the place of its last one down; entries are put at the end and never moved.
+/// Items in buckets by what they are ordered by modulo 2001, the least first. Contracts see the
+/// list of the items: which of them comes out first is speed alone. A bucket is a chain of entries,
+/// from one more than the place of its last one down; entries are put at the end and never moved.
 #[derive(Drop)]
 pub(crate) struct BucketQueue {
     entries: Vec<Entry>,

@@ -271,8 +271,8 @@ impl Labels {
         Ok(())
     }
 
-    /// Spreads the heights of all that wait and make up no more than the least with what is at least
-    /// left to go by the guide. Faces are taken by the rising sum of both.
+    /// Spreads the heights of all that wait and make up no more than the least with what is at
+    /// least left to go by the guide. Faces are taken by the rising sum of both.
     pub(crate) fn spread_toward<W: FaceGraph, F: PriceFn>(
         &mut self,
         priced: &PricedGraph<W, F>,

@@ -2,7 +2,8 @@
 
 ghost use Rattle.std.specs.Prelude.{◌≡◌, ◌+◌, ◌*◌, ◌<◌, ◌≤◌, ◌^◌, ◌++◌, ◌==◌, ℕ, true, false};
 ghost use Rattle.std.specs.Prelude.{IfOk, OnOk, IfSome, IfNone, MatchOption, IsTrue, ◌↔◌, find};
-ghost use Rattle.std.specs.Prelude.{length, map, flat_map, replicate, sum_by, is_some, slice_index, not};
+ghost use Rattle.std.specs.Prelude.{length, map, flat_map, replicate, sum_by, is_some, not};
+ghost use Rattle.std.specs.Prelude.{slice_index};
 ghost use Rattle.std.specs.List.{list_all};
 ghost use Rattle.topo_core.specs.Items.{occurrences, rises_below};
 ghost use Rattle.topo_core.specs.Lawful.{IsWellFormed, has_good_paths};

@@ -7,7 +7,8 @@ use Rattle.std.specs.Option.{option_flatten}
 use Rattle.std.proofs.lemmas.Bool.Decides.{nat_tests}
 use Rattle.indexmap.specs.IndexMap.{set_value_at}
 use Rattle.topo_table.specs.Places.{AreBelow, AreFrom, AreOwnPlaces, IsLiveAt, ids_of, present, value_of}
-use Rattle.topo_table.proofs.PlaceLemmas.{IsBelowAll, IsStrictlyIncreasing-from_Rises, Rises, both_true, ids_of-set_value_at, lookup-above, own_there, value_at, value_of-found}
+use Rattle.topo_table.proofs.PlaceLemmas.{IsBelowAll, IsStrictlyIncreasing-from_Rises, Rises, both_true}
+use Rattle.topo_table.proofs.PlaceLemmas.{ids_of-set_value_at, lookup-above, own_there, value_at, value_of-found}
 
 some_same : {X : Type 0} {x y : X} → Some x ≡ Some y → x ≡ y
 some_same h = cc

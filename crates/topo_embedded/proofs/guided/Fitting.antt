@@ -1,5 +1,6 @@
 -- Slopes and kinds fit the rows through growths, insertions and deletions.
-use Rattle.std.proofs.Common.{◌≡◌, ◌⊎◌, ℕ, zero, suc, ◌+◌, ◌≤◌, ◌++◌, cond, List, [], ◌∷◌, None, Option, Some, inl, inr, length, refl, sym, ap, subst, ◌∙◌, arith}
+use Rattle.std.proofs.Common.{◌≡◌, ◌⊎◌, ℕ, zero, suc, ◌+◌, ◌≤◌, ◌++◌, cond, List, [], ◌∷◌}
+use Rattle.std.proofs.Common.{None, Option, Some, inl, inr, length, refl, sym, ap, subst, ◌∙◌, arith}
 use Rattle.std.specs.Prelude.{is_some, map, slice_get, slice_index_or}
 use Rattle.std.specs.Option.{option_map, option_or}
 use Rattle.std.proofs.lemmas.Bool.{cases_Bool, eqb-true}
@@ -33,7 +34,8 @@ abbrev pub ComesFrom : Rows → ℕ → ℕ → EdgeRow → Type 0
 ComesFrom rows kind e row = ((old : EdgeRow) × (edge_row rows e ≡ Some old) × (row.kind ≡ old.kind)) ⊎ ((e ≡ rows.next_edge) × (row.kind ≡ kind))
 
 -- an old row or a new one
-by_row : (rows : Rows) (e : ℕ) (row : EdgeRow) (change : EdgeRow → EdgeRow) (new : EdgeRow) → ((old : EdgeRow) → (change old).kind ≡ old.kind) → (o : Option EdgeRow)
+by_row : (rows : Rows) (e : ℕ) (row : EdgeRow) (change : EdgeRow → EdgeRow) (new : EdgeRow) →
+    ((old : EdgeRow) → (change old).kind ≡ old.kind) → (o : Option EdgeRow)
     → edge_row rows e ≡ o → option_or (option_map change o) (cond {A = Option EdgeRow} (rows.next_edge == e) (Some new) None) ≡ Some row
     → ComesFrom rows new.kind e row
 by_row rows e row change new keeps (Some old) at is = let same : change old ≡ row = cc in inl (old, at, ap (λ (r : EdgeRow). r.kind) (sym same) ∙ keeps old)
@@ -65,7 +67,8 @@ pub without_from : (rows : Rows) (gone kind e : ℕ) (row : EdgeRow) → edge_ro
 without_from rows gone kind e row at = let (apart, (old, was, same)) = without_known rows gone e row at in inl (old, was, ap (λ (r : EdgeRow). r.kind) same)
 
 -- an edge that comes later has no slope
-fits_on : (rows rows' : Rows) (kind : ℕ) (b b' : BoundsState) (slope : ℕ → ℕ) → ((e : ℕ) (row : EdgeRow) → edge_row rows' e ≡ Some row → ComesFrom rows kind e row)
+fits_on : (rows rows' : Rows) (kind : ℕ) (b b' : BoundsState) (slope : ℕ → ℕ) →
+    ((e : ℕ) (row : EdgeRow) → edge_row rows' e ≡ Some row → ComesFrom rows kind e row)
     → rows.next_edge ≤ rows'.next_edge → b'.floors ≡ b.floors → FitsRows rows b slope → FitsRows rows' b' slope
 fits_on rows rows' kind b b' slope from more floors was = record {
   fits = λ e row at.
@@ -106,7 +109,8 @@ kinds_on rows rows' formed kind kinds kinds' from more (inl same) was = subst (A
 })
 kinds_on rows rows' formed kind kinds kinds' from more (inr noted) was = subst (AreKindsOf rows') (sym noted.1) (record {
   known = λ e k row at found. by_entry e k row (by_end kinds kind e k at) (from e row found);
-  few = (let few = was.few in let long : length (kinds ++ kind ∷ []) ≡ length kinds + 1 = length-append kinds (kind ∷ []) in omega (arith, few, more, long, noted.0));
+  few = (let few = was.few in let long : length (kinds ++ kind ∷ []) ≡ length kinds + 1 = length-append kinds
+      (kind ∷ []) in omega (arith, few, more, long, noted.0));
 }) where
   by_entry : (e k : ℕ) (row : EdgeRow) → (slice_get kinds e ≡ Some k) ⊎ ((e ≡ length kinds) × (k ≡ kind)) → ComesFrom rows kind e row → row.kind ≡ k
   by_entry e k row (inl old) (inl was_row) = was_row.2 ∙ was.known e k was_row.0 old was_row.1
@@ -133,7 +137,8 @@ pub searches_same : (p p' : Parts) → p'.rows ≡ p.rows → p'.segments.slots 
     → p'.kinds ≡ p.kinds → AreForSearches p → AreForSearches p'
 searches_same p p' rows slots labels bounds kinds was = record {
   slope = was.slope;
-  consistent = subst (λ b. AreConsistentOn b was.slope p'.segments) (sym bounds) (consistent_same p.segments p'.segments p.bounds was.slope slots labels was.consistent);
+  consistent = subst (λ b. AreConsistentOn b was.slope p'.segments) (sym bounds)
+      (consistent_same p.segments p'.segments p.bounds was.slope slots labels was.consistent);
   fits = subst (λ b. FitsRows p'.rows b was.slope) (sym bounds) (subst (λ (r : Rows). FitsRows r p.bounds was.slope) (sym rows) was.fits);
   kinds = subst (AreKindsOf p'.rows) (sym kinds) (subst (λ (r : Rows). AreKindsOf r p.kinds) (sym rows) was.kinds);
 }
@@ -190,7 +195,8 @@ parts_same p p' rows paths slots formed agree kept =
     let values : values_in p'.paths ≡ values_in p.paths = ap (λ s. map (λ e. e.1) (present s)) paths in (
       subst IsWellFormed (sym rows) formed,
       subst (λ (r : Rows). ShowsRows (record { rows = r; paths = values_in p'.paths }) p'.segments) (sym rows)
-          (subst (λ ps. ShowsRows (record { rows = p.rows; paths = ps }) p'.segments) (sym values) (kept_shows (with_paths p) p.segments p'.segments slots agree)),
+          (subst (λ ps. ShowsRows (record { rows = p.rows; paths = ps }) p'.segments) (sym values)
+          (kept_shows (with_paths p) p.segments p'.segments slots agree)),
       subst (λ (r : Rows). AreForEdges r p'.paths) (sym rows) (kept_same p.rows p.paths p'.paths paths kept),
     )
 

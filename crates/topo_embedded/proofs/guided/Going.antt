@@ -6,7 +6,8 @@ use Rattle.topo_core.proofs.numbering.Members.{left_true, right_true}
 use Rattle.topo_core.specs.Rotations.{twin}
 use Rattle.topo_perm.proofs.permutations.Faces.{twin-twin}
 use Rattle.topo_perm.proofs.edits.Bypassing.{twin-half}
-use Rattle.topo_map.specs.Rotation.{AddsFaces, AddsLabel, Grows, IsEmbedding, PartsLabels, Rotation, Slot, edge_in, edge_of, face_of, is_live, labelled, live_in, turn_in}
+use Rattle.topo_map.specs.Rotation.{AddsFaces, AddsLabel, Grows, IsEmbedding, PartsLabels, Rotation, Slot}
+use Rattle.topo_map.specs.Rotation.{edge_in, edge_of, face_of, is_live, labelled, live_in, turn_in}
 use Rattle.topo_route.specs.Potentials.{AreWithin, all_four}
 use Rattle.topo_route.specs.declared.potentials.Potentials.{Potentials}
 use Rattle.topo_embedded.specs.Bounds.{AreConsistentOn, BoundsState, GoesOn, IsGiven, IsPut, at_face}
@@ -35,7 +36,8 @@ goes_further on more = record {
 }
 
 -- the same slots and labels
-pub consistent_same : (r r' : Rotation) (b : BoundsState) (slope : ℕ → ℕ) → r'.slots ≡ r.slots → r'.labels ≡ r.labels → AreConsistentOn b slope r → AreConsistentOn b slope r'
+pub consistent_same : (r r' : Rotation) (b : BoundsState)
+    (slope : ℕ → ℕ) → r'.slots ≡ r.slots → r'.labels ≡ r.labels → AreConsistentOn b slope r → AreConsistentOn b slope r'
 consistent_same r r' b slope slots labels was =
     subst (λ (s : List (Option Slot)). (a : ℕ) → live_in s a ≡ true
     → AreWithin (slope (edge_in s a)) (at_face b (turn_in r'.labels a)) (at_face b (turn_in r'.labels (twin a)))) (sym slots)
@@ -101,7 +103,8 @@ module _ {old new : Rotation} {x edge : ℕ} (whole : IsEmbedding old) (grows : 
     floors = refl;
     consistent = λ slope was.
         let same : at_face b (face_of new x) ≡ at_face b (face_of new (twin x)) = ap (at_face b) (faces.here ∙ sym faces.here_twin) in
-        still_consistent b b (λ a h. ap (at_face b) (faces.others a h)) slope (within_equal (slope edge) _ _ same) (within_equal (slope edge) _ _ (sym same)) was;
+        still_consistent b b (λ a h. ap (at_face b) (faces.others a h)) slope (within_equal (slope edge) _ _ same)
+        (within_equal (slope edge) _ _ (sym same)) was;
   }
 
   -- both sides of a face that is parted have the same potentials, and the others keep theirs
@@ -110,16 +113,18 @@ module _ {old new : Rotation} {x edge : ℕ} (whole : IsEmbedding old) (grows : 
       → at_face b' (face_of new x) ≡ here → at_face b' (face_of new (twin x)) ≡ here
       → ((k : ℕ) → k ≢ face_of new x → k ≢ face_of new (twin x) → at_face b' k ≡ at_face b k)
       → (a : ℕ) → is_live old a ≡ true → at_face b' (face_of new a) ≡ at_face b (face_of old a)
-  kept_apart b b' c d here parts at_c at_d at_x at_twin others a h = by_side (cases_eq (face_of new a) (face_of new x)) (cases_eq (face_of new a) (face_of new (twin x))) where
-    old_side : (face_of old a ≡ face_of old c) ⊎ (face_of old a ≡ face_of old d) → here ≡ at_face b (face_of old a)
-    old_side (inl e) = at_c ∙ ap (at_face b) (sym e)
-    old_side (inr e) = at_d ∙ ap (at_face b) (sym e)
+  kept_apart b b' c d here parts at_c at_d at_x at_twin others a h = by_side (cases_eq (face_of new a) (face_of new x))
+      (cases_eq (face_of new a) (face_of new (twin x))) where
+        old_side : (face_of old a ≡ face_of old c) ⊎ (face_of old a ≡ face_of old d) → here ≡ at_face b (face_of old a)
+        old_side (inl e) = at_c ∙ ap (at_face b) (sym e)
+        old_side (inr e) = at_d ∙ ap (at_face b) (sym e)
 
-    by_side : (face_of new a ≡ face_of new x) ⊎ (face_of new a ≢ face_of new x) → (face_of new a ≡ face_of new (twin x)) ⊎ (face_of new a ≢ face_of new (twin x))
-        → at_face b' (face_of new a) ≡ at_face b (face_of old a)
-    by_side (inl e) either = ap (at_face b') e ∙ at_x ∙ old_side (parts.beside a h (inl e))
-    by_side (inr ne) (inl e) = ap (at_face b') e ∙ at_twin ∙ old_side (parts.beside a h (inr e))
-    by_side (inr ne) (inr nt) = others (face_of new a) ne nt ∙ ap (at_face b) (parts.apart a h ne nt)
+        by_side : (face_of new a ≡ face_of new x) ⊎ (face_of new a ≢ face_of new x) → (face_of new a ≡ face_of new (twin x)) ⊎
+            (face_of new a ≢ face_of new (twin x))
+            → at_face b' (face_of new a) ≡ at_face b (face_of old a)
+        by_side (inl e) either = ap (at_face b') e ∙ at_x ∙ old_side (parts.beside a h (inl e))
+        by_side (inr ne) (inl e) = ap (at_face b') e ∙ at_twin ∙ old_side (parts.beside a h (inr e))
+        by_side (inr ne) (inr nt) = others (face_of new a) ne nt ∙ ap (at_face b) (parts.apart a h ne nt)
 
   pub goes_chord : (b b₁ b' : BoundsState) (c d : ℕ) (here : Potentials) → PartsLabels (is_live old) (face_of old) (face_of new) c d x
       → here ≡ at_face b (face_of old c) → here ≡ at_face b (face_of old d)
@@ -128,7 +133,8 @@ module _ {old new : Rotation} {x edge : ℕ} (whole : IsEmbedding old) (grows : 
     floors : b'.floors ≡ b.floors
     floors = second.floors ∙ first.floors
 
-    by_second : IsPut (at_face b) (at_face b₁) (face_of new x) here → (b'.potentials ≡ []) ⊎ IsPut (at_face b₁) (at_face b') (face_of new (twin x)) here → GoesOn old new b b'
+    by_second : IsPut (at_face b) (at_face b₁) (face_of new x) here → (b'.potentials ≡ []) ⊎ IsPut (at_face b₁)
+        (at_face b') (face_of new (twin x)) here → GoesOn old new b b'
     by_second put (inl none) = goes_to_none floors none
     by_second put (inr more) =
         let at_x : at_face b' (face_of new x) ≡ here = elim (cases_eq (face_of new x) (face_of new (twin x))) [
@@ -138,7 +144,8 @@ module _ {old new : Rotation} {x edge : ℕ} (whole : IsEmbedding old) (grows : 
         let same : at_face b' (face_of new x) ≡ at_face b' (face_of new (twin x)) = at_x ∙ sym more.at_label in
         record {
           floors = floors;
-          consistent = λ slope was. still_consistent b b' (kept_apart b b' c d here parts at_c at_d at_x more.at_label (λ k ne nt. more.others k nt ∙ put.others k ne)) slope
+          consistent = λ slope was. still_consistent b b'
+              (kept_apart b b' c d here parts at_c at_d at_x more.at_label (λ k ne nt. more.others k nt ∙ put.others k ne)) slope
               (within_equal (slope edge) _ _ same) (within_equal (slope edge) _ _ (sym same)) was;
         }
 

@@ -36,7 +36,8 @@ module _ (p : RowsWithPaths) (good : IsWellFormed p.rows) (r : Rotation) (shows 
   near k l =
       let d = dart_named g k in
       let h : half_in p d ≡ k = l.is in
-      let alive : is_live r k ≡ true = subst (λ j. is_live r j ≡ true) h (are_live p good r shows (half_in p d) (record { dart = d; there = l.there; is = refl })) in
+      let alive : is_live r k ≡ true = subst (λ j. is_live r j ≡ true) h
+      (are_live p good r shows (half_in p d) (record { dart = d; there = l.there; is = refl })) in
       let label : edge_of r k ≡ d.edge = ap (edge_of r) (sym h) ∙ shows.labels d l.there in
       let (row, found) = some_of (edge_row p.rows d.edge) (edge_of_dart p.rows good d l.there) in
       let is : edge_at p.rows d.edge ≡ row = edge_at_row p.rows d.edge row found in

@@ -23,7 +23,8 @@ most : (slope a b c d a' b' c' d' : ℕ) → a ≤ slope + a' → b ≤ slope + 
 most slope a b c d a' b' c' d' first second third fourth = grind arith
 
 -- what lies beside each other is about as far
-bound_consistent : (slope cost : ℕ) (g : Guide) (p q : Potentials) → AreWithin slope p q → AreWithin slope q p → slope ≤ cost → bound_by g p ≤ cost + bound_by g q
+bound_consistent : (slope cost : ℕ) (g : Guide) (p q : Potentials) → AreWithin slope p q → AreWithin slope q
+    p → slope ≤ cost → bound_by g p ≤ cost + bound_by g q
 bound_consistent slope cost g p q above below low =
     let first = outside_consistent slope g.low.first g.high.first p.first q.first above.first below.first in
     let second = outside_consistent slope g.low.second g.high.second p.second q.second above.second below.second in

@@ -66,7 +66,8 @@ module _ (price : Pricing) (g : Named) (lawful : Lawful g.rows) (has : IsNamed g
   -- the bound of a twin is no more than the price above that of its dart
   twin_consistent : (k c : ℕ) → IsName g k → Price price g.rows (dart_named g k) c → bound (twin_name g k) ≤ c + bound k
   twin_consistent k c l asked = let t = twin_name g k in
-      subst (λ j. bound t ≤ c + bound j) (twin_back g lawful has k l) (guides.bounds.consistent t c (twin_is g lawful has k l) (twin_price g lawful has price k c l asked))
+      subst (λ j. bound t ≤ c + bound j) (twin_back g lawful has k l)
+      (guides.bounds.consistent t c (twin_is g lawful has k l) (twin_price g lawful has price k c l asked))
 
   consistent : (k c : ℕ) → IsName g k → Price price g.rows (dart_named g k) c → lid k ≤ c + lid (twin_name g k)
   consistent k c l asked =

@@ -27,7 +27,8 @@ module _ (heights waiting waiting' : List ℕ) (item : ℕ) (popped : (i : ℕ) 
 
   -- the dart that it is of is not low
   pub not_low : (others : List ℕ) {level : ℕ} (most : ℕ) {dart height number : ℕ} (k : ℕ) → k < 2 ^ 32 → dart ≡ dart_of_item item
-      → height ≡ slice_index heights dart → number ≡ number_at others dart → level ≤ height → most < height + number → slice_index heights k < top_of level most others k
+      → height ≡ slice_index heights dart → number ≡ number_at others dart → level ≤ height → most < height +
+      number → slice_index heights k < top_of level most others k
       → is_pending heights waiting' k ≡ is_pending heights waiting k
   not_low others most {dart} k short is at there low past below = passed_over k (λ e.
       let one : dart ≡ k = is ∙ ap dart_of_item e ∙ dart_of_own k (slice_index heights k) short in

@@ -179,7 +179,8 @@ module _ (price : Pricing) (g : Named) (lawful : Lawful g.rows) (has : IsNamed g
       (at : corner g.rows v i ≡ Some (dart_named g c)) (high : 0 < slice_index (dart_heights g face heights) c) (short : c < 2 ^ 32) where
     pub started : lower ≡ min least (number_at others (face c)) → ((i : ℕ) → is_waiting waiting' i ≡ (item_of c 0 == i || is_waiting waiting i))
         → length waiting' ≡ length waiting + 1
-        → Relaxes price g face faces v others heights names waiting least g.size (set heights (face c) 0) (with_name heights (face c) c names) waiting' lower g.size
+        → Relaxes price g face faces v others heights names waiting least g.size (set heights (face c) 0)
+        (with_name heights (face c) c names) waiting' lower g.size
     started is added longer =
         let walk : Reaches price g.rows v (dart_named g c) 0 =
         record { crossed = []; position = i; to = dart_named g c; ends = at; walk = record { steps = 0; leads = refl }; cost = refl } in

@@ -12,8 +12,10 @@ loop-number-preserved c a less alive = elim (cases_eq a c.loop-number.number) [
       let same = here ∙ sym half in
       elim c.else-contains.branch [
         | else-contains-via-then-contains+else-not-is_consistent_at w ↦
-            subst (IsConsistentAt c.args.bounds.now (slope_by c.args.rows.now c.args.bounds.now) c.args.segments.now) (sym same) (w.is_consistent_at.ensures w.if-not-is_consistent_at.false)
-        | else-contains-via-else-contains w ↦ absurd (false≢true (sym w.if-contains.false ∙ c.contains.ensures ∙ ap (is_live c.args.segments.now) (sym same) ∙ alive))
+            subst (IsConsistentAt c.args.bounds.now (slope_by c.args.rows.now c.args.bounds.now) c.args.segments.now)
+            (sym same) (w.is_consistent_at.ensures w.if-not-is_consistent_at.false)
+        | else-contains-via-else-contains w ↦ absurd
+            (false≢true (sym w.if-contains.false ∙ c.contains.ensures ∙ ap (is_live c.args.segments.now) (sym same) ∙ alive))
       ]
   | inr ne ↦ c.loop-number.invariant a (omega (arith, less, ne)) alive
 ]

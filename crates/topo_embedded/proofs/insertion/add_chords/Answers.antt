@@ -44,7 +44,8 @@ loop-n-preserved c =
           cross less c.index-crossed-n.is alive beyond
           (subst (λ (k : ℕ). AreChordsAddedFrom c.args.segments.now c.loop-n.segments c.args.crossed.now k c.loop-n.to c.args.end c.args.edge c.loop-n.line)
           more c.loop-n.invariant.added)
-          (subst (λ (h : ℕ). IsChord (turn c.loop-n.segments) (turn c.chord.new.segments) half_limit h c.loop-n.to c.chord.result) c.twin.ensures c.chord.ensures.edit)
+          (subst (λ (h : ℕ). IsChord (turn c.loop-n.segments) (turn c.chord.new.segments) half_limit h c.loop-n.to c.chord.result)
+          c.twin.ensures c.chord.ensures.edit)
           c.chord.ensures.grows c.chord.ensures.label);
       bounds = goes_further c.loop-n.invariant.bounds c.chord.ensures.bounds;
     }
@@ -53,7 +54,8 @@ pub returns-clause-added : goal.returns-clause-added
 returns-clause-added c =
     subst (λ (line : List ℕ). AreChordsAdded c.args.segments.now c.chord-2.new.segments c.args.crossed.now c.args.start c.args.end c.args.edge line)
     (sym c.set-2.ensures)
-    (chords_last c.args.segments.now c.loop-n.segments c.chord-2.new.segments c.args.crossed.now c.args.end c.args.edge c.loop-n.line c.chord-2.result c.loop-n.n
+    (chords_last c.args.segments.now c.loop-n.segments c.chord-2.new.segments c.args.crossed.now c.args.end
+    c.args.edge c.loop-n.line c.chord-2.result c.loop-n.n
     c.loop-n.to c.args.start (omega arith) c.requires.start c.loop-n.invariant.added c.chord-2.ensures.edit c.chord-2.ensures.grows c.chord-2.ensures.label)
 
 pub returns-clause-bounds : goal.returns-clause-bounds

@@ -8,7 +8,8 @@ pub returns-clause-slots : goal.returns-clause-slots
 returns-clause-slots c =
     let walks : c.in_ok-walks.walks.items ≡ c.segments.inside.walks.items =
     same_walks c.segments.inside.walks.items c.in_ok-walks.walks.items c.in_ok-walks.ensures.cases.0 in
-    same_parts c.segments.inside.walks.items c.segments.inside.rest c.extend.new.walks.items c.in_ok-rest.rest.slots c.segments.invariant c.segments.view_is c.in_ok-rest.ensures.slots
+    same_parts c.segments.inside.walks.items c.segments.inside.rest c.extend.new.walks.items c.in_ok-rest.rest.slots
+    c.segments.invariant c.segments.view_is c.in_ok-rest.ensures.slots
     (subst (λ (l : List Walk). length l ≤ length c.extend.new.walks.items) walks c.extend.ensures.longer)
     (λ k w h. c.extend.ensures.same k w (subst (λ (l : List Walk). k < length l) (sym walks) h) ∙ ap (λ (l : List Walk). slice_index_or l k w) walks)
 

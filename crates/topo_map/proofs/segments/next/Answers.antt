@@ -13,9 +13,11 @@ index-walk-requires c =
     omega (arith, within)
 
 pub returns-in-Forward : goal.returns-in-Forward
-returns-in-Forward c = sym (found nexts c.args.segments.now c.key.result Forward c.args.at _ (half_of c.key.result Forward c.args.at c.key.ensures (sym c.in-Forward.is ∙ c.way.ensures))
+returns-in-Forward c = sym (found nexts c.args.segments.now c.key.result Forward c.args.at _
+    (half_of c.key.result Forward c.args.at c.key.ensures (sym c.in-Forward.is ∙ c.way.ensures))
     (read_at c.key.result c.args.at c.segments.invariant c.segments.view_is c.key.ensures c.requires c.index-walk.ensures).segment)
 
 pub returns-in-Back : goal.returns-in-Back
-returns-in-Back c = sym (found nexts c.args.segments.now c.key.result Back c.args.at _ (half_of c.key.result Back c.args.at c.key.ensures (sym c.in-Back.is ∙ c.way.ensures))
+returns-in-Back c = sym (found nexts c.args.segments.now c.key.result Back c.args.at _
+    (half_of c.key.result Back c.args.at c.key.ensures (sym c.in-Back.is ∙ c.way.ensures))
     (read_at c.key.result c.args.at c.segments.invariant c.segments.view_is c.key.ensures c.requires c.index-walk.ensures).segment)

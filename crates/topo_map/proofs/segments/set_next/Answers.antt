@@ -17,12 +17,22 @@ index_mut-walk-requires c =
 
 pub returns : goal.returns
 returns c =
-    let Done = λ (y : Inside). Rewires c.args.segments.now (joined y.walks.items y.rest) (written (next_in c.args.segments.now) c.args.at c.args.to) (before_in c.args.segments.now) in
+    let Done = λ (y : Inside). Rewires c.args.segments.now (joined y.walks.items y.rest)
+    (written (next_in c.args.segments.now) c.args.at c.args.to) (before_in c.args.segments.now) in
     let parts = read_at c.key.result c.args.at c.segments.invariant c.segments.view_is c.key.ensures c.requires c.index_mut-walk.ensures.value in
-    let changed = λ (w : Walk). walk_written c.segments.inside.walks.items c.segments.inside.rest c.key.result w c.segments.invariant c.segments.view_is parts.there in
+    let changed = λ (w : Walk). walk_written c.segments.inside.walks.items c.segments.inside.rest c.key.result
+    w c.segments.invariant c.segments.view_is parts.there in
     elim c.match-way.branch [
       | in-Forward w ↦ subst Done (sym w.segments-inside-is)
-          (wired_next Forward c.args.to _ (record { half = half_of c.key.result Forward c.args.at c.key.ensures (sym w.in-Forward.is ∙ c.way.ensures); there = parts.segment }) (changed _) refl refl refl)
+          (wired_next Forward c.args.to _ (record {
+            half = half_of c.key.result Forward c.args.at c.key.ensures
+                (sym w.in-Forward.is ∙ c.way.ensures);
+            there = parts.segment;
+          }) (changed _) refl refl refl)
       | in-Back w ↦ subst Done (sym w.segments-inside-is)
-          (wired_next Back c.args.to _ (record { half = half_of c.key.result Back c.args.at c.key.ensures (sym w.in-Back.is ∙ c.way.ensures); there = parts.segment }) (changed _) refl refl refl)
+          (wired_next Back c.args.to _ (record {
+            half = half_of c.key.result Back c.args.at c.key.ensures
+                (sym w.in-Back.is ∙ c.way.ensures);
+            there = parts.segment;
+          }) (changed _) refl refl refl)
     ]

@@ -14,12 +14,20 @@ index_mut-rest-requires c = (walk_at c.key.result c.args.at some_walk c.segments
 
 pub returns : goal.returns
 returns c =
-    let Done = λ (y : Inside). Rewires c.args.segments.now (joined y.walks.items y.rest) (next_in c.args.segments.now) (written (before_in c.args.segments.now) c.args.at c.args.to) in
-    let there = rest_at c.segments.inside.walks.items c.segments.inside.rest c.key.result c.segments.invariant c.segments.view_is c.index_mut-rest.ensures.value in
-    let changed = λ (r : Rest). rest_written c.segments.inside.walks.items c.segments.inside.rest c.key.result r c.segments.invariant c.segments.view_is c.index_mut-rest.ensures.value in
+    let Done = λ (y : Inside). Rewires c.args.segments.now (joined y.walks.items y.rest) (next_in c.args.segments.now)
+    (written (before_in c.args.segments.now) c.args.at c.args.to) in
+    let there = rest_at c.segments.inside.walks.items c.segments.inside.rest c.key.result c.segments.invariant
+    c.segments.view_is c.index_mut-rest.ensures.value in
+    let changed = λ (r : Rest). rest_written c.segments.inside.walks.items c.segments.inside.rest c.key.result
+    r c.segments.invariant c.segments.view_is c.index_mut-rest.ensures.value in
     elim c.match-way.branch [
       | in-Forward w ↦ subst Done (sym w.segments-inside-is)
-          (wired_before Forward c.args.to _ (record { half = half_of c.key.result Forward c.args.at c.key.ensures (sym w.in-Forward.is ∙ c.way.ensures); there = there }) (changed _) refl refl refl)
+          (wired_before Forward c.args.to _ (record
+          { half = half_of c.key.result Forward c.args.at c.key.ensures (sym w.in-Forward.is ∙ c.way.ensures); there = there }) (changed _) refl refl refl)
       | in-Back w ↦ subst Done (sym w.segments-inside-is)
-          (wired_before Back c.args.to _ (record { half = half_of c.key.result Back c.args.at c.key.ensures (sym w.in-Back.is ∙ c.way.ensures); there = there }) (changed _) refl refl refl)
+          (wired_before Back c.args.to _ (record {
+            half = half_of c.key.result Back c.args.at c.key.ensures
+                (sym w.in-Back.is ∙ c.way.ensures);
+            there = there;
+          }) (changed _) refl refl refl)
     ]

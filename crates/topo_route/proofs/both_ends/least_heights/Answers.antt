@@ -25,7 +25,8 @@ start_at-requires g c =
     record {
       costs = blank_costs price named lawful has face faces has_faces c.args.v c.args.v c.clear.new.self.heights c.clear.new.self.names.items few
           blank c.in_ok-clear.ensures.names c.args.v;
-      sums = blank_sums price named lawful has face faces has_faces c.args.v c.args.v c.clear.new.self.heights c.clear.new.self.names.items few blank c.in_ok-clear.ensures.names
+      sums = blank_sums price named lawful has face faces has_faces c.args.v c.args.v c.clear.new.self.heights
+          c.clear.new.self.names.items few blank c.in_ok-clear.ensures.names
           c.args.work.now.to_start.heights;
     }
 
@@ -46,7 +47,8 @@ spread-requires-clause-spreads g c =
     narrowed price named face faces c.args.v now.heights now.names.items now.waiting (λ k. unreached)
     (top_of 18446744073709551615 (min 0 c.start_at.new.least) (dart_heights named face c.args.work.now.to_start.heights)) reach reach named.size
     (c.in_ok-start_at.ensures.relaxes.spreads (λ k. unreached)
-    (blank_spreads price named lawful has face faces has_faces c.args.v c.args.v c.clear.new.self.heights c.clear.new.self.names.items few blank c.in_ok-clear.ensures.names c.args.v
+    (blank_spreads price named lawful has face faces has_faces c.args.v c.args.v c.clear.new.self.heights
+    c.clear.new.self.names.items few blank c.in_ok-clear.ensures.names c.args.v
     (reach_of 18446744073709551615) c.clear.new.self.waiting
     c.in_ok-clear.ensures.waiting)) (λ k. omega arith) (omega arith)
 

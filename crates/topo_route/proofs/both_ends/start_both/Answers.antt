@@ -21,7 +21,8 @@ start_at-requires g c =
     record {
       costs = blank_costs price named lawful has face faces has_faces c.args.u c.args.v c.clear.new.self.heights c.clear.new.self.names.items few
           blank c.in_ok-clear.ensures.names c.args.v;
-      sums = blank_sums price named lawful has face faces has_faces c.args.u c.args.v c.clear.new.self.heights c.clear.new.self.names.items few blank c.in_ok-clear.ensures.names
+      sums = blank_sums price named lawful has face faces has_faces c.args.u c.args.v c.clear.new.self.heights
+          c.clear.new.self.names.items few blank c.in_ok-clear.ensures.names
           c.clear-2.new.self.heights;
     }
 

@@ -16,7 +16,8 @@ end_half-requires c =
     let below : c.args.position < length (rotation rows v) = omega (arith, c.if-position-degree.true, c.degree.ensures) in
     let inside : v < length rows.rotations = vertex_there rows v c.args.position below in
     let same : length c.rotations.result.now ≡ length rows.rotations = ap length c.rotations.ensures in
-    let is : around ≡ rotation rows v = around_read rows v c.rotations.result.now around (omega (arith, same, inside)) c.rotations.ensures c.index-rotations-v.is in
+    let is : around ≡ rotation rows v = around_read rows v c.rotations.result.now around
+    (omega (arith, same, inside)) c.rotations.ensures c.index-rotations-v.is in
     subst (λ (q : RowsWithPaths). is_some (edge_row q.rows c.at.result) ≡ true) c.self.view_is
     (entry_known rows c.self.invariant.0 v c.args.position c.at.result around inside is (omega (arith, ap length is, below)) c.at.ensures)
 
@@ -28,10 +29,12 @@ returns-then-position-degree c =
     let below : c.args.position < length (rotation rows v) = omega (arith, c.if-position-degree.true, c.degree.ensures) in
     let inside : v < length rows.rotations = vertex_there rows v c.args.position below in
     let same : length c.rotations.result.now ≡ length rows.rotations = ap length c.rotations.ensures in
-    let is : around ≡ rotation rows v = around_read rows v c.rotations.result.now around (omega (arith, same, inside)) c.rotations.ensures c.index-rotations-v.is in
+    let is : around ≡ rotation rows v = around_read rows v c.rotations.result.now around
+    (omega (arith, same, inside)) c.rotations.ensures c.index-rotations-v.is in
     let told = corner_told rows v c.args.position c.at.result around is (omega (arith, ap length is, below)) c.at.ensures in
     ap Some c.end_half.ensures
-    ∙ sym (ap (option_map (half_in c.args.self.now)) (subst (λ (q : RowsWithPaths). corner q.rows v c.args.position ≡ Some (end_dart q.rows v c.at.result)) c.self.view_is told))
+    ∙ sym (ap (option_map (half_in c.args.self.now))
+    (subst (λ (q : RowsWithPaths). corner q.rows v c.args.position ≡ Some (end_dart q.rows v c.at.result)) c.self.view_is told))
 
 pub returns-else-position-degree : goal.returns-else-position-degree
 returns-else-position-degree c = grind (arith, length-map, slice_get_past)

@@ -28,7 +28,9 @@ insert-requires-clause-ready c =
       shows = c.self.invariant.1;
       insertable = subst (λ (q : RowsWithPaths). IsInsertable q.rows u v c.args.kind route) (sym c.self.view_is) c.requires.insertable;
       simple = subst (λ (q : RowsWithPaths). IsSimpleRoute q.rows u v route) (sym c.self.view_is) c.requires.simple;
-      marked = λ k d less. subst (λ (q : RowsWithPaths). IsMarked q (get_or c.deref_mut.result.now k d)) (sym c.self.view_is) (subst (λ items. IsMarked c.args.self.now (get_or items k d)) (sym c.deref_mut.ensures.value) (c.in_ok-crossed.ensures.marked k d (subst (λ items. k < length items) c.deref_mut.ensures.value less)));
+      marked = λ k d less. subst (λ (q : RowsWithPaths). IsMarked q (get_or c.deref_mut.result.now k d))
+          (sym c.self.view_is) (subst (λ items. IsMarked c.args.self.now (get_or items k d)) (sym c.deref_mut.ensures.value)
+          (c.in_ok-crossed.ensures.marked k d (subst (λ items. k < length items) c.deref_mut.ensures.value less)));
       darts = ap crossed_darts c.deref_mut.ensures.value ∙ c.in_ok-crossed.ensures.darts ∙ c.as_slice.ensures;
       starts = subst (λ (q : RowsWithPaths). (d : Dart) → corner q.rows u route.start ≡ Some d → c.in-Some.start ≡ half_in q d) (sym c.self.view_is)
           (corner_names now c.corner.result c.in-Some.start u route.start c.corner.ensures c.in-Some.is);

@@ -20,7 +20,8 @@ kind-requires-clause-there c =
     let p : RowsWithPaths = with_paths c.self.inside.parts in
     let half = subst (λ (q : RowsWithPaths). IsHalf q c.args.half) (sym c.self.view_is) c.requires in
     ap (λ e. is_some (edge_row p.rows e))
-    (label_is p c.self.invariant.0 c.self.inside.parts.segments c.self.invariant.1 half.dart half.there c.args.half half.is c.edge-edge.result c.edge-edge.ensures)
+    (label_is p c.self.invariant.0 c.self.inside.parts.segments c.self.invariant.1 half.dart half.there c.args.half
+    half.is c.edge-edge.result c.edge-edge.ensures)
     ∙ edge_of_dart p.rows c.self.invariant.0 half.dart half.there
 
 pub returns : goal.returns

@@ -37,7 +37,8 @@ paths_of-requires-clause-rise c = subst (λ (es : List EdgeRow). rises_below c.a
 pub invariant_of-result : goal.invariant_of-result
 invariant_of-result c =
     let paths = c.in_ok-paths.paths in
-    let now = λ (rows : Rows). (let p : Parts = record { rows = rows; paths = paths; segments = c.in_ok-segments.segments; bounds = c.none.result; kinds = c.in_ok-kinds.kinds } in p) in
+    let now = λ (rows : Rows). (let p : Parts = record
+    { rows = rows; paths = paths; segments = c.in_ok-segments.segments; bounds = c.none.result; kinds = c.in_ok-kinds.kinds } in p) in
     subst (λ (rows : Rows). IsWellFormed rows × ShowsRows (record { rows = rows; paths = values_in paths }) c.in_ok-segments.segments × AreForEdges rows paths
     × AreForSearches (now rows))
     (sym c.in_ok-rows.ensures) (
@@ -51,5 +52,6 @@ invariant_of-result c =
         below = c.in_ok-paths.ensures.below;
         count = c.in_ok-paths.ensures.count;
       },
-      searches_none (now c.args.rows) c.none.ensures.0 (subst (λ (rows : Rows). AreKindsOf rows c.in_ok-kinds.kinds) c.in_ok-rows.ensures c.in_ok-kinds.ensures),
+      searches_none (now c.args.rows) c.none.ensures.0
+          (subst (λ (rows : Rows). AreKindsOf rows c.in_ok-kinds.kinds) c.in_ok-rows.ensures c.in_ok-kinds.ensures),
     )

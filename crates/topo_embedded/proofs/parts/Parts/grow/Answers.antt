@@ -52,7 +52,8 @@ returns-in_err-reserve-clause-shows c =
     kept_shows (with_paths c.args.self.now) c.args.self.now.segments c.reserve.new.self c.in_err-reserve.ensures.same c.requires.shows
 
 pub returns-in_err-reserve-clause-searches : goal.returns-in_err-reserve-clause-searches
-returns-in_err-reserve-clause-searches c = searches_same c.args.self.now _ refl c.in_err-reserve.ensures.same c.in_err-reserve.ensures.same_labels refl refl c.requires.searches
+returns-in_err-reserve-clause-searches c = searches_same c.args.self.now _ refl c.in_err-reserve.ensures.same
+    c.in_err-reserve.ensures.same_labels refl refl c.requires.searches
 
 pub returns-in_err-reserve-2-clause-shows : goal.returns-in_err-reserve-2-clause-shows
 returns-in_err-reserve-2-clause-shows c =
@@ -61,7 +62,8 @@ returns-in_err-reserve-2-clause-shows c =
     (kept_shows (with_paths c.args.self.now) c.args.self.now.segments c.reserve.new.self c.in_ok-reserve.ensures.same c.requires.shows)
 
 pub returns-in_err-reserve-2-clause-searches : goal.returns-in_err-reserve-2-clause-searches
-returns-in_err-reserve-2-clause-searches c = searches_same c.args.self.now _ refl c.in_ok-reserve.ensures.same c.in_ok-reserve.ensures.same_labels refl refl c.requires.searches
+returns-in_err-reserve-2-clause-searches c = searches_same c.args.self.now _ refl c.in_ok-reserve.ensures.same
+    c.in_ok-reserve.ensures.same_labels refl refl c.requires.searches
 
 pub returns-in_err-grow_rows-clause-shows : goal.returns-in_err-grow_rows-clause-shows
 returns-in_err-grow_rows-clause-shows c =

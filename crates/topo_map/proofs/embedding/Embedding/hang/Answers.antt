@@ -46,5 +46,6 @@ returns-clause-label c =
 
 pub returns-clause-faces : goal.returns-clause-faces
 returns-clause-faces c = subst
-    (λ (r : Rotation). AddsFaces (is_live r) (face_of r) (face_in c.put_before.new.segments) c.insert_isolated-x.result (face_of r c.args.c) (face_of r c.args.c))
+    (λ (r : Rotation). AddsFaces (is_live r) (face_of r) (face_in c.put_before.new.segments) c.insert_isolated-x.result
+    (face_of r c.args.c) (face_of r c.args.c))
     c.self.view_is (faces_given c.put_before.ensures.faces c.face-label.ensures c.face-label.ensures c.insert_isolated-x.ensures.faces)

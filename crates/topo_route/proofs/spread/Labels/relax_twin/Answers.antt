@@ -35,7 +35,8 @@ returns-in_ok-push-in-Some g c =
     let hs : c.lower.new.self.heights ≡ set heights (face twin) x =
     c.in_ok-lower-in-Some.ensures.heights ∙ ap (λ (h : ℕ). set heights c.args.face (h + c.in-Some.price)) c.requires.height
     ∙ ap (λ (f : ℕ). set heights f x) label in
-    let ns : c.lower.new.self.names.items ≡ with_name heights (face twin) twin names = c.in_ok-lower-in-Some.ensures.names ∙ ap (λ (f : ℕ). with_name heights f twin names) label in
+    let ns : c.lower.new.self.names.items ≡ with_name heights (face twin) twin names = c.in_ok-lower-in-Some.ensures.names ∙ ap
+    (λ (f : ℕ). with_name heights f twin names) label in
     let item : c.item_of.result ≡ item_of twin x = c.item_of.ensures ∙ ap (λ (h : ℕ). item_of twin (h + c.in-Some.price)) c.requires.height in
     let longer : length c.push.new.self ≡ length waiting + 1 = c.in_ok-push-in-Some.ensures.len
     ∙ ap (λ (ws : List ℕ). length ws + 1) c.in_ok-lower-in-Some.ensures.waiting in

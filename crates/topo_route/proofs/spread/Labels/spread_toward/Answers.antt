@@ -62,7 +62,8 @@ relax_face-requires-clause-in_hand g c =
     let bound = λ (j : ℕ). bound_of (face j) in
     let short : c.in-Some.dart < 2 ^ 32 =
     omega (arith, c.size-darts.ensures, c.size-darts.type_inv, name_below named has c.in-Some.dart c.in-Some.ensures.name) in
-    taken_reached price named face faces c.args.v now.heights now.names.items now.waiting (top_of_bound bound c.loop-dart.least) (reach_of c.loop-dart.least) named.size c.in-Some.dart short
+    taken_reached price named face faces c.args.v now.heights now.names.items now.waiting (top_of_bound bound c.loop-dart.least)
+    (reach_of c.loop-dart.least) named.size c.in-Some.dart short
     c.loop-dart.invariant.spreads c.in-Some.ensures.pending
 
 pub loop-dart-preserved : goal.loop-dart-preserved
