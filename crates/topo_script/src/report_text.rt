@@ -16,7 +16,7 @@ ghost use Rattle.topo_script.specs.ReportTexts.{refusal_data, inserted_data, rep
 ghost use Rattle.topo_script.specs.ReportTexts.{entry_data, report_data, report_text};
 ghost use Rattle.topo_core.specs.declared.rows.TheConstants.{KINDS};
 
-use crate::written::{Written, write_after, write_list};
+use crate::written::{Written, write_after, write_list, write_next};
 use std::alloc::{AllocError, Global};
 use topo_core::calls::{Call, Entry, Refusal, Reply};
 use topo_core::darts::{Dart, Way};
@@ -50,7 +50,7 @@ impl Written for LimitRows {
         write_after(out, "{\"crossings\":", &self.crossings)?;
         write_after(out, ",\"edges\":", &self.edges)?;
         write_after(out, ",\"vertices\":", &self.vertices)?;
-        out.push_str("}")
+        out.push('}')
     }
 }
 
@@ -81,9 +81,9 @@ impl Written for Dart {
 
     fn write(&self, out: &mut String) -> Result<(), AllocError> {
         write_after(out, "[", &self.edge)?;
-        write_after(out, ",", &self.seg)?;
-        write_after(out, ",", &self.way)?;
-        out.push_str("]")
+        write_next(out, &self.seg)?;
+        write_next(out, &self.way)?;
+        out.push(']')
     }
 }
 
@@ -92,9 +92,9 @@ fn write_grow(out: &mut String, u: u32, position: u32, kind: u32) -> Result<(), 
         ++ compact_text (call_data (Grow u position kind))) }
 {
     write_after(out, "[\"grow\",", &u)?;
-    write_after(out, ",", &position)?;
-    write_after(out, ",", &kind)?;
-    out.push_str("]")
+    write_next(out, &position)?;
+    write_next(out, &kind)?;
+    out.push(']')
 }
 
 fn write_insert(out: &mut String, u: u32, v: u32, kind: u32) -> Result<(), AllocError>
@@ -103,9 +103,9 @@ fn write_insert(out: &mut String, u: u32, v: u32, kind: u32) -> Result<(), Alloc
         ++ compact_text (call_data (Insert u v kind))) }
 {
     write_after(out, "[\"insert\",", &u)?;
-    write_after(out, ",", &v)?;
-    write_after(out, ",", &kind)?;
-    out.push_str("]")
+    write_next(out, &v)?;
+    write_next(out, &kind)?;
+    out.push(']')
 }
 
 fn write_delete(out: &mut String, edge: u32) -> Result<(), AllocError>
@@ -113,7 +113,7 @@ fn write_delete(out: &mut String, edge: u32) -> Result<(), AllocError>
         (string_bytes out.new ≡ string_bytes out.old ++ compact_text (call_data (Delete edge))) }
 {
     write_after(out, "[\"delete\",", &edge)?;
-    out.push_str("]")
+    out.push(']')
 }
 
 impl Written for Call {
@@ -133,7 +133,7 @@ fn write_cut(out: &mut String, segment: u32) -> Result<(), AllocError>
         (string_bytes out.new ≡ string_bytes out.old ++ compact_text (refusal_data (Cut segment))) }
 {
     write_after(out, "[6,\"Cut\",", &segment)?;
-    out.push_str("]")
+    out.push(']')
 }
 
 impl Written for Refusal {
@@ -163,7 +163,7 @@ impl Written for Inserted {
         write_after(out, ",\"end\":", &self.route.end)?;
         write_after(out, ",\"price\":", &self.price)?;
         write_after(out, ",\"start\":", &self.route.start)?;
-        out.push_str("}")
+        out.push('}')
     }
 }
 
@@ -174,7 +174,7 @@ fn write_grown(out: &mut String, vertex: VertexId, edge: EdgeId) -> Result<(), A
 {
     write_after(out, "{\"edge\":", &edge)?;
     write_after(out, ",\"vertex\":", &vertex)?;
-    out.push_str("}")
+    out.push('}')
 }
 
 fn write_deleted(out: &mut String, edge: EdgeId) -> Result<(), AllocError>
@@ -182,7 +182,7 @@ fn write_deleted(out: &mut String, edge: EdgeId) -> Result<(), AllocError>
         (string_bytes out.new ≡ string_bytes out.old ++ compact_text (reply_data (Deleted edge))) }
 {
     write_after(out, "{\"deleted\":", &edge)?;
-    out.push_str("}")
+    out.push('}')
 }
 
 fn write_refused(out: &mut String, why: Refusal) -> Result<(), AllocError>
@@ -190,7 +190,7 @@ fn write_refused(out: &mut String, why: Refusal) -> Result<(), AllocError>
         (string_bytes out.new ≡ string_bytes out.old ++ compact_text (reply_data (Refused why))) }
 {
     write_after(out, "{\"refused\":", &why)?;
-    out.push_str("}")
+    out.push('}')
 }
 
 impl Written for Reply {
@@ -213,7 +213,7 @@ impl Written for Entry {
         write_after(out, "{\"call\":", &self.call)?;
         write_after(out, ",\"caller\":", &self.caller)?;
         write_after(out, ",\"reply\":", &self.reply)?;
-        out.push_str("}")
+        out.push('}')
     }
 }
 
@@ -266,7 +266,7 @@ impl Written for Report {
         write_prices(out, ",\"prices\":", &self.prices)?;
         write_after(out, ",\"start\":", &self.start)?;
         write_version(out, ",\"version\":", &self.prices)?;
-        out.push_str("}")
+        out.push('}')
     }
 }
 

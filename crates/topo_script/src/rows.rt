@@ -28,7 +28,7 @@ impl Written for EdgeRow {
         write_after(out, ",\"crossings\":", &self.crossings)?;
         write_after(out, ",\"id\":", &self.id)?;
         write_after(out, ",\"kind\":", &self.kind)?;
-        out.push_str("}")
+        out.push('}')
     }
 }
 
@@ -40,7 +40,7 @@ impl Written for CrossRow {
         write_after(out, ",\"id\":", &self.id)?;
         write_after(out, ",\"newcomer\":", &self.newcomer)?;
         write_after(out, ",\"sign\":", &self.sign)?;
-        out.push_str("}")
+        out.push('}')
     }
 }
 
@@ -53,6 +53,6 @@ impl Written for Rows {
         write_after(out, ",\"next_crossing\":", &self.next_crossing)?;
         write_after(out, ",\"next_edge\":", &self.next_edge)?;
         write_after(out, ",\"rotations\":", &self.rotations)?;
-        out.push_str("}")
+        out.push('}')
     }
 }

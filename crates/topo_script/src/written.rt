@@ -1,9 +1,9 @@
 //! What has a JSON text.
 
-ghost use Rattle.std.specs.Prelude.{◌≡◌, ◌++◌, ◌==◌, ℕ, OnOk, not, string_bytes, map};
+ghost use Rattle.std.specs.Prelude.{◌≡◌, ◌∷◌, ◌++◌, OnOk, string_bytes, map};
 ghost use Rattle.serde_json.specs.Data.{Data, number, unsigned, array};
 ghost use Rattle.serde_json.specs.View.{items_of};
-ghost use Rattle.serde_json.specs.Written.{compact_text, comma_if};
+ghost use Rattle.serde_json.specs.Written.{compact_text};
 
 use itoa::Buffer;
 use std::alloc::AllocError;
@@ -25,6 +25,10 @@ impl Written for u32 {
     ghost value = { λ n. number (unsigned n) };
 
     fn write(&self, out: &mut String) -> Result<(), AllocError> {
+        if *self < 10 {
+            // Most numbers are digits, and a digit needs no buffer.
+            return out.push((b'0' + *self as u8) as char);
+        }
         let mut buffer = Buffer::new();
         out.push_str(buffer.format(*self))
     }
@@ -52,18 +56,15 @@ pub fn write_list<T: Written>(out: &mut String, items: &[T]) -> Result<(), Alloc
     ensures { OnOk result (string_bytes out.new ≡ string_bytes out.old
         ++ compact_text (array (items_of (map T.value items.now)))) }
 {
-    out.push_str("[")?;
+    out.push('[')?;
     for (i, item) in items.iter().enumerate() {
-        write_after(out, comma(i), item)?;
+        if i == 0 {
+            item.write(out)?;
+        } else {
+            write_next(out, item)?;
+        }
     }
-    out.push_str("]")
-}
-
-/// The separator before the item at place `i` of an array: none before the first.
-fn comma(i: usize) -> &'static str
-    ensures { result.now ≡ comma_if (not (i == 0)) }
-{
-    if i == 0 { "" } else { "," }
+    out.push(']')
 }
 
 /// Writes the text before an item, and then the item.
@@ -72,5 +73,14 @@ pub fn write_after<T: Written>(out: &mut String, before: &str, item: &T) -> Resu
         ++ (before.now ++ compact_text (T.value item.now))) }
 {
     out.push_str(before)?;
+    item.write(out)
+}
+
+/// Writes a comma, and then an item.
+pub fn write_next<T: Written>(out: &mut String, item: &T) -> Result<(), AllocError>
+    ensures { OnOk result (string_bytes out.new ≡ string_bytes out.old
+        ++ (44 ∷ compact_text (T.value item.now))) }
+{
+    out.push(',')?;
     item.write(out)
 }

@@ -6,6 +6,6 @@ use Rattle.topo_script.proofs.report_text.write_delete.Goals as goal
 pub returns : goal.returns
 unfolding serde_json_on_literals
 returns c =
-    members c.push_str.result _ (_ ∷ []) _ _ _
+    members c.push.result _ (_ ∷ []) _ _ _
     (_, c.in_ok-write_after.ensures, refl)
-    c.push_str.ensures.bytes
+    c.push.ensures.bytes

@@ -6,6 +6,6 @@ use Rattle.topo_script.proofs.report_text.write_grow.Goals as goal
 pub returns : goal.returns
 unfolding serde_json_on_literals
 returns c =
-    members c.push_str.result _ (_ ∷ _ ∷ _ ∷ []) _ _ _
-    (_, c.in_ok-write_after.ensures, (_, c.in_ok-write_after-2.ensures, (_, c.in_ok-write_after-3.ensures, refl)))
-    c.push_str.ensures.bytes
+    members c.push.result _ (_ ∷ _ ∷ _ ∷ []) _ _ _
+    (_, c.in_ok-write_after.ensures, (_, c.in_ok-write_next.ensures, (_, c.in_ok-write_next-2.ensures, refl)))
+    c.push.ensures.bytes

@@ -6,7 +6,7 @@ use Rattle.topo_script.proofs.report_text.InsertedWritten.write.Goals as goal
 pub returns : goal.returns
 unfolding serde_json_on_literals
 returns c =
-    members c.push_str.result _ (_ ∷ _ ∷ _ ∷ _ ∷ _ ∷ []) _ _ _ (
+    members c.push.result _ (_ ∷ _ ∷ _ ∷ _ ∷ _ ∷ []) _ _ _ (
       _,
       c.in_ok-write_after.ensures,
       (
@@ -23,4 +23,4 @@ returns c =
         ),
       ),
     )
-    c.push_str.ensures.bytes
+    c.push.ensures.bytes
