@@ -210,9 +210,46 @@ module _ {A R : Type 0} (form : Path → Data → Read A) (holds : R → List (O
       → HoldsSlot form holds slot.found slot.rest os → Due form holds a r os
   due_held {slot} {os} e held = due_found slot.found e.0 e.1 os held
 
+-- the first three of the values are there, with what the slots behind hold
+pub record ThreeDue {A B C R : Type 0} (f : Path → Data → Read A) (g : Path → Data → Read B) (h : Path → Data → Read C)
+    (holds : R → List (Option Data) → Type 0) (a : A) (b : B) (c : C) (r : R) (os : List (Option Data)) : Type 0 where
+  pub after_first : List (Option Data)
+  pub after_second : List (Option Data)
+  pub values : List (Option Data)
+  pub first : IsDue f a os after_first
+  pub second : IsDue g b after_first after_second
+  pub third : IsDue h c after_second values
+  pub held : holds r values
+
+-- what a slot holds, and what those behind it hold
+abbrev pub held_by : {A R : Type 0} → (Path → Data → Read A) → (R → List (Option Data) → Type 0) → Slot A R → List (Option Data) → Type 0
+held_by form holds slot os = HoldsSlot form holds slot.found slot.rest os
+
+module _ {A B C R : Type 0} (f : Path → Data → Read A) (g : Path → Data → Read B) (h : Path → Data → Read C) (holds : R → List (Option Data) → Type 0) where
+  pub three_held : {a : A} {b : B} {c : C} {r : R} {slot : Slot A (Slot B (Slot C R))} {os : List (Option Data)}
+      → (slot.found ≡ Some a) × (slot.rest.found ≡ Some b) × (slot.rest.rest.found ≡ Some c) × (slot.rest.rest.rest ≡ r)
+      → held_by f (held_by g (held_by h holds)) slot os → ThreeDue f g h holds a b c r os
+  three_held {slot} {os} e held =
+      let one = due_found f (held_by g (held_by h holds)) slot.found e.0 refl os held in
+      let two = due_found g (held_by h holds) slot.rest.found e.1 refl one.values one.held in
+      let three = due_found h holds slot.rest.rest.found e.2 e.3 two.values two.held in record {
+        after_first = one.values;
+        after_second = two.values;
+        values = three.values;
+        first = one.first;
+        second = two.first;
+        third = three.first;
+        held = three.held;
+      }
+
 -- the last slot
 pub due_last : {A R : Type 0} {form : Path → Data → Read A} {a : A} {r : R} {os : List (Option Data)} → Due form (λ q ps. ps ≡ []) a r os → IsDue form a os []
 due_last {form} {a} {os} due = subst (IsDue form a os) due.held due.first
+
+-- the third of three slots, where none is behind
+pub last : {A B C R : Type 0} {f : Path → Data → Read A} {g : Path → Data → Read B} {h : Path → Data → Read C} {a : A} {b : B} {c : C} {r : R}
+    {os : List (Option Data)} (three : ThreeDue f g h (λ q ps. ps ≡ []) a b c r os) → IsDue h c three.after_second []
+last {h} {c} three = subst (IsDue h c three.after_second) three.held three.third
 
 -- one value more at the front
 pub then : {A : Type 0} {form : Path → Data → Read A} {a : A} {os ps qs : List (Option Data)} (due : IsDue form a os ps) → ps ≡ qs → os ≡ Some due.spelled ∷ qs

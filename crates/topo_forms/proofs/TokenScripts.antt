@@ -1,7 +1,5 @@
 -- Tokens that spell scripts.
 use Rattle.std.proofs.Common.{◌≡◌, ℕ, ◌<◌, ◌≤◌, Bool, true, List, [], ◌∷◌, length, Option, Some, None, Ok, unwrap_or, refl, sym, ap, subst, ◌∙◌}
-use Rattle.std.specs.Option.{is_none}
-use Rattle.std.specs.List.{list_any}
 use Rattle.json.specs.Token.{Token}
 use Rattle.serde_json.specs.Data.{Data, object, Members}
 use Rattle.serde_json.specs.Find.{get}
@@ -12,17 +10,16 @@ use Rattle.topo_forms.specs.declared.path.Path.{Path}
 use Rattle.topo_forms.specs.declared.script_forms.TheConstants.{MAX_WORKERS}
 use Rattle.topo_forms.specs.declared.scripts.LimitRows.{LimitRows}
 use Rattle.topo_forms.specs.declared.scripts.Script.{Script}
+use Rattle.topo_forms.specs.declared.slots.Slot.{Slot}
 use Rattle.topo_forms.specs.CallForms.{command_form}
 use Rattle.topo_forms.specs.Paths.{key_name, whole}
-use Rattle.topo_core.specs.declared.rows.TheConstants.{KINDS}
-use Rattle.topo_forms.specs.Prices.{without_ones}
 use Rattle.topo_forms.specs.Reads.{Read, and_then, number_form, list_form, has_keys, member_or}
 use Rattle.topo_forms.specs.Scripts.{greatest_limits, limits_form, nulls_of, nulls_in, price_form, prices_form, start_form, workers_form, script_form}
 use Rattle.topo_forms.specs.Slots.{members_of, IsHeld, SpellsValue}
 use Rattle.topo_forms.specs.Tokens.{Spells}
-use Rattle.topo_forms.specs.TokenParts.{ArePricesOf}
+use Rattle.topo_forms.specs.TokenParts.{ArePricesOf, AreSettings}
 use Rattle.topo_forms.proofs.Lookups.{member_read}
-use Rattle.topo_forms.proofs.Objects.{IsDue, IsMaybe, maybe, then, object_tokens}
+use Rattle.topo_forms.proofs.Objects.{IsDue, IsMaybe, due_held, held_by, maybe, maybe_held, object_tokens}
 use Rattle.topo_forms.proofs.Steps.{went}
 use Rattle.topo_forms.proofs.TokenReports.{prices_read}
 use Rattle.topo_forms.proofs.TokenStarts.{workers_read}
@@ -63,22 +60,58 @@ pub record AreFront (l p s : Option Data) (nulls : Bool) (limits : LimitRows) (p
   pub of_prices : AreRead (prices_form nulls) [] p prices
   pub of_start : AreRead start_form None s start
 
-pub front_read : {os p1 p2 p3 : List (Option Data)} {l : Option LimitRows} {p : Option (List (Option ℕ))} {s : Option (Option Rows)} {limits : LimitRows}
-    {prices none given : List (Option ℕ)} {start : Option Rows} (n : ℕ) (first : IsMaybe limits_form l os p1)
-    (second : IsMaybe (list_form (price_form true)) p p1 p2)
-    (third : IsMaybe start_form s p2 p3) → limits ≡ unwrap_or l greatest_limits → none ≡ [] → given ≡ unwrap_or p none → (kept : ArePricesOf n given prices)
-    → start ≡ unwrap_or s None → AreFront first.spelled second.spelled third.spelled kept.0 limits prices start
-front_read {p = p} {prices = prices} n first second third same empty given_is kept begun =
-    let is = given_is ∙ ap (unwrap_or p) empty in record {
-      of_limits = subst (AreRead limits_form greatest_limits first.spelled) (sym same) (or_default limits_form greatest_limits _ first.spelled first.read);
-      of_prices = prices_or_none n p second.spelled prices second.read (
-        kept.0,
-        kept.1,
-        subst (λ ps. length ps ≤ KINDS) is kept.2,
-        λ h. sym (ap (list_any is_none) is) ∙ kept.3 h,
-        kept.4 ∙ ap without_ones is,
-      );
-      of_start = subst (AreRead start_form None third.spelled) (sym begun) (or_default start_form None _ third.spelled third.read);
+-- what the slots of these and of the version hold, by what is read of it
+pub record HasSettings {R : Type 0} (holds : R → List (Option Data) → Type 0) (os : List (Option Data)) (limits : LimitRows) (prices : List (Option ℕ))
+    (start : Option Rows) (rest : R) : Type 0 where
+  pub l : Option Data
+  pub p : Option Data
+  pub s : Option Data
+  pub v : Data
+  pub values : List (Option Data)
+  pub is : os ≡ l ∷ p ∷ s ∷ Some v ∷ values
+  pub held : holds rest values
+  pub version : ℕ
+  pub version_read : (path : Path) → number_form path v ≡ Ok version
+  pub nulls : Bool
+  pub of_version : nulls_of version ≡ Ok nulls
+  pub front : AreFront l p s nulls limits prices start
+
+abbrev settings_slots : {R : Type 0} → (R → List (Option Data) → Type 0) → Slot LimitRows (Slot (List (Option ℕ)) (Slot (Option Rows) (Slot ℕ R)))
+    → List (Option Data) → Type 0
+settings_slots holds = held_by limits_form (held_by (list_form (price_form true)) (held_by start_form (held_by number_form holds)))
+
+front_read : {os p1 p2 p3 : List (Option Data)} {l : Option LimitRows} {p : Option (List (Option ℕ))} {s : Option (Option Rows)} {limits : LimitRows}
+    {prices : List (Option ℕ)} {start : Option Rows} (n : ℕ) (first : IsMaybe limits_form l os p1) (second : IsMaybe (list_form (price_form true)) p p1 p2)
+    (third : IsMaybe start_form s p2 p3) (are : AreSettings l p s n limits prices start)
+    → AreFront first.spelled second.spelled third.spelled are.of_prices.0 limits prices start
+front_read {p = p} {prices = prices} n first second third are = record {
+  of_limits = subst (AreRead limits_form greatest_limits first.spelled) (sym are.of_limits) (or_default limits_form greatest_limits _ first.spelled first.read);
+  of_prices = prices_or_none n p second.spelled prices second.read are.of_prices;
+  of_start = subst (AreRead start_form None third.spelled) (sym are.of_start) (or_default start_form None _ third.spelled third.read);
+}
+
+pub settings_held : {R : Type 0} (holds : R → List (Option Data) → Type 0) {slots : Slot LimitRows (Slot (List (Option ℕ)) (Slot (Option Rows) (Slot ℕ R)))}
+    {os : List (Option Data)} {limits : LimitRows} {prices : List (Option ℕ)} {start : Option Rows} {rest : R}
+    → (settings : (version : ℕ) × (slots.rest.rest.rest.found ≡ Some version)
+    × AreSettings slots.found slots.rest.found slots.rest.rest.found version limits prices start)
+    → slots.rest.rest.rest.rest ≡ rest → settings_slots holds slots os → HasSettings holds os limits prices start rest
+settings_held holds {slots} {os} settings behind held =
+    let l = maybe_held limits_form (held_by (list_form (price_form true)) (held_by start_form (held_by number_form holds))) os held in
+    let p = maybe_held (list_form (price_form true)) (held_by start_form (held_by number_form holds)) l.values l.held in
+    let s = maybe_held start_form (held_by number_form holds) p.values p.held in
+    let v = due_held number_form holds {slot = slots.rest.rest.rest} (settings.1, behind) s.held in record {
+      l = l.first.spelled;
+      p = p.first.spelled;
+      s = s.first.spelled;
+      v = v.first.spelled;
+      values = v.values;
+      is = maybe l.first (maybe p.first (maybe s.first v.first.is));
+      held = v.held;
+      version = settings.0;
+      version_read = v.first.reads;
+      nulls = settings.2.of_prices.0;
+      of_version = settings.2.of_prices.1;
+      front = front_read settings.0 l.first p.first s.first settings.2;
     }
 
 -- ---- Scripts
@@ -139,13 +172,12 @@ script_read {x} {n} {l} {p} {s} v w {nulls} of front version workers =
     ∙ went _ _ x.start (optional_read start_form None whole Start d s x.start there.start front.of_start)
     ∙ went _ _ x.workers (member_read workers_form whole Workers d there.workers workers)
 
-pub script_tokens : {x : Script} {l : Option LimitRows} {p : Option (List (Option ℕ))} {s : Option (Option Rows)} {m n : ℕ} {ts rest : List Token}
-    {os p1 p2 p3 p4 : List (Option Data)} (given : List (Option ℕ)) → SpellsValue n ts (object (members_of script_order os)) rest → n ≤ 5
-    → (limits : IsMaybe limits_form l os p1) (prices : IsMaybe (list_form (price_form true)) p p1 p2) (start : IsMaybe start_form s p2 p3)
-    → IsDue number_form m p3 p4 → IsDue (list_form (list_form command_form)) x.workers p4 [] → 0 < length x.workers → length x.workers ≤ MAX_WORKERS
-    → (kept : ArePricesOf m given x.prices) → AreFront limits.spelled prices.spelled start.spelled kept.0 x.limits x.prices x.start
+pub script_tokens : {R : Type 0} {holds : R → List (Option Data) → Type 0} {r : R} {x : Script} {n : ℕ} {ts rest : List Token} {os : List (Option Data)}
+    → SpellsValue n ts (object (members_of script_order os)) rest → n ≤ 5 → (read : HasSettings holds os x.limits x.prices x.start r)
+    → IsDue (list_form (list_form command_form)) x.workers read.values [] → 0 < length x.workers → length x.workers ≤ MAX_WORKERS
     → Spells 5 (λ path. script_form) ts x rest
-script_tokens given v within limits prices start version workers some few kept front =
-    object_tokens script_order (limits.spelled ∷ prices.spelled ∷ start.spelled ∷ Some version.spelled ∷ Some workers.spelled ∷ []) v within
-    (maybe limits (maybe prices (maybe start (then version workers.is))))
-    (λ path. script_read version.spelled workers.spelled kept.1 front version.reads (λ p. workers_read p workers.spelled _ (workers.reads p) some few))
+script_tokens v within read workers some few =
+    object_tokens script_order (read.l ∷ read.p ∷ read.s ∷ Some read.v ∷ Some workers.spelled ∷ []) v within
+    (read.is ∙ ap (λ q. read.l ∷ read.p ∷ read.s ∷ Some read.v ∷ q) workers.is)
+    (λ path. script_read read.v workers.spelled read.of_version read.front read.version_read
+    (λ p. workers_read p workers.spelled _ (workers.reads p) some few))

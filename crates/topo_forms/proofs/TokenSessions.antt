@@ -1,26 +1,23 @@
 -- Tokens that spell openings of sessions, and commands that lines ask for.
-use Rattle.std.proofs.Common.{◌≡◌, ℕ, ◌≤◌, Bool, true, false, List, [], ◌∷◌, codes, Option, Some, None, Ok, Err, refl, ◌∙◌}
+use Rattle.std.proofs.Common.{◌≡◌, ℕ, ◌≤◌, Bool, false, List, [], ◌∷◌, codes, Option, Some, None, Ok, Err, refl, ap, ◌∙◌}
 use Rattle.json.specs.Token.{Token}
 use Rattle.serde_json.specs.Data.{Data, null, boolean, number, string, array, object, Members}
 use Rattle.serde_json.specs.Find.{get}
 use Rattle.topo_core.specs.declared.calls.Command.{Command}
-use Rattle.topo_core.specs.declared.rows.Rows.{Rows}
 use Rattle.topo_forms.specs.declared.path.Key.{Key}
 use Rattle.topo_forms.specs.declared.path.Key.TheVariants.{Limits, Prices, Start, Version}
 use Rattle.topo_forms.specs.declared.path.Path.{Path}
-use Rattle.topo_forms.specs.declared.scripts.LimitRows.{LimitRows}
 use Rattle.topo_forms.specs.declared.sessions.Opening.{Opening}
 use Rattle.topo_forms.specs.declared.sessions.Request.TheVariants.{Carry}
 use Rattle.topo_forms.specs.CallForms.{call_form, command_form, plain_form}
 use Rattle.topo_forms.specs.Paths.{key_name, whole}
-use Rattle.topo_forms.specs.Reads.{Read, ◌>>=◌, and_then, is_text, list_form, number_form, has_keys, value_of}
-use Rattle.topo_forms.specs.Scripts.{greatest_limits, limits_form, nulls_of, price_form, prices_form, start_form}
+use Rattle.topo_forms.specs.Reads.{Read, ◌>>=◌, and_then, is_text, number_form, has_keys, value_of}
+use Rattle.topo_forms.specs.Scripts.{greatest_limits, limits_form, nulls_of, prices_form, start_form}
 use Rattle.topo_forms.specs.Sessions.{carry_form, opening_form, request_form, request_of}
 use Rattle.topo_forms.specs.Slots.{members_of, SpellsValue}
 use Rattle.topo_forms.specs.Tokens.{Spells}
-use Rattle.topo_forms.specs.TokenParts.{ArePricesOf}
-use Rattle.topo_forms.proofs.Objects.{IsDue, IsMaybe, maybe, object_tokens}
-use Rattle.topo_forms.proofs.TokenScripts.{optional_read, version_read, AreFront}
+use Rattle.topo_forms.proofs.Objects.{object_tokens}
+use Rattle.topo_forms.proofs.TokenScripts.{AreFront, HasSettings, optional_read, version_read}
 use Rattle.topo_forms.proofs.Steps.{went}
 
 -- ---- Openings
@@ -73,15 +70,13 @@ opening_read {x} {n} {l} {p} {s} v {nulls} of front version =
     ∙ went _ _ x.prices (optional_read (prices_form nulls) [] whole Prices d p x.prices there.prices front.of_prices)
     ∙ went _ _ x.start (optional_read start_form None whole Start d s x.start there.start front.of_start)
 
-pub opening_tokens : {x : Opening} {l : Option LimitRows} {p : Option (List (Option ℕ))} {s : Option (Option Rows)} {m n : ℕ} {ts rest : List Token}
-    {os p1 p2 p3 : List (Option Data)} (given : List (Option ℕ)) → SpellsValue n ts (object (members_of opening_order os)) rest → n ≤ 5
-    → (limits : IsMaybe limits_form l os p1) (prices : IsMaybe (list_form (price_form true)) p p1 p2) (start : IsMaybe start_form s p2 p3)
-    → IsDue number_form m p3 [] → (kept : ArePricesOf m given x.prices)
-    → AreFront limits.spelled prices.spelled start.spelled kept.0 x.limits x.prices x.start → Spells 5 (λ path. opening_form) ts x rest
-opening_tokens given v within limits prices start version kept front =
-    object_tokens opening_order (limits.spelled ∷ prices.spelled ∷ start.spelled ∷ Some version.spelled ∷ []) v within
-    (maybe limits (maybe prices (maybe start version.is)))
-    (λ path. opening_read version.spelled kept.1 front version.reads)
+pub opening_tokens : {R : Type 0} {r : R} {x : Opening} {n : ℕ} {ts rest : List Token} {os : List (Option Data)}
+    → SpellsValue n ts (object (members_of opening_order os)) rest → n ≤ 5 → HasSettings (λ q ps. ps ≡ []) os x.limits x.prices x.start r
+    → Spells 5 (λ path. opening_form) ts x rest
+opening_tokens v within read =
+    object_tokens opening_order (read.l ∷ read.p ∷ read.s ∷ Some read.v ∷ []) v within
+    (read.is ∙ ap (λ q. read.l ∷ read.p ∷ read.s ∷ Some read.v ∷ q) read.held)
+    (λ path. opening_read read.v read.of_version read.front read.version_read)
 
 -- ---- Requests
 

@@ -1,16 +1,18 @@
 -- What the tokens of a call, of a refusal and of a list of prices spell.
-use Rattle.std.specs.Prelude.{◌≡◌, ℕ, ◌≤◌, Bool, false, List, ◌∷◌, length, codes, Option, Ok}
+use Rattle.std.specs.Prelude.{◌≡◌, ℕ, ◌≤◌, Bool, false, List, [], ◌∷◌, length, codes, Option, None, Ok, unwrap_or}
 use Rattle.std.specs.Option.{is_none}
 use Rattle.std.specs.List.{list_any}
 use Rattle.json.specs.Token.{Token, string as text_token}
 use Rattle.serde_json.specs.Data.{Items, array, item, number, string, unsigned}
 use Rattle.topo_core.specs.declared.calls.Call.{Call}
 use Rattle.topo_core.specs.declared.calls.Refusal.{Refusal}
+use Rattle.topo_core.specs.declared.rows.Rows.{Rows}
 use Rattle.topo_forms.specs.declared.path.Path.{Path}
+use Rattle.topo_forms.specs.declared.scripts.LimitRows.{LimitRows}
 use Rattle.topo_forms.specs.CallForms.{begins, call_form}
 use Rattle.topo_forms.specs.Prices.{without_ones}
 use Rattle.topo_forms.specs.ReplyForms.{refusal_form}
-use Rattle.topo_forms.specs.Scripts.{nulls_of}
+use Rattle.topo_forms.specs.Scripts.{greatest_limits, nulls_of}
 use Rattle.topo_forms.specs.Tokens.{GoesOn}
 use Rattle.topo_core.specs.declared.rows.TheConstants.{KINDS}
 
@@ -28,3 +30,10 @@ SpellsRefusal n name ts why rest = (ds : Items) × GoesOn 0 ts ds rest
 abbrev pub ArePricesOf : ℕ → List (Option ℕ) → List (Option ℕ) → Type 0
 ArePricesOf version prices kept = (nulls : Bool) × (nulls_of version ≡ Ok nulls) × (length prices ≤ KINDS) × (nulls ≡ false → list_any is_none prices ≡ false)
     × (kept ≡ without_ones prices)
+
+-- what a text of this version means by its limits, prices and start, each of which may be missing
+pub record AreSettings (l : Option LimitRows) (p : Option (List (Option ℕ))) (s : Option (Option Rows)) (version : ℕ)
+    (limits : LimitRows) (prices : List (Option ℕ)) (start : Option Rows) : Type 0 where
+  pub of_limits : limits ≡ unwrap_or l greatest_limits
+  pub of_prices : ArePricesOf version (unwrap_or p []) prices
+  pub of_start : start ≡ unwrap_or s None

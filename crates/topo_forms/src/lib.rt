@@ -25,6 +25,7 @@ mod token_reports;
 mod token_rows;
 mod token_scripts;
 mod token_sessions;
+mod token_settings;
 mod tokens;
 
 pub use fault::ScriptFault;

@@ -104,6 +104,20 @@ impl<A: FromTokens, R: Slots> Slot<A, R> {
     }
 }
 
+impl<A: FromTokens, B: FromTokens, C: FromTokens, R: Slots> Slot<A, Slot<B, Slot<C, R>>> {
+    /// What was read into the first three, if all were, and the slots behind them.
+    #[inline(always)]
+    pub fn three_due(self) -> Option<(A, B, C, R)>
+        ensures { IfSome result (λ r. (self.found ≡ Some r.0) × (self.rest.found ≡ Some r.1)
+            × (self.rest.rest.found ≡ Some r.2) × (self.rest.rest.rest ≡ r.3)) }
+    {
+        let (a, rest) = self.due()?;
+        let (b, rest) = rest.due()?;
+        let (c, rest) = rest.due()?;
+        Some((a, b, c, rest))
+    }
+}
+
 /// Reads the members up to the end of an object into slots.
 fn read_members<S: Slots>(alloc: Global, keys: &[Key], reader: &mut TokenReader<'_>) -> Option<S>
     requires { are_sorted keys.now ≡ true }

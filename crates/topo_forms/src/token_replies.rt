@@ -161,9 +161,7 @@ fn token_inserted(alloc: Global, reader: &mut TokenReader<'_>) -> Option<Reply>
 {
     let keys = [Key::Crossed, Key::Edge, Key::End, Key::Price, Key::Start];
     let slots: InsertedSlots = read_object(alloc, &keys, reader)?;
-    let (crossed, slots) = slots.due()?;
-    let (id, slots) = slots.due()?;
-    let (end, slots) = slots.due()?;
+    let (crossed, id, end, slots) = slots.three_due()?;
     let (price, slots) = slots.due()?;
     let (start, _slots) = slots.due()?;
     let route = Route {
@@ -210,9 +208,7 @@ impl FromTokens for Entry {
     fn from_tokens(alloc: Global, reader: &mut TokenReader<'_>) -> Option<Self> {
         let keys = [Key::Call, Key::Caller, Key::Reply];
         let slots: EntrySlots = read_object(alloc, &keys, reader)?;
-        let (call, slots) = slots.due()?;
-        let (caller, slots) = slots.due()?;
-        let (reply, _slots) = slots.due()?;
+        let (call, caller, reply, _slots) = slots.three_due()?;
         Some(Entry {
             caller,
             call,

@@ -29,9 +29,7 @@ impl FromTokens for LimitRows {
     fn from_tokens(alloc: Global, reader: &mut TokenReader<'_>) -> Option<Self> {
         let keys = [Key::Crossings, Key::Edges, Key::Vertices];
         let slots: LimitsSlots = read_object(alloc, &keys, reader)?;
-        let (crossings, slots) = slots.due()?;
-        let (edges, slots) = slots.due()?;
-        let (vertices, _slots) = slots.due()?;
+        let (crossings, edges, vertices, _slots) = slots.three_due()?;
         Some(LimitRows {
             vertices,
             edges,
@@ -106,12 +104,8 @@ impl FromTokens for Report {
             Key::Version,
         ];
         let slots: ReportSlots = read_object(alloc, &keys, reader)?;
-        let (history, slots) = slots.due()?;
-        let (limits, slots) = slots.due()?;
-        let (picture, slots) = slots.due()?;
-        let (prices, slots) = slots.due()?;
-        let (start, slots) = slots.due()?;
-        let (version, _slots) = slots.due()?;
+        let (history, limits, picture, slots) = slots.three_due()?;
+        let (prices, start, version, _slots) = slots.three_due()?;
         let prices = kept_prices(prices, version)?;
         Some(Report {
             limits,

@@ -40,9 +40,7 @@ impl FromTokens for EdgeRow {
     fn from_tokens(alloc: Global, reader: &mut TokenReader<'_>) -> Option<Self> {
         let keys = [Key::A, Key::B, Key::Crossings, Key::Id, Key::Kind];
         let slots: EdgeSlots = read_object(alloc, &keys, reader)?;
-        let (a, slots) = slots.due()?;
-        let (b, slots) = slots.due()?;
-        let (crossings, slots) = slots.due()?;
+        let (a, b, crossings, slots) = slots.three_due()?;
         let (id, slots) = slots.due()?;
         let (kind, _slots) = slots.due()?;
         Some(EdgeRow {
@@ -66,9 +64,7 @@ impl FromTokens for CrossRow {
     fn from_tokens(alloc: Global, reader: &mut TokenReader<'_>) -> Option<Self> {
         let keys = [Key::Crossed, Key::Id, Key::Newcomer, Key::Sign];
         let slots: CrossingSlots = read_object(alloc, &keys, reader)?;
-        let (crossed, slots) = slots.due()?;
-        let (id, slots) = slots.due()?;
-        let (newcomer, slots) = slots.due()?;
+        let (crossed, id, newcomer, slots) = slots.three_due()?;
         let (sign, _slots) = slots.due()?;
         Some(CrossRow {
             id,
@@ -99,9 +95,7 @@ impl FromTokens for Rows {
             Key::Rotations,
         ];
         let slots: RowsSlots = read_object(alloc, &keys, reader)?;
-        let (crossings, slots) = slots.due()?;
-        let (edges, slots) = slots.due()?;
-        let (next_crossing, slots) = slots.due()?;
+        let (crossings, edges, next_crossing, slots) = slots.three_due()?;
         let (next_edge, slots) = slots.due()?;
         let (rotations, _slots) = slots.due()?;
         Some(Rows {

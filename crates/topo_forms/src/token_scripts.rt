@@ -9,11 +9,11 @@ ghost use Rattle.topo_forms.specs.Tokens.{Spells};
 use crate::lexing::bytes_are;
 use crate::path::Key;
 use crate::reader::TokenReader;
-use crate::script_forms::{GREATEST_LIMITS, MAX_WORKERS};
-use crate::scripts::{LimitRows, Script};
+use crate::script_forms::MAX_WORKERS;
+use crate::scripts::Script;
 use crate::slots::{NoSlot, Slot, read_object};
 use crate::token_calls::call_after;
-use crate::token_reports::kept_prices;
+use crate::token_settings::{SettingsSlots, settings_due};
 use crate::tokens::{FromTokens, last_numbers};
 use std::alloc::Global;
 use topo_core::calls::Command;
@@ -90,10 +90,7 @@ impl FromTokens for Option<Rows> {
 }
 
 /// The slots of a script, in the order of its keys.
-type ScriptSlots = Slot<
-    LimitRows,
-    Slot<Listed<Option<u32>>, Slot<Option<Rows>, Slot<u32, Slot<Listed<Listed<Command>>, NoSlot>>>>,
->;
+type ScriptSlots = SettingsSlots<Slot<Listed<Listed<Command>>, NoSlot>>;
 
 impl FromTokens for Script {
     ghost form = { λ path. script_form };
@@ -109,28 +106,15 @@ impl FromTokens for Script {
             Key::Workers,
         ];
         let slots: ScriptSlots = read_object(alloc, &keys, reader)?;
-        let Slot {
-            found: limits,
-            rest: slots,
-        } = slots;
-        let Slot {
-            found: prices,
-            rest: slots,
-        } = slots;
-        let Slot {
-            found: start,
-            rest: slots,
-        } = slots;
-        let (version, slots) = slots.due()?;
+        let (settings, slots) = settings_due(alloc, slots)?;
         let (workers, _slots) = slots.due()?;
         if workers.len() == 0 || workers.len() > MAX_WORKERS {
             return None;
         }
-        let prices = kept_prices(prices.unwrap_or(Listed::new(alloc)), version)?;
         Some(Script {
-            limits: limits.unwrap_or(GREATEST_LIMITS),
-            prices,
-            start: start.unwrap_or(None),
+            limits: settings.limits,
+            prices: settings.prices,
+            start: settings.start,
             workers,
         })
     }

@@ -1,15 +1,13 @@
 use Rattle.std.proofs.Common.{arith}
 use Rattle.topo_forms.specs.Reads.{list_form, number_form}
-use Rattle.topo_forms.proofs.Objects.{due_held, due_last}
+use Rattle.topo_forms.proofs.Objects.{due_held, due_last, three_held}
 use Rattle.topo_forms.proofs.TokenRows.{edge_tokens}
 use Rattle.topo_forms.proofs.token_rows.EdgeRowFromTokens.from_tokens.Goals as goal
 
 pub returns : goal.returns
 returns c =
     let o = c.in_ok-slots.ensures in
-    let a = due_held number_form _ c.in_ok-a.ensures o.held in
-    let b = due_held number_form _ c.in_ok-b.ensures a.held in
-    let crossings = due_held (list_form number_form) _ c.in_ok-crossings.ensures b.held in
-    let id = due_held number_form _ c.in_ok-id.ensures crossings.held in
+    let three = three_held number_form number_form (list_form number_form) _ c.in_ok-a.ensures o.held in
+    let id = due_held number_form _ c.in_ok-id.ensures three.held in
     let kind = due_last (due_held number_form _ c.in_ok-kind.ensures id.held) in
-    edge_tokens o.value (omega arith) a.first b.first crossings.first id.first kind
+    edge_tokens o.value (omega arith) three.first three.second three.third id.first kind

@@ -1,19 +1,9 @@
-use Rattle.std.proofs.Common.{true, arith}
-use Rattle.std.proofs.lemmas.List.{nil_from_length}
-use Rattle.topo_forms.specs.Reads.{list_form, number_form}
-use Rattle.topo_forms.specs.Scripts.{limits_form, price_form, start_form}
-use Rattle.topo_forms.proofs.Objects.{due_held, due_last, maybe_held}
-use Rattle.topo_forms.proofs.TokenScripts.{front_read}
+use Rattle.std.proofs.Common.{arith}
+use Rattle.topo_forms.proofs.TokenScripts.{settings_held}
 use Rattle.topo_forms.proofs.TokenSessions.{opening_tokens}
 use Rattle.topo_forms.proofs.token_sessions.OpeningFromTokens.from_tokens.Goals as goal
 
 pub returns : goal.returns
 returns c =
     let o = c.in_ok-slots.ensures in
-    let limits = maybe_held limits_form _ o.values o.held in
-    let prices = maybe_held (list_form (price_form true)) _ limits.values limits.held in
-    let start = maybe_held start_form _ prices.values prices.held in
-    let version = due_last (due_held number_form _ c.in_ok-version.ensures start.held) in
-    opening_tokens c.unwrap_or.result o.value (omega arith) limits.first prices.first start.first version c.in_ok-prices.ensures
-    (front_read c.in_ok-version.version limits.first prices.first start.first c.unwrap_or-2.ensures (nil_from_length _ c.new.ensures) c.unwrap_or.ensures
-    c.in_ok-prices.ensures c.unwrap_or-3.ensures)
+    opening_tokens o.value (omega arith) (settings_held _ c.in_ok-settings.ensures.settings c.in_ok-settings.ensures.rest o.held)
