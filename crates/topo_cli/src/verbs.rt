@@ -55,8 +55,10 @@ The commands of a list are carried out in its order, those of several lists in
 any order: a script of several lists may have another report in each run.
 
 A script may also have \"start\", a picture; without it the run begins with the
-vertices 0 and 1, and edge 0 between them. \"limits\" says how large the picture
-may grow, and \"prices\" what it costs to cross edges of each kind.
+vertices 0 and 1, and edge 0 between them. \"limits\", with \"crossings\", \"edges\"
+and \"vertices\", says how large the picture may grow. \"prices\" is a list of what
+it costs to cross an edge of kind 0, of kind 1 and so on: from 1 to 1000, or with
+\"version\":2 also null, for edges that are never crossed.
 
 A fault is one line on standard error, as: planar: 52 BadShape $/workers";
 
