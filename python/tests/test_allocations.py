@@ -30,6 +30,16 @@ def path_picture() -> Dict[str, Any]:
     return {"crossings": [], "edges": edges, "next_crossing": 0, "next_edge": COUNT - 1, "rotations": rotations}
 
 
+def crossed_picture() -> Dict[str, Any]:
+    """An edge that so many others cross, each between two vertices of its own."""
+    others = range(1, COUNT + 1)
+    edges = [{"a": 0, "b": 1, "crossings": list(range(COUNT)), "id": 0, "kind": 0}]
+    edges += [{"a": 2 * i, "b": 2 * i + 1, "crossings": [i - 1], "id": i, "kind": 0} for i in others]
+    crossings = [{"crossed": 0, "id": i - 1, "newcomer": i, "sign": "ltr" if i % 2 else "rtl"} for i in others]
+    rotations = [[i // 2] for i in range(2 * COUNT + 2)]
+    return {"crossings": crossings, "edges": edges, "next_crossing": COUNT, "next_edge": COUNT + 1, "rotations": rotations}
+
+
 def growths() -> Dict[str, Any]:
     """A script that grows a star, and then has a command for each other kind of reply."""
     others = [["insert", 1, 3, 0], ["planned", 2, 5, 1], ["delete", 1], ["delete", 0], ["delete", COUNT + 2], ["delete", COUNT + 9]]
@@ -93,13 +103,21 @@ class Allocations(unittest.TestCase):
 
     def test_a_picture(self):
         self.check("check", path_picture(), 2)
+        self.check("check", crossed_picture(), 4)
 
     def test_a_script(self):
         self.check("run", growths(), 2)
+        self.check("run", {**growths(), "prices": [1, 2], "version": 1}, 2)
+
+    def test_a_script_with_a_start(self):
+        self.check("run", {**growths(), "start": "seed"}, 2)
+        self.check("run", {**growths(), "start": path_picture()}, 6)
 
     def test_a_report(self):
-        done = subprocess.run([find_program(), "run"], input=own_layout(growths()), capture_output=True, timeout=60, check=True)
-        self.check("replay", json.loads(done.stdout), 3)
+        for start, for_each in (("seed", 3), (crossed_picture(), 24)):
+            script = own_layout({**growths(), "start": start})
+            done = subprocess.run([find_program(), "run"], input=script, capture_output=True, timeout=60, check=True)
+            self.check("replay", json.loads(done.stdout), for_each)
 
 
 if __name__ == "__main__":

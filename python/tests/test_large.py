@@ -46,6 +46,18 @@ class Large(unittest.TestCase):
         self.assertEqual(run("check", picture), line)
         self.assertEqual(run("replay", report), f"replayed {len(calls)} calls\n")
 
+    def test_the_last_of_many_replies(self):
+        report = report_of([["grow", 0, 0, 0]] * 200)
+        report["history"][199]["reply"] = {"deleted": 0}
+        done = subprocess.run([find_program(), "replay"], input=json.dumps(report), capture_output=True, text=True)
+        self.assertEqual((done.returncode, done.stderr), (1, "planar: 60 WrongReply 199\n"))
+
+    def test_texts_that_are_too_long(self):
+        # a script may have 1,048,576 bytes, a picture and a report 268,435,456
+        for verb, most in (("run", 1_048_576), ("check", 268_435_456), ("replay", 268_435_456)):
+            done = subprocess.run([find_program(), verb], input=b" " * (most + 1), capture_output=True)
+            self.assertEqual((done.returncode, done.stderr), (1, b"planar: 51 TooLong\n"), verb)
+
     def test_every_kind(self):
         kinds = range(64)
         calls = [["grow", 0, 0, kind] for kind in kinds] + [["insert", 1, 0, kind] for kind in kinds]

@@ -3,8 +3,10 @@
 
 use crate::commands::{COMMANDS, REPORT, SCRIPT, carry_out, padded};
 use crate::streams::{
-    BreakingReader, EndlessReader, FailingWriter, FullWriter, NeverReader, SlowReader, SlowWriter,
+    BreakingReader, EndlessReader, FailingStream, FailingWriter, FullWriter, InterruptedWriter,
+    NeverReader, SlowReader, SlowWriter,
 };
+use std::io::ErrorKind;
 use std::test::Fail;
 use topo_cli::Verb;
 use topo_forms::ScriptFault;
@@ -126,12 +128,50 @@ fn readers_that_break(rt: HostRuntime) -> Result<(), Fail> {
 #[test]
 fn slow_writers(rt: HostRuntime) -> Result<(), Fail> {
     let alloc = rt.alloc();
-    for (verb, read, due) in COMMANDS {
-        let mut writer = SlowWriter::new(alloc);
-        assert!(rt; carry_out(&rt, alloc, *verb, &mut read.as_bytes(), &mut writer) == Ok(()));
-        assert!(rt; writer.kept.as_slice() == due.as_bytes());
-        assert_eq!(rt; writer.passed_on, due.len());
+    for interruptions in [1, 5] {
+        for (verb, read, due) in COMMANDS {
+            let mut writer = SlowWriter::new(alloc, interruptions);
+            assert!(rt; carry_out(&rt, alloc, *verb, &mut read.as_bytes(), &mut writer) == Ok(()));
+            assert!(rt; writer.kept.as_slice() == due.as_bytes());
+            assert_eq!(rt; writer.passed_on, due.len());
+        }
     }
+    Ok(())
+}
+
+/// The kinds of failures that are no interruption, and after which nothing is tried again.
+const FAILURES: &[ErrorKind] = &[
+    ErrorKind::WouldBlock,
+    ErrorKind::TimedOut,
+    ErrorKind::UnexpectedEof,
+    ErrorKind::BrokenPipe,
+];
+
+#[test]
+fn a_failed_stream_is_not_asked_again(rt: HostRuntime) -> Result<(), Fail> {
+    let alloc = rt.alloc();
+    for kind in FAILURES {
+        let mut reader = FailingStream::new(*kind);
+        let mut written: Vec<u8> = Vec::new(alloc);
+        let told = carry_out(&rt, alloc, Verb::Run, &mut reader, &mut written);
+        assert!(rt; told == Err(RunFault::ReadFault));
+        assert_eq!(rt; reader.calls, 1);
+        let mut writer = FailingStream::new(*kind);
+        let told = carry_out(&rt, alloc, Verb::Run, &mut SCRIPT.as_bytes(), &mut writer);
+        assert!(rt; told == Err(RunFault::WriteFault));
+        assert_eq!(rt; writer.calls, 1);
+    }
+    Ok(())
+}
+
+/// A text is written in one call, if the writer takes it, and an interrupted flush is no end.
+#[test]
+fn a_writer_that_is_interrupted_at_the_end(rt: HostRuntime) -> Result<(), Fail> {
+    let alloc = rt.alloc();
+    let mut writer = InterruptedWriter { calls: 0 };
+    let told = carry_out(&rt, alloc, Verb::Run, &mut SCRIPT.as_bytes(), &mut writer);
+    assert!(rt; told == Err(RunFault::WriteFault));
+    assert_eq!(rt; writer.calls, 1);
     Ok(())
 }
 

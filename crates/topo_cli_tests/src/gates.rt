@@ -1,9 +1,11 @@
-//! A run whose gate fixes the order of two calls.
+//! Runs whose gate fixes the order of two calls, or counts them.
 
+use std::sync::atomic::{AtomicBool, AtomicUsize, Ordering};
 use std::test::Fail;
 use topo_core::calls::{Entry, Reply};
 use topo_forms::read_report;
 use topo_run::run_io;
+use topo_service::Gate;
 use topo_service_test_support::gates::Turns;
 
 const TWO_LISTS: &str = "{\"version\":1,\"workers\":[[[\"insert\",0,1,0]],[[\"insert\",0,1,1]]]}";
@@ -27,5 +29,61 @@ fn a_gate_fixes_the_order_of_two_lists(rt: HostRuntime) -> Result<(), Fail> {
     assert_eq!(rt; history.len(), 2);
     assert!(rt; is_insertion(&history[0], 1, 1));
     assert!(rt; is_insertion(&history[1], 0, 2));
+    Ok(())
+}
+
+const ONE_LIST: &str =
+    "{\"version\":1,\"workers\":[[[\"grow\",1,0,0],[\"planned\",0,1,1],[\"delete\",9]]]}";
+
+/// Counts the commands of list 0 that begin and end, and notes a call that comes out of turn.
+#[derive(Drop)]
+struct CountingGate {
+    begun: AtomicUsize,
+    ended: AtomicUsize,
+    is_amiss: AtomicBool,
+}
+
+impl CountingGate {
+    /// Notes whether the call is of list 0, and whether so many commands have begun and ended.
+    fn note(&self, worker: usize, begun: usize, ended: usize) {
+        let is_due = self.begun.load(Ordering::SeqCst) == begun
+            && self.ended.load(Ordering::SeqCst) == ended;
+        if worker != 0 || !is_due {
+            self.is_amiss.store(true, Ordering::SeqCst);
+        }
+    }
+}
+
+impl Gate for CountingGate {
+    fn before(&self, worker: usize, index: usize) {
+        self.note(worker, index, index);
+        let _ = self.begun.fetch_add(1, Ordering::SeqCst);
+    }
+
+    fn after(&self, worker: usize, index: usize) {
+        self.note(worker, index.wrapping_add(1), index);
+        let _ = self.ended.fetch_add(1, Ordering::SeqCst);
+    }
+}
+
+#[test]
+fn a_gate_sees_each_command_of_one_list(rt: HostRuntime) -> Result<(), Fail> {
+    let gate = CountingGate {
+        begun: AtomicUsize::new(0),
+        ended: AtomicUsize::new(0),
+        is_amiss: AtomicBool::new(false),
+    };
+    let mut written: Vec<u8> = Vec::new(rt.alloc());
+    assert!(rt;
+        run_io(
+            &rt,
+            rt.alloc(),
+            &mut ONE_LIST.as_bytes(),
+            &mut written,
+            &gate
+        ) == Ok(())
+    );
+    assert!(rt; !gate.is_amiss.load(Ordering::SeqCst));
+    assert!(rt; gate.ended.load(Ordering::SeqCst) == 3);
     Ok(())
 }

@@ -1,6 +1,6 @@
 //! Tests of the commands on streams that are slow, break or have no end, of the program's choice of
-//! a command, and of a run whose gate fixes the order of two calls. What rows of a script, a report
-//! or a picture can show is tested by `topo_examples`.
+//! a command, and of runs whose gate fixes the order of two calls or counts them. What rows of a
+//! script, a report or a picture can show is tested by `topo_examples`.
 #![tactic(auto)]
 
 #[cfg(test)]

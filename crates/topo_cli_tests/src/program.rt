@@ -157,7 +157,7 @@ fn broken_writers(rt: HostRuntime) {
     let alloc = rt.alloc();
     for room in [0, 1, 100] {
         let mut out = FailingWriter::new(alloc, room);
-        let mut err = SlowWriter::new(alloc);
+        let mut err = SlowWriter::new(alloc, 1);
         assert!(rt; run(&rt, &mut SCRIPT.as_bytes(), &mut out, &mut err) == ends(1));
         assert!(rt; out.kept.as_slice() == &REPORT.as_bytes()[..room]);
         assert!(rt; err.kept.as_slice() == "planar: 56 WriteFault\n".as_bytes());
@@ -170,7 +170,7 @@ fn broken_writers(rt: HostRuntime) {
     let mut err = FailingWriter::new(alloc, 10);
     assert!(rt; run(&rt, &mut SCRIPT.as_bytes(), &mut FullWriter, &mut err) == untold);
     assert!(rt; err.kept.as_slice() == "planar: 56".as_bytes());
-    let mut out = SlowWriter::new(alloc);
+    let mut out = SlowWriter::new(alloc, 1);
     assert!(rt; run(&rt, &mut SCRIPT.as_bytes(), &mut out, &mut FullWriter) == ends(0));
     assert!(rt; out.kept.as_slice() == REPORT.as_bytes());
     assert_eq!(rt; out.passed_on, REPORT.len());

@@ -71,7 +71,7 @@ fn sessions(rt: HostRuntime) -> Result<(), Fail> {
 fn slow_streams(rt: HostRuntime) -> Result<(), Fail> {
     let alloc = rt.alloc();
     let mut slow = SlowReader::new(SESSION.as_bytes());
-    let mut writer = SlowWriter::new(alloc);
+    let mut writer = SlowWriter::new(alloc, 1);
     assert!(rt; serve_io(alloc, &mut slow, &mut writer) == Ok(()));
     assert!(rt; writer.kept.as_slice() == ANSWERS.as_bytes());
     assert_eq!(rt; writer.passed_on, ANSWERS.len());

@@ -169,21 +169,23 @@ impl Write for FullWriter {
     }
 }
 
-/// Takes one byte a turn, each after an interrupted call, and keeps what it was given; what it
-/// passed on is what it held when it was last flushed.
+/// Takes one byte a turn, each after so many interrupted calls, and keeps what it was given; what
+/// it passed on is what it held when it was last flushed.
 #[derive(Drop)]
 pub(crate) struct SlowWriter {
-    was_interrupted: bool,
+    interruptions: u32,
+    interrupted: u32,
     fails_to_flush: bool,
     pub(crate) kept: Vec<u8>,
     pub(crate) passed_on: usize,
 }
 
 impl SlowWriter {
-    /// A writer that holds nothing.
-    pub(crate) fn new(alloc: Global) -> Self {
+    /// A writer that holds nothing, and is interrupted so many times before each byte.
+    pub(crate) fn new(alloc: Global, interruptions: u32) -> Self {
         SlowWriter {
-            was_interrupted: false,
+            interruptions,
+            interrupted: 0,
             fails_to_flush: false,
             kept: Vec::new(alloc),
             passed_on: 0,
@@ -193,7 +195,8 @@ impl SlowWriter {
     /// A writer that cannot pass on what it holds.
     pub(crate) fn stuck(alloc: Global) -> Self {
         SlowWriter {
-            was_interrupted: false,
+            interruptions: 1,
+            interrupted: 0,
             fails_to_flush: true,
             kept: Vec::new(alloc),
             passed_on: 0,
@@ -203,11 +206,11 @@ impl SlowWriter {
 
 impl Write for SlowWriter {
     fn write(&mut self, buf: &[u8]) -> io::Result<usize> {
-        if !self.was_interrupted {
-            self.was_interrupted = true;
+        if self.interrupted < self.interruptions {
+            self.interrupted += 1;
             return Err(io::Error::from(ErrorKind::Interrupted));
         }
-        self.was_interrupted = false;
+        self.interrupted = 0;
         match buf.first() {
             Some(byte) => {
                 self.kept.push(*byte)?;
@@ -222,6 +225,64 @@ impl Write for SlowWriter {
             return Err(io::Error::from(ErrorKind::BrokenPipe));
         }
         self.passed_on = self.kept.len();
+        Ok(())
+    }
+}
+
+/// Takes all that it is given, counts the calls, and is interrupted where it is to pass it on.
+#[derive(Drop)]
+pub(crate) struct InterruptedWriter {
+    pub(crate) calls: u64,
+}
+
+impl Write for InterruptedWriter {
+    fn write(&mut self, buf: &[u8]) -> io::Result<usize> {
+        self.calls = self.calls.saturating_add(1);
+        Ok(buf.len())
+    }
+
+    fn flush(&mut self) -> io::Result<()> {
+        Err(io::Error::from(ErrorKind::Interrupted))
+    }
+}
+
+/// A reader and writer whose calls all fail in this way, and are counted. After a thousand it
+/// breaks, so that whoever asks again comes to an end.
+#[derive(Drop)]
+pub(crate) struct FailingStream {
+    kind: ErrorKind,
+    pub(crate) calls: u64,
+}
+
+impl FailingStream {
+    /// A stream that was not asked yet.
+    pub(crate) fn new(kind: ErrorKind) -> Self {
+        FailingStream { kind, calls: 0 }
+    }
+
+    fn fail(&mut self) -> io::Error {
+        self.calls = self.calls.saturating_add(1);
+        let is_last = self.calls > 1_000;
+        io::Error::from(if is_last {
+            ErrorKind::BrokenPipe
+        } else {
+            self.kind
+        })
+    }
+}
+
+impl Read for FailingStream {
+    fn read(&mut self, _buf: &mut [u8]) -> io::Result<usize> {
+        Err(self.fail())
+    }
+}
+
+impl Write for FailingStream {
+    fn write(&mut self, _buf: &[u8]) -> io::Result<usize> {
+        Err(self.fail())
+    }
+
+    fn flush(&mut self) -> io::Result<()> {
         Ok(())
     }
 }

@@ -4,7 +4,7 @@ use std::alloc::{AllocError, Global};
 use std::fmt::Display;
 use std::sync::Wait;
 use std::thread::Threads;
-use topo_check::{check_io, replay_io};
+use topo_check::{check_bytes, check_io, replay_bytes, replay_io};
 use topo_core::rows::Rows;
 use topo_forms::{Report, ScriptFault, read_report, read_rows, read_script};
 use topo_run::{OpenGate, run_io};
@@ -108,6 +108,25 @@ fn told<E: Display + Drop>(
     }
 }
 
+/// What a command printed, if the function on bytes that does the same answers just that, and else
+/// both.
+fn same_on_bytes<E: Display + Drop>(
+    alloc: Global,
+    printed: Vec<u8>,
+    answer: Result<String, E>,
+) -> Result<Vec<u8>, AllocError> {
+    let line = match answer {
+        Ok(line) => line.into_bytes(),
+        Err(fault) => line_of(format!(in alloc; "{fault}")?)?,
+    };
+    let mut seen = printed;
+    if seen.as_slice() != line.as_slice() {
+        seen.extend_from_slice(b"on bytes: ")?;
+        seen.extend_from_slice(line.as_slice())?;
+    }
+    Ok(seen)
+}
+
 fn run<R: Threads + Wait + Sync>(
     rt: &R,
     alloc: Global,
@@ -123,14 +142,16 @@ fn replay(alloc: Global, bytes: &[u8]) -> Result<Vec<u8>, AllocError> {
     let mut reader = bytes;
     let mut written: Vec<u8> = Vec::new(alloc);
     let ended = replay_io(alloc, &mut reader, &mut written);
-    told(alloc, ended, written)
+    let printed = told(alloc, ended, written)?;
+    same_on_bytes(alloc, printed, replay_bytes(alloc, bytes))
 }
 
 fn check(alloc: Global, bytes: &[u8]) -> Result<Vec<u8>, AllocError> {
     let mut reader = bytes;
     let mut written: Vec<u8> = Vec::new(alloc);
     let ended = check_io(alloc, &mut reader, &mut written);
-    told(alloc, ended, written)
+    let printed = told(alloc, ended, written)?;
+    same_on_bytes(alloc, printed, check_bytes(alloc, bytes))
 }
 
 fn serve(alloc: Global, bytes: &[u8]) -> Result<Vec<u8>, AllocError> {
