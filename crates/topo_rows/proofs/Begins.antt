@@ -1,7 +1,8 @@
 -- Where the darts of each edge begin, and the numbers of darts.
 use Rattle.std.proofs.Common.{◌≡◌, ◌+◌, ◌*◌, ◌<◌, ap, arith, Bool, cond, eqb, false, inl, inr, length}
-use Rattle.std.proofs.Common.{List, not, refl, Some, subst, suc, sym, true, zero, ℕ, [], ◌++◌, ◌∙◌, ◌∷◌}
-use Rattle.std.specs.Prelude.{find, flat_map, is_some, map, slice_get, slice_index, ◌==◌}
+use Rattle.std.proofs.Common.{drop, List, not, refl, Some, subst, suc, sym, take, true, zero, ℕ, [], ◌++◌, ◌∙◌, ◌∷◌}
+use Rattle.std.proofs.Math.Seq.{drop-length}
+use Rattle.std.specs.Prelude.{find, flat_map, is_some, map, slice_get, slice_index, slice_set, ◌==◌}
 use Rattle.std.specs.List.{list_all, position_or_len, range_with_len}
 use Rattle.std.specs.List.Sorted.{IsStrictlyIncreasing}
 use Rattle.std.proofs.lemmas.Bool.{cases_Bool}
@@ -175,3 +176,17 @@ module _ (rows : Rows) (paths : has_good_paths rows ≡ true) (v e place : ℕ) 
 pub edge_ids_climb : (rows : Rows) (ids : List ℕ) → has_good_paths rows ≡ true → ids ≡ map (λ row. row.id) rows.edges → IsStrictlyIncreasing ids
 edge_ids_climb rows ids paths are = subst IsStrictlyIncreasing (sym are)
     (rises_strictly rows.next_edge (map (λ row. row.id) rows.edges) (left_true _ (list_all (has_good_path rows) rows.edges) paths))
+
+-- ---- Begins as they are written
+
+set_last : {X : Type 0} (xs : List X) (n : ℕ) (x : X) → length xs ≡ n + 1 → slice_set xs n x ≡ take n xs ++ (x ∷ [])
+set_last {X = X} [] n x h = absurd (omega arith)
+set_last {X = X} (y ∷ []) zero x h = refl
+set_last {X = X} (y ∷ z ∷ ys) zero x h = absurd (omega arith)
+set_last {X = X} (y ∷ ys) (suc n) x h = ap (λ (zs : List X). y ∷ zs) (set_last ys n x (omega arith))
+
+-- where those of all edges are written, the number of all darts comes last
+pub last_begin : (begins : List ℕ) (next : ℕ) (edges : List EdgeRow) → length begins ≡ length edges + 1
+    → slice_set begins (length edges) next ≡ take (length edges) begins ++ begins_from next (drop (length edges) edges)
+last_begin begins next edges many = set_last begins (length edges) next many
+    ∙ ap (λ (rest : List EdgeRow). take (length edges) begins ++ begins_from next rest) (sym (drop-length edges))

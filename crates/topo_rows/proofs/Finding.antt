@@ -12,7 +12,6 @@ use Rattle.topo_core.specs.declared.rows.EdgeRow.{EdgeRow}
 use Rattle.topo_core.specs.declared.rows.Rows.{Rows}
 use Rattle.topo_core.specs.Items.{rises_below}
 use Rattle.topo_core.specs.Lawful.{has_good_path, has_good_paths}
-use Rattle.topo_core.specs.Picture.{edge_row}
 use Rattle.topo_core.proofs.numbering.Members.{found, left_true}
 use Rattle.topo_rows.specs.Ids.{IdsRise, IsPlaceOf, NoneBefore, NoneFrom}
 use Rattle.topo_rows.proofs.Begins.{AtPlace}
@@ -90,7 +89,3 @@ ids_rise rows crossings rises same = subst (λ (cs : List CrossRow). IdsRise (ma
 pub at_edge_place : (rows : Rows) (e place : ℕ) (row : EdgeRow) (edges : List EdgeRow) → edges ≡ rows.edges → IsPlaceOf edges (λ row. row.id) e place
     → row ≡ get_or edges place row → AtPlace rows e place row
 at_edge_place rows e place row edges same p read = grind (arith, get_or_from_slice_get)
-
-pub finds_no_edge : (rows : Rows) (e id : ℕ) (edges : List EdgeRow) → id ≡ e → edges ≡ rows.edges → find (λ row. row.id == id) edges ≡ None
-    → edge_row rows e ≡ None
-finds_no_edge rows e id edges is same none = ap (edge_row rows) (sym is) ∙ ap (λ (es : List EdgeRow). find (λ row. row.id == id) es) (sym same) ∙ none

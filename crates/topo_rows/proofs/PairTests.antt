@@ -170,9 +170,6 @@ module _ (rows : Rows) (paths : has_good_paths rows ≡ true) (small : rows.next
                 | inr none ↦ ap (λ (o : Option EdgeRow). unwrap_or (option_map (λ row. occurrences x row.crossings) o) 0) none ∙ sym right
               ]
         ] where
-          missing : (f e : ℕ) → edge_row rows e ≡ None → is_some (edge_row rows f) ≡ true → one (f == e) ≡ 0
-          missing f e none is_there = grind (arith, cases_Bool, false≢true, eqb-true, one)
-
           none_stands : (row : EdgeRow) → IsIn row rows.edges → (x : ℕ) → cross_row rows x ≡ None → occurrences x row.crossings ≡ 0
           none_stands row h x absent = elim (cases_lt 0 (occurrences x row.crossings)) [
             | inl some ↦ absurd (false≢true (sym (ap is_some absent) ∙ crossing_there rows paths row h x (in_counted x row.crossings some)))
@@ -305,9 +302,6 @@ module _ (rows : Rows) (paths : has_good_paths rows ≡ true) (small : length ro
                 | inr none ↦ left ∙ sym (ap (λ (o : Option EdgeRow). unwrap_or (option_map (λ row. one (row.a == v) + one (row.b == v)) o) 0) none)
               ]
         ] where
-          below_apart : (m n : ℕ) → m < n → eqb m n ≡ false
-          below_apart m n h = grind (arith, nat_tests)
-
           absent : GoodRotation rows v → edge_row rows e ≡ None → occurrences e (rotation rows v) ≡ 0
           absent says none = grind (arith, cases_lt, false≢true, in_counted)
 

@@ -162,13 +162,7 @@ module _ (rows : Rows) (good : IsWellFormed rows) where
         let d = some_of (cross_row rows y) (crossing_there rows good.paths row h y named) in
         let d_id : d.0.id ≡ y = eqb-true d.0.id y (found (λ c. c.id == y) d.0 rows.crossings d.1).1 in
         grind (arith, find_place, cases_Bool, eqb-true, false≢true, eq-eqb, at_most, one, other_place)
-  ] where
-    as_one : (t : Bool) → cond {A = ℕ} t 1 0 ≡ one t
-    as_one t = refl
-
-    as_zero : (t : Bool) → cond {A = ℕ} t 0 0 ≡ 0
-    as_zero true = refl
-    as_zero false = refl
+  ]
 
   -- so the numbers ahead are those that are noted
   module _ (xs : List ℕ) (room : length xs ≡ 2 * length rows.crossings) where

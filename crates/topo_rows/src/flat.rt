@@ -22,21 +22,18 @@ use std::alloc::{AllocError, Global};
 use topo_core::darts::Sign;
 use topo_core::rows::{CrossRow, EdgeRow, Rows};
 
-/// Writes for each edge the number of its first dart, and last the number of all darts, over what
-/// the list held.
-pub fn fill_begins(begins: &mut Vec<u32>, edges: &[EdgeRow]) -> Result<(), AllocError>
-    requires { 2 * sum_by segment_count edges.now < 2 ^ 32 }
-    ensures { OnOk result (begins.new.items ≡ begins_from 0 edges.now) }
+/// Writes for each edge the number of its first dart, and last the number of all darts.
+fn write_begins(begins: &mut [u32], edges: &[EdgeRow])
+    requires few { 2 * sum_by segment_count edges.now < 2 ^ 32 }
+    requires room { length begins.old ≡ length edges.now + 1 }
+    ensures { begins.new ≡ begins_from 0 edges.now }
 {
-    begins.clear();
-    begins.reserve(edges.len() + 1)?;
     let mut next = 0;
-    for row in edges {
-        begins.push(next)?;
-        next += 2 * (row.crossings.as_slice().len() as u32 + 1);
+    for i in 0..edges.len() {
+        begins[i] = next;
+        next += 2 * (edges[i].crossings.as_slice().len() as u32 + 1);
     }
-    begins.push(next)?;
-    Ok(())
+    begins[edges.len()] = next;
 }
 
 /// For each edge the number of its first dart, and last the number of all darts.
@@ -44,8 +41,8 @@ fn begins_of(alloc: Global, edges: &[EdgeRow]) -> Result<Vec<u32>, AllocError>
     requires { 2 * sum_by segment_count edges.now < 2 ^ 32 }
     ensures { IfOk result (λ begins. begins.items ≡ begins_from 0 edges.now) }
 {
-    let mut begins = Vec::new(alloc);
-    fill_begins(&mut begins, edges)?;
+    let mut begins = vec![in alloc; 0; edges.len() + 1]?;
+    write_begins(&mut begins, edges);
     Ok(begins)
 }
 
@@ -325,45 +322,25 @@ pub(crate) fn dart_count(rows: &Rows, begins: &[u32]) -> usize
     begins[last] as usize
 }
 
-/// Writes the images of the turn in canonical numbers, over what the list held, from the numbers of
-/// the darts ahead of the crossings.
-fn fill_images(
-    images: &mut Vec<u32>,
+/// The images of the turn in canonical numbers, from the numbers of the darts ahead of the
+/// crossings.
+fn images_of(
+    alloc: Global,
     rows: &Rows,
     begins: &[u32],
     hints: &IdIndex,
     ahead: &[u32],
-) -> Result<(), AllocError>
+) -> Result<Vec<u32>, AllocError>
     requires well_formed { IsWellFormed rows.now }
     requires begins { begins.now ≡ begins_from 0 rows.now.edges }
     requires vertices { length rows.now.rotations < 2 ^ 32 }
     requires crossings { length rows.now.crossings < 2 ^ 32 }
     requires ahead { AreAhead rows.now ahead.now }
-    ensures { OnOk result (images.new.items ≡ turn_images rows.now) }
+    ensures { IfOk result (λ images. images.items ≡ turn_images rows.now) }
 {
-    images.resize(dart_count(rows, begins), 0)?;
-    link_points(images, rows, begins, hints, ahead);
-    Ok(())
-}
-
-/// Writes the images of the turn in canonical numbers, where the darts of the edges begin as said,
-/// over what the list held. Another list is for the numbers of the darts ahead of the crossings.
-pub fn fill_turns(
-    turns: &mut Vec<u32>,
-    ahead: &mut Vec<u32>,
-    rows: &Rows,
-    begins: &[u32],
-    hints: &IdIndex,
-) -> Result<(), AllocError>
-    requires well_formed { IsWellFormed rows.now }
-    requires begins { begins.now ≡ begins_from 0 rows.now.edges }
-    requires few { 2 * sum_by segment_count rows.now.edges < 2 ^ 32 }
-    requires vertices { length rows.now.rotations < 2 ^ 32 }
-    requires crossings { length rows.now.crossings < 2 ^ 32 }
-    ensures { OnOk result (turns.new.items ≡ turn_images rows.now) }
-{
-    fill_ahead(ahead, rows, hints)?;
-    fill_images(turns, rows, begins, hints, ahead.as_slice())
+    let mut images = vec![in alloc; 0; dart_count(rows, begins)]?;
+    link_points(&mut images, rows, begins, hints, ahead);
+    Ok(images)
 }
 
 /// How the darts of rows turn, in canonical numbers.
@@ -404,13 +381,6 @@ pub(crate) fn turns_from(
     ensures { IfOk result (λ turns. AreTurnsOf rows.now turns.begins.items turns.images.items) }
 {
     let begins = begins_of(alloc, rows.edges.as_slice())?;
-    let mut images = Vec::new(alloc);
-    fill_images(
-        &mut images,
-        rows,
-        begins.as_slice(),
-        hints,
-        ahead.as_slice(),
-    )?;
+    let images = images_of(alloc, rows, &begins, hints, &ahead)?;
     Ok(Turns { images, begins })
 }
