@@ -2,6 +2,7 @@
 pub mod Leaving
 pub mod Deleting
 pub mod Rotating
+pub mod Copying
 pub mod CrossedPaths
 pub mod CrossedRows
 pub mod Keeping

@@ -21,6 +21,10 @@ rows_of table = map crossing_row (entries table)
 abbrev pub edge_of : ℕ × EdgeBody → EdgeRow
 edge_of e = record { id = e.0; a = e.1.a; b = e.1.b; kind = e.1.kind; crossings = e.1.crossings }
 
+-- an edge without its id
+abbrev pub body_of : EdgeRow → EdgeBody
+body_of row = record { a = row.a; b = row.b; kind = row.kind; crossings = row.crossings }
+
 -- the rows of the edges in a table
 abbrev pub edges_of : Places EdgeBody → List EdgeRow
 edges_of table = map edge_of (entries table)

@@ -1,14 +1,16 @@
 //! The rows of a picture as it keeps them: each edge and each crossing is found by its id in one
 //! look, and goes at its own cost.
 
-ghost use Rattle.std.specs.Prelude.{◌≡◌, ◌==◌, ◌+◌, ◌<◌, ◌++◌, ◌∷◌, [], true, IfOk, None, OnOk};
+ghost use Rattle.std.specs.Prelude.{◌≡◌, ◌==◌, ◌+◌, ◌<◌, ◌++◌, ◌∷◌, [], true};
+ghost use Rattle.std.specs.Prelude.{IfOk, None, OnOk, Some};
 ghost use Rattle.std.specs.Prelude.{if◌then◌else◌, length, map, option_map, slice_get};
 ghost use Rattle.std.specs.Option.{option_map_or};
 ghost use Rattle.indexmap.specs.IndexMap.{set_value_at};
 ghost use Rattle.topo_core.specs.Items.{rises_below};
 ghost use Rattle.topo_core.specs.Lawful.{has_good_crossings, has_good_paths};
 ghost use Rattle.topo_core.specs.Picture.{cross_row, edge_row, rotation};
-ghost use Rattle.topo_changes.specs.Keeping.{crossing_row, edge_of, edges_of, rows_of, viewed_row};
+ghost use Rattle.topo_changes.specs.Keeping.{body_of, crossing_row, edge_of, edges_of};
+ghost use Rattle.topo_changes.specs.Keeping.{rows_of, viewed_row};
 ghost use Rattle.topo_table.specs.Places.{AreBelow, entry_at};
 
 use crate::copies::copy_path;
@@ -126,16 +128,7 @@ impl KeptRows {
         requires edges { has_good_paths rows ≡ true }
         ensures { IfOk result (λ kept. kept ≡ rows) }
     {
-        let edges = edge_table(alloc, rows.edges.as_slice(), rows.next_edge)?;
-        let crossings = table_of(alloc, rows.crossings.as_slice(), rows.next_crossing)?;
-        let rotations = rotations_of(alloc, rows.rotations.as_slice())?;
-        Ok(KeptRows {
-            rotations: Listed::from_vec(rotations),
-            edges,
-            crossings,
-            next_edge: rows.next_edge,
-            next_crossing: rows.next_crossing,
-        })
+        kept_copy(alloc, &rows)
     }
 
     /// A copy of them as plain rows.
@@ -270,6 +263,24 @@ impl KeptRows {
     }
 }
 
+/// Equal rows as they are kept, in memory of their own.
+fn kept_copy(alloc: Global, rows: &Rows) -> Result<KeptRows, AllocError>
+    requires crossings { has_good_crossings rows.now ≡ true }
+    requires edges { has_good_paths rows.now ≡ true }
+    ensures { IfOk result (λ kept. kept ≡ rows.now) }
+{
+    let edges = edge_table(alloc, rows.edges.as_slice(), rows.next_edge)?;
+    let crossings = table_of(alloc, rows.crossings.as_slice(), rows.next_crossing)?;
+    let rotations = rotations_of(alloc, rows.rotations.as_slice())?;
+    Ok(KeptRows {
+        rotations: Listed::from_vec(rotations),
+        edges,
+        crossings,
+        next_edge: rows.next_edge,
+        next_crossing: rows.next_crossing,
+    })
+}
+
 /// A crossing with its id.
 fn shown(id: u32, crossing: Crossing) -> CrossRow
     ensures { result ≡ crossing_row (id, crossing) }
@@ -338,6 +349,24 @@ pub(crate) fn put_edge(edges: &mut Table<EdgeBody>, row: EdgeRow)
     edges.push(id, body);
 }
 
+/// Puts a copy of an edge behind the others.
+fn push_copy(alloc: Global, table: &mut Table<EdgeBody>, row: &EdgeRow) -> Result<(), AllocError>
+    requires { AreBelow row.now.id table.old.slots }
+    ensures { OnOk result
+        (table.new.slots ≡ table.old.slots ++ (row.now.id, Some (body_of row.now)) ∷ []) }
+{
+    let crossings = copy_path(alloc, row.crossings.as_slice())?;
+    let body = EdgeBody {
+        a: row.a,
+        b: row.b,
+        kind: row.kind,
+        crossings,
+    };
+    table.reserve(1)?;
+    table.push(row.id, body);
+    Ok(())
+}
+
 /// The table of edges whose ids rise and are below `limit`. Each id below it is its own place.
 fn edge_table(alloc: Global, rows: &[EdgeRow], limit: u32) -> Result<Table<EdgeBody>, AllocError>
     requires { rises_below limit (map (λ row. row.id) rows.now) ≡ true }
@@ -347,16 +376,8 @@ fn edge_table(alloc: Global, rows: &[EdgeRow], limit: u32) -> Result<Table<EdgeB
     let mut table = Table::new(alloc);
     table.reserve(limit as usize)?;
     for row in rows {
-        let crossings = copy_path(alloc, row.crossings.as_slice())?;
-        let body = EdgeBody {
-            a: row.a,
-            b: row.b,
-            kind: row.kind,
-            crossings,
-        };
         table.skip_to(row.id)?;
-        table.reserve(1)?;
-        table.push(row.id, body);
+        push_copy(alloc, &mut table, row)?;
     }
     table.skip_to(limit)?;
     Ok(table)

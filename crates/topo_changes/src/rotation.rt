@@ -86,6 +86,48 @@ fn drop_first(head: &mut Vec<u32>, tail: &mut Vec<u32>)
     head.remove(0);
 }
 
+/// Room for one more id in the first part, with those of the second; and in the second, where the
+/// first is long enough to be cut.
+fn make_room(head: &mut Vec<u32>, tail: &mut Vec<u32>) -> Result<(), AllocError>
+    requires { length head.old.items + length tail.old.items ≤ vec_capacity head.old }
+    ensures head { head.new.items ≡ head.old.items }
+    ensures tail { tail.new.items ≡ tail.old.items }
+    ensures room { vec_capacity head.old ≤ vec_capacity head.new }
+    ensures more { OnOk result
+        (length head.old.items + length tail.old.items + 1 ≤ vec_capacity head.new) }
+{
+    head.reserve(tail.len() + 1)?;
+    if head.len() > MAX_MOVED {
+        tail.reserve(head.len() + 1)?;
+    }
+    Ok(())
+}
+
+/// Puts an id in at a place, into the part that the place is in.
+fn insert_at(
+    head: &mut Vec<u32>,
+    tail: &mut Vec<u32>,
+    place: usize,
+    e: u32,
+) -> Result<(), AllocError>
+    requires within { place ≤ length head.old.items + length tail.old.items }
+    requires room { length head.old.items + length tail.old.items + 1 ≤ vec_capacity head.old }
+    ensures room { vec_capacity head.old ≤ vec_capacity head.new }
+    ensures fits { length head.new.items + length tail.new.items ≤ vec_capacity head.new }
+    ensures ok { OnOk result (head.new.items ++ tail.new.items
+        ≡ insert (head.old.items ++ tail.old.items) place e) }
+    ensures err { OnErr result (head.new.items ++ tail.new.items
+        ≡ head.old.items ++ tail.old.items) }
+{
+    let cut = head.len();
+    if place <= cut {
+        head.insert(place, e)?;
+    } else {
+        tail.insert(place - cut, e)?;
+    }
+    Ok(())
+}
+
 /// Cuts the parts of a rotation anew where more than a few would move for an id at this place.
 fn cut_near(head: &mut Vec<u32>, tail: &mut Vec<u32>, place: usize) -> Result<(), AllocError>
     requires within { place ≤ length head.old.items + length tail.old.items }
@@ -167,18 +209,9 @@ impl Rotation {
         ensures ok { OnOk result (self.new ≡ insert self.old place e) }
         ensures err { OnErr result (self.new ≡ self.old) }
     {
-        self.head.reserve(self.tail.len() + 1)?;
-        if self.head.len() > MAX_MOVED {
-            self.tail.reserve(self.head.len() + 1)?;
-        }
+        make_room(&mut self.head, &mut self.tail)?;
         cut_near(&mut self.head, &mut self.tail, place)?;
-        let cut = self.head.len();
-        if place <= cut {
-            self.head.insert(place, e)?;
-        } else {
-            self.tail.insert(place - cut, e)?;
-        }
-        Ok(())
+        insert_at(&mut self.head, &mut self.tail, place, e)
     }
 
     /// Puts an edge into the corner at a position.

@@ -416,9 +416,7 @@ module _ (p q : Rows) (f u v : ℕ) (r : Route) (hp : IsWellFormed p) (hq : IsWe
     on_new_edge d hd ed = elim (s.no_others d hd) [
       | inl w ↦ w.1
       | inr w ↦ grind (arith, lifted_other, onward_edge)
-    ] where
-      crossed_was : (x : ℕ) (d : Dart) → IsIn (x, d) (numbered p r) → Was d
-      crossed_was x d i = all_at (λ c. has_dart (darts p) c ≡ true) d r.crossed h.rest.was (numbered_in p.next_crossing x d r.crossed i)
+    ]
 
     was_crossed : (x : ℕ) (d : Dart) → IsIn (x, d) (numbered p r) → IsCrossed x d
     was_crossed x d i = record {

@@ -1,20 +1,20 @@
 -- Edges whose paths are crossed one by one.
 use Rattle.std.proofs.Common.{Err, Ok, OnErr, OnOk, Result, ◌≡◌, ◌≢◌, ℕ, zero, suc, ◌+◌, ◌<◌, ◌≤◌, append-nil, Bool, true}
-use Rattle.std.proofs.Common.{false, cond, List, [], ◌∷◌, ◌++◌, length, get_or, set, take, refl, sym, ap, ◌∙◌, arith, inl, inr}
+use Rattle.std.proofs.Common.{false, cond, List, [], ◌∷◌, ◌++◌, length, get_or, take, refl, sym, ap, ◌∙◌, arith, inl, inr}
 use Rattle.std.specs.Prelude.{◌==◌, ◌&&◌, nat_lt, map, filter, find, None, Some}
 use Rattle.std.specs.List.{list_all}
 use Rattle.std.specs.Result.{is_err}
-use Rattle.std.proofs.lemmas.Bool.{cases_Bool, eq-eqb, eqb-true, lt-ltb, le-ltb}
+use Rattle.std.proofs.lemmas.Bool.{cases_Bool, eqb-true, lt-ltb, le-ltb}
 use Rattle.std.proofs.lemmas.List.{length-take-le, take_more}
 use Rattle.std.proofs.lemmas.List.Elements.{filter-append}
 use Rattle.topo_core.specs.declared.darts.Dart.{Dart}
 use Rattle.topo_core.specs.declared.rows.EdgeRow.{EdgeRow}
-use Rattle.topo_core.specs.Items.{IsIn, rises_below}
+use Rattle.topo_core.specs.Items.{IsIn}
 use Rattle.topo_core.specs.Changes.{woven}
-use Rattle.topo_core.proofs.numbering.Counting.{eqb_symm, ids_above, lt_of_test}
-use Rattle.topo_core.proofs.numbering.Members.{in_map, right_true, test_of_each}
+use Rattle.topo_core.proofs.numbering.Counting.{eqb_symm, lt_of_test}
+use Rattle.topo_core.proofs.numbering.Members.{test_of_each}
 use Rattle.topo_core.proofs.inserting.UndoneInsertions.{filter_whole, map_whole}
-use Rattle.topo_changes.specs.Inserting.{AreOnPaths, EdgesRise, crossed_by, crossed_path, crossings_on, paths_below, repathed}
+use Rattle.topo_changes.specs.Inserting.{AreOnPaths, crossed_by, crossed_path, crossings_on, paths_below, repathed}
 use Rattle.topo_changes.proofs.rows.CrossedPaths.{crossed_woven, crossings_below, crossings_from, crossings_more, filter_woven, woven_none, woven_same}
 
 -- ---- Lists
@@ -47,30 +47,6 @@ none_repathed e change (row ∷ edges) none = elim (cases_Bool (row.id == e)) [
       ap (λ (b : Bool). record row { crossings = cond b (change row.crossings) row.crossings } ∷ map (repathed e change) edges) differs
       ∙ ap (λ rest. row ∷ rest) (none_repathed e change edges (sym (ap (λ (b : Bool). cond b (Some row) (find (λ row. row.id == e) edges)) differs) ∙ none))
 ]
-
--- a path written at the edge's place
-pub repathed_at : (limit e i : ℕ) (change : List ℕ → List ℕ) (d : EdgeRow) (edges : List EdgeRow) → rises_below limit (map (λ row. row.id) edges) ≡ true
-    → i < length edges → (get_or edges i d).id ≡ e
-    → set edges i (record (get_or edges i d) { crossings = change (get_or edges i d).crossings }) ≡ map (repathed e change) edges
-repathed_at limit e i change d [] rise inside here = absurd (omega arith)
-repathed_at limit e zero change d (row ∷ edges) rise inside here = grind (arith, eq-eqb, map_whole, repathed_other, ids_above, in_map)
-repathed_at limit e (suc i) change d (row ∷ edges) rise inside here =
-    let at = in_at edges i d (omega arith) in
-    let above = ids_above limit row.id (map (λ row. row.id) edges) rise (get_or edges i d).id (in_map (λ row. row.id) (get_or edges i d) edges at) in
-    ap (λ first. first ∷ set edges i (record (get_or edges i d) { crossings = change (get_or edges i d).crossings }))
-    (sym (repathed_other e change row (λ same. omega arith)))
-    ∙ ap (λ rest. repathed e change row ∷ rest) (repathed_at limit e i change d edges (right_true _ _ rise) (omega arith) here)
-
--- the ids stay
-pub ids_stay : (e : ℕ) (change : List ℕ → List ℕ) (edges : List EdgeRow) → map (λ row. row.id) (map (repathed e change) edges) ≡ map (λ row. row.id) edges
-ids_stay e change edges = map_map_same (λ row. row.id) (repathed e change) (λ row. row.id) edges (λ row h. refl)
-
-pub still_rise : (e : ℕ) (change : List ℕ → List ℕ) (edges : List EdgeRow) → EdgesRise edges → EdgesRise (map (repathed e change) edges)
-still_rise e change edges rise = (rise.0, ap (rises_below rise.0) (ids_stay e change edges) ∙ rise.1)
-
-pub crossed_rise : (first : ℕ) (darts : List Dart) (edges : List EdgeRow) → EdgesRise edges → EdgesRise (map (crossed_by first darts) edges)
-crossed_rise first darts edges rise =
-    (rise.0, ap (rises_below rise.0) (map_map_same (λ row. row.id) (crossed_by first darts) (λ row. row.id) edges (λ row h. refl)) ∙ rise.1)
 
 -- ---- One dart more or less
 

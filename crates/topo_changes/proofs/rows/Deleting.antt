@@ -6,25 +6,24 @@ use Rattle.std.specs.List.{list_all, remove}
 use Rattle.std.specs.List.Sorted.{IsStrictlyIncreasing}
 use Rattle.std.proofs.lemmas.Bool.{cases_Bool, eq-eqb, eqb-true, false≢true}
 use Rattle.std.proofs.lemmas.Bool.Decides.{nat_tests}
-use Rattle.std.proofs.lemmas.Option.{get_or_from_slice_get}
 use Rattle.topo_core.specs.declared.darts.Sign.TheVariants.{LeftToRight}
 use Rattle.topo_core.specs.declared.rows.CrossRow.{CrossRow}
 use Rattle.topo_core.specs.declared.rows.EdgeRow.{EdgeRow}
 use Rattle.topo_core.specs.declared.rows.Rows.{Rows}
 use Rattle.topo_core.specs.Changes.{from_least, uncrossed_row, without}
 use Rattle.topo_core.specs.Items.{has_id, IsIn, occurrences}
-use Rattle.topo_core.specs.Lawful.{has_good_path, has_good_rotation, IsWellFormed}
+use Rattle.topo_core.specs.Lawful.{has_good_rotation, IsWellFormed}
 use Rattle.topo_core.specs.Picture.{cross_row, edge_row, rotation, vertices}
 use Rattle.topo_core.proofs.numbering.Counting.{counted_any, one}
-use Rattle.topo_core.proofs.numbering.Members.{found, left_true, right_true, test_of_each}
+use Rattle.topo_core.proofs.numbering.Members.{found, right_true, test_of_each}
 use Rattle.topo_core.proofs.numbering.Standing.{good_crossing, good_rotation}
 use Rattle.topo_core.proofs.systems.SystemDarts.{crossing_there, edge_at_row, path_facts, row_id, row_in, some_of, vertex_in}
 use Rattle.topo_core.proofs.inserting.Weaving.{in_filter}
-use Rattle.topo_core.proofs.deleting.WithoutRows.{filter_passes, find_passing, has_id_in, rises_passing}
+use Rattle.topo_core.proofs.deleting.WithoutRows.{filter_passes, find_passing, has_id_in}
 use Rattle.topo_core.proofs.inserting.WovenPaths.{counted_in}
 use Rattle.topo_core.proofs.inserting.UndoneInsertions.{filter_whole}
 use Rattle.topo_changes.specs.Deleting.{IsCrossed, left_by, other_edge, rotation_without}
-use Rattle.topo_rows.specs.Ids.{IdsRise, IsPlaceOf}
+use Rattle.topo_rows.specs.Ids.{IsPlaceOf}
 use Rattle.topo_rows.proofs.Begins.{edge_ids_climb}
 use Rattle.topo_changes.proofs.rows.Leaving.{least_first, place_named, removed_is}
 use Rattle.topo_changes.proofs.rows.CrossedRows.{in_at}
@@ -37,11 +36,6 @@ across crossings e x row there =
     ap (λ (o : Option CrossRow). cond {A = ℕ} ((unwrap_or o (record { id = x; crossed = 0; newcomer = 0; sign = LeftToRight })).crossed == e)
     (unwrap_or o (record { id = x; crossed = 0; newcomer = 0; sign = LeftToRight })).newcomer
     (unwrap_or o (record { id = x; crossed = 0; newcomer = 0; sign = LeftToRight })).crossed) there
-
-pub across_read : (crossings : List CrossRow) (e x place : ℕ) (d : CrossRow) (t : Bool) → IsPlaceOf crossings (λ row. row.id) x place
-    → ((get_or crossings place d).crossed == e) ≡ t
-    → other_edge crossings e x ≡ cond {A = ℕ} t (get_or crossings place d).newcomer (get_or crossings place d).crossed
-across_read crossings e x place d t placed is = grind (arith, across, get_or_from_slice_get)
 
 -- of two different edges the one that is not e, which is one of them
 record IsOther (e a b o : ℕ) : Type 0 where
@@ -118,12 +112,6 @@ module _ (rows : Rows) (good : IsWellFormed rows) (e : ℕ) where
   pub edges_climb : IsStrictlyIncreasing (map (λ row. row.id) rows.edges)
   edges_climb = edge_ids_climb rows (map (λ row. row.id) rows.edges) good.paths refl
 
-  pub rest_rises : IdsRise (map (λ row. row.id) (filter is_left rows.edges))
-  rest_rises = (
-    rows.next_edge,
-    rises_passing (λ row. row.id) is_left rows.next_edge rows.edges (left_true _ (list_all (has_good_path rows) rows.edges) good.paths),
-  )
-
   -- the edges without the row at the place of e
   pub rest_is : (list read after : List EdgeRow) (place : ℕ) → list ≡ rows.edges → read ≡ list → IsPlaceOf read (λ row. row.id) e place
       → after ≡ remove list place → after ≡ filter is_left rows.edges
@@ -131,11 +119,6 @@ module _ (rows : Rows) (good : IsWellFormed rows) (e : ℕ) where
       let here = subst (λ (es : List EdgeRow). IsPlaceOf es (λ row. row.id) e place) (same ∙ is) placed in
       now ∙ ap (λ (es : List EdgeRow). remove es place) is
       ∙ removed_is (λ (row : EdgeRow). row.id) rows.edges place e edges_climb here.within (place_named (λ (row : EdgeRow). row.id) rows.edges e place here)
-
-  -- and that row
-  pub row_read : (list read : List EdgeRow) (place : ℕ) (row : EdgeRow) → list ≡ rows.edges → read ≡ list → IsPlaceOf read (λ row. row.id) e place
-      → row ≡ get_or list place row → edge_row rows e ≡ Some row
-  row_read list read place row is same placed now = grind (arith, get_or_from_slice_get)
 
   module _ (row : EdgeRow) (there : edge_row rows e ≡ Some row) where
     row_there : IsIn row rows.edges
@@ -201,15 +184,6 @@ module _ (rows : Rows) (good : IsWellFormed rows) (e : ℕ) where
         (right_true _ (list_all (nat_le (get_or (rotation rows v) 0 0)) (rotation rows v)) tests)) where
           neither : (a b v : ℕ) → a ≢ v → b ≢ v → (a == v || b == v) ≡ false
           neither a b v first second = grind (arith, nat_tests)
-
-    abbrev built : List (List ℕ) → List CrossRow → EdgeRow → Rows
-    built around xs r = record {
-      rotations = around;
-      edges = map (uncrossed_row r.crossings) (filter is_left rows.edges);
-      crossings = xs;
-      next_edge = rows.next_edge;
-      next_crossing = rows.next_crossing;
-    }
 
     -- all parts together
     pub parts_left : (after_edge after_ends after : Rows)

@@ -195,21 +195,10 @@ rises_at limit (x ∷ []) (suc i) inside h = absurd (omega arith)
 rises_at limit (x ∷ (y ∷ ns)) zero inside h = let first : nat_lt x y ≡ true = left_true (nat_lt x y) _ h in grind (arith, nat_tests)
 rises_at limit (x ∷ (y ∷ ns)) (suc i) inside h = rises_at limit (y ∷ ns) i (omega arith) (right_true (nat_lt x y) _ h)
 
-get_or_same : (ns : List ℕ) (i a b : ℕ) → i < length ns → get_or ns i a ≡ get_or ns i b
-get_or_same [] i a b inside = absurd (omega arith)
-get_or_same (x ∷ ns) zero a b inside = refl
-get_or_same (x ∷ ns) (suc i) a b inside = get_or_same ns i a b (omega arith)
-
 get_or_past : (ns : List ℕ) (i a : ℕ) → length ns ≤ i → get_or ns i a ≡ a
 get_or_past [] i a past = refl
 get_or_past (x ∷ ns) zero a past = absurd (omega arith)
 get_or_past (x ∷ ns) (suc i) a past = get_or_past ns i a (omega arith)
-
--- the id of a row is that at its place among the ids
-next_is : (rows : List EdgeRow) (limit i : ℕ) (d : EdgeRow) → i < length rows → get_or (map (λ row. row.id) rows) i limit ≡ (get_or rows i d).id
-next_is rows limit i d inside =
-    let many = length-map rows (λ (row : EdgeRow). row.id) in
-    get_or_same (map (λ row. row.id) rows) i limit 0 (omega (arith, many, inside)) ∙ get_or-map (λ (row : EdgeRow). row.id) rows i d 0 inside
 
 -- values for the first i rows are in it, under their ids, and all its ids are below the next one
 pub record AreIdsNoted {V : Type 0} (rows : List EdgeRow) (limit i : ℕ) (table : Places V) : Type 0 where
@@ -222,10 +211,6 @@ module _ {V : Type 0} (rows : List EdgeRow) (limit : ℕ) (rise : rises_below li
     below = ap (λ ss. list_all (λ x. nat_lt x (get_or (map (λ row. row.id) rows) 0 limit)) (ids_of ss)) none;
     ids = ap (λ ss. map (λ e. e.0) (present ss)) none;
   }
-
-  -- the ids in it are below the next one
-  pub ids_below : (i : ℕ) (d : EdgeRow) (table : Places V) → i < length rows → AreIdsNoted rows limit i table → AreBelow (get_or rows i d).id table.slots
-  ids_below i d table inside h = subst (λ n. AreBelow n table.slots) (next_is rows limit i d inside) h.below
 
   -- one more, behind places that are empty
   pub ids_more : (i : ℕ) (d : EdgeRow) (table skipped more : Places V) (v : V) → i < length rows → AreIdsNoted rows limit i table

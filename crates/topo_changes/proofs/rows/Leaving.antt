@@ -1,6 +1,6 @@
 -- What a deletion does to lists: a row found by its id, an id taken out, and a list begun again at its least id.
-use Rattle.std.proofs.Common.{◌≡◌, ◌≢◌, ℕ, zero, suc, ◌+◌, ◌<◌, ◌≤◌, Bool, true, false, cond, not, ◌||◌, ◌&&◌, List, []}
-use Rattle.std.proofs.Common.{◌∷◌, ◌++◌, length, take, drop, get_or, set, refl, sym, ap, subst, ◌∙◌, arith, inl, inr, Some}
+use Rattle.std.proofs.Common.{◌≡◌, ℕ, zero, suc, ◌+◌, ◌<◌, ◌≤◌, Bool, true, false, cond, not, ◌||◌, ◌&&◌, List, []}
+use Rattle.std.proofs.Common.{◌∷◌, ◌++◌, length, take, drop, get_or, refl, sym, ap, subst, ◌∙◌, arith, inl, inr, Some}
 use Rattle.std.specs.Prelude.{◌==◌, filter, find, fold, is_some, map, min, slice_get, slice_index}
 use Rattle.std.specs.List.{position_or_len, remove}
 use Rattle.std.specs.List.Sorted.{IsStrictlyIncreasing}
@@ -126,24 +126,6 @@ out_of_one x ys = filter_alike (λ y. not (y == x)) (λ y. not (has_id (x ∷ []
 pub unchanged : (x : ℕ) (row : EdgeRow) → has_id row.crossings x ≡ false → uncrossed_row (x ∷ []) row ≡ row
 unchanged x row none = ap (λ (path : List ℕ). record row { crossings = path })
     (sym (out_of_one x row.crossings) ∙ filter_whole (λ y. not (y == x)) row.crossings (λ y h. grind (arith, cases_Bool, false≢true, has_id_in, eqb-true)))
-
--- the crossing is taken out of the one path on which it stands
-pub path_left : (edges : List EdgeRow) (i x other : ℕ) (row : EdgeRow) → IsStrictlyIncreasing (map (λ row. row.id) edges) → i < length edges
-    → slice_index (map (λ row. row.id) edges) i ≡ other → row ≡ get_or edges i row
-    → ((row : EdgeRow) → IsIn row edges → row.id ≢ other → has_id row.crossings x ≡ false)
-    → set edges i (record row { crossings = filter (λ y. not (y == x)) row.crossings }) ≡ map (uncrossed_row (x ∷ [])) edges
-path_left [] i x other row up inside at read elsewhere = absurd (omega arith)
-path_left (z ∷ zs) zero x other row up inside at read elsewhere =
-    let rest : map (uncrossed_row (x ∷ [])) zs ≡ zs = map_whole (uncrossed_row (x ∷ [])) zs (λ y h.
-    let less = above_first z.id (map (λ row. row.id) zs) up y.id (in_map (λ row. row.id) y zs h) in
-    unchanged x y (elsewhere y (inr h) (λ same. (let e = same in omega arith)))) in
-    grind (arith, out_of_one)
-path_left (z ∷ zs) (suc i) x other row up inside at read elsewhere =
-    let as_many = length-map zs (λ (row : EdgeRow). row.id) in
-    let less = above_first z.id (map (λ row. row.id) zs) up other
-    (subst (λ y. IsIn y (map (λ row. row.id) zs)) at (in_at (map (λ row. row.id) zs) i 0 (omega arith))) in
-    ap (λ ys. z ∷ ys) (path_left zs i x other row (up_tail z.id (map (λ row. row.id) zs) up) (omega arith) at read (λ y h. elsewhere y (inr h)))
-    ∙ ap (λ y. y ∷ map (uncrossed_row (x ∷ [])) zs) (sym (unchanged x z (elsewhere z (inl refl) (λ same. (let e = same in omega arith)))))
 
 -- ---- Paths that several crossings are taken out of
 
