@@ -11,9 +11,6 @@ use Rattle.topo_table.proofs.PlaceLemmas.{IsBelowAll, Rises, value_of-below, wit
 none_is_some : {X : Type 0} {x : X} → None ≡ Some x → ⊥
 none_is_some h = cc
 
-some_same : {X : Type 0} {x y : X} → Some x ≡ Some y → x ≡ y
-some_same h = cc
-
 -- the place of an id behind another
 place_later : (i id : ℕ) (ids : List ℕ) → (i == id) ≡ false → place_in (i ∷ ids) id ≡ suc (place_in ids id)
 place_later i id ids is =

@@ -488,9 +488,6 @@ module _ {V : Type 0} where
       room = let r = so_far.room in let long = ap length is ∙ length-append copy.slots ((id, w) ∷ []) in omega arith;
     }
 
-  pub copied_slots : (was copy : Places V) (place : ℕ) → length was.slots ≤ place → AreCopied was place copy → copy.slots ≡ was.slots
-  copied_slots was copy place past h = h.slots_are ∙ take_all place was.slots past
-
   -- the ids of both are the same, and so are the values up to a place
   abbrev pub IsCopiedTo : ℕ → List (ℕ × Option V) → List (ℕ × Option V) → Type 0
   IsCopiedTo n [] [] = Unit {0}

@@ -1,5 +1,5 @@
 use Rattle.std.proofs.Common.{ap, arith, rules, slice_get, sym, ◌∙◌}
-use Rattle.topo_table.proofs.PlaceLemmas.{copied_below, copied_more, copied_slots}
+use Rattle.topo_table.proofs.PlaceLemmas.{copied_below, copied_more}
 use Rattle.topo_table.proofs.table.Table.try_copy.Goals as goal
 use Rattle.topo_table.proofs.table.Table.try_copy.Goals.{in-Some+in_ok-push_copy-in-Some, in-None}
 
