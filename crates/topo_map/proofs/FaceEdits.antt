@@ -1,5 +1,5 @@
 -- The labels of faces through each edit.
-use Rattle.std.proofs.Common.{◌≡◌, ℕ, ◌<◌, Bool, true, ◌⊎◌, inl, inr, refl, sym, ◌∙◌, ap, subst, arith, List, Option, map}
+use Rattle.std.proofs.Common.{◌≡◌, ℕ, ◌<◌, Bool, true, inl, inr, refl, sym, ◌∙◌, ap, subst, arith, List, Option, map}
 use Rattle.std.proofs.lemmas.Bool.{cases_eq, false≢true}
 use Rattle.std.specs.Option.{option_map}
 use Rattle.slab.specs.Slab.{Slab}
@@ -166,6 +166,3 @@ joined_painted s s' hs ts l j r = record {
 pub seed_labels : (s s' : Slab Segment) (x : ℕ) → ((a : ℕ) → holds s a ≡ true → ⊥) → IsStart s s' x → AddsFaces (holds s) (face_in s) (face_in s') x 0 0
     → IsLabelled s' 1
 seed_labels s s' x none st f = grind (arith, blank_more, blank_none, twin_alone, twin-twin, alone)
-  where
-    which : (a : ℕ) → holds s' a ≡ true → (a ≡ x) ⊎ (a ≡ twin x)
-    which a h = grind (arith, cases_eq)

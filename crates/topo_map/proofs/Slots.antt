@@ -1,11 +1,11 @@
 -- The turn that the slots of a slab hold, and what a write to one slot does to it.
 use Rattle.std.proofs.Common.{◌≡◌, ◌≢◌, ℕ, ◌+◌, ◌*◌, ◌/◌, ◌%◌, ◌<◌, ◌==◌, true, false, inl, inr}
-use Rattle.std.proofs.Common.{refl, sym, ◌∙◌, ap, subst, arith, length, Option, Some, None, is_some}
+use Rattle.std.proofs.Common.{refl, sym, ◌∙◌, ap, arith, length, Option, Some, None, is_some}
 use Rattle.std.proofs.lemmas.Bool.{cases_eq, cases_lt, cond-true, cond-false, eq-eqb, ne_eqb}
 use Rattle.std.specs.Option.{option_map}
 use Rattle.std.proofs.Math.ListN.{get_or-map}
 use Rattle.std.proofs.lemmas.List.{get_or_past}
-use Rattle.slab.specs.Slab.{Slab, get, slab_len, ContainsKey, Updates}
+use Rattle.slab.specs.Slab.{Slab, get, slab_len, Updates}
 use Rattle.topo_core.specs.declared.darts.Way.{Way}
 use Rattle.topo_core.specs.declared.darts.Way.TheVariants.{Forward, Back}
 use Rattle.topo_map.specs.Halves.{half_number}
@@ -54,9 +54,6 @@ side-at key Back at t e = cond-false _ _ _ (back-test key at e)
 
 pub key-at : (key : ℕ) (way : Way) (at : ℕ) → half_number key way ≡ at → at / 2 ≡ key
 key-at key way at e = ap (λ (n : ℕ). n / 2) (sym e) ∙ number_key key way
-
-pub contains : (s : Slab Segment) (key at : ℕ) → key ≡ at / 2 → holds s at ≡ true → ContainsKey s key
-contains s key at e h = subst (λ (k : ℕ). is_some (get s k) ≡ true) (sym e) (sym (live_at nexts s at) ∙ h)
 
 slot-at : (pick : Segment → Slot) (s : Slab Segment) (a key : ℕ) (seg : Segment) → a / 2 ≡ key → get s key ≡ Some seg
     → turn_in (shown pick s) a ≡ turned a (Some (pick seg))
