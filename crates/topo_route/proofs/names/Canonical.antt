@@ -1,9 +1,8 @@
 -- The numbers in canonical order as names.
 use Rattle.std.proofs.Common.{◌≡◌, ℕ, ◌<◌, Some, length, sym, ap, subst, ◌∙◌, arith}
-use Rattle.std.specs.Prelude.{◌↔◌, IsSomeAnd, slice_get, Option, MatchOption, None}
+use Rattle.std.specs.Prelude.{◌↔◌, Option, MatchOption, None}
 use Rattle.topo_core.specs.Cycles.{SameCycle}
 use Rattle.topo_core.specs.Rotations.{twin}
-use Rattle.topo_core.specs.declared.darts.Dart.{Dart}
 use Rattle.topo_core.specs.declared.rows.Rows.{Rows}
 use Rattle.std.specs.declared.cmp.Ordering.TheVariants.{Less}
 use Rattle.topo_core.specs.Darts.{dart_cmp, dart_twin}
@@ -12,10 +11,10 @@ use Rattle.topo_core.specs.Picture.{corner, darts, index_of, system}
 use Rattle.topo_core.specs.Routes.{Pricing}
 use Rattle.topo_core.specs.Systems.{SameFace, face_step}
 use Rattle.topo_core.proofs.numbering.Numbering.{index_apart, index_twin}
-use Rattle.topo_route.specs.Names.{IsName, IsNamed, Named, canonical, dart_named, next_name, no_dart, twin_name}
+use Rattle.topo_route.specs.Names.{IsName, IsNamed, Named, canonical, dart_named, next_name, twin_name}
 use Rattle.topo_route.specs.Numbers.{IsPriceAt, IsPriceFor, dart_of, next_of}
 use Rattle.topo_route.proofs.names.Names.{dart_of_name, name_below, name_is}
-use Rattle.topo_route.proofs.names.Numbers.{dart_in, face_of_numbers, got, in_list, next_number, number_below, number_of, numbers_of_face}
+use Rattle.topo_route.proofs.names.Numbers.{dart_in, face_of_numbers, next_number, number_below, number_of, numbers_of_face}
 use Rattle.topo_core.proofs.numbering.NumberOrder.{number_order, order_number}
 
 module _ (rows : Rows) (lawful : Lawful rows) where
@@ -44,16 +43,6 @@ module _ (rows : Rows) (lawful : Lawful rows) where
   canonical_twin k l =
       ap (λ d. index_of rows (dart_twin d)) (canonical_dart k l) ∙ index_twin rows (dart_of rows k) (dart_in rows lawful k l)
       ∙ ap twin (number_of rows lawful k l)
-
-  -- what is said of the dart at a place
-  pub canonical_at : (k : ℕ) (d : Dart) → IsName (canonical rows) k → slice_get (darts rows) k ≡ Some d → d ≡ dart_named (canonical rows) k
-  canonical_at k d name at = sym (in_list (darts rows) k d no_dart at) ∙ sym (canonical_dart k (canonical_below k name))
-
-  pub canonical_some : (P : Dart → Type 0) (k : ℕ) → IsName (canonical rows) k → IsSomeAnd (slice_get (darts rows) k) P → P (dart_named (canonical rows) k)
-  canonical_some P k name holds = by_item (slice_get (darts rows) k) holds (got rows lawful k (canonical_below k name)) where
-    by_item : (o : Option Dart) → IsSomeAnd o P → o ≡ Some (dart_of rows k) → P (dart_named (canonical rows) k)
-    by_item (Some d) h e = let same : d ≡ dart_of rows k = cc in subst P (same ∙ sym (canonical_dart k (canonical_below k name))) h
-    by_item None h e = elim h [ ]
 
   -- the faces of the numbers are those of the darts
   pub canonical_face : (i j : ℕ) → i < length (darts rows) → j < length (darts rows) → SameCycle (next_of rows) i j

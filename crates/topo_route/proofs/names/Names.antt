@@ -1,24 +1,23 @@
 -- Darts and their names: what holds of the darts of lawful rows, said of names.
-use Rattle.std.proofs.Common.{◌≡◌, ◌≢◌, ℕ, zero, suc, ◌<◌, ◌≤◌, ◌+◌, ◌-◌, ◌==◌, ◌||◌, Bool, true, false, cond}
+use Rattle.std.proofs.Common.{◌≡◌, ℕ, zero, suc, ◌<◌, ◌≤◌, ◌+◌, ◌-◌, ◌==◌, ◌||◌, Bool, true, false, cond}
 use Rattle.std.proofs.Common.{List, [], ◌∷◌, length, Some, None, inl, inr, ◌⊎◌, refl, sym, ap, subst, ◌∙◌, arith}
 use Rattle.std.specs.Prelude.{Option, MatchOption, option_map, slice_index}
 use Rattle.std.specs.List.{find}
 use Rattle.std.specs.Option.{unwrap_or}
 use Rattle.std.proofs.lemmas.Bool.{cases_Bool, eqb-true, eq-eqb, false≢true}
 use Rattle.topo_core.specs.declared.darts.Dart.{Dart}
-use Rattle.topo_core.specs.declared.rows.Rows.{Rows}
 use Rattle.topo_core.specs.Cycles.{SameCycle, after}
 use Rattle.topo_core.specs.Darts.{dart_twin, same_dart}
 use Rattle.topo_core.specs.Lawful.{Lawful}
 use Rattle.topo_core.specs.Picture.{corner, darts, index_of, system}
 use Rattle.topo_core.specs.Routes.{Price, Pricing}
 use Rattle.topo_core.specs.Systems.{SameFace, face_step, has_dart}
-use Rattle.topo_core.proofs.numbering.DartLaws.{same_dart_self, same_dart_true, twin-twin}
-use Rattle.topo_core.proofs.numbering.Numbering.{index_twin, twin_in}
+use Rattle.topo_core.proofs.numbering.DartLaws.{same_dart_true, twin-twin}
+use Rattle.topo_core.proofs.numbering.Numbering.{twin_in}
 use Rattle.topo_core.proofs.systems.Orbits.{IsPeriod, after-add, two_alike, wraps}
 use Rattle.topo_route.specs.Names.{IsName, IsNamed, Named, dart_named, height_of, next_name, no_dart, twin_name}
 use Rattle.topo_route.specs.Numbers.{dart_of, next_of}
-use Rattle.topo_route.proofs.names.Numbers.{corner_below, dart_of_number, face_stays, next_apart, next_number, number_below, twin_other}
+use Rattle.topo_route.proofs.names.Numbers.{corner_below, dart_of_number, face_stays, next_apart, next_number, number_below}
 use Rattle.topo_route.proofs.names.Rounds.{round_home}
 
 -- the first dart of a list with a name that one of them has
@@ -28,9 +27,6 @@ first_named name k [] d h is = absurd (false≢true h)
 first_named name k (c ∷ ds) d h is = by_test (cases_Bool (name c == k)) (λ there. first_named name k ds d there is) where
   Found : List Dart → Dart → Type 0
   Found ds d = (has_dart ds d ≡ true) × (name d ≡ k)
-
-  has_first : has_dart (c ∷ ds) c ≡ true
-  has_first = ap (λ b. b || has_dart ds c) (same_dart_self c)
 
   later : (d : Dart) → has_dart ds d ≡ true → has_dart (c ∷ ds) d ≡ true
   later d there = grind (arith, cases_Bool)
@@ -69,10 +65,6 @@ name_some g k n = by_list (darts g.rows) n.there where
   by_list [] h = absurd (false≢true h)
   by_list (d ∷ ds) h = omega arith
 
--- no dart is its own twin
-pub twin_apart : (rows : Rows) (d : Dart) → has_dart (darts rows) d ≡ true → dart_twin d ≢ d
-twin_apart rows d h e = twin_other (index_of rows d) (sym (index_twin rows d h) ∙ ap (index_of rows) e)
-
 module _ (g : Named) (lawful : Lawful g.rows) (has : IsNamed g) where
   next_there : (k : ℕ) → IsName g k → has_dart (darts g.rows) (face_step (system g.rows) (dart_named g k)) ≡ true
   next_there k n = face_stays g.rows lawful (dart_named g k) n.there
@@ -98,10 +90,6 @@ module _ (g : Named) (lawful : Lawful g.rows) (has : IsNamed g) where
   twin_price price k c n asked =
       let other : Price price g.rows (dart_twin (dart_named g k)) c = record { facts = asked.facts; known = asked.known; asked = asked.asked } in
       subst (λ d. Price price g.rows d c) (sym (dart_of_twin k n)) other
-
-  -- the twin has another name
-  pub twin_differs : (k : ℕ) → IsName g k → twin_name g k ≢ k
-  twin_differs k n e = twin_apart g.rows (dart_named g k) n.there (sym (dart_of_twin k n) ∙ ap (dart_named g) e)
 
   -- the name of the dart that names a corner
   pub corner_name : (v p : ℕ) (result : Option ℕ) → result ≡ option_map g.name (corner g.rows v p)

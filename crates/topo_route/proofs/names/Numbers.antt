@@ -29,10 +29,6 @@ twin_cases a = grind (arith, cases_Bool, eqb-true, cond-true, eqb-false, cond-fa
 pub twin_twin : (a : ℕ) → twin (twin a) ≡ a
 twin_twin a = omega (arith, twin_cases a, twin_cases (twin a))
 
--- the twin is another dart, of the same segment
-pub twin_other : (a : ℕ) → twin a ≢ a
-twin_other a e = omega (arith, twin_cases a)
-
 module _ (rows : Rows) (lawful : Lawful rows) where
   abbrev good : IsWellFormed rows
   good = lawful.embedding.well_formed

@@ -37,9 +37,6 @@ module _ (rows : Rows) (lawful : Lawful rows) where
   pub number_found : (d : Dart) (result : Option ℕ) → result ≡ (if has_dart (darts rows) d then Some (index_of rows d) else None)
       → MatchOption result (has_dart (darts rows) d ≡ false) (λ k. (k < length (darts rows)) × (dart_of rows k ≡ d) × (index_of rows d ≡ k))
   number_found d result e = by_test (has_dart (darts rows) d) refl where
-    Found : Option ℕ → Type 0
-    Found o = MatchOption o (has_dart (darts rows) d ≡ false) (λ k. (k < length (darts rows)) × (dart_of rows k ≡ d) × (index_of rows d ≡ k))
-
     by_test : (b : Bool) → has_dart (darts rows) d ≡ b
         → MatchOption result (has_dart (darts rows) d ≡ false) (λ k. (k < length (darts rows)) × (dart_of rows k ≡ d) × (index_of rows d ≡ k))
     by_test true h = grind (arith, number_below, dart_of_number)

@@ -1,15 +1,10 @@
 -- Items that are taken out and passed over.
-use Rattle.std.proofs.Common.{◌≡◌, ◌≢◌, ℕ, ◌+◌, ◌/◌, ◌^◌, ◌<◌, ◌≤◌, ◌||◌, ◌==◌, Bool, List, sym, ap, ◌∙◌, arith}
-use Rattle.std.specs.Prelude.{min, slice_index}
+use Rattle.std.proofs.Common.{◌≡◌, ◌≢◌, ℕ, ◌+◌, ◌^◌, ◌<◌, ◌≤◌, ◌||◌, ◌==◌, Bool, List, sym, ap, ◌∙◌, arith}
+use Rattle.std.specs.Prelude.{slice_index}
 use Rattle.std.proofs.lemmas.Bool.{ne_eqb}
-use Rattle.topo_core.specs.Routes.{unreached}
 use Rattle.topo_route.specs.Guided.{top_of_bound}
 use Rattle.topo_route.specs.Settling.{dart_of_item, is_pending, is_waiting, item_of, number_at, top_of}
 use Rattle.topo_route.proofs.spreading.Settled.{dart_of_own}
-
--- a height of an item is no less than its low half
-high_item : (k h item bound : ℕ) → k < 2 ^ 32 → bound ≤ item / 2 ^ 32 → item ≡ item_of k h → bound ≤ h
-high_item k h item bound short high is = omega arith
 
 module _ (heights waiting waiting' : List ℕ) (item : ℕ) (popped : (i : ℕ) → is_waiting waiting i ≡ (item == i || is_waiting waiting' i)) where
   -- an item that a dart does not wait by is taken out
@@ -17,13 +12,6 @@ module _ (heights waiting waiting' : List ℕ) (item : ℕ) (popped : (i : ℕ) 
   passed_over k ne =
       let mine = item_of k (slice_index heights k) in
       sym (popped mine ∙ ap (λ (b : Bool). b || is_waiting waiting' mine) (ne_eqb item mine ne))
-
-  -- it says that it is too high
-  pub too_high : (others : List ℕ) (level most : ℕ) {bound : ℕ} (k : ℕ) → k < 2 ^ 32 → item < 2 ^ 64 → level ≤ bound → min (most + 1) unreached ≤ bound
-      → bound ≤ item / 2 ^ 32 → slice_index heights k < top_of level most others k
-      → is_pending heights waiting' k ≡ is_pending heights waiting k
-  too_high others level most {bound} k short small low most_low high below =
-      passed_over k (λ e. let up = high_item k (slice_index heights k) item bound short high e in omega arith)
 
   -- the dart that it is of is not low
   pub not_low : (others : List ℕ) {level : ℕ} (most : ℕ) {dart height number : ℕ} (k : ℕ) → k < 2 ^ 32 → dart ≡ dart_of_item item
@@ -34,12 +22,6 @@ module _ (heights waiting waiting' : List ℕ) (item : ℕ) (popped : (i : ℕ) 
       let one : dart ≡ k = is ∙ ap dart_of_item e ∙ dart_of_own k (slice_index heights k) short in
       let same : slice_index heights dart ≡ slice_index heights k = ap (slice_index heights) one in
       let other : number_at others dart ≡ number_at others k = ap (number_at others) one in omega arith)
-
-  -- it says that it is past the least
-  pub too_far : (bound : ℕ → ℕ) (least k : ℕ) → k < 2 ^ 32 → item < 2 ^ 64 → least < item / 2 ^ 32 → slice_index heights k < top_of_bound bound least k
-      → is_pending heights waiting' k ≡ is_pending heights waiting k
-  too_far bound least k short small past below =
-      passed_over k (λ e. let up = high_item k (slice_index heights k) item (least + 1) short (omega arith) e in omega arith)
 
   -- the dart that it is of is past the least with what is left to go
   pub not_toward : (bound : ℕ → ℕ) (least : ℕ) {dart height number : ℕ} (k : ℕ) → k < 2 ^ 32 → dart ≡ dart_of_item item

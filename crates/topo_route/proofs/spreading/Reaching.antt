@@ -4,7 +4,6 @@ use Rattle.std.proofs.Common.{List, [], ◌∷◌, inl, inr, refl, sym, ap, subs
 use Rattle.std.specs.Prelude.{slice_index}
 use Rattle.std.proofs.lemmas.Bool.{cases_eq}
 use Rattle.topo_core.specs.declared.darts.Dart.{Dart}
-use Rattle.topo_core.specs.Cycles.{SameCycle}
 use Rattle.topo_core.specs.Darts.{dart_twin}
 use Rattle.topo_core.specs.Lawful.{Lawful}
 use Rattle.topo_core.specs.Picture.{darts, system}
@@ -16,27 +15,11 @@ use Rattle.topo_core.proofs.numbering.Numbering.{twin_in}
 use Rattle.topo_route.specs.Names.{IsName, IsNamed, Named, dart_named, height_of, next_name, twin_name}
 use Rattle.topo_route.specs.Plans.{AreHeights, IsZeroAt}
 use Rattle.topo_route.specs.Settling.{AreCosts, IsSettled}
-use Rattle.topo_route.proofs.spreading.FaceWalks.{crosses_from}
-use Rattle.topo_route.proofs.names.Names.{back_round, dart_of_name, dart_of_twin, even_names, even_round, face_of_names}
-use Rattle.topo_route.proofs.names.Names.{gentle_names, name_is, next_is, twin_back, twin_is, twin_price}
+use Rattle.topo_route.proofs.names.Names.{dart_of_name, dart_of_twin, even_names, even_round}
+use Rattle.topo_route.proofs.names.Names.{gentle_names, name_is, twin_back, twin_is, twin_price}
 use Rattle.topo_route.proofs.names.Numbers.{face_stays}
 
 module _ (price : Pricing) (g : Named) (lawful : Lawful g.rows) (has : IsNamed g) (v : ℕ) where
-  -- the next dart of the face reaches the target at the same cost
-  pub reaches_next : (k h : ℕ) → IsName g k → Reaches price g.rows v (dart_named g k) h → Reaches price g.rows v (dart_named g (next_name g k)) h
-  reaches_next k h l walk =
-      let step : SameCycle (next_name g) k (next_name g k) = record { steps = 1; leads = refl } in
-      let back = back_round g lawful has k (next_name g k) l step in
-      let same = face_of_names g lawful has (next_name g k) k (next_is g lawful has k l) back in
-      record {
-        crossed = walk.crossed;
-        position = walk.position;
-        to = walk.to;
-        ends = walk.ends;
-        walk = crosses_from g.rows (dart_named g (next_name g k)) (dart_named g k) walk.crossed walk.to same walk.walk;
-        cost = walk.cost;
-      }
-
   -- the twin reaches it across the segment, at its price more
   pub reaches_twin : (k h p : ℕ) → IsName g k → Price price g.rows (dart_named g k) p → Reaches price g.rows v (dart_named g k) h
       → Reaches price g.rows v (dart_named g (twin_name g k)) (p + h)
