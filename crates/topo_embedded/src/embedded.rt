@@ -23,7 +23,7 @@ mod canonical;
 use crate::bounds::{Bounds, are_consistent};
 use crate::cuts::first_cut;
 use crate::kinds::Kinds;
-use crate::making::{labels_of, paths_of};
+use crate::making::embedding_of;
 use crate::padding::Crossed;
 use crate::parts::Parts;
 use crate::path::Path;
@@ -92,13 +92,7 @@ impl Embedded {
         requires turns { AreTurnsOf rows turns.begins.items turns.images.items }
         ensures { IfOk result (λ e. e.rows ≡ rows) }
     {
-        let edges = rows.edges.as_slice();
-        let images = turns.images.as_slice();
-        let labels = labels_of(alloc, edges, images.len() / 2)?;
-        let (segments, halves) = Embedding::from_turns(alloc, images, labels.as_slice())?;
-        let limit = rows.next_edge;
-        let begins = turns.begins.as_slice();
-        let paths = paths_of(alloc, edges, begins, halves.as_slice(), limit)?;
+        let (segments, paths) = embedding_of(alloc, &rows, &turns)?;
         let rows = KeptRows::of(alloc, rows)?;
         let kinds = Kinds::of(alloc, &rows)?;
         let parts = Parts {

@@ -2,16 +2,20 @@
 
 ghost use Rattle.std.specs.Prelude.{◌≡◌, ◌+◌, ◌*◌, ◌≤◌, ◌<◌, ◌^◌, IfOk, flat_map, length, map};
 ghost use Rattle.std.specs.Prelude.{sum_by, true};
+ghost use Rattle.topo_core.specs.Lawful.{IsWellFormed};
 ghost use Rattle.topo_core.specs.Items.{rises_below};
 ghost use Rattle.topo_core.specs.Picture.{darts_of, segment_count};
+ghost use Rattle.topo_embedded.specs.Halves.{ShowsRows};
 ghost use Rattle.topo_embedded.specs.Making.{ArePathsOf, IsPathOf, labels_of};
-ghost use Rattle.topo_rows.specs.Flats.{begins_from};
+ghost use Rattle.topo_embedded.specs.Paths.{AreForEdges};
+ghost use Rattle.topo_rows.specs.Flats.{AreTurnsOf, begins_from};
 ghost use Rattle.topo_table.specs.Places.{AreBelow, ids_in, values_in};
 
 use crate::path::Path;
 use std::alloc::{AllocError, Global};
-use topo_core::rows::EdgeRow;
-use topo_map::Half;
+use topo_core::rows::{EdgeRow, Rows};
+use topo_map::{Embedding, Half};
+use topo_rows::Turns;
 use topo_table::NumberedTable;
 
 /// For each segment the id of its edge. So many segments are expected.
@@ -77,4 +81,26 @@ pub(crate) fn paths_of(
     }
     paths.skip_to(limit)?;
     Ok(paths)
+}
+
+/// The embedding of well-formed rows whose darts turn as said, with the halves along each edge.
+pub(crate) fn embedding_of(
+    alloc: Global,
+    rows: &Rows,
+    turns: &Turns,
+) -> Result<(Embedding, NumberedTable<Path>), AllocError>
+    requires well_formed { IsWellFormed rows.now }
+    requires few { 2 * sum_by segment_count rows.now.edges < 2 ^ 32 }
+    requires turns { AreTurnsOf rows.now turns.now.begins.items turns.now.images.items }
+    ensures shows { IfOk result (λ made.
+        ShowsRows (record { rows = rows.now; paths = values_in made.1 }) made.0) }
+    ensures kept { IfOk result (λ made. AreForEdges rows.now made.1) }
+{
+    let edges = rows.edges.as_slice();
+    let images = turns.images.as_slice();
+    let labels = labels_of(alloc, edges, images.len() / 2)?;
+    let (segments, halves) = Embedding::from_turns(alloc, images, labels.as_slice())?;
+    let begins = turns.begins.as_slice();
+    let paths = paths_of(alloc, edges, begins, halves.as_slice(), rows.next_edge)?;
+    Ok((segments, paths))
 }

@@ -388,9 +388,6 @@ module _ (rows : Rows) (e : ℕ) (paths : List (List ℕ)) (r : Rotation) (lawfu
 
     module _ (after : Rotation) (lists : List (List ℕ)) (smoothed : (e : ℕ) (o : IsOpened rows (set paths at blank) e mids now)
         → IsSmoothedTo (record { rows = rows; paths = o.set_out.paths }) e o.before now mids (length mids) after lists) where
-      pub inside_lists : at < length lists
-      inside_lists = inside_paths rows (set paths at blank) e mids now opened_here after lists (smoothed e opened_here) read at read_is placed_at
-
       pub shows_left : (left : List (List ℕ)) → left ≡ remove lists at → ShowsRows (record { rows = without rows e; paths = left }) after
       shows_left left is = subst (λ (ls : List (List ℕ)). ShowsRows (record { rows = without rows e; paths = ls }) after) (sym is)
           (deleted rows (set paths at blank) e mids now opened_here after lists (smoothed e opened_here) read at read_is placed_at)

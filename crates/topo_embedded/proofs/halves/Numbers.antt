@@ -88,6 +88,3 @@ module _ (p : RowsWithPaths) (good : IsWellFormed p.rows) where
 
         pub on_list : d.seg < length path
         on_list = grind (arith, stands, at_place, path_here)
-
-        pub half_read : (half : ℕ) → half ≡ slice_index_or path d.seg 0 → half ≡ slice_index_or (path_of p d.edge) d.seg 0
-        half_read half is = is ∙ ap (λ xs. slice_index_or xs d.seg 0) path_here

@@ -1,5 +1,5 @@
 -- Where a half or its twin stands among the halves of a path.
-use Rattle.std.proofs.Common.{◌≡◌, ◌≢◌, ◌<◌, ◌≤◌, ap, arith, false, get_or, inl, inr, length, length-append, List, ◌∷◌, ◌++◌, sym, true, ℕ, ◌∙◌}
+use Rattle.std.proofs.Common.{◌≡◌, ◌≢◌, ◌<◌, ◌≤◌, ap, arith, false, get_or, inl, inr, length, length-append, List, ◌∷◌, ◌++◌, true, ℕ, ◌∙◌}
 use Rattle.std.specs.Prelude.{◌==◌, ◌||◌, slice_index_or}
 use Rattle.std.specs.List.{position_or_len}
 use Rattle.std.proofs.lemmas.Bool.{cases_eq, cases_lt, eq-eqb, false≢true, ne_eqb, or_right}
@@ -8,7 +8,6 @@ use Rattle.std.proofs.lemmas.List.Elements.{All-get_or}
 use Rattle.std.proofs.lemmas.List.Sums.{fails_before_first, passes_at_first, position_or_len_is}
 use Rattle.std.proofs.Math.Seq.{get_or-append_seam}
 use Rattle.topo_core.specs.declared.darts.Way.{Way}
-use Rattle.topo_core.specs.declared.darts.Way.TheVariants.{Forward, Back}
 use Rattle.topo_core.specs.Rotations.{twin}
 use Rattle.topo_perm.proofs.permutations.Faces.{twin-twin}
 use Rattle.topo_embedded.specs.Halves.{by_way, on_segment}
@@ -26,10 +25,6 @@ off_false half h off = ap (λ b. b || h == twin half) (ne_eqb h half off.0) ∙ 
 
 pub on_is : (half h : ℕ) → on_segment half h ≡ true → IsOn half h
 on_is half h on = grind (arith, cases_eq, false≢true, off_false)
-
-by_way_on : (half h : ℕ) (way : Way) → by_way h way ≡ half → IsOn half h
-by_way_on half h Forward is = inl is
-by_way_on half h Back is = inr (sym (twin-twin h) ∙ ap twin is)
 
 -- one way along the segment the half leads
 pub way_on : (half h : ℕ) → on_segment half h ≡ true → (way : Way) × (by_way h way ≡ half)
@@ -72,8 +67,5 @@ found_on path half place there is = record {
   within = inside;
   on = ap (λ (k : ℕ). on_segment half (get_or path k 0)) is ∙ passes_at_first (on_segment half) path 0 (omega (arith, is, inside));
 } where
-  on_it : on_segment half (get_or path there.seg 0) ≡ true
-  on_it = on_true half (get_or path there.seg 0) (by_way_on half (get_or path there.seg 0) there.way there.is)
-
   inside : place < length path
   inside = grind (arith, cases_lt, false≢true, fails_before_first)

@@ -13,13 +13,12 @@ use Rattle.topo_core.specs.declared.darts.Way.TheVariants.{Forward, Back}
 use Rattle.topo_core.specs.declared.rows.EdgeRow.{EdgeRow}
 use Rattle.topo_core.specs.declared.rows.Rows.{Rows}
 use Rattle.topo_core.specs.Lawful.{IsWellFormed, has_good_paths}
-use Rattle.topo_core.specs.Picture.{darts, edge_at, edge_row, end_dart, rotation, segment_count}
+use Rattle.topo_core.specs.Picture.{darts, edge_row, end_dart, rotation, segment_count}
 use Rattle.topo_core.specs.Systems.{has_dart}
 use Rattle.topo_core.proofs.numbering.Members.{right_true, test_of_each}
 use Rattle.topo_core.proofs.numbering.Standing.{good_rotation}
 use Rattle.topo_core.proofs.systems.SystemDarts.{edge_at_row, in_at, row_id, row_in, some_of, vertex_in}
 use Rattle.topo_map.specs.Rotation.{Rotation}
-use Rattle.topo_rows.specs.Ids.{IsPlaceOf}
 use Rattle.topo_rows.proofs.RowDarts.{dart_there}
 use Rattle.topo_rows.proofs.Rounds.{got_within}
 use Rattle.topo_rows.proofs.Verdicts.{darts_total}
@@ -35,10 +34,6 @@ pub record EdgeRead (rows : Rows) (e place : ℕ) (row : EdgeRow) : Type 0 where
   pub at : slice_get rows.edges place ≡ Some row
   pub id : row.id ≡ e
   pub first : place ≡ position_or_len (λ row. row.id == e) rows.edges
-
-pub edge_read : (rows : Rows) (e place : ℕ) (edges : List EdgeRow) → edges ≡ rows.edges → (p : IsPlaceOf edges (λ row. row.id) e place)
-    → EdgeRead rows e place p.row
-edge_read rows e place edges same p = grind (arith, row_id)
 
 -- an edge that is there, at its place
 pub record EdgeThere (rows : Rows) (e : ℕ) : Type 0 where
@@ -71,14 +66,6 @@ path_read p r s e there path is =
     let place = position_or_len (λ (row : EdgeRow). row.id == e) p.rows.edges in
     let inside = got_within p.rows.edges place there.row there.read.at in
     is ∙ sym (get_or_default p.paths place path [] (omega (arith, s.as_many, inside)))
-
-pub row_read : (rows : Rows) (e place : ℕ) (edges : List EdgeRow) (row read : EdgeRow) → edges ≡ rows.edges → EdgeRead rows e place row
-    → read ≡ slice_index_or edges place read → read ≡ row
-row_read rows e place edges row read same at is = is ∙ get_or_from_slice_get edges place row read (ap (λ (es : List EdgeRow). slice_get es place) same ∙ at.at)
-
-pub facts_read : (rows : Rows) (e place : ℕ) (edges : List EdgeRow) (row read : EdgeRow) → edges ≡ rows.edges → EdgeRead rows e place row
-    → read ≡ slice_index_or edges place read → read ≡ edge_at rows e
-facts_read rows e place edges row read same at is = row_read rows e place edges row read same at is ∙ sym (edge_at_row rows e row at.found)
 
 -- ---- The dart of an edge at its end
 

@@ -8,6 +8,27 @@ use Rattle.topo_embedded.specs.Halves.{RowsWithPaths, half_in}
 use Rattle.topo_embedded.proofs.halves.Reading.{around_read, entry_known, vertex_there}
 use Rattle.topo_embedded.proofs.embedded.Embedded.corner.Goals as goal
 
+pub bounds-rotations-v : goal.bounds-rotations-v
+bounds-rotations-v c =
+    let rows = c.self.inside.parts.rows in
+    let v = c.args.v in
+    let below : c.args.position < length (rotation rows v) = omega (arith, c.if-position-degree.true, c.degree.ensures) in
+    let inside : v < length rows.rotations = vertex_there rows v c.args.position below in
+    let same : length c.rotations.result.now ≡ length rows.rotations = ap length c.rotations.ensures in
+    omega arith
+
+pub at-requires : goal.at-requires
+at-requires c =
+    let rows = c.self.inside.parts.rows in
+    let v = c.args.v in
+    let around = c.index-rotations-v.result in
+    let below : c.args.position < length (rotation rows v) = omega (arith, c.if-position-degree.true, c.degree.ensures) in
+    let inside : v < length rows.rotations = vertex_there rows v c.args.position below in
+    let same : length c.rotations.result.now ≡ length rows.rotations = ap length c.rotations.ensures in
+    let is : around ≡ rotation rows v = around_read rows v c.rotations.result.now around
+    (omega (arith, same, inside)) c.rotations.ensures c.index-rotations-v.is in
+    omega (arith, ap length is, below)
+
 pub end_half-requires : goal.end_half-requires
 end_half-requires c =
     let rows = c.self.inside.parts.rows in
