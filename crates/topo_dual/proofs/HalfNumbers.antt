@@ -158,9 +158,6 @@ module _ {p : RowsWithPaths} {rows : Rows} {halves numbers : List ℕ} (n : AreN
   many : length halves ≡ length (darts p.rows)
   many = ap length l.in_order ∙ length-map (darts p.rows) (half_in p)
 
-  pub size_fits : length halves < 4294967296
-  size_fits = omega (arith, many, l.few_darts)
-
   pub size_is : length halves ≡ length (darts rows)
   size_is = many ∙ ap (λ (q : Rows). length (darts q)) same
 
