@@ -6,6 +6,7 @@ pub mod Linking
 pub mod Noting
 pub mod PairCounts
 pub mod PairTests
+pub mod Pushed
 pub mod Rounds
 pub mod RowDarts
 pub mod RowCounts
