@@ -1,10 +1,13 @@
-use Rattle.std.proofs.Common.{arith, refl, ◌≡◌, Some, List, ap, subst, sym, ℕ, ◌∙◌}
+use Rattle.std.proofs.Common.{arith, refl, ◌≡◌, Some, length, List, ap, subst, sym, ℕ, ◌∙◌}
 use Rattle.topo_core.specs.declared.rows.Rows.{Rows}
+use Rattle.std.proofs.lemmas.List.{length-map}
 use Rattle.topo_core.specs.Changes.{shown}
+use Rattle.topo_core.specs.Insertions.{IsInsertable}
+use Rattle.topo_embedded.specs.declared.padding.Crossed.{Crossed}
 use Rattle.topo_core.specs.Lawful.{IsWellFormed}
 use Rattle.topo_core.specs.Picture.{edge_row}
 use Rattle.topo_core.specs.declared.rows.EdgeRow.{EdgeRow}
-use Rattle.topo_changes.proofs.rows.CrossedRows.{when_err, when_ok}
+use Rattle.topo_changes.proofs.rows.CrossedRows.{on_err, when_err, when_ok}
 use Rattle.topo_table.specs.Places.{ids_in, values_in}
 use Rattle.topo_embedded.specs.Crossing.{ids_of_edges}
 use Rattle.topo_embedded.specs.Halves.{RowsWithPaths, ShowsRows}
@@ -19,17 +22,35 @@ use Rattle.topo_embedded.proofs.inserting.Routed.{end_alive, inserted_parts, rea
 use Rattle.topo_embedded.proofs.inserting.Splits.{all_placed_here}
 use Rattle.topo_embedded.proofs.parts.Parts.add_edge.Goals as goal
 
+pub make_room-requires-clause-few : goal.make_room-requires-clause-few
+make_room-requires-clause-few g c =
+    let many = length-map c.args.crossed.now (λ (d : Crossed). d.dart) in
+    omega (arith, ap length c.requires.1.0.darts, c.requires.1.1.1.1.1)
+
 pub make_room-requires-clause-placed : goal.make_room-requires-clause-placed
 make_room-requires-clause-placed g c =
     let ready = c.requires.1.0 in
     all_placed_here g.p ready.formed c.args.self.now.segments ready.shows c.args.crossed.now ready.marked (ids_in c.args.self.now.paths)
     (c.requires.1.1.0.ids ∙ ap (λ (q : RowsWithPaths). ids_of_edges q.rows) (sym c.requires.0))
 
+pub apply_rows-requires-clause-formed : goal.apply_rows-requires-clause-formed
+apply_rows-requires-clause-formed g c = subst (λ (q : RowsWithPaths). IsWellFormed q.rows) c.requires.0 c.requires.1.0.formed
+
+pub apply_rows-requires-clause-insertable : goal.apply_rows-requires-clause-insertable
+apply_rows-requires-clause-insertable g c =
+    subst (λ (q : RowsWithPaths). IsInsertable q.rows c.args.ends.0 c.args.ends.1 c.args.kind c.args.route.now) c.requires.0 c.requires.1.0.insertable
+
+pub apply_rows-requires-clause-crossings : goal.apply_rows-requires-clause-crossings
+apply_rows-requires-clause-crossings g c = c.requires.1.1.1.1.1
+
 pub unpad-requires : goal.unpad-requires
 unpad-requires g c =
     let ready = c.requires.1.0 in
     all_placed_here g.p ready.formed c.args.self.now.segments ready.shows c.args.crossed.now ready.marked (ids_in c.make_room.new.paths)
     (c.make_room.ensures.ids ∙ c.requires.1.1.0.ids ∙ ap (λ (q : RowsWithPaths). ids_of_edges q.rows) (sym c.requires.0))
+
+pub returns-then-is_err-clause-err : goal.returns-then-is_err-clause-err
+returns-then-is_err-clause-err g c = when_err c.apply_rows.result (sym c.if-is_err.ensures.value) c.apply_rows.ensures.err
 
 pub returns-then-is_err-clause-err_paths : goal.returns-then-is_err-clause-err_paths
 returns-then-is_err-clause-err_paths g c = c.unpad.ensures.paths (values_in c.args.self.now.paths)
@@ -87,6 +108,9 @@ push-requires-clause-own g c = c.next_edge-edge.ensures
     ∙ sym (kept_ids c.args.self.now.rows c.args.self.now.paths c.add_route.new.paths (c.add_route.ensures.same.0 ∙ c.make_room.ensures.ids)
     (c.add_route.ensures.same.1.0 ∙ c.make_room.ensures.places) c.requires.1.1.0).count
 
+pub returns-clause-ok : goal.returns-clause-ok
+returns-clause-ok g c = when_ok c.apply_rows.result (sym c.if-is_err.ensures.value) c.apply_rows.ensures.ok
+
 pub returns-clause-shows : goal.returns-clause-shows
 returns-clause-shows g c =
     let ready = c.requires.1.0 in
@@ -106,6 +130,13 @@ returns-clause-kept g c =
     (kept_ids rows c.args.self.now.paths c.add_route.new.paths (c.add_route.ensures.same.0 ∙ c.make_room.ensures.ids)
     (c.add_route.ensures.same.1.0 ∙ c.make_room.ensures.places) c.requires.1.1.0)
     c.next_edge-edge.ensures (ids_shown rows c.args.ends.0 c.args.ends.1 c.args.kind c.args.route.now) refl c.push.ensures.slots c.push.ensures.entries)
+
+pub returns-in_err-line-clause-err_paths : goal.returns-in_err-line-clause-err_paths
+returns-in_err-line-clause-err_paths g c = on_err c.from_residual.result c.in_err-line.ensures.err
+
+pub returns-in_err-line-clause-kept : goal.returns-in_err-line-clause-kept
+returns-in_err-line-clause-kept g c = kept_ids c.args.self.now.rows c.args.self.now.paths c.make_room.new.paths c.make_room.ensures.ids
+    c.make_room.ensures.places c.requires.1.1.0
 
 pub returns-in_err-line-clause-shows : goal.returns-in_err-line-clause-shows
 returns-in_err-line-clause-shows g c =
