@@ -1,6 +1,6 @@
 //! The search for the first of the least routes.
 
-ghost use Rattle.std.specs.Prelude.{◌≡◌, ◌≢◌, ◌<◌, IfOk, IfSome, MatchOption, length};
+ghost use Rattle.std.specs.Prelude.{◌≡◌, ◌≢◌, ◌<◌, [], IfOk, IfSome, MatchOption, length};
 ghost use Rattle.topo_core.specs.Picture.{darts};
 ghost use Rattle.topo_core.specs.Routes.{HasNoRoute, IsFirst, KeepsPromise};
 ghost use Rattle.topo_price.specs.Prices.{prices_of};
@@ -91,6 +91,37 @@ fn numbers_of<D: Dual>(
     Ok(numbers)
 }
 
+/// The plan that the heights above `v` give, which are written on what is handed in.
+fn plan_on<D: Dual, F: PriceFn>(
+    alloc: Global,
+    priced: &PricedGraph<D, F>,
+    u: u32,
+    v: u32,
+    work: &mut Workspace,
+) -> Result<Option<Plan>, AllocError>
+    requires right { ArePrices (prices_of (F.may_return priced.now.tariff.now))
+        (D.named priced.now.graph.now) priced.now.prices.items }
+    requires u_there { u < length (D.shows priced.now.graph.now).rotations }
+    requires alone { work.old.to_start.heights ≡ [] }
+    ensures { IfOk result (λ found. MatchOption found
+        (HasNoRoute (prices_of (F.may_return priced.now.tariff.now))
+        (D.shows priced.now.graph.now) u v)
+        (IsPlan (prices_of (F.may_return priced.now.tariff.now))
+        (D.shows priced.now.graph.now) u v)) }
+{
+    least_heights(priced, v, work)?;
+    let numbers = numbers_of(alloc, priced.graph, &work.to_end.heights)?;
+    let found = route_by_heights(alloc, priced, u, v, &work.to_end.heights)?;
+    match found {
+        Some(PricedRoute { route, price }) => Ok(Some(Plan {
+            route,
+            price,
+            heights: Listed::from_vec(numbers),
+        })),
+        None => Ok(None),
+    }
+}
+
 /// The first of the least routes from `u` to `v`, two different vertices, with its price and for
 /// each dart the least price from its face to a face at `v`; none where no route crosses only
 /// edges that have a price. Each edge is asked for its price once.
@@ -115,17 +146,7 @@ pub fn search<D: Dual, F: PriceFn>(
         prices,
     };
     let mut work = Workspace::with_room(alloc, dual.size() as usize)?;
-    least_heights(&priced, v, &mut work)?;
-    let numbers = numbers_of(alloc, dual, &work.to_end.heights)?;
-    let found = route_by_heights(alloc, &priced, u, v, &work.to_end.heights)?;
-    match found {
-        Some(PricedRoute { route, price }) => Ok(Some(Plan {
-            route,
-            price,
-            heights: Listed::from_vec(numbers),
-        })),
-        None => Ok(None),
-    }
+    plan_on(alloc, &priced, u, v, &mut work)
 }
 
 /// A route that was found, and where the search from both ends has stopped; none where there was no
