@@ -5,7 +5,8 @@ use Rattle.std.specs.Prelude.{flat_map, slice_index, slice_index_or}
 use Rattle.std.proofs.Math.ListN.{replicate, set, get_or-append}
 use Rattle.std.proofs.Math.Seq.{get_or-append_seam}
 use Rattle.std.proofs.lemmas.Bool.{cases_eq, cases_lt}
-use Rattle.std.proofs.lemmas.List.{get_or-replicate, get_or_default, get_or_past, length-replicate}
+use Rattle.std.proofs.lemmas.Grind.{get_or-set_at}
+use Rattle.std.proofs.lemmas.List.{get_or-replicate, get_or-set_other, get_or_default, get_or_past, length-replicate}
 use Rattle.std.proofs.lemmas.List.Folds.{list_any-append}
 use Rattle.topo_route.specs.declared.bucket_queue.Entry.{Entry}
 use Rattle.topo_route.specs.Chains.{GoesDown, StaysBelow, all_chained, chain, chained, no_entry}
@@ -108,6 +109,14 @@ module _ (entries : List Entry) (heads : List ℕ) (down : GoesDown entries) (st
       | inr past ↦ grind (arith, length-append, get_or_past)
     ]
   ]
+
+  pub stay_longer : StaysBelow longer (set heads b (length longer))
+  stay_longer a =
+      let long = length-append entries (e ∷ []) in
+      elim (cases_eq a b) [
+        | inl here ↦ omega (arith, get_or-set_at heads b a (length longer) 0 here within)
+        | inr other ↦ omega (arith, get_or-set_other heads b a (length longer) 0 other, stay a)
+      ]
 
   same_others : all_chained longer heads ≡ all_chained entries heads
   same_others = same_lists (chained longer) (chained entries) heads (λ i d l.
