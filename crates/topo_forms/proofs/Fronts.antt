@@ -6,7 +6,7 @@ use Rattle.std.proofs.lemmas.Fmt.{decimal_digit, decimal_step}
 use Rattle.std.proofs.lemmas.List.{take-append-drop, take_rest}
 use Rattle.std.specs.List.{prefix_len}
 use Rattle.json.specs.Lex.{Lexeme, Place, token, colon, string_token, lex, between, begins_colon, punctuate}
-use Rattle.json.specs.Lex.{fresh, after_value, after_comma, after_key, may_begin, may_close}
+use Rattle.json.specs.Lex.{fresh, after_value, after_comma, may_begin, may_close}
 use Rattle.json.specs.Print.{escape, escape_byte}
 use Rattle.json.specs.Run.{is_plain}
 use Rattle.json.specs.Token.{begin_object, end_object, begin_array, end_array, key, string, number, null, bad}
@@ -114,34 +114,7 @@ text_split d rest n e = sym (take-append-drop n d) ∙ ap (λ t. take n d ++ t) 
 pub key_escape : (k : Key) → escape (key_name k) ≡ key_name k
 unfolding escape_byte
 key_escape keys.A = refl
-key_escape keys.B = refl
-key_escape keys.Call = refl
-key_escape keys.Caller = refl
-key_escape keys.Crossed = refl
-key_escape keys.Crossings = refl
-key_escape keys.Deleted = refl
-key_escape keys.Edge = refl
-key_escape keys.Edges = refl
-key_escape keys.End = refl
-key_escape keys.History = refl
-key_escape keys.Id = refl
-key_escape keys.Kind = refl
-key_escape keys.Limits = refl
-key_escape keys.Newcomer = refl
-key_escape keys.NextCrossing = refl
-key_escape keys.NextEdge = refl
-key_escape keys.Picture = refl
-key_escape keys.Price = refl
-key_escape keys.Prices = refl
-key_escape keys.Refused = refl
-key_escape keys.Reply = refl
-key_escape keys.Rotations = refl
-key_escape keys.Sign = refl
-key_escape keys.Start = refl
-key_escape keys.Version = refl
-key_escape keys.Vertex = refl
-key_escape keys.Vertices = refl
-key_escape keys.Workers = refl
+key_escape _ = refl
 
 -- ---- Tokens
 
@@ -158,32 +131,28 @@ pub begun_array : (p : Place) (bytes rest : List ℕ) → may_begin p ≡ true �
 unfolding lex punctuate
 begun_array fresh bytes rest h e = ap (λ b. punctuate fresh (lex between b)) e
 begun_array after_comma bytes rest h e = ap (λ b. punctuate after_comma (lex between b)) e
-begun_array after_value bytes rest h e = absurd (false≢true h)
-begun_array after_key bytes rest h e = absurd (false≢true h)
+begun_array _ bytes rest h e = absurd (false≢true h)
 
 pub begun_object : (p : Place) (bytes rest : List ℕ) → may_begin p ≡ true → bytes ≡ 123 ∷ rest
     → punctuate p (lex between bytes) ≡ begin_object ∷ punctuate fresh (lex between rest)
 unfolding lex punctuate
 begun_object fresh bytes rest h e = ap (λ b. punctuate fresh (lex between b)) e
 begun_object after_comma bytes rest h e = ap (λ b. punctuate after_comma (lex between b)) e
-begun_object after_value bytes rest h e = absurd (false≢true h)
-begun_object after_key bytes rest h e = absurd (false≢true h)
+begun_object _ bytes rest h e = absurd (false≢true h)
 
 pub closed_array : (p : Place) (bytes rest : List ℕ) → may_close p ≡ true → bytes ≡ 93 ∷ rest
     → punctuate p (lex between bytes) ≡ end_array ∷ punctuate after_value (lex between rest)
 unfolding lex punctuate
 closed_array fresh bytes rest h e = ap (λ b. punctuate fresh (lex between b)) e
-closed_array after_comma bytes rest h e = absurd (false≢true h)
 closed_array after_value bytes rest h e = ap (λ b. punctuate after_value (lex between b)) e
-closed_array after_key bytes rest h e = absurd (false≢true h)
+closed_array _ bytes rest h e = absurd (false≢true h)
 
 pub closed_object : (p : Place) (bytes rest : List ℕ) → may_close p ≡ true → bytes ≡ 125 ∷ rest
     → punctuate p (lex between bytes) ≡ end_object ∷ punctuate after_value (lex between rest)
 unfolding lex punctuate
 closed_object fresh bytes rest h e = ap (λ b. punctuate fresh (lex between b)) e
-closed_object after_comma bytes rest h e = absurd (false≢true h)
 closed_object after_value bytes rest h e = ap (λ b. punctuate after_value (lex between b)) e
-closed_object after_key bytes rest h e = absurd (false≢true h)
+closed_object _ bytes rest h e = absurd (false≢true h)
 
 pub none_left : (bytes : List ℕ) → (length bytes == 0) ≡ true → bytes ≡ []
 none_left [] h = refl
@@ -192,35 +161,30 @@ none_left (x ∷ rest) h = absurd (omega (arith, eqb-true (length (x ∷ rest)) 
 pub ended : (p : Place) → may_close p ≡ true → punctuate p (lex between []) ≡ []
 unfolding lex punctuate
 ended fresh h = refl
-ended after_comma h = absurd (false≢true h)
 ended after_value h = refl
-ended after_key h = absurd (false≢true h)
+ended _ h = absurd (false≢true h)
 
 pub key_token : (p : Place) (s : List ℕ) (ls : List Lexeme) → may_begin p ≡ true → punctuate p (token (string s) ∷ colon ∷ ls) ≡ key s ∷ punctuate fresh ls
 unfolding punctuate
 key_token fresh s ls h = refl
 key_token after_comma s ls h = refl
-key_token after_value s ls h = absurd (false≢true h)
-key_token after_key s ls h = absurd (false≢true h)
+key_token _ s ls h = absurd (false≢true h)
 
 pub text_token : (p : Place) (s : List ℕ) (ls : List Lexeme) → may_begin p ≡ true → begins_colon ls ≡ false
     → punctuate p (token (string s) ∷ ls) ≡ string s ∷ punctuate after_value ls
 unfolding punctuate
 text_token fresh s ls h last = rw last
 text_token after_comma s ls h last = rw last
-text_token after_value s ls h last = absurd (false≢true h)
-text_token after_key s ls h last = absurd (false≢true h)
+text_token _ s ls h last = absurd (false≢true h)
 
 pub number_token : (p : Place) (s : List ℕ) (ls : List Lexeme) → may_begin p ≡ true → punctuate p (token (number s) ∷ ls) ≡ number s ∷ punctuate after_value ls
 unfolding punctuate
 number_token fresh s ls h = refl
 number_token after_comma s ls h = refl
-number_token after_value s ls h = absurd (false≢true h)
-number_token after_key s ls h = absurd (false≢true h)
+number_token _ s ls h = absurd (false≢true h)
 
 pub null_token : (p : Place) (ls : List Lexeme) → may_begin p ≡ true → punctuate p (token null ∷ ls) ≡ null ∷ punctuate after_value ls
 unfolding punctuate
 null_token fresh ls h = refl
 null_token after_comma ls h = refl
-null_token after_value ls h = absurd (false≢true h)
-null_token after_key ls h = absurd (false≢true h)
+null_token _ ls h = absurd (false≢true h)

@@ -1,7 +1,7 @@
 -- Reading what is found in a value.
 use Rattle.std.proofs.Common.{◌≡◌, ℕ, List, Option, Some, None, Ok, Err, refl, ap, sym, ◌∙◌, subst, ◌<◌, nat_lt, Bool, true, false, if◌then◌else◌}
 use borrow.Author.Tests.{ltb-true}
-use Rattle.serde_json.specs.Data.{unsigned, negative, float, Data, null, boolean, number, string, array, object, Items}
+use Rattle.serde_json.specs.Data.{unsigned, Data, number, Items}
 use Rattle.serde_json.specs.Find.{get, at, as_array}
 use Rattle.topo_forms.specs.declared.path.Key.{Key}
 use Rattle.topo_forms.specs.declared.path.Path.{Path}
@@ -59,14 +59,8 @@ below_by bound m n path false e h = absurd cc
 
 pub is_number_below : (bound : ℕ) (path : Path) (d : Data) (n : ℕ) → Ok n ≡ number_below bound path d → n < bound
 unfolding number_below and_then
-is_number_below bound path null n e = absurd cc
-is_number_below bound path (boolean b) n e = absurd cc
 is_number_below bound path (number (unsigned m)) n e = below_by bound m n path (nat_lt m bound) refl e
-is_number_below bound path (number (negative z)) n e = absurd cc
-is_number_below bound path (number (float x)) n e = absurd cc
-is_number_below bound path (string s) n e = absurd cc
-is_number_below bound path (array ds) n e = absurd cc
-is_number_below bound path (object ms) n e = absurd cc
+is_number_below bound path _ n e = absurd cc
 
 pub member_or_there : {A : Type 0} (default : A) (form : Path → Data → Read A) (path : Path) (key : Key) (d : Data) (r : Read A)
     → true ≡ has_key key d → Gives r (member_form form path key d) → Gives r (member_or default form path key d)

@@ -1,6 +1,6 @@
 -- Members that are put to others in any order are those of their keys.
 use Rattle.std.proofs.Common.{◌≡◌, ℕ, ◌+◌, ◌-◌, ◌<◌, ◌≤◌, List, [], ◌∷◌, length, Option, Some, None, is_some}
-use Rattle.std.proofs.Common.{true, false, Ordering, Less, Equal, Greater, Ok, inl, inr, refl, sym, ap, ◌∙◌, subst, arith}
+use Rattle.std.proofs.Common.{true, false, Ordering, Less, Greater, Ok, inl, inr, refl, sym, ap, ◌∙◌, subst, arith}
 use Rattle.std.proofs.lemmas.Bool.{and_parts}
 use Rattle.std.specs.Ordering.{nat_cmp, match_ordering}
 use Rattle.std.specs.Cmp.Lexicographic.{slice_cmp}
@@ -26,13 +26,11 @@ record IsBefore (k l : Key) : Type 0 where
 
 at_front : {A : Type 0} (o : Ordering) (a b c : A) → match_ordering o true false false ≡ true → match_ordering o a b c ≡ a
 at_front Less a b c h = refl
-at_front Equal a b c h = absurd cc
-at_front Greater a b c h = absurd cc
+at_front _ a b c h = absurd cc
 
 at_back : {A : Type 0} (o : Ordering) (a b c : A) → match_ordering o false false true ≡ true → match_ordering o a b c ≡ c
-at_back Less a b c h = absurd cc
-at_back Equal a b c h = absurd cc
 at_back Greater a b c h = refl
+at_back _ a b c h = absurd cc
 
 before : (k l : Key) → is_before k l ≡ true → IsBefore k l
 before k l h =
@@ -52,20 +50,15 @@ put_front k d (l ∷ ls) (Some e ∷ os) behind = (before k l (and_parts (is_bef
 -- the name of one of these keys goes behind a key that they come behind
 name_behind : (k : Key) (name : List ℕ) (d : Data) (ks : List Key) (os ps : List (Option Data)) → Fills name d ks os ps → are_behind k ks ≡ true
     → (e : Data) (ms : Members) → put name d (member (key_name k) e ms) ≡ member (key_name k) e (put name d ms)
-name_behind k name d [] os ps fills behind e ms = absurd fills
-name_behind k name d (l ∷ ls) [] ps fills behind e ms = absurd fills
-name_behind k name d (l ∷ ls) (o ∷ os) [] fills behind e ms = absurd fills
 name_behind k name d (l ∷ ls) (o ∷ os) (p ∷ ps) (inl here) behind e ms =
     subst (λ n. put n d (member (key_name k) e ms) ≡ member (key_name k) e (put n d ms)) (sym here.0)
     ((before k l (and_parts (is_before k l) (are_behind k ls) behind).0).behind d e ms)
 name_behind k name d (l ∷ ls) (o ∷ os) (p ∷ ps) (inr there) behind e ms =
     name_behind k name d ls os ps there.1 (and_parts (is_before k l) (are_behind k ls) behind).1 e ms
+name_behind k name d _ _ _ fills behind e ms = absurd fills
 
 pub fills_put : (name : List ℕ) (d : Data) (ks : List Key) (os ps : List (Option Data)) → are_sorted ks ≡ true → Fills name d ks os ps
     → put name d (members_of ks os) ≡ members_of ks ps
-fills_put name d [] os ps sorted fills = absurd fills
-fills_put name d (k ∷ ks) [] ps sorted fills = absurd fills
-fills_put name d (k ∷ ks) (o ∷ os) [] sorted fills = absurd fills
 fills_put name d (k ∷ ks) (None ∷ os) (p ∷ ps) sorted (inl here) = rw (here.0, here.2, sym here.3)
     (put_front k d ks os (and_parts (are_behind k ks) (are_sorted ks) sorted).0)
 fills_put name d (k ∷ ks) (Some e ∷ os) (p ∷ ps) sorted (inl here) = absurd cc
@@ -75,6 +68,7 @@ fills_put name d (k ∷ ks) (Some e ∷ os) (p ∷ ps) sorted (inr there) =
     let both = and_parts (are_behind k ks) (are_sorted ks) sorted in
     name_behind k name d ks os ps there.1 both.0 e (members_of ks os)
     ∙ ap (member (key_name k) e) (fills_put name d ks os ps both.1 there.1) ∙ ap (λ o. members_of (k ∷ ks) (o ∷ ps)) there.0
+fills_put name d _ _ _ sorted fills = absurd fills
 
 -- ---- Objects
 

@@ -56,17 +56,8 @@ deeper inner outer form ts a rest within s = record {
 
 not_closed : (a : json.Parse json.Items) (o : json.Parse json.Members) (ts : List Token) (p : json.Json × List Token) → value_with a o ts ≡ Some p
     → after_end_array ts ≡ None
-not_closed a o [] p e = refl
-not_closed a o (Token.begin_object ∷ ts) p e = refl
-not_closed a o (Token.end_object ∷ ts) p e = refl
-not_closed a o (Token.begin_array ∷ ts) p e = refl
 not_closed a o (Token.end_array ∷ ts) p e = absurd cc
-not_closed a o (Token.key s ∷ ts) p e = refl
-not_closed a o (Token.string s ∷ ts) p e = refl
-not_closed a o (Token.number s ∷ ts) p e = refl
-not_closed a o (Token.boolean b ∷ ts) p e = refl
-not_closed a o (Token.null ∷ ts) p e = refl
-not_closed a o (Token.bad ∷ ts) p e = refl
+not_closed a o _ p e = refl
 
 -- tokens that spell a value do not begin with the end of an array
 pub spells-going : {A : Type 0} (nesting : ℕ) (form : Path → Data → Read A) (ts : List Token) (a : A) (rest : List Token) → Spells nesting form ts a rest

@@ -1,7 +1,7 @@
 -- A chain of steps, each of which may find a fault.
 use Rattle.std.proofs.Common.{◌≡◌, Ok, Err, refl, sym, subst, ◌∙◌}
 use Rattle.topo_forms.specs.declared.fault.ScriptFault.{ScriptFault}
-use Rattle.topo_forms.specs.declared.fault.ScriptFault.TheVariants.{Memory, NotJson, TooLong, BadShape, BadVersion, BadNumber}
+use Rattle.topo_forms.specs.declared.fault.ScriptFault.TheVariants.{Memory}
 use Rattle.topo_forms.specs.Reads.{Read, ◌>>=◌, and_then, both, all_three, IsFirstFault, Gives}
 
 -- a step that finds something is followed by the next
@@ -16,11 +16,7 @@ first_fault found next e h = rw h
 
 pub stopped : {A B : Type 0} (found : Read A) (next : A → Read B) (e : ScriptFault) → IsFirstFault found e → IsFirstFault (and_then found next) e
 stopped found next Memory h = h
-stopped found next NotJson h = first_fault found next _ h
-stopped found next TooLong h = first_fault found next _ h
-stopped found next (BadShape path) h = first_fault found next _ h
-stopped found next BadVersion h = first_fault found next _ h
-stopped found next (BadNumber path) h = first_fault found next _ h
+stopped found next e h = first_fault found next e h
 
 pub gives_past : {A B : Type 0} (found : Read A) (next : A → Read B) (a : A) (r : Read B) → found ≡ Ok a → Gives r (next a) → Gives r (and_then found next)
 unfolding and_then
@@ -29,11 +25,7 @@ gives_past found next a r is h = rw is h
 -- an error that is the first fault
 pub told : {A : Type 0} (found : Read A) (e : ScriptFault) → Err e ≡ found → IsFirstFault found e
 told found Memory h = tt
-told found NotJson h = sym h
-told found TooLong h = sym h
-told found (BadShape path) h = sym h
-told found BadVersion h = sym h
-told found (BadNumber path) h = sym h
+told found e h = sym h
 
 pub stops_at : {A B : Type 0} (found : Read A) (next : A → Read B) (e : ScriptFault) (r : Read B) → r ≡ Err e → IsFirstFault found e
     → Gives r (and_then found next)

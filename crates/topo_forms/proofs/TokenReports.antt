@@ -6,7 +6,7 @@ use Rattle.std.specs.List.{list_any}
 use Rattle.json.specs.Token.{Token}
 use Rattle.json.specs.Json as json
 use Rattle.json.proofs.Grammar.{value_is}
-use Rattle.serde_json.specs.Data.{Data, null, boolean, number, string, array, object, unsigned, Items, no_items, item}
+use Rattle.serde_json.specs.Data.{Data, null, number, array, object, unsigned, Items, no_items, item}
 use Rattle.serde_json.specs.Events.{items_len}
 use Rattle.topo_forms.specs.declared.path.Key.{Key}
 use Rattle.topo_forms.specs.declared.path.Key.TheVariants.{Crossings, Edges, History, Limits, Picture, Prices, Start, Version, Vertices}
@@ -99,11 +99,7 @@ no_null : (path : Path) (d : Data) (p : Option ℕ) → price_form true path d �
 unfolding price_form
 no_null path null (Some p) e some = absurd cc
 no_null path null None e some = absurd cc
-no_null path (boolean b) p e some = e
-no_null path (number n) p e some = e
-no_null path (string s) p e some = e
-no_null path (array ds) p e some = e
-no_null path (object ms) p e some = e
+no_null path _ p e some = e
 
 neither : (a b : Bool) → (a || b) ≡ false → (a ≡ false) × (b ≡ false)
 neither true b e = absurd cc
@@ -129,14 +125,10 @@ pub prices_read : (nulls : Bool) (path : Path) (d : Data) (ps kept : List (Optio
     → (nulls ≡ false → list_any is_none ps ≡ false)
     → kept ≡ without_ones ps → prices_form nulls path d ≡ Ok kept
 unfolding list_form prices_form and_then
-prices_read nulls path null ps kept e short none is = absurd cc
-prices_read nulls path (boolean b) ps kept e short none is = absurd cc
-prices_read nulls path (number n) ps kept e short none is = absurd cc
-prices_read nulls path (string s) ps kept e short none is = absurd cc
 prices_read nulls path (array ds) ps kept e short none is =
     let few : items_len ds ≤ KINDS = omega (arith, counted (price_form true) path 0 ds ps e) in
     rw (le-leb (items_len ds) KINDS few, either_way nulls path ds ps e none) (ap (λ qs. Ok qs) (sym is))
-prices_read nulls path (object ms) ps kept e short none is = absurd cc
+prices_read nulls path _ ps kept e short none is = absurd cc
 
 -- ---- Reports
 

@@ -41,16 +41,14 @@ optional_read form default path k d (Some found) a there read = rw there (member
 pub or_default : {A : Type 0} (form : Path → Data → Read A) (default : A) (o : Option A)
     (d : Option Data) → IsHeld form o d → AreRead form default d (unwrap_or o default)
 or_default form default None None held = refl
-or_default form default None (Some d) held = absurd held
-or_default form default (Some a) None held = absurd held
 or_default form default (Some a) (Some d) held = held
+or_default form default _ _ held = absurd held
 
 prices_or_none : (n : ℕ) (o : Option (List (Option ℕ))) (d : Option Data) (kept : List (Option ℕ)) → IsHeld (list_form (price_form true)) o d
     → (h : ArePricesOf n (unwrap_or o []) kept) → AreRead (prices_form h.0) [] d kept
 prices_or_none n None None kept held h = sym h.4
-prices_or_none n None (Some d) kept held h = absurd held
-prices_or_none n (Some ps) None kept held h = absurd held
 prices_or_none n (Some ps) (Some d) kept held h = λ path. prices_read h.0 path d ps kept (held path) h.2 h.3 h.4
+prices_or_none n _ _ kept held h = absurd held
 
 -- ---- The limits, the prices and the start, which may be missing
 

@@ -1,7 +1,7 @@
 -- Tokens that spell openings of sessions, and commands that lines ask for.
 use Rattle.std.proofs.Common.{◌≡◌, ℕ, ◌≤◌, Bool, false, List, [], ◌∷◌, codes, Option, Some, None, Ok, Err, refl, ap, ◌∙◌}
 use Rattle.json.specs.Token.{Token}
-use Rattle.serde_json.specs.Data.{Data, null, boolean, number, string, array, object, Members}
+use Rattle.serde_json.specs.Data.{Data, string, object, Members}
 use Rattle.serde_json.specs.Find.{get}
 use Rattle.topo_core.specs.declared.calls.Command.{Command}
 use Rattle.topo_forms.specs.declared.path.Key.{Key}
@@ -83,12 +83,8 @@ opening_tokens v within read =
 -- a command is an array, and no text
 no_text : (text : List ℕ) (path : Path) (d : Data) (command : Command) → command_form path d ≡ Ok command → is_text text d ≡ false
 unfolding command_form plain_form call_form and_then
-no_text text path null command e = refl
-no_text text path (boolean b) command e = refl
-no_text text path (number n) command e = refl
 no_text text path (string s) command e = absurd cc
-no_text text path (array ds) command e = refl
-no_text text path (object ms) command e = refl
+no_text text path _ command e = refl
 
 carry_read : (path : Path) (d : Data) (command : Command) → command_form path d ≡ Ok command → request_form path d ≡ Ok (Carry command)
 unfolding request_form carry_form

@@ -1,7 +1,7 @@
 -- Tokens that spell starts and lists of commands.
 use Rattle.std.proofs.Common.{◌≡◌, ℕ, ◌<◌, ◌≤◌, false, List, ◌∷◌, length, codes, Some, None, Ok, refl, arith, lt-ltb, le-leb}
 use Rattle.json.specs.Token.{Token, string as text_token}
-use Rattle.serde_json.specs.Data.{Data, null, boolean, number, string, array, object}
+use Rattle.serde_json.specs.Data.{Data, string, array}
 use Rattle.serde_json.specs.Events.{items_len}
 use Rattle.topo_core.specs.declared.calls.Command.{Command}
 use Rattle.topo_core.specs.declared.rows.Rows.{Rows}
@@ -20,12 +20,8 @@ use Rattle.topo_forms.specs.declared.script_forms.TheConstants.{MAX_WORKERS}
 
 no_seed : (path : Path) (d : Data) (rows : Rows) → rows_form path d ≡ Ok rows → is_text (codes "seed") d ≡ false
 unfolding rows_form has_keys and_then
-no_seed path null rows e = refl
-no_seed path (boolean b) rows e = refl
-no_seed path (number n) rows e = refl
 no_seed path (string s) rows e = absurd cc
-no_seed path (array ds) rows e = refl
-no_seed path (object ms) rows e = refl
+no_seed path _ rows e = refl
 
 start_read : (path : Path) (d : Data) (rows : Rows) → rows_form path d ≡ Ok rows → start_form path d ≡ Ok (Some rows)
 unfolding start_form picture_form
@@ -50,13 +46,9 @@ pub workers_read : (path : Path) (d : Data) (ws : List (List Command)) → list_
     (list_form command_form) path d ≡ Ok ws → 0 < length ws → length ws ≤ MAX_WORKERS
     → workers_form path d ≡ Ok ws
 unfolding list_form workers_form and_then
-workers_read path null ws e some few = absurd cc
-workers_read path (boolean b) ws e some few = absurd cc
-workers_read path (number n) ws e some few = absurd cc
-workers_read path (string s) ws e some few = absurd cc
 workers_read path (array ds) ws e some few =
     let count = counted (list_form command_form) path 0 ds ws e in
     let more : 0 < items_len ds = omega arith in
     let less : items_len ds ≤ MAX_WORKERS = omega arith in
     rw (lt-ltb 0 (items_len ds) more, le-leb (items_len ds) MAX_WORKERS less) e
-workers_read path (object ms) ws e some few = absurd cc
+workers_read path _ ws e some few = absurd cc

@@ -10,7 +10,7 @@ use Rattle.serde_json.specs.Read.{read}
 use Rattle.topo_forms.specs.declared.path.Key.{Key}
 use Rattle.topo_forms.specs.declared.path.Path.{Path}
 use Rattle.topo_forms.specs.declared.fault.ScriptFault.{ScriptFault}
-use Rattle.topo_forms.specs.declared.fault.ScriptFault.TheVariants.{Memory, NotJson, TooLong, BadShape, BadVersion, BadNumber}
+use Rattle.topo_forms.specs.declared.fault.ScriptFault.TheVariants.{Memory, NotJson, TooLong, BadShape, BadNumber}
 use Rattle.topo_forms.specs.Paths.{key_name, member_of, element_of}
 
 -- what is found, or a fault
@@ -51,11 +51,7 @@ passes fault b = if b then Ok tt else Err fault
 -- a fault that may be told: the first one, or out of memory
 abbrev pub IsFirstFault : {A : Type 0} → Read A → ScriptFault → Type 0
 IsFirstFault due Memory = ⊤
-IsFirstFault due NotJson = due ≡ Err NotJson
-IsFirstFault due TooLong = due ≡ Err TooLong
-IsFirstFault due (BadShape path) = due ≡ Err (BadShape path)
-IsFirstFault due BadVersion = due ≡ Err BadVersion
-IsFirstFault due (BadNumber path) = due ≡ Err (BadNumber path)
+IsFirstFault due fault = due ≡ Err fault
 
 -- the result is what is due, and only out of memory may take its place
 abbrev pub Gives : {A : Type 0} → Read A → Read A → Type 0

@@ -15,10 +15,9 @@ use Rattle.topo_forms.specs.Reads.{Read}
 
 -- the members of these keys that have a value
 abbrev pub members_of : List Key → List (Option Data) → Members
-members_of [] ds = no_members
-members_of (k ∷ ks) [] = no_members
 members_of (k ∷ ks) (None ∷ ds) = members_of ks ds
 members_of (k ∷ ks) (Some d ∷ ds) = member (key_name k) d (members_of ks ds)
+members_of _ _ = no_members
 
 -- the first name comes before the second
 abbrev pub is_before : Key → Key → Bool
@@ -36,10 +35,8 @@ are_sorted (k ∷ ks) = are_behind k ks && are_sorted ks
 
 -- the values are the same but for that of the key with this name, which had none and has this one now
 abbrev pub Fills : List ℕ → Data → List Key → List (Option Data) → List (Option Data) → Type 0
-Fills name d [] os ps = ⊥
-Fills name d (k ∷ ks) [] ps = ⊥
-Fills name d (k ∷ ks) (o ∷ os) [] = ⊥
 Fills name d (k ∷ ks) (o ∷ os) (p ∷ ps) = ((name ≡ key_name k) × (o ≡ None) × (p ≡ Some d) × (os ≡ ps)) ⊎ ((o ≡ p) × Fills name d ks os ps)
+Fills name d _ _ _ = ⊥
 
 -- ---- What tokens spell
 
@@ -60,9 +57,8 @@ pub record MembersTo (nesting : ℕ) (ts : List Token) (old ms : Members) (rest 
 -- what was read into a slot is what the form reads of the value
 abbrev pub IsHeld : {A : Type 0} → (Path → Data → Read A) → Option A → Option Data → Type 0
 IsHeld form None None = ⊤
-IsHeld form None (Some d) = ⊥
-IsHeld form (Some a) None = ⊥
 IsHeld form (Some a) (Some d) = (path : Path) → form path d ≡ Ok a
+IsHeld form _ _ = ⊥
 
 -- the same of a slot and of those behind it
 unfoldable pub HoldsSlot : {A R : Type 0} → (Path → Data → Read A) → (R → List (Option Data) → Type 0) → Option A → R → List (Option Data) → Type 0

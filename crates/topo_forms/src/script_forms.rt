@@ -73,7 +73,7 @@ fn check_object(path: Path, value: &Value) -> Result<(), ScriptFault>
 
 /// Whether a price may be null in this version.
 #[tactic(auto, unfolding(crate::specs::Scripts::nulls_of))]
-fn nulls_of(version: u32) -> Result<bool, ScriptFault>
+pub(crate) fn nulls_of(version: u32) -> Result<bool, ScriptFault>
     ensures { result ≡ nulls_of version }
 {
     match version {

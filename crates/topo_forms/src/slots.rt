@@ -97,10 +97,7 @@ impl<A: FromTokens, R: Slots> Slot<A, R> {
         ensures { IfSome result (λ r. (self.found ≡ Some r.0) × (self.rest ≡ r.1)) }
     {
         let Slot { found, rest } = self;
-        match found {
-            Some(value) => Some((value, rest)),
-            None => None,
-        }
+        Some((found?, rest))
     }
 }
 

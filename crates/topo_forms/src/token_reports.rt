@@ -1,15 +1,16 @@
 //! Reports, read from the tokens of a text.
 
-ghost use Rattle.std.specs.Prelude.{◌≡◌, IfSome, Ok, true};
+ghost use Rattle.std.specs.Prelude.{◌≡◌, IfSome, true};
 ghost use Rattle.std.specs.Option.{is_none};
 ghost use Rattle.std.specs.List.{list_any};
 ghost use Rattle.topo_forms.specs.TokenParts.{ArePricesOf};
-ghost use Rattle.topo_forms.specs.Scripts.{limits_form, nulls_of, price_form, report_form};
+ghost use Rattle.topo_forms.specs.Scripts.{limits_form, price_form, report_form};
 
 use crate::path::Key;
 use crate::prices::{MAX_PRICES, without_ones};
 use crate::reader::TokenReader;
 use crate::reports::Report;
+use crate::script_forms::nulls_of;
 use crate::scripts::LimitRows;
 use crate::slots::{NoSlot, Slot, read_object};
 use crate::tokens::{FromTokens, short};
@@ -60,23 +61,11 @@ fn has_null(prices: &[Option<u32>]) -> bool
     prices.iter().any(|price| price.is_none())
 }
 
-/// Whether a price may be null in this version.
-#[tactic(auto, unfolding(crate::specs::Scripts::nulls_of))]
-fn nulls_of(version: u32) -> Option<bool>
-    ensures { IfSome result (λ nulls. nulls_of version ≡ Ok nulls) }
-{
-    match version {
-        1 => Some(false),
-        2 => Some(true),
-        _ => None,
-    }
-}
-
 /// The prices of a report of this version, without the ones at their end.
 pub fn kept_prices(prices: Listed<Option<u32>>, version: u32) -> Option<Listed<Option<u32>>>
     ensures { IfSome result (λ kept. ArePricesOf version prices kept) }
 {
-    let nulls = nulls_of(version)?;
+    let nulls = nulls_of(version).ok()?;
     if prices.len() > MAX_PRICES || (!nulls && has_null(prices.as_slice())) {
         return None;
     }

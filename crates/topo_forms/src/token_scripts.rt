@@ -106,15 +106,15 @@ impl FromTokens for Script {
             Key::Workers,
         ];
         let slots: ScriptSlots = read_object(alloc, &keys, reader)?;
-        let (settings, slots) = settings_due(alloc, slots)?;
+        let (opening, slots) = settings_due(alloc, slots)?;
         let (workers, _slots) = slots.due()?;
         if workers.len() == 0 || workers.len() > MAX_WORKERS {
             return None;
         }
         Some(Script {
-            limits: settings.limits,
-            prices: settings.prices,
-            start: settings.start,
+            limits: opening.limits,
+            prices: opening.prices,
+            start: opening.start,
             workers,
         })
     }

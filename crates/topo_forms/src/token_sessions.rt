@@ -18,11 +18,7 @@ impl FromTokens for Opening {
     fn from_tokens(alloc: Global, reader: &mut TokenReader<'_>) -> Option<Self> {
         let keys = [Key::Limits, Key::Prices, Key::Start, Key::Version];
         let slots: SettingsSlots<NoSlot> = read_object(alloc, &keys, reader)?;
-        let (settings, _slots) = settings_due(alloc, slots)?;
-        Some(Opening {
-            limits: settings.limits,
-            prices: settings.prices,
-            start: settings.start,
-        })
+        let (opening, _slots) = settings_due(alloc, slots)?;
+        Some(opening)
     }
 }

@@ -6,6 +6,7 @@ ghost use Rattle.topo_forms.specs.TokenParts.{AreSettings};
 
 use crate::script_forms::GREATEST_LIMITS;
 use crate::scripts::LimitRows;
+use crate::sessions::Opening;
 use crate::slots::{Slot, Slots};
 use crate::token_reports::kept_prices;
 use std::alloc::Global;
@@ -18,15 +19,8 @@ pub type SettingsSlots<R> = Slot<
     Slot<Listed<Option<u32>>, Slot<Option<Rows>, Slot<u32, R>>>,
 >;
 
-#[derive(Drop)]
-pub struct Settings {
-    pub limits: LimitRows,
-    pub prices: Listed<Option<u32>>,
-    pub start: Option<Rows>,
-}
-
 /// What was read into the slots, or what is meant where nothing was, and the slots behind them.
-pub fn settings_due<R: Slots>(alloc: Global, slots: SettingsSlots<R>) -> Option<(Settings, R)>
+pub fn settings_due<R: Slots>(alloc: Global, slots: SettingsSlots<R>) -> Option<(Opening, R)>
     ensures settings { IfSome result (λ r. (version : ℕ)
         × (slots.rest.rest.rest.found ≡ Some version)
         × AreSettings slots.found slots.rest.found slots.rest.rest.found version
@@ -44,10 +38,10 @@ pub fn settings_due<R: Slots>(alloc: Global, slots: SettingsSlots<R>) -> Option<
     let Slot { found: start, rest } = rest;
     let (version, rest) = rest.due()?;
     let prices = kept_prices(prices.unwrap_or(Listed::new(alloc)), version)?;
-    let settings = Settings {
+    let opening = Opening {
         limits: limits.unwrap_or(GREATEST_LIMITS),
         prices,
         start: start.unwrap_or(None),
     };
-    Some((settings, rest))
+    Some((opening, rest))
 }

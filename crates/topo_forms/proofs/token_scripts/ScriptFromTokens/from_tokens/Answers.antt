@@ -9,7 +9,7 @@ use Rattle.topo_forms.proofs.token_scripts.ScriptFromTokens.from_tokens.Goals as
 pub returns : goal.returns
 returns c =
     let o = c.in_ok-slots.ensures in
-    let read = settings_held _ c.in_ok-settings.ensures.settings c.in_ok-settings.ensures.rest o.held in
+    let read = settings_held _ c.in_ok-opening.ensures.settings c.in_ok-opening.ensures.rest o.held in
     let workers = due_last (due_held (list_form (list_form command_form)) _ c.in_ok-workers.ensures read.held) in
     let some : 0 < length c.in_ok-workers.workers = grind arith in
     let few : length c.in_ok-workers.workers ≤ MAX_WORKERS = grind arith in

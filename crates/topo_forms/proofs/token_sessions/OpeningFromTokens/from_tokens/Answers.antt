@@ -6,4 +6,4 @@ use Rattle.topo_forms.proofs.token_sessions.OpeningFromTokens.from_tokens.Goals 
 pub returns : goal.returns
 returns c =
     let o = c.in_ok-slots.ensures in
-    opening_tokens o.value (omega arith) (settings_held _ c.in_ok-settings.ensures.settings c.in_ok-settings.ensures.rest o.held)
+    opening_tokens o.value (omega arith) (settings_held _ c.in_ok-opening.ensures.settings c.in_ok-opening.ensures.rest o.held)
