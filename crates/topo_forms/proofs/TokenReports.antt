@@ -15,7 +15,7 @@ use Rattle.topo_forms.specs.declared.reports.Report.{Report}
 use Rattle.topo_forms.specs.declared.scripts.LimitRows.{LimitRows}
 use Rattle.topo_forms.specs.Paths.{element_of, whole}
 use Rattle.topo_forms.specs.Prices.{without_ones}
-use Rattle.topo_forms.specs.Reads.{Read, and_then, number_form, list_form, items_from, has_keys}
+use Rattle.topo_forms.specs.Reads.{Read, and_then, number_below, number_form, list_form, items_from, has_keys}
 use Rattle.topo_forms.specs.ReplyForms.{entry_form}
 use Rattle.topo_forms.specs.RowForms.{rows_form}
 use Rattle.topo_forms.specs.Scripts.{limits_form, nulls_of, nulls_in, some_price, price_form, prices_form, report_form}
@@ -63,14 +63,19 @@ null_tokens ts rest e = record {
   reads = λ path. refl;
 }
 
-pub price_tokens : (n : ℕ) (ts rest : List Token) → SpellsNumber ts n rest → n < 2 ^ 32 → Spells 0 (price_form true) ts (Some n) rest
-unfolding price_form some_price
-price_tokens n ts rest s h = record {
-  written = json.number s.0;
-  spelled = number (unsigned n);
-  begins = λ depth le. ap (json.value depth) s.1 ∙ value_is depth (Token.number s.0 ∷ rest);
-  means = rw s.2;
-  reads = λ path. went (number_form path (number (unsigned n))) (λ (k : ℕ). Ok (Some k)) n (number_read (2 ^ 32) n path h);
+-- a number is a price
+price_read : (path : Path) (d : Data) (n : ℕ) → number_form path d ≡ Ok n → price_form true path d ≡ Ok (Some n)
+unfolding number_below price_form some_price and_then
+price_read path null n e = absurd cc
+price_read path d n e = went (number_form path d) (λ (k : ℕ). Ok (Some k)) n e
+
+pub price_tokens : {n : ℕ} {ts rest : List Token} → Spells 0 number_form ts n rest → Spells 0 (price_form true) ts (Some n) rest
+price_tokens {n} s = record {
+  written = s.written;
+  spelled = s.spelled;
+  begins = s.begins;
+  means = s.means;
+  reads = λ path. price_read path s.spelled n (s.reads path);
 }
 
 gone : {A B : Type 0} (r : Read A) (next : A → Read B) (b : B) → and_then r next ≡ Ok b → (a : A) × (r ≡ Ok a) × (next a ≡ Ok b)

@@ -7,7 +7,8 @@ ghost use Rattle.topo_forms.specs.Reads.{Gives, passes, read_map, number_below, 
 ghost use Rattle.topo_forms.specs.Reads.{is_text, element_count, items_from, list_form};
 ghost use Rattle.topo_forms.specs.Reads.{element, has_key, is_known, all_known, all_there};
 ghost use Rattle.topo_forms.specs.Reads.{has_keys, member_form, member_or, two_members};
-ghost use Rattle.topo_forms.specs.Reads.{three_members, three_elements, value_of};
+ghost use Rattle.topo_forms.specs.Reads.{three_members, three_elements, value_of, and_then};
+ghost use Rattle.topo_forms.specs.Paths.{whole};
 
 use crate::fault::ScriptFault;
 use crate::path::{Key, Path};
@@ -304,4 +305,12 @@ pub fn parse(alloc: Global, limit: usize, bytes: &[u8]) -> Result<Value, ScriptF
             Err(ScriptFault::NotJson)
         },
     }
+}
+
+/// What the value of a text of at most `limit` bytes is read as.
+pub fn read_value<T: Form>(alloc: Global, limit: usize, bytes: &[u8]) -> Result<T, ScriptFault>
+    ensures { Gives result (and_then (value_of limit bytes.now) (T.form whole)) }
+{
+    let value = parse(alloc, limit, bytes)?;
+    T::read(alloc, Path::WHOLE, &value)
 }

@@ -90,8 +90,7 @@ pub fn behind_colon(bytes: &[u8]) -> Option<&[u8]>
     ensures { IfSome result
         (λ rest. lex between bytes.now ≡ colon ∷ lex between rest.now) }
 {
-    let rest = behind(behind_gap(bytes), b':')?;
-    Some(rest)
+    behind(behind_gap(bytes), b':')
 }
 
 /// Whether a word, as a number is one, has ended before these bytes.
@@ -164,8 +163,7 @@ pub fn behind_number(bytes: &[u8]) -> Option<(u64, &[u8])>
     if first == 0 {
         return Some((0, rest));
     }
-    let (number, rest) = behind_digits(first, rest)?;
-    Some((number, rest))
+    behind_digits(first, rest)
 }
 
 /// How many bytes at the front stand for themselves in a text.
@@ -200,6 +198,5 @@ pub fn behind_quoted<'a>(bytes: &'a [u8], text: &str) -> Option<&'a [u8]>
 {
     let inside = behind(bytes, b'"')?;
     let rest = behind_literal(inside, text)?;
-    let rest = behind(rest, b'"')?;
-    Some(rest)
+    behind(rest, b'"')
 }

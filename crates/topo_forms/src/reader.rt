@@ -81,8 +81,7 @@ fn behind_key(bytes: &[u8], wanted: Key) -> Option<&[u8]>
         ≡ token (string (key_name wanted)) ∷ colon ∷ lex between rest.now) }
 {
     let named = behind_quoted(bytes, wanted.name())?;
-    let rest = behind_colon(named)?;
-    Some(rest)
+    behind_colon(named)
 }
 
 /// What follows a value, or the comma behind it where one stands there, and what may stand there.

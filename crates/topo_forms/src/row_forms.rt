@@ -6,7 +6,7 @@ ghost use Rattle.topo_forms.specs.RowForms.{sign_form, edge_form};
 ghost use Rattle.topo_forms.specs.RowForms.{crossing_form, rows_form, rows_of};
 
 use crate::fault::ScriptFault;
-use crate::form::{Form, check_keys, is_text, parse, read_three, read_two};
+use crate::form::{Form, check_keys, is_text, read_three, read_two, read_value};
 use crate::path::{Key, Path};
 use crate::tokens::read_tokens;
 use serde_json::Value;
@@ -111,14 +111,6 @@ pub fn read_rows(alloc: Global, bytes: &[u8]) -> Result<Rows, ScriptFault>
 {
     match read_tokens(alloc, MAX_PICTURE_BYTES, bytes) {
         Some(rows) => Ok(rows),
-        None => rows_of_value(alloc, bytes),
+        None => read_value(alloc, MAX_PICTURE_BYTES, bytes),
     }
-}
-
-/// The rows that the value of a text is.
-fn rows_of_value(alloc: Global, bytes: &[u8]) -> Result<Rows, ScriptFault>
-    ensures { Gives result (rows_of bytes.now) }
-{
-    let value = parse(alloc, MAX_PICTURE_BYTES, bytes)?;
-    Rows::read(alloc, Path::WHOLE, &value)
 }

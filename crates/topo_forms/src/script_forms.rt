@@ -1,23 +1,24 @@
 //! Scripts and reports, read from their JSON forms.
 
-ghost use Rattle.std.specs.Prelude.{◌≡◌, ◌&&◌, [], nat_lt, nat_le, is_some};
+ghost use Rattle.std.specs.Prelude.{◌≡◌, ◌&&◌, [], nat_lt, nat_le, is_some, None};
 ghost use Rattle.serde_json.specs.View.{view};
 ghost use Rattle.serde_json.specs.Find.{as_object};
 ghost use Rattle.topo_forms.specs.declared.fault.ScriptFault.TheVariants.{BadShape};
-ghost use Rattle.topo_forms.specs.Reads.{Gives, passes, both, element_count};
+ghost use Rattle.topo_forms.specs.Reads.{Gives, passes, both, all_three, element_count};
 ghost use Rattle.topo_forms.specs.Reads.{member_form, member_or};
 ghost use Rattle.topo_forms.specs.RowForms.{rows_form};
 ghost use Rattle.topo_forms.specs.Paths.{whole};
-ghost use Rattle.topo_forms.specs.declared.path.Key.TheVariants.{Prices, Start, Workers};
-ghost use Rattle.topo_forms.specs.Scripts.{limits_form, nulls_of, nulls_in, prices_form};
+ghost use Rattle.topo_forms.specs.declared.path.Key.TheVariants.{Limits, Prices, Start, Workers};
+ghost use Rattle.topo_forms.specs.Scripts.{greatest_limits, limits_form, nulls_of, nulls_in};
+ghost use Rattle.topo_forms.specs.Scripts.{prices_form};
 ghost use Rattle.topo_forms.specs.Scripts.{picture_form, start_form, workers_form};
 ghost use Rattle.topo_forms.specs.Scripts.{script_form, script_of, report_form, report_of};
 ghost use Rattle.topo_forms.specs.declared.script_forms.TheConstants.{MAX_WORKERS};
 
 use crate::fault::ScriptFault;
 use crate::form::{
-    Form, check_keys, element_count, has_key, is_text, parse, read_member, read_member_or,
-    read_three,
+    Form, check_keys, element_count, has_key, is_text, read_member, read_member_or, read_three,
+    read_value,
 };
 use crate::path::{Key, Path};
 use crate::prices::read_prices;
@@ -115,7 +116,7 @@ fn read_price_member(
 }
 
 /// The prices of a script, which may be missing.
-pub(crate) fn read_prices_or_none(
+fn read_prices_or_none(
     alloc: Global,
     nulls: bool,
     value: &Value,
@@ -127,6 +128,24 @@ pub(crate) fn read_prices_or_none(
     } else {
         Ok(Listed::from_vec(Vec::new(alloc)))
     }
+}
+
+/// The limits, the prices and the start of a script or an opening, each of which may be missing.
+pub(crate) fn read_settings(
+    alloc: Global,
+    nulls: bool,
+    value: &Value,
+) -> Result<(LimitRows, Listed<Option<u32>>, Option<Rows>), ScriptFault>
+    ensures { Gives result (all_three
+        (member_or greatest_limits limits_form whole Limits (view value.now))
+        (member_or [] (prices_form nulls) whole Prices (view value.now))
+        (member_or None start_form whole Start (view value.now))) }
+{
+    let whole = Path::WHOLE;
+    let limits = read_member_or(alloc, whole, Key::Limits, value, GREATEST_LIMITS)?;
+    let prices = read_prices_or_none(alloc, nulls, value)?;
+    let start = read_member_or(alloc, whole, Key::Start, value, None)?;
+    Ok((limits, prices, start))
 }
 
 fn read_picture(alloc: Global, path: Path, value: &Value) -> Result<Option<Rows>, ScriptFault>
@@ -185,27 +204,26 @@ fn read_workers_member(alloc: Global, value: &Value) -> Result<Listed<Listed<Com
     }
 }
 
-/// The script that a value is.
-fn script_in(alloc: Global, value: &Value) -> Result<Script, ScriptFault>
-    ensures { Gives result (script_form (view value.now)) }
-{
-    let nulls = read_nulls(alloc, value)?;
-    let whole = Path::WHOLE;
-    let optional = [Key::Limits, Key::Prices, Key::Start];
-    check_keys(whole, &[Key::Version, Key::Workers], &optional, value)?;
-    let limits = read_member_or(alloc, whole, Key::Limits, value, GREATEST_LIMITS)?;
-    let prices = read_prices_or_none(alloc, nulls, value)?;
-    let start = read_member_or(alloc, whole, Key::Start, value, None)?;
-    match read_workers_member(alloc, value) {
-        Ok(workers) => Ok(Script {
-            limits,
-            prices,
-            start,
-            workers,
-        }),
-        Err(fault) => {
-            drop(start);
-            Err(fault)
+impl Form for Script {
+    ghost form = { λ path. script_form };
+
+    // It stands nowhere but at the whole of a text.
+    fn read(alloc: Global, _path: Path, value: &Value) -> Result<Self, ScriptFault> {
+        let nulls = read_nulls(alloc, value)?;
+        let optional = [Key::Limits, Key::Prices, Key::Start];
+        check_keys(Path::WHOLE, &[Key::Version, Key::Workers], &optional, value)?;
+        let (limits, prices, start) = read_settings(alloc, nulls, value)?;
+        match read_workers_member(alloc, value) {
+            Ok(workers) => Ok(Script {
+                limits,
+                prices,
+                start,
+                workers,
+            }),
+            Err(fault) => {
+                drop(start);
+                Err(fault)
+            }
         }
     }
 }
@@ -216,16 +234,8 @@ pub fn read_script(alloc: Global, bytes: &[u8]) -> Result<Script, ScriptFault>
 {
     match read_tokens(alloc, MAX_SCRIPT_BYTES, bytes) {
         Some(script) => Ok(script),
-        None => script_of_value(alloc, bytes),
+        None => read_value(alloc, MAX_SCRIPT_BYTES, bytes),
     }
-}
-
-/// The script that the value of a text is.
-fn script_of_value(alloc: Global, bytes: &[u8]) -> Result<Script, ScriptFault>
-    ensures { Gives result (script_of bytes.now) }
-{
-    let value = parse(alloc, MAX_SCRIPT_BYTES, bytes)?;
-    script_in(alloc, &value)
 }
 
 /// The prices and the start of a report.
@@ -242,36 +252,38 @@ fn prices_and_start(
     Ok((prices, start))
 }
 
-/// The report that a value is.
-fn report_in(alloc: Global, value: &Value) -> Result<Report, ScriptFault>
-    ensures { Gives result (report_form (view value.now)) }
-{
-    let nulls = read_nulls(alloc, value)?;
-    let whole = Path::WHOLE;
-    let keys = [
-        Key::History,
-        Key::Limits,
-        Key::Picture,
-        Key::Prices,
-        Key::Start,
-        Key::Version,
-    ];
-    check_keys(whole, &keys, &[], value)?;
-    let head = read_three(alloc, whole, Key::History, Key::Limits, Key::Picture, value)?;
-    match prices_and_start(alloc, nulls, value) {
-        Ok((prices, start)) => {
-            let (history, limits, picture) = head;
-            Ok(Report {
-                limits,
-                prices,
-                start,
-                history,
-                picture,
-            })
-        }
-        Err(fault) => {
-            drop(head);
-            Err(fault)
+impl Form for Report {
+    ghost form = { λ path. report_form };
+
+    // It stands nowhere but at the whole of a text.
+    fn read(alloc: Global, _path: Path, value: &Value) -> Result<Self, ScriptFault> {
+        let nulls = read_nulls(alloc, value)?;
+        let whole = Path::WHOLE;
+        let keys = [
+            Key::History,
+            Key::Limits,
+            Key::Picture,
+            Key::Prices,
+            Key::Start,
+            Key::Version,
+        ];
+        check_keys(whole, &keys, &[], value)?;
+        let head = read_three(alloc, whole, Key::History, Key::Limits, Key::Picture, value)?;
+        match prices_and_start(alloc, nulls, value) {
+            Ok((prices, start)) => {
+                let (history, limits, picture) = head;
+                Ok(Report {
+                    limits,
+                    prices,
+                    start,
+                    history,
+                    picture,
+                })
+            }
+            Err(fault) => {
+                drop(head);
+                Err(fault)
+            }
         }
     }
 }
@@ -282,14 +294,6 @@ pub fn read_report(alloc: Global, bytes: &[u8]) -> Result<Report, ScriptFault>
 {
     match read_tokens(alloc, MAX_PICTURE_BYTES, bytes) {
         Some(report) => Ok(report),
-        None => report_of_value(alloc, bytes),
+        None => read_value(alloc, MAX_PICTURE_BYTES, bytes),
     }
-}
-
-/// The report that the value of a text is.
-fn report_of_value(alloc: Global, bytes: &[u8]) -> Result<Report, ScriptFault>
-    ensures { Gives result (report_of bytes.now) }
-{
-    let value = parse(alloc, MAX_PICTURE_BYTES, bytes)?;
-    report_in(alloc, &value)
 }

@@ -7,10 +7,10 @@ ghost use Rattle.topo_forms.specs.Sessions.{carry_form, opening_form, opening_of
 ghost use Rattle.topo_forms.specs.Sessions.{request_form, request_of};
 
 use crate::fault::ScriptFault;
-use crate::form::{Form, check_keys, is_text, parse, read_member_or};
+use crate::form::{Form, check_keys, is_text, read_value};
 use crate::path::{Key, Path};
 use crate::row_forms::MAX_PICTURE_BYTES;
-use crate::script_forms::{GREATEST_LIMITS, read_nulls, read_prices_or_none};
+use crate::script_forms::{read_nulls, read_settings};
 use crate::scripts::LimitRows;
 use crate::tokens::read_tokens;
 use serde_json::Value;
@@ -44,22 +44,21 @@ pub enum Request {
     Report,
 }
 
-/// The opening that a value is.
-fn opening_in(alloc: Global, value: &Value) -> Result<Opening, ScriptFault>
-    ensures { Gives result (opening_form (view value.now)) }
-{
-    let nulls = read_nulls(alloc, value)?;
-    let whole = Path::WHOLE;
-    let optional = [Key::Limits, Key::Prices, Key::Start];
-    check_keys(whole, &[Key::Version], &optional, value)?;
-    let limits = read_member_or(alloc, whole, Key::Limits, value, GREATEST_LIMITS)?;
-    let prices = read_prices_or_none(alloc, nulls, value)?;
-    let start = read_member_or(alloc, whole, Key::Start, value, None)?;
-    Ok(Opening {
-        limits,
-        prices,
-        start,
-    })
+impl Form for Opening {
+    ghost form = { λ path. opening_form };
+
+    // It stands nowhere but at the whole of a text.
+    fn read(alloc: Global, _path: Path, value: &Value) -> Result<Self, ScriptFault> {
+        let nulls = read_nulls(alloc, value)?;
+        let optional = [Key::Limits, Key::Prices, Key::Start];
+        check_keys(Path::WHOLE, &[Key::Version], &optional, value)?;
+        let (limits, prices, start) = read_settings(alloc, nulls, value)?;
+        Ok(Opening {
+            limits,
+            prices,
+            start,
+        })
+    }
 }
 
 /// The opening of a session that bytes spell.
@@ -68,16 +67,8 @@ pub fn read_opening(alloc: Global, bytes: &[u8]) -> Result<Opening, ScriptFault>
 {
     match read_tokens(alloc, MAX_PICTURE_BYTES, bytes) {
         Some(opening) => Ok(opening),
-        None => opening_of_value(alloc, bytes),
+        None => read_value(alloc, MAX_PICTURE_BYTES, bytes),
     }
-}
-
-/// The opening that the value of a text is.
-fn opening_of_value(alloc: Global, bytes: &[u8]) -> Result<Opening, ScriptFault>
-    ensures { Gives result (opening_of bytes.now) }
-{
-    let value = parse(alloc, MAX_PICTURE_BYTES, bytes)?;
-    opening_in(alloc, &value)
 }
 
 fn read_carry(alloc: Global, path: Path, value: &Value) -> Result<Request, ScriptFault>
@@ -110,14 +101,6 @@ pub fn read_request(alloc: Global, line: &[u8]) -> Result<Request, ScriptFault>
 {
     match read_tokens::<Command>(alloc, MAX_LINE_BYTES, line) {
         Some(command) => Ok(Request::Carry(command)),
-        None => request_of_value(alloc, line),
+        None => read_value(alloc, MAX_LINE_BYTES, line),
     }
-}
-
-/// What the value of a line asks for.
-fn request_of_value(alloc: Global, line: &[u8]) -> Result<Request, ScriptFault>
-    ensures { Gives result (request_of line.now) }
-{
-    let value = parse(alloc, MAX_LINE_BYTES, line)?;
-    Request::read(alloc, Path::WHOLE, &value)
 }

@@ -54,7 +54,7 @@ impl Slots for NoSlot {
 
 /// A slot for one value, and the slots behind it.
 #[derive(Drop)]
-pub struct Slot<A: FromTokens, R: Slots> {
+pub struct Slot<A: Drop, R: Drop> {
     pub found: Option<A>,
     pub rest: R,
 }
@@ -78,8 +78,7 @@ impl<A: FromTokens, R: Slots> Slots for Slot<A, R> {
     fn read(&mut self, alloc: Global, keys: &[Key], reader: &mut TokenReader<'_>) -> Option<()> {
         let (key, more) = keys.split_first()?;
         if !reader.take_key(*key) {
-            self.rest.read(alloc, more, reader)?;
-            return Some(());
+            return self.rest.read(alloc, more, reader);
         }
         if self.found.is_some() {
             return None;
@@ -90,7 +89,7 @@ impl<A: FromTokens, R: Slots> Slots for Slot<A, R> {
     }
 }
 
-impl<A: FromTokens, R: Slots> Slot<A, R> {
+impl<A: Drop, R: Drop> Slot<A, R> {
     /// What was read into it, if it was, and the slots behind it.
     #[inline(always)]
     pub fn due(self) -> Option<(A, R)>
@@ -101,7 +100,7 @@ impl<A: FromTokens, R: Slots> Slot<A, R> {
     }
 }
 
-impl<A: FromTokens, B: FromTokens, C: FromTokens, R: Slots> Slot<A, Slot<B, Slot<C, R>>> {
+impl<A: Drop, B: Drop, C: Drop, R: Drop> Slot<A, Slot<B, Slot<C, R>>> {
     /// What was read into the first three, if all were, and the slots behind them.
     #[inline(always)]
     pub fn three_due(self) -> Option<(A, B, C, R)>
@@ -136,6 +135,5 @@ pub fn read_object<S: Slots>(alloc: Global, keys: &[Key], reader: &mut TokenRead
         SpellsObject S.nesting S.holds keys.now reader.old slots reader.new) }
 {
     reader.begin_object()?;
-    let slots = read_members(alloc, keys, reader)?;
-    Some(slots)
+    read_members(alloc, keys, reader)
 }

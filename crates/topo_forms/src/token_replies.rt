@@ -192,8 +192,7 @@ impl FromTokens for Reply {
             return Some(deleted);
         }
         *reader = begins;
-        let refused = token_refused(alloc, reader)?;
-        Some(refused)
+        token_refused(alloc, reader)
     }
 }
 

@@ -13,7 +13,7 @@ use crate::reports::Report;
 use crate::script_forms::nulls_of;
 use crate::scripts::LimitRows;
 use crate::slots::{NoSlot, Slot, read_object};
-use crate::tokens::{FromTokens, short};
+use crate::tokens::FromTokens;
 use std::alloc::Global;
 use topo_core::calls::Entry;
 use topo_core::listed::Listed;
@@ -44,12 +44,11 @@ impl FromTokens for Option<u32> {
 
     ghost nesting = { 0 };
 
-    fn from_tokens(_alloc: Global, reader: &mut TokenReader<'_>) -> Option<Self> {
+    fn from_tokens(alloc: Global, reader: &mut TokenReader<'_>) -> Option<Self> {
         if reader.take_null() {
             return Some(None);
         }
-        let number = reader.next_number()?;
-        let price = short(number)?;
+        let price = u32::from_tokens(alloc, reader)?;
         Some(Some(price))
     }
 }

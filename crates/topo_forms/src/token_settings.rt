@@ -7,7 +7,7 @@ ghost use Rattle.topo_forms.specs.TokenParts.{AreSettings};
 use crate::script_forms::GREATEST_LIMITS;
 use crate::scripts::LimitRows;
 use crate::sessions::Opening;
-use crate::slots::{Slot, Slots};
+use crate::slots::Slot;
 use crate::token_reports::kept_prices;
 use std::alloc::Global;
 use topo_core::listed::Listed;
@@ -20,7 +20,7 @@ pub type SettingsSlots<R> = Slot<
 >;
 
 /// What was read into the slots, or what is meant where nothing was, and the slots behind them.
-pub fn settings_due<R: Slots>(alloc: Global, slots: SettingsSlots<R>) -> Option<(Opening, R)>
+pub fn settings_due<R: Drop>(alloc: Global, slots: SettingsSlots<R>) -> Option<(Opening, R)>
     ensures settings { IfSome result (λ r. (version : ℕ)
         × (slots.rest.rest.rest.found ≡ Some version)
         × AreSettings slots.found slots.rest.found slots.rest.rest.found version

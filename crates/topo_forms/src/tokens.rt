@@ -31,7 +31,7 @@ pub trait FromTokens: Drop {
 }
 
 /// A number of 64 bits as one of 32.
-pub fn short(number: u64) -> Option<u32>
+fn short(number: u64) -> Option<u32>
     ensures { IfSome result (λ n. n ≡ number) }
 {
     u32::try_from(number).ok()
@@ -100,7 +100,9 @@ fn token_items<T: FromTokens>(alloc: Global, reader: &mut TokenReader<'_>) -> Op
     let mut found = Vec::new(alloc);
     'items: while !reader.take_end_array() {
         let item = T::from_tokens(alloc, reader)?;
-        found.push(item).ok()?;
+        if found.push(item).is_err() {
+            return None;
+        }
     }
     Some(Listed::from_vec(found))
 }
@@ -123,7 +125,9 @@ pub fn read_tokens<T: FromTokens>(alloc: Global, limit: usize, bytes: &[u8]) -> 
     if bytes.len() > limit {
         return None;
     }
-    simdutf8::basic::from_utf8(bytes).ok()?;
+    if simdutf8::basic::from_utf8(bytes).is_err() {
+        return None;
+    }
     let mut reader = TokenReader::new(bytes);
     let found = T::from_tokens(alloc, &mut reader)?;
     if reader.is_at_end() {

@@ -1,4 +1,5 @@
 use Rattle.std.proofs.Common.{◌≡◌, ◌<◌, ◌+◌, ◌∷◌, ap, ◌∙◌, rules, arith}
+use Rattle.std.proofs.lemmas.Option.{IfSome_then}
 use Rattle.topo_forms.proofs.Fronts.{digit_text}
 use Rattle.topo_forms.proofs.lexing.behind_number.Goals as goal
 
@@ -11,4 +12,4 @@ pub returns : goal.returns
 returns c =
     let front : c.args.bytes.now ≡ (48 + c.in_ok-first.first) ∷ c.in_ok-first.rest.now = search rules in
     let small : c.in_ok-first.first < 10 = search rules in
-    front ∙ digit_text c.in_ok-first.first c.in_ok-first.rest.now small ∙ c.in_ok-number.ensures
+    IfSome_then c.behind_digits.result c.behind_digits.ensures (λ r e. front ∙ digit_text c.in_ok-first.first c.in_ok-first.rest.now small ∙ e)

@@ -1,4 +1,5 @@
 use Rattle.std.proofs.Common.{◌≡◌, ◌∷◌, sym, subst, ap, ◌∙◌}
+use Rattle.std.proofs.lemmas.Option.{IfSome_then}
 use Rattle.json.specs.Lex.{lex, between, token}
 use Rattle.json.specs.Print.{escape}
 use Rattle.json.specs.Token.{string}
@@ -12,5 +13,6 @@ behind_quoted-requires c = subst (λ t. escape t ≡ t) (sym c.name.ensures) (ke
 pub returns : goal.returns
 returns c =
     let name = key_name c.args.wanted in
-    c.in_ok-named.ensures ∙ ap (λ t. token (string t) ∷ lex between c.in_ok-named.named.now) c.name.ensures
-    ∙ ap (λ l. token (string name) ∷ l) c.in_ok-rest.ensures
+    IfSome_then c.behind_colon.result c.behind_colon.ensures
+    (λ rest e. c.in_ok-named.ensures ∙ ap (λ t. token (string t) ∷ lex between c.in_ok-named.named.now) c.name.ensures
+    ∙ ap (λ l. token (string name) ∷ l) e)

@@ -6,3 +6,7 @@ use Rattle.topo_forms.proofs.row_forms.read_rows.Goals as goal
 pub returns-in-Some : goal.returns-in-Some
 unfolding rows_of
 returns-in-Some c = c.in-Some.ensures (omega arith) whole
+
+pub returns-in-None : goal.returns-in-None
+unfolding rows_of
+returns-in-None c = c.read_value.ensures

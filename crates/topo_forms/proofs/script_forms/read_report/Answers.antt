@@ -6,3 +6,7 @@ use Rattle.topo_forms.proofs.script_forms.read_report.Goals as goal
 pub returns-in-Some : goal.returns-in-Some
 unfolding report_of
 returns-in-Some c = c.in-Some.ensures (omega arith) whole
+
+pub returns-in-None : goal.returns-in-None
+unfolding report_of
+returns-in-None c = c.read_value.ensures

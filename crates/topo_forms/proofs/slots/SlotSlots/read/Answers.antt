@@ -1,4 +1,5 @@
 use Rattle.std.proofs.Common.{◌≡◌, ◌∷◌, rules, is_some, false}
+use Rattle.std.proofs.lemmas.Option.{IfSome_then}
 use Rattle.std.proofs.Math.Nat.{le-max_left, le-max_right}
 use Rattle.json.specs.Token.{key}
 use Rattle.topo_forms.specs.Paths.{key_name}
@@ -8,8 +9,8 @@ use Rattle.topo_forms.proofs.slots.SlotSlots.read.Goals as goal
 pub returns-then-not-take_key : goal.returns-then-not-take_key
 returns-then-not-take_key g c =
     let kept : c.take_key.new.self ≡ c.args.reader.now = search rules in
-    filled_behind g.A.FromTokens.form g.R.Slots.holds _ c.args.self.now.found c.in_ok-key.ensures.cases.0 kept c.in_ok-read.ensures
-    (le-max_right g.A.FromTokens.nesting g.R.Slots.nesting)
+    IfSome_then c.read.result c.read.ensures (λ _ filled. filled_behind g.A.FromTokens.form g.R.Slots.holds _ c.args.self.now.found
+    c.in_ok-key.ensures.cases.0 kept filled (le-max_right g.A.FromTokens.nesting g.R.Slots.nesting))
 
 pub returns : goal.returns
 returns g c =

@@ -1,6 +1,7 @@
-use Rattle.std.proofs.Common.{◌≡◌, ◌∷◌, ℕ, sym, subst, rules, arith}
+use Rattle.std.proofs.Common.{◌≡◌, ◌∷◌, subst, rules}
 use Rattle.json.specs.Token.{null}
-use Rattle.topo_forms.specs.Tokens.{SpellsNumber}
+use Rattle.topo_forms.specs.Reads.{number_form}
+use Rattle.topo_forms.specs.Tokens.{Spells}
 use Rattle.topo_forms.proofs.TokenReports.{null_tokens, price_tokens}
 use Rattle.topo_forms.proofs.token_reports.OptionU32FromTokens.from_tokens.Goals as goal
 
@@ -12,7 +13,4 @@ returns-then-take_null c =
 pub returns : goal.returns
 returns c =
     let kept : c.take_null.new.self ≡ c.args.reader.now = search rules in
-    let token : SpellsNumber c.args.reader.now c.in_ok-number.number c.next_number.new.self =
-    subst (λ ts. SpellsNumber ts c.in_ok-number.number c.next_number.new.self) kept c.in_ok-number.ensures in
-    price_tokens c.in_ok-price.price c.args.reader.now c.next_number.new.self
-    (subst (λ (n : ℕ). SpellsNumber c.args.reader.now n c.next_number.new.self) (sym c.in_ok-price.ensures) token) (omega arith)
+    price_tokens (subst (λ ts. Spells 0 number_form ts c.in_ok-price.price c.from_tokens.new.reader) kept c.in_ok-price.ensures)

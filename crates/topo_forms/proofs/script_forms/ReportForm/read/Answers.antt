@@ -1,7 +1,7 @@
 use Rattle.std.proofs.Common.{◌≡◌, Err, refl, sym, rules, ◌∙◌}
 use Rattle.topo_forms.specs.Scripts.{report_form}
 use Rattle.topo_forms.proofs.Steps.{went, went2, went3, gives_past, gives_past3, stops_at, stops_at2, stops_at3, told}
-use Rattle.topo_forms.proofs.script_forms.report_in.Goals as goal
+use Rattle.topo_forms.proofs.script_forms.ReportForm.read.Goals as goal
 
 pub returns-in_err-nulls : goal.returns-in_err-nulls
 unfolding report_form
