@@ -1,12 +1,12 @@
 -- Tokens that spell limits, prices and reports.
-use Rattle.std.proofs.Common.{◌≡◌, ℕ, suc, ◌+◌, ◌<◌, ◌≤◌, ◌^◌, ◌||◌, Bool, true, false, List, [], ◌∷◌, length}
+use Rattle.std.proofs.Common.{◌≡◌, ℕ, suc, ◌+◌, ◌≤◌, ◌||◌, Bool, true, false, List, [], ◌∷◌, length}
 use Rattle.std.proofs.Common.{Option, Some, None, Ok, Err, refl, sym, ap, ◌∙◌, arith, le-leb}
 use Rattle.std.specs.Option.{is_none}
 use Rattle.std.specs.List.{list_any}
 use Rattle.json.specs.Token.{Token}
 use Rattle.json.specs.Json as json
 use Rattle.json.proofs.Grammar.{value_is}
-use Rattle.serde_json.specs.Data.{Data, null, number, array, object, unsigned, Items, no_items, item}
+use Rattle.serde_json.specs.Data.{Data, null, array, object, Items, no_items, item}
 use Rattle.serde_json.specs.Events.{items_len}
 use Rattle.topo_forms.specs.declared.path.Key.{Key}
 use Rattle.topo_forms.specs.declared.path.Key.TheVariants.{Crossings, Edges, History, Limits, Picture, Prices, Start, Version, Vertices}
@@ -20,11 +20,10 @@ use Rattle.topo_forms.specs.ReplyForms.{entry_form}
 use Rattle.topo_forms.specs.RowForms.{rows_form}
 use Rattle.topo_forms.specs.Scripts.{limits_form, nulls_of, nulls_in, some_price, price_form, prices_form, report_form}
 use Rattle.topo_forms.specs.Slots.{members_of, SpellsValue}
-use Rattle.topo_forms.specs.Tokens.{Spells, SpellsNumber}
+use Rattle.topo_forms.specs.Tokens.{Spells}
 use Rattle.topo_forms.specs.TokenParts.{ArePricesOf}
 use Rattle.topo_forms.proofs.Lookups.{member_read}
 use Rattle.topo_forms.proofs.Objects.{IsDue, then, object_tokens}
-use Rattle.topo_forms.proofs.Spellings.{number_read}
 use Rattle.topo_forms.proofs.Steps.{went}
 use Rattle.topo_core.specs.declared.rows.TheConstants.{KINDS}
 

@@ -9,7 +9,7 @@ use crate::tokens::FromTokens;
 use std::alloc::Global;
 
 /// Slots for the values of an object's members, in the order of their keys.
-pub trait Slots: Drop {
+pub trait Slots {
     ghost use Rattle.std.specs.Prelude.{ℕ, IfSome, List, Option};
     ghost use Rattle.serde_json.specs.Data.{Data};
     ghost use Rattle.topo_forms.specs.Slots.{FillsOne, IsBlank};
@@ -54,7 +54,7 @@ impl Slots for NoSlot {
 
 /// A slot for one value, and the slots behind it.
 #[derive(Drop)]
-pub struct Slot<A: Drop, R: Drop> {
+pub struct Slot<A, R> {
     pub found: Option<A>,
     pub rest: R,
 }
@@ -115,7 +115,11 @@ impl<A: Drop, B: Drop, C: Drop, R: Drop> Slot<A, Slot<B, Slot<C, R>>> {
 }
 
 /// Reads the members up to the end of an object into slots.
-fn read_members<S: Slots>(alloc: Global, keys: &[Key], reader: &mut TokenReader<'_>) -> Option<S>
+fn read_members<S: Slots + Drop>(
+    alloc: Global,
+    keys: &[Key],
+    reader: &mut TokenReader<'_>,
+) -> Option<S>
     requires { are_sorted keys.now ≡ true }
     ensures { IfSome result (λ slots.
         SpellsMembers S.nesting S.holds keys.now reader.old slots reader.new) }
@@ -129,7 +133,11 @@ fn read_members<S: Slots>(alloc: Global, keys: &[Key], reader: &mut TokenReader<
 
 /// Reads an object into slots for the members with these keys, which stand here in the order of
 /// their names. None for another key, or one that comes twice.
-pub fn read_object<S: Slots>(alloc: Global, keys: &[Key], reader: &mut TokenReader<'_>) -> Option<S>
+pub fn read_object<S: Slots + Drop>(
+    alloc: Global,
+    keys: &[Key],
+    reader: &mut TokenReader<'_>,
+) -> Option<S>
     requires { are_sorted keys.now ≡ true }
     ensures { IfSome result (λ slots.
         SpellsObject S.nesting S.holds keys.now reader.old slots reader.new) }

@@ -1,6 +1,6 @@
 //! Forms read from the tokens of a text, without a tree of values.
 
-ghost use Rattle.std.specs.Prelude.{◌≡◌, ◌+◌, IfSome};
+ghost use Rattle.std.specs.Prelude.{◌≡◌, ◌+◌, ◌<◌, ◌^◌, IfSome};
 ghost use Rattle.topo_forms.specs.Reads.{number_form, long_form, list_form};
 ghost use Rattle.topo_forms.specs.Tokens.{Spells, SpellsItems, SpellsNumber};
 ghost use Rattle.topo_forms.specs.Tokens.{SpellsNumbers, SpellsText};
@@ -32,7 +32,7 @@ pub trait FromTokens: Drop {
 
 /// A number of 64 bits as one of 32.
 fn short(number: u64) -> Option<u32>
-    ensures { IfSome result (λ n. n ≡ number) }
+    ensures { IfSome result (λ n. (n ≡ number) × (n < 2 ^ 32)) }
 {
     u32::try_from(number).ok()
 }
@@ -44,8 +44,7 @@ impl FromTokens for u32 {
 
     fn from_tokens(_alloc: Global, reader: &mut TokenReader<'_>) -> Option<Self> {
         let number = reader.next_number()?;
-        let number = short(number)?;
-        Some(number)
+        short(number)
     }
 }
 
