@@ -53,6 +53,8 @@ impl Slots for NoSlot {
 }
 
 /// A slot for one value, and the slots behind it.
+// It asks nothing of its types: a bound here would be met again at each slot around it, and what a
+// check writes out of that would double with each slot.
 #[derive(Drop)]
 pub struct Slot<A, R> {
     pub found: Option<A>,
