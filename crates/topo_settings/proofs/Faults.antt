@@ -1,23 +1,13 @@
 -- What follows of results, and of the fault of writing.
 use Rattle.std.proofs.Common.{Result, Ok, Err, IfErr, IfOk, OnErr, OnOk}
 use Rattle.topo_settings.specs.declared.fault.RunFault.{RunFault}
-use Rattle.topo_settings.specs.declared.fault.RunFault.TheVariants.{Memory, Script, BadLimits, Price, Load, NoSeat, Mismatch}
-use Rattle.topo_settings.specs.declared.fault.RunFault.TheVariants.{WrongReply, WrongPicture, ReadFault, WriteFault}
+use Rattle.topo_settings.specs.declared.fault.RunFault.TheVariants.{WriteFault}
 use Rattle.topo_settings.specs.Writing.{IsOfWriting}
 
 -- what holds of the fault of writing holds of each
 pub by_writing : (P : RunFault → Type 0) (fault : RunFault) → IsOfWriting fault → P WriteFault → P fault
-by_writing P Memory is write = absurd is
-by_writing P (Script fault) is write = absurd is
-by_writing P BadLimits is write = absurd is
-by_writing P (Price fault) is write = absurd is
-by_writing P (Load fault) is write = absurd is
-by_writing P NoSeat is write = absurd is
-by_writing P (Mismatch list i) is write = absurd is
-by_writing P (WrongReply i) is write = absurd is
-by_writing P WrongPicture is write = absurd is
-by_writing P ReadFault is write = absurd is
 by_writing P WriteFault is write = write
+by_writing P _ is write = absurd is
 
 -- ---- What follows of a result
 

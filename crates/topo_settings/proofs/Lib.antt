@@ -1,4 +1,5 @@
 pub mod Faults
+pub mod OneList
 pub mod Pricing
 pub mod Validating
 pub mod Written

@@ -9,16 +9,17 @@ use Rattle.topo_core.specs.declared.rows.Facts.{Facts}
 use Rattle.topo_core.specs.declared.routes.Route.{Route}
 use Rattle.topo_core.specs.declared.limits.Limits.{Limits}
 use Rattle.topo_core.specs.declared.calls.Call.{Call}
-use Rattle.topo_core.specs.declared.calls.Call.TheVariants.{Grow, Insert, Delete}
+use Rattle.topo_core.specs.declared.calls.Call.TheVariants.{Insert}
 use Rattle.topo_core.specs.declared.calls.Command.{Command}
 use Rattle.topo_core.specs.declared.calls.Entry.{Entry}
 use Rattle.topo_core.specs.declared.calls.Refusal.{Refusal}
 use Rattle.topo_core.specs.declared.calls.Reply.{Reply}
-use Rattle.topo_core.specs.declared.calls.Reply.TheVariants.{Grown, Inserted, Deleted, Refused}
+use Rattle.topo_core.specs.declared.calls.Reply.TheVariants.{Inserted, Refused}
 use Rattle.topo_core.specs.Routes.{Pricing, Costs, IsPricedRoute, IsFirst}
 use Rattle.topo_core.specs.Steps.{IsRefused, Step}
 use Rattle.topo_core.specs.History.{IsRun, Replays}
-use Rattle.topo_settings.specs.Settings.{price_of_kind, price_table, priced}
+use Rattle.topo_price.specs.Prices.{Asking, prices_of}
+use Rattle.topo_settings.specs.Settings.{AnswersPrices, price_of_kind, price_table, priced}
 use Rattle.topo_core.specs.declared.rows.TheConstants.{KINDS}
 
 -- what one asks for, the other does
@@ -44,7 +45,6 @@ module _ (a b : Pricing) (allows : Allows a b) (back : Allows b a) where
   }
 
   refused_so : (limits : Limits) (p : Rows) (call : Call) (why : Refusal) → IsRefused a limits p call why → IsRefused b limits p call why
-  refused_so limits p (Grow u position kind) why is = is
   refused_so limits p (Insert u v kind) why (inl before) = inl before
   refused_so limits p (Insert u v kind) why (inr (inl none)) = inr (inl (none.0, none.1, λ r n is. none.2 r n (route_so b a back p u v r n is)))
   refused_so limits p (Insert u v kind) why (inr (inr full)) = inr (inr (
@@ -57,21 +57,12 @@ module _ (a b : Pricing) (allows : Allows a b) (back : Allows b a) where
       too_many = full.2.too_many;
     },
   ))
-  refused_so limits p (Delete e) why is = is
+  refused_so limits p _ why is = is
 
   pub step_so : (limits : Limits) (p : Rows) (call : Call) (reply : Reply) (q : Rows) → Step a limits p call reply q → Step b limits p call reply q
-  step_so limits p (Grow u position kind) (Grown vertex edge) q is = is
-  step_so limits p (Grow u position kind) (Inserted made) q is = is
-  step_so limits p (Grow u position kind) (Deleted edge) q is = is
-  step_so limits p (Grow u position kind) (Refused why) q is = (refused_so limits p (Grow u position kind) why is.0, is.1)
-  step_so limits p (Insert u v kind) (Grown vertex edge) q is = is
   step_so limits p (Insert u v kind) (Inserted made) q is = (is.0, first_so p u v made.route made.price is.1, is.2, is.3, is.4)
-  step_so limits p (Insert u v kind) (Deleted edge) q is = is
-  step_so limits p (Insert u v kind) (Refused why) q is = (refused_so limits p (Insert u v kind) why is.0, is.1)
-  step_so limits p (Delete e) (Grown vertex edge) q is = is
-  step_so limits p (Delete e) (Inserted made) q is = is
-  step_so limits p (Delete e) (Deleted edge) q is = is
-  step_so limits p (Delete e) (Refused why) q is = (refused_so limits p (Delete e) why is.0, is.1)
+  step_so limits p call (Refused why) q is = (refused_so limits p call why is.0, is.1)
+  step_so limits p _ _ q is = is
 
   pub replays_so : (limits : Limits) (p : Rows) (history : List Entry) (q : Rows) → Replays a limits p history q → Replays b limits p history q
   replays_so limits p [] q is = is
@@ -114,6 +105,15 @@ module _ (price : Pricing) (prices table : List (Option ℕ)) (is : table ≡ pr
   pub replays_by_table : (limits : Limits) (p : Rows) (history : List Entry) (q : Rows) → Replays price limits p history q
       → Replays (priced prices) limits p history q
   replays_by_table = replays_so price (priced prices) there back
+
+-- a closure that answers what a table of the prices has
+pub own_prices : (answers : Asking) (prices table : List (Option ℕ)) → table ≡ price_table prices
+    → ((facts : Facts) (n : ℕ) → answers facts (Some n) → slice_get table facts.kind ≡ Some (Some n))
+    → ((facts : Facts) (n : ℕ) → slice_get table facts.kind ≡ Some (Some n) → answers facts (Some n)) → AnswersPrices answers prices
+own_prices answers prices table is tells told = record {
+  only = there (prices_of answers) prices table is tells told;
+  each = back (prices_of answers) prices table is tells told;
+}
 
 pub ok_so : {A E : Type 0} (r : Result A E) (P Q : A → Type 0) → ((a : A) → P a → Q a) → IfOk r P → IfOk r Q
 ok_so (Ok a) P Q f h = f a h

@@ -8,9 +8,3 @@ pub record AreLimits (numbers : LimitRows) (limits : Limits) : Type 0 where
   pub vertices : limits.vertices ≡ numbers.vertices
   pub edges : limits.edges ≡ numbers.edges
   pub crossings : limits.crossings ≡ numbers.crossings
-
--- the greatest limits
-pub record AreGreatest (limits : Limits) : Type 0 where
-  pub vertices : limits.vertices ≡ 65536
-  pub edges : limits.edges ≡ 65536
-  pub crossings : limits.crossings ≡ 1048576

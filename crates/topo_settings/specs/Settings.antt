@@ -1,6 +1,7 @@
 -- What a script or a report sets beside its calls: limits, prices, and the picture that it starts with.
 use Rattle.std.specs.Prelude.{◌≡◌, ℕ, List, map, slice_index_or, Option, Some, None, ⊤}
 use Rattle.std.specs.List.{range_with_len}
+use Rattle.topo_core.specs.declared.rows.Facts.{Facts}
 use Rattle.topo_core.specs.declared.rows.Rows.{Rows}
 use Rattle.topo_core.specs.declared.limits.Limits.{Limits}
 use Rattle.topo_core.specs.Limits.{InRange}
@@ -11,7 +12,7 @@ use Rattle.topo_rows.specs.Loading.{FailsFirst}
 use Rattle.topo_rows.specs.Shown.{IsPicture}
 use Rattle.topo_price.specs.declared.table.PriceFault.{PriceFault}
 use Rattle.topo_price.specs.declared.table.PriceFault.TheVariants.{BadPrice}
-use Rattle.topo_price.specs.Prices.{first_bad}
+use Rattle.topo_price.specs.Prices.{Asking, first_bad}
 use Rattle.topo_forms.specs.declared.scripts.LimitRows.{LimitRows}
 use Rattle.topo_settings.specs.declared.fault.RunFault.{RunFault}
 use Rattle.topo_settings.specs.declared.fault.RunFault.TheVariants.{Memory, Script, BadLimits, Price, Load, NoSeat, Mismatch}
@@ -28,6 +29,11 @@ price_of_kind prices kind = slice_index_or prices kind (Some 1)
 -- an edge costs the price of its kind
 abbrev pub priced : List (Option ℕ) → Pricing
 priced prices facts n = price_of_kind prices facts.kind ≡ Some n
+
+-- the closure answers for each kind the price that the list has for it
+pub record AnswersPrices (answers : Asking) (prices : List (Option ℕ)) : Type 0 where
+  pub only : (facts : Facts) (n : ℕ) → answers facts (Some n) → priced prices facts n
+  pub each : (facts : Facts) (n : ℕ) → priced prices facts n → answers facts (Some n)
 
 -- the prices of all kinds
 unfoldable pub price_table : List (Option ℕ) → List (Option ℕ)
