@@ -3,8 +3,8 @@ use Rattle.std.proofs.Common.{◌≡◌, ℕ, List, Ok, Option, subst}
 use Rattle.std.specs.Io.KnownBytes.{Appends, Keeps}
 use Rattle.topo_forms.specs.Reads.{Gives, Read}
 use Rattle.topo_settings.specs.declared.fault.RunFault.{RunFault}
-use Rattle.topo_settings.specs.declared.fault.RunFault.TheVariants.{Memory, Script, BadLimits, Price, Load, NoSeat, Mismatch}
-use Rattle.topo_settings.specs.declared.fault.RunFault.TheVariants.{WrongReply, WrongPicture, ReadFault, WriteFault}
+use Rattle.topo_settings.specs.declared.fault.RunFault.TheVariants.{Memory, Script, BadLimits, Price, Load}
+use Rattle.topo_settings.specs.declared.fault.RunFault.TheVariants.{WrongReply, WrongPicture}
 use Rattle.topo_settings.specs.Reading.{IsRead}
 use Rattle.topo_settings.specs.Writing.{AppendsPart, IsOfWriting}
 use Rattle.topo_settings.proofs.Faults.{by_writing}
@@ -34,12 +34,9 @@ module _ (old_left new_left old_held new_held : Option (List ℕ)) where
     replay_fails BadLimits is kept = (untrue BadLimits is, kept)
     replay_fails (Price fault) is kept = (untrue (Price fault) is, kept)
     replay_fails (Load fault) is kept = (untrue (Load fault) is, kept)
-    replay_fails NoSeat is kept = absurd is
-    replay_fails (Mismatch list i) is kept = absurd is
     replay_fails (WrongReply i) is kept = (untrue (WrongReply i) is, kept)
     replay_fails WrongPicture is kept = (untrue WrongPicture is, kept)
-    replay_fails ReadFault is kept = absurd is
-    replay_fails WriteFault is kept = absurd is
+    replay_fails _ is kept = absurd is
 
     -- ---- A check
 
@@ -63,8 +60,6 @@ module _ (old_left new_left old_held new_held : Option (List ℕ)) where
     pub check_fails : (fault : RunFault) → IsUnlawful bytes fault → Keeps old_held new_held → CheckFailsBy fault old_left new_left old_held new_held
     check_fails Memory is kept = kept
     check_fails (Script fault) is kept = (record { input = bytes; read = read; first = is }, kept)
-    check_fails BadLimits is kept = absurd is
-    check_fails (Price fault) is kept = absurd is
     check_fails (Load fault) is kept = (
       record {
         rows = is.rows;
@@ -75,12 +70,7 @@ module _ (old_left new_left old_held new_held : Option (List ℕ)) where
       },
       kept,
     )
-    check_fails NoSeat is kept = absurd is
-    check_fails (Mismatch list i) is kept = absurd is
-    check_fails (WrongReply i) is kept = absurd is
-    check_fails WrongPicture is kept = absurd is
-    check_fails ReadFault is kept = absurd is
-    check_fails WriteFault is kept = absurd is
+    check_fails _ is kept = absurd is
 
     pub check_unwritten : (fault : RunFault) (line text : List ℕ) → IsSizeOfBytes bytes line → text ≡ line → AppendsPart old_held new_held text
         → IsOfWriting fault → CheckFailsBy fault old_left new_left old_held new_held

@@ -10,10 +10,11 @@ use Rattle.topo_rows.specs.Shown.{IsPicture}
 use Rattle.topo_picture.specs.Totals.{AreCountsOf}
 use Rattle.topo_forms.specs.Reads.{IsFirstFault}
 use Rattle.topo_forms.specs.RowForms.{rows_of}
+use Rattle.topo_forms.specs.Scripts.{greatest_limits}
 use Rattle.topo_settings.specs.declared.fault.RunFault.{RunFault}
 use Rattle.topo_settings.specs.declared.fault.RunFault.TheVariants.{Memory, Script, BadLimits, Price, Load, NoSeat, Mismatch}
 use Rattle.topo_settings.specs.declared.fault.RunFault.TheVariants.{WrongReply, WrongPicture, ReadFault, WriteFault}
-use Rattle.topo_settings.specs.Limiting.{AreGreatest}
+use Rattle.topo_settings.specs.Limiting.{AreLimits}
 use Rattle.topo_settings.specs.Reading.{Spells, SpellsNone}
 use Rattle.topo_settings.specs.Writing.{AppendsPart}
 
@@ -30,7 +31,7 @@ pub record IsSizeOfBytes (bytes line : List ℕ) : Type 0 where
   pub rows : Rows
   pub spelled : rows_of bytes ≡ Ok rows
   pub limits : Limits
-  pub greatest : AreGreatest limits
+  pub greatest : AreLimits greatest_limits limits
   pub lawful : IsPicture limits rows
   pub counts : Counts
   pub counted : AreCountsOf rows counts
@@ -41,7 +42,7 @@ pub record IsUnlawfulAt (bytes : List ℕ) (fault : LoadFault) : Type 0 where
   pub rows : Rows
   pub spelled : rows_of bytes ≡ Ok rows
   pub limits : Limits
-  pub greatest : AreGreatest limits
+  pub greatest : AreLimits greatest_limits limits
   pub first : FailsFirst limits rows fault
 
 -- what is told of bytes: the first fault of reading them, and then of loading the rows
@@ -64,7 +65,7 @@ IsUnlawful bytes WriteFault = ⊥
 pub record IsLawfulInput (old_left new_left : Option (List ℕ)) (rows : Rows) : Type 0 where
   pub spelled : Spells rows_of 268435456 old_left new_left rows
   pub limits : Limits
-  pub greatest : AreGreatest limits
+  pub greatest : AreLimits greatest_limits limits
   pub lawful : IsPicture limits rows
 
 -- what was read spells rows that are no picture under the greatest limits: this is the first test that they fail
@@ -72,7 +73,7 @@ pub record IsUnlawfulInput (old_left new_left : Option (List ℕ)) (fault : Load
   pub rows : Rows
   pub spelled : Spells rows_of 268435456 old_left new_left rows
   pub limits : Limits
-  pub greatest : AreGreatest limits
+  pub greatest : AreLimits greatest_limits limits
   pub first : FailsFirst limits rows fault
 
 -- what was read is a lawful picture, and the line that says how large it is was written

@@ -5,7 +5,8 @@ ghost use Rattle.topo_check.specs.Checks.{CheckFailsBy, IsChecked};
 ghost use Rattle.topo_check.specs.Checks.{IsSizeOfBytes, IsUnlawful, size_line};
 ghost use Rattle.topo_forms.specs.Reads.{Gives};
 ghost use Rattle.topo_forms.specs.RowForms.{rows_of};
-ghost use Rattle.topo_settings.specs.Limiting.{AreGreatest};
+ghost use Rattle.topo_forms.specs.Scripts.{greatest_limits};
+ghost use Rattle.topo_settings.specs.Limiting.{AreLimits};
 
 use std::alloc::{AllocError, Global};
 use std::io::{Read, Write};
@@ -75,7 +76,7 @@ fn line_of_read(alloc: Global, read: Result<Rows, ScriptFault>) -> Result<String
 
 /// The greatest limits.
 fn greatest_limits() -> Limits
-    ensures { AreGreatest result }
+    ensures { AreLimits greatest_limits result }
 {
     Limits {
         vertices: 65_536,
