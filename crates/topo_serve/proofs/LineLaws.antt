@@ -1,5 +1,5 @@
 -- Laws of lines.
-use Rattle.std.proofs.Common.{◌≡◌, ℕ, zero, suc, ◌+◌, ◌-◌, ◌<◌, ◌≤◌, List, [], ◌∷◌, ◌++◌, length, take, drop, min}
+use Rattle.std.proofs.Common.{◌≡◌, ℕ, zero, suc, ◌+◌, ◌-◌, ◌<◌, ◌≤◌, List, [], ◌∷◌, ◌++◌, length, take, drop}
 use Rattle.std.proofs.Common.{refl, sym, ap, ◌∙◌, subst, length-drop, inl, inr, arith, append_assoc, append-nil}
 use Rattle.std.proofs.lemmas.List.{drop-drop, drop_all, take_all, take_rest}
 use Rattle.std.proofs.lemmas.Bool.{ne_eqb}
@@ -20,9 +20,6 @@ pub closed_snoc : (lines : List (List ℕ)) (line : List ℕ) → closed (lines 
 closed_snoc [] line = refl
 closed_snoc (l ∷ lines) line = ap (λ (t : List ℕ). l ++ 10 ∷ t) (closed_snoc lines line) ∙ sym (append_assoc l (10 ∷ closed lines) (line ++ 10 ∷ []))
 
-pub closed_then : (lines : List (List ℕ)) (line rest : List ℕ) → closed (lines ++ line ∷ []) ++ rest ≡ closed lines ++ ((line ++ 10 ∷ []) ++ rest)
-closed_then lines line rest = ap (λ (t : List ℕ). t ++ rest) (closed_snoc lines line) ∙ append_assoc (closed lines) (line ++ 10 ∷ []) rest
-
 -- ---- The first line
 
 pub first_plain : (bs : List ℕ) → IsPlain (first_line bs)
@@ -41,10 +38,6 @@ pub first_behind : (line rest : List ℕ) → IsPlain line → first_line (line 
 first_behind [] rest p = refl
 first_behind (b ∷ line) rest p = rw (ne_eqb b 10 p.0) (ap (λ (t : List ℕ). b ∷ t) (first_behind line rest p.1))
 
-pub first_within : (bs : List ℕ) → length (first_line bs) ≤ length bs
-first_within [] = omega arith
-first_within (b ∷ bs) = elim (eqb_tells b 10) [ inl (is, _) ↦ rw is (omega arith) | inr (is, not) ↦ rw is (omega (arith, first_within bs)) ]
-
 pub first_taken : (bs : List ℕ) → take (length (first_line bs)) bs ≡ first_line bs
 first_taken [] = refl
 first_taken (b ∷ bs) = elim (eqb_tells b 10) [ inl (is, _) ↦ rw is refl | inr (is, not) ↦ rw is (ap (λ (t : List ℕ). b ∷ t) (first_taken bs)) ]
@@ -57,18 +50,6 @@ first_fed (b ∷ bs) h = elim (eqb_tells b 10) [
   | inr (is, not) ↦
       let below : length (b ∷ first_line bs) < length (b ∷ bs) = rw is at h in
       rw is (ap (λ (t : List ℕ). b ∷ t) (first_fed bs (omega arith)))
-]
-
--- and there is none, where it is all
-pub first_all : (bs : List ℕ) → length bs ≤ length (first_line bs) → first_line bs ≡ bs
-first_all [] h = refl
-first_all (b ∷ bs) h = elim (eqb_tells b 10) [
-  | inl (is, same) ↦
-      let above : length (b ∷ bs) ≤ 0 = rw is at h in
-      absurd (omega arith)
-  | inr (is, not) ↦
-      let above : length (b ∷ bs) ≤ length (b ∷ first_line bs) = rw is at h in
-      rw is (ap (λ (t : List ℕ). b ∷ t) (first_all bs (omega arith)))
 ]
 
 -- ---- The lines of a text
@@ -89,30 +70,12 @@ lines_closed (line ∷ lines) rest p =
 
 -- ---- What is kept of a line
 
-take_same : (m n : ℕ) (bs : List ℕ) → n ≡ min (length bs) m → take m bs ≡ take n bs
-take_same zero n [] is = rw is refl
-take_same (suc m) n [] is = let none : n ≡ 0 = omega (arith, is) in rw none refl
-take_same zero n (b ∷ bs) is = let none : n ≡ 0 = omega (arith, is) in rw none refl
-take_same (suc m) n (b ∷ bs) is = let one : n ≡ suc (min (length bs) m) = omega (arith, is) in
-    rw one (ap (λ (t : List ℕ). b ∷ t) (take_same m (min (length bs) m) bs refl))
-
-take_behind : (most : ℕ) (line bs : List ℕ) → length line ≤ most → take most (line ++ bs) ≡ line ++ take (most - length line) bs
-take_behind most [] bs within = let all : most - 0 ≡ most = omega arith in rw all refl
-take_behind zero (b ∷ line) bs within = absurd (omega arith)
-take_behind (suc most) (b ∷ line) bs within =
-    let less : suc most - suc (length line) ≡ most - length line = omega arith in
-    rw less (ap (λ (t : List ℕ). b ∷ t) (take_behind most line bs (omega arith)))
-
 pub take_more : (most : ℕ) (a b : List ℕ) → take most (take most a ++ b) ≡ take most (a ++ b)
 take_more zero a b = refl
 take_more (suc most) [] b = refl
 take_more (suc most) (x ∷ a) b = ap (λ (t : List ℕ). x ∷ t) (take_more most a b)
 
 -- ---- What is ahead
-
-pub kept_part : (most n : ℕ) (line more : List ℕ) → length line ≤ most → n ≡ min (length more) (most - length line)
-    → line ++ take n more ≡ take most (line ++ more)
-kept_part most n line more within is = ap (λ (t : List ℕ). line ++ t) (sym (take_same (most - length line) n more is)) ∙ sym (take_behind most line more within)
 
 -- what is ahead, as it is lent
 abbrev pub lent : List ℕ → ℕ → List ℕ

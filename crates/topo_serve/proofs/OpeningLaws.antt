@@ -11,10 +11,9 @@ use Rattle.topo_forms.specs.declared.sessions.Opening.{Opening}
 use Rattle.topo_forms.specs.Reads.{IsFirstFault, Read, and_then}
 use Rattle.topo_forms.specs.Sessions.{opening_of}
 use Rattle.topo_settings.specs.declared.fault.RunFault.{RunFault}
-use Rattle.topo_settings.specs.declared.fault.RunFault.TheVariants.{Memory, Script, BadLimits, Price, Load, NoSeat, Mismatch}
-use Rattle.topo_settings.specs.declared.fault.RunFault.TheVariants.{WrongReply, WrongPicture, ReadFault, WriteFault}
+use Rattle.topo_settings.specs.declared.fault.RunFault.TheVariants.{Memory, Script, BadLimits, Price, Load}
+use Rattle.topo_settings.specs.declared.fault.RunFault.TheVariants.{ReadFault, WriteFault}
 use Rattle.topo_settings.specs.Settings.{IsSound, IsUnsound, priced, start_of}
-use Rattle.topo_settings.proofs.Pricing.{Allows}
 use Rattle.topo_serve.specs.declared.ahead.Part.{Part}
 use Rattle.topo_serve.specs.declared.ahead.Part.TheVariants.{More}
 use Rattle.topo_serve.specs.Answers.{Standing, TellsCounts}
@@ -22,10 +21,10 @@ use Rattle.topo_serve.specs.Lines.{IsPlain, closed, first_line, lines_of}
 use Rattle.topo_serve.specs.Sessions.{AreAnswered, AreRead, IsCutShort, IsFaultOfOpening, IsFirstRead}
 use Rattle.topo_serve.specs.Sessions.{IsPartlyServed, IsServed, IsSession, OpensNone, ServeFailsBy, beginning}
 use Rattle.topo_serve.specs.Taking.{OverUnless, Takes, TakesFirst, feed_if}
-use Rattle.topo_serve.specs.Turns.{BeginFailsBy, BeginsAll, BeginsPart, BeginsSome, LinesFailBy, OpenFailsBy, Opens}
-use Rattle.topo_serve.specs.Turns.{OpensNoneBy, RestServed, ServesAll, ServesPart, ServesSome, Streams, streams}
+use Rattle.topo_serve.specs.Turns.{BeginFailsBy, BeginsAll, BeginsPart, OpenFailsBy, Opens}
+use Rattle.topo_serve.specs.Turns.{OpensNoneBy, ServesPart, ServesSome, Streams, streams}
 use Rattle.topo_serve.proofs.KeptLines.{json_none, kept_long, opening_kept, value_long, value_none}
-use Rattle.topo_serve.proofs.AnswerLaws.{answered_run, answered_so}
+use Rattle.topo_serve.proofs.AnswerLaws.{answered_run}
 use Rattle.topo_serve.proofs.SessionLaws.{keeps_appends}
 use Rattle.topo_serve.proofs.LineLaws.{first_behind, first_of_line, first_of_plain, line_alone, line_then}
 
@@ -118,127 +117,22 @@ module _ (old_left new_left : Option (List ℕ)) (old ahead kept : List ℕ) (no
     })
 
     pub none_so : (fault : RunFault) → OpensNoneBy kept fault → OpenFailsBy fault old_left new_left
-    none_so Memory is = absurd is
     none_so (Script fault) is = line_none old_left new_left ahead line plain (Script fault) has_feed taken over
         (subst (λ (r : Read Opening). IsFirstFault r fault) (opening_kept line kept is_kept) is)
-    none_so BadLimits is = absurd is
-    none_so (Price fault) is = absurd is
-    none_so (Load fault) is = absurd is
-    none_so NoSeat is = absurd is
-    none_so (Mismatch list i) is = absurd is
-    none_so (WrongReply i) is = absurd is
-    none_so WrongPicture is = absurd is
-    none_so ReadFault is = absurd is
-    none_so WriteFault is = absurd is
+    none_so _ is = absurd is
 
 -- a first line that spells an opening with this fault
 pub unsound_none : (old_left new_left held : Option (List ℕ)) (ahead : List ℕ) (opening : Opening) (has_feed : Bool) (fault : RunFault)
     → Opens old_left new_left ahead opening has_feed
     → IsUnsound opening.limits opening.prices opening.start fault → ServeFailsBy fault old_left new_left held held
 unsound_none ol nl held ahead opening has_feed Memory o is = inl (Keeps-refl held)
-unsound_none ol nl held ahead opening has_feed (Script fault) o is = absurd is
 unsound_none ol nl held ahead opening has_feed BadLimits o is =
     (line_none ol nl ahead o.line o.plain BadLimits has_feed o.takes o.over (record { opening = opening; opens = o.opens; fails = is }), Keeps-refl held)
 unsound_none ol nl held ahead opening has_feed (Price fault) o is =
     (line_none ol nl ahead o.line o.plain (Price fault) has_feed o.takes o.over (record { opening = opening; opens = o.opens; fails = is }), Keeps-refl held)
 unsound_none ol nl held ahead opening has_feed (Load fault) o is =
     (line_none ol nl ahead o.line o.plain (Load fault) has_feed o.takes o.over (record { opening = opening; opens = o.opens; fails = is }), Keeps-refl held)
-unsound_none ol nl held ahead opening has_feed NoSeat o is = absurd is
-unsound_none ol nl held ahead opening has_feed (Mismatch list i) o is = absurd is
-unsound_none ol nl held ahead opening has_feed (WrongReply i) o is = absurd is
-unsound_none ol nl held ahead opening has_feed WrongPicture o is = absurd is
-unsound_none ol nl held ahead opening has_feed ReadFault o is = absurd is
-unsound_none ol nl held ahead opening has_feed WriteFault o is = absurd is
-
--- ---- Other prices that ask for the same
-
-module _ (a b : Pricing) (there : Allows a b) (back : Allows b a) (limits : Limits) (old new : Streams) (from : Standing) where
-  all_so : ServesAll a limits old new from → ServesAll b limits old new from
-  all_so is = record {
-    read = is.read;
-    consumed = is.consumed;
-    whole = is.whole;
-    texts = is.texts;
-    to = is.to;
-    answered = answered_so a b there back limits (lines_of (old.ahead ++ is.read)) is.texts from is.to is.answered;
-    written = is.written;
-  }
-
-  some_so : ServesSome a limits old new from → ServesSome b limits old new from
-  some_so is = record {
-    read = is.read;
-    consumed = is.consumed;
-    lines = is.lines;
-    are_read = is.are_read;
-    texts = is.texts;
-    to = is.to;
-    answered = answered_so a b there back limits is.lines is.texts from is.to is.answered;
-    written = is.written;
-  }
-
-  part_so : ServesPart a limits old new from → ServesPart b limits old new from
-  part_so is = record {
-    read = is.read;
-    consumed = is.consumed;
-    lines = is.lines;
-    are_read = is.are_read;
-    texts = is.texts;
-    to = is.to;
-    answered = answered_so a b there back limits is.lines is.texts from is.to is.answered;
-    written = is.written;
-  }
-
-  rest_so : (has_feed : Bool) → RestServed has_feed a limits old new from → RestServed has_feed b limits old new from
-  rest_so true is = all_so is
-  rest_so false is = is
-
-  lines_fail_so : (fault : RunFault) → LinesFailBy fault a limits old new from → LinesFailBy fault b limits old new from
-  lines_fail_so Memory is = some_so is
-  lines_fail_so (Script fault) is = is
-  lines_fail_so BadLimits is = is
-  lines_fail_so (Price fault) is = is
-  lines_fail_so (Load fault) is = is
-  lines_fail_so NoSeat is = is
-  lines_fail_so (Mismatch list i) is = is
-  lines_fail_so (WrongReply i) is = is
-  lines_fail_so WrongPicture is = is
-  lines_fail_so ReadFault is = some_so is
-  lines_fail_so WriteFault is = part_so is
-
-module _ (a b : Pricing) (there : Allows a b) (back : Allows b a) (limits : Limits) (old new : Streams) (from : Standing) (has_feed : Bool) where
-  pub begins_all_so : BeginsAll has_feed a limits old new from → BeginsAll has_feed b limits old new from
-  begins_all_so is = record {
-    counts = is.counts;
-    counted = is.counted;
-    held = is.held;
-    first = is.first;
-    rest = rest_so a b there back limits (record old { held = is.held }) new from has_feed is.rest;
-  }
-
-  begins_some_so : (fault : RunFault) → BeginsSome fault has_feed a limits old new from → BeginsSome fault has_feed b limits old new from
-  begins_some_so fault is = record {
-    fed = is.fed;
-    counts = is.counts;
-    counted = is.counted;
-    held = is.held;
-    first = is.first;
-    rest = lines_fail_so a b there back limits (record old { held = is.held }) new from fault is.rest;
-  }
-
-  pub begin_fails_so : (fault : RunFault) → BeginFailsBy fault has_feed a limits old new from → BeginFailsBy fault has_feed b limits old new from
-  begin_fails_so Memory (inl kept) = inl kept
-  begin_fails_so Memory (inr is) = inr (begins_some_so Memory is)
-  begin_fails_so (Script fault) is = is
-  begin_fails_so BadLimits is = is
-  begin_fails_so (Price fault) is = is
-  begin_fails_so (Load fault) is = is
-  begin_fails_so NoSeat is = is
-  begin_fails_so (Mismatch list i) is = is
-  begin_fails_so (WrongReply i) is = is
-  begin_fails_so WrongPicture is = is
-  begin_fails_so ReadFault is = begins_some_so ReadFault is
-  begin_fails_so WriteFault (inl part) = inl part
-  begin_fails_so WriteFault (inr is) = inr (begins_some_so WriteFault is)
+unsound_none ol nl held ahead opening has_feed _ o is = absurd is
 
 -- ---- The session behind an opening
 
@@ -399,29 +293,15 @@ module _ (old_left mid_left new_left old_held new_held : Option (List ℕ)) (ahe
       → ServeFailsBy fault old_left new_left old_held new_held
   fails Memory has_feed o (inl kept) = inl kept
   fails Memory has_feed o (inr is) = inr (cut_short has_feed o is.fed is.counts is.counted is.held is.first is.rest)
-  fails (Script fault) has_feed o is = absurd is
-  fails BadLimits has_feed o is = absurd is
-  fails (Price fault) has_feed o is = absurd is
-  fails (Load fault) has_feed o is = absurd is
-  fails NoSeat has_feed o is = absurd is
-  fails (Mismatch list i) has_feed o is = absurd is
-  fails (WrongReply i) has_feed o is = absurd is
-  fails WrongPicture has_feed o is = absurd is
   fails ReadFault has_feed o is = inr (cut_short has_feed o is.fed is.counts is.counted is.held is.first is.rest)
   fails WriteFault has_feed o (inl part) = cut_first has_feed o part
   fails WriteFault has_feed o (inr is) = cut_later has_feed o is.fed is.counts is.counted is.held is.first is.rest
+  fails _ has_feed o is = absurd is
 
 -- a first line that could not be read, or is no opening
 pub open_fails : (fault : RunFault) (old_left new_left held : Option (List ℕ)) → OpenFailsBy fault old_left new_left
     → ServeFailsBy fault old_left new_left held held
 open_fails Memory old_left new_left held is = inl (Keeps-refl held)
 open_fails (Script fault) old_left new_left held is = (is, Keeps-refl held)
-open_fails BadLimits old_left new_left held is = absurd is
-open_fails (Price fault) old_left new_left held is = absurd is
-open_fails (Load fault) old_left new_left held is = absurd is
-open_fails NoSeat old_left new_left held is = absurd is
-open_fails (Mismatch list i) old_left new_left held is = absurd is
-open_fails (WrongReply i) old_left new_left held is = absurd is
-open_fails WrongPicture old_left new_left held is = absurd is
 open_fails ReadFault old_left new_left held is = inl (Keeps-refl held)
-open_fails WriteFault old_left new_left held is = absurd is
+open_fails _ old_left new_left held is = absurd is

@@ -6,9 +6,9 @@ use Rattle.std.proofs.KnownBytes.{Appends-nil, Appends-trans, Consumes-trans}
 use Rattle.topo_core.specs.declared.limits.Limits.{Limits}
 use Rattle.topo_core.specs.Routes.{Pricing}
 use Rattle.topo_settings.specs.declared.fault.RunFault.{RunFault}
-use Rattle.topo_settings.specs.declared.fault.RunFault.TheVariants.{Memory, Script, BadLimits, Price, Load, NoSeat, Mismatch}
-use Rattle.topo_settings.specs.declared.fault.RunFault.TheVariants.{WrongReply, WrongPicture, ReadFault, WriteFault}
-use Rattle.topo_book.specs.Books.{BookState, IsSameBook}
+use Rattle.topo_settings.specs.declared.fault.RunFault.TheVariants.{Memory}
+use Rattle.topo_settings.specs.declared.fault.RunFault.TheVariants.{ReadFault, WriteFault}
+use Rattle.topo_book.specs.Books.{BookState}
 use Rattle.topo_forms.specs.declared.sessions.Opening.{Opening}
 use Rattle.topo_forms.specs.declared.sessions.Request.{Request}
 use Rattle.topo_forms.specs.Reads.{Read}
@@ -170,16 +170,9 @@ module _ (price : Pricing) (limits : Limits) (old mid new : Streams) (from now :
 
   pub turn_fails : (fault : RunFault) → TurnFailsBy fault price limits mid new now → LinesFailBy fault price limits old new from
   turn_fails Memory fails = stops fails
-  turn_fails (Script fault) fails = absurd fails
-  turn_fails BadLimits fails = absurd fails
-  turn_fails (Price fault) fails = absurd fails
-  turn_fails (Load fault) fails = absurd fails
-  turn_fails NoSeat fails = absurd fails
-  turn_fails (Mismatch list i) fails = absurd fails
-  turn_fails (WrongReply i) fails = absurd fails
-  turn_fails WrongPicture fails = absurd fails
   turn_fails ReadFault fails = stops fails
   turn_fails WriteFault fails = breaks fails.has_feed fails.line fails.plain fails.takes fails.over fails.told
+  turn_fails _ fails = absurd fails
 
 -- ---- The answer to the opening
 
@@ -187,16 +180,8 @@ module _ (has_feed : Bool) (price : Pricing) (limits : Limits) (old new : Stream
   pub first_fails : (fault : RunFault) → new.left ≡ old.left → OpenedFailsBy fault from.picture old.held new.held
       → BeginFailsBy fault has_feed price limits old new from
   first_fails Memory unread is = inl is
-  first_fails (Script fault) unread is = absurd is
-  first_fails BadLimits unread is = absurd is
-  first_fails (Price fault) unread is = absurd is
-  first_fails (Load fault) unread is = absurd is
-  first_fails NoSeat unread is = absurd is
-  first_fails (Mismatch list i) unread is = absurd is
-  first_fails (WrongReply i) unread is = absurd is
-  first_fails WrongPicture unread is = absurd is
-  first_fails ReadFault unread is = absurd is
   first_fails WriteFault unread is = inl (record { counts = is.counts; counted = is.counted; unread = unread; part = is.part })
+  first_fails _ unread is = absurd is
 
   module _ (held : Option (List ℕ)) (is : IsOpened from.picture old.held held) where
     pub then_done : has_feed ≡ false → new.left ≡ old.left → Keeps held new.held → BeginsAll has_feed price limits old new from
@@ -224,16 +209,9 @@ module _ (has_feed : Bool) (price : Pricing) (limits : Limits) (old new : Stream
     pub then_fails : (fault : RunFault) → has_feed ≡ true → LinesFailBy fault price limits (record old { held = held }) new from
         → BeginFailsBy fault has_feed price limits old new from
     then_fails Memory fed some = inr (then_some Memory fed some)
-    then_fails (Script fault) fed some = absurd some
-    then_fails BadLimits fed some = absurd some
-    then_fails (Price fault) fed some = absurd some
-    then_fails (Load fault) fed some = absurd some
-    then_fails NoSeat fed some = absurd some
-    then_fails (Mismatch list i) fed some = absurd some
-    then_fails (WrongReply i) fed some = absurd some
-    then_fails WrongPicture fed some = absurd some
     then_fails ReadFault fed some = then_some ReadFault fed some
     then_fails WriteFault fed some = inr (then_some WriteFault fed some)
+    then_fails _ fed some = absurd some
 
 -- ---- One turn, of what was kept of its line
 
@@ -284,15 +262,6 @@ module _ (price : Pricing) (limits : Limits) (old new : Streams) (from : Standin
 
   pub turn_told : (fault : RunFault) → LineFailsBy fault has_feed price limits kept old.held new.held from → TurnFailsBy fault price limits old new from
   turn_told Memory is = (record { read = t.takes.read; consumed = t.takes.consumed }, is)
-  turn_told (Script fault) is = absurd is
-  turn_told BadLimits is = absurd is
-  turn_told (Price fault) is = absurd is
-  turn_told (Load fault) is = absurd is
-  turn_told NoSeat is = absurd is
-  turn_told (Mismatch list i) is = absurd is
-  turn_told (WrongReply i) is = absurd is
-  turn_told WrongPicture is = absurd is
-  turn_told ReadFault is = absurd is
   turn_told WriteFault is = record {
     has_feed = has_feed;
     line = t.line;
@@ -301,36 +270,23 @@ module _ (price : Pricing) (limits : Limits) (old new : Streams) (from : Standin
     over = t.over;
     told = of_kept 65536 has_feed t.line kept _ _ _ t.is_kept cut_kept is;
   }
+  turn_told _ is = absurd is
 
 pub line_fails : (fault : RunFault) (has_feed : Bool) (price : Pricing) (limits : Limits) (line : List ℕ) (old_held new_held : Option (List ℕ))
     (from : Standing)
     → ((some : Type 0) → some → OfLine has_feed line some ⊥) → AnswerFailsBy fault price limits line old_held new_held from
     → LineFailsBy fault has_feed price limits line old_held new_held from
 line_fails Memory has_feed price limits line oh nh from of is = is
-line_fails (Script fault) has_feed price limits line oh nh from of is = absurd is
-line_fails BadLimits has_feed price limits line oh nh from of is = absurd is
-line_fails (Price fault) has_feed price limits line oh nh from of is = absurd is
-line_fails (Load fault) has_feed price limits line oh nh from of is = absurd is
-line_fails NoSeat has_feed price limits line oh nh from of is = absurd is
-line_fails (Mismatch list i) has_feed price limits line oh nh from of is = absurd is
-line_fails (WrongReply i) has_feed price limits line oh nh from of is = absurd is
-line_fails WrongPicture has_feed price limits line oh nh from of is = absurd is
-line_fails ReadFault has_feed price limits line oh nh from of is = absurd is
 line_fails WriteFault has_feed price limits line oh nh from of is = of _ is
+line_fails _ has_feed price limits line oh nh from of is = absurd is
 
--- ---- The same book
+-- ---- A book that has begun
 
-pub book_so : {F : Type 0} (P : F → Limits → Type 0) (old new : BookState F) → IsSameBook old new → P new.tariff new.picture.limits
-    → P old.tariff old.picture.limits
-book_so P old new same p = subst (λ t. P t old.picture.limits) same.0 (subst (λ (l : Limits). P new.tariff l) same.2 p)
-
-pub begun_so : {F : Type 0} (P : F → Limits → Standing → Type 0) (book : BookState F) (ask : F) (start : Shown) (opening : Opening) → book.tariff ≡ ask
-    → book.start ≡ start → book.history ≡ []
-    → book.picture ≡ start → P book.tariff book.picture.limits (standing_of opening book) → P ask start.limits (begins_at opening start.rows)
-begun_so P book ask start opening tariff begin empty picture p =
+pub begun_so : {F : Type 0} (P : Limits → Standing → Type 0) (book : BookState F) (start : Shown) (opening : Opening) → book.start ≡ start
+    → book.history ≡ [] → book.picture ≡ start → P book.picture.limits (standing_of opening book) → P start.limits (begins_at opening start.rows)
+begun_so P book start opening begin empty picture p =
     let at : standing_of opening book ≡ begins_at opening start.rows = rw (begin, empty, picture) refl in
-    subst (λ t. P t start.limits (begins_at opening start.rows)) tariff
-    (subst (λ (s : Shown). P book.tariff s.limits (begins_at opening start.rows)) picture (subst (P book.tariff book.picture.limits) at p))
+    subst (λ (s : Shown). P s.limits (begins_at opening start.rows)) picture (subst (P book.picture.limits) at p)
 
 pub not_empty : (line : List ℕ) (test : Bool) → test ≡ (length line == 0) → test ≡ false → line ≡ [] → ⊥
 not_empty [] test is unmet none = false≢true (sym unmet ∙ is)

@@ -4,11 +4,12 @@ ghost use Rattle.std.specs.Prelude.{◌≡◌, ℕ, List, Option, [], IfErr, IfO
 ghost use Rattle.std.specs.Prelude.{Ok, Some, option_copied, string_bytes, ◌++◌, ◌∷◌};
 ghost use Rattle.std.specs.Io.KnownBytes.{Appends, Keeps};
 ghost use Rattle.topo_book.specs.Books.{IsSameBook};
-ghost use Rattle.topo_forms.specs.Sessions.{opening_of};
-ghost use Rattle.topo_price.specs.Prices.{IsPromise, prices_of};
-ghost use Rattle.topo_settings.specs.Settings.{IsSound, IsUnsound, price_table, priced, start_of};
+ghost use Rattle.topo_forms.specs.Sessions.{opening_of, request_of};
+ghost use Rattle.topo_price.specs.Prices.{IsPromise};
+ghost use Rattle.topo_settings.specs.Settings.{AnswersPrices, IsSound, IsUnsound, price_table};
+ghost use Rattle.topo_settings.specs.Settings.{priced, start_of};
 ghost use Rattle.topo_settings.specs.Writing.{AppendsPart};
-ghost use Rattle.topo_serve.specs.Answers.{standing_of};
+ghost use Rattle.topo_serve.specs.Answers.{Answers, standing_of};
 ghost use Rattle.topo_serve.specs.Sessions.{IsServed, ServeFailsBy};
 ghost use Rattle.topo_serve.specs.Taking.{OverUnless};
 ghost use Rattle.topo_serve.specs.Turns.{AnswerFailsBy, BeginFailsBy, BeginsAll, IsAnsweredBy};
@@ -184,12 +185,13 @@ fn serve_asked<F: PriceFn + Drop, I: Read, O: Write>(
 ) -> Result<(), RunFault>
     requires callable { F.is_callable ask }
     requires promise { IsPromise (F.may_return ask) }
-    ensures done { IfOk result (λ _. BeginsAll has_feed (prices_of (F.may_return ask)) start.limits
+    requires own { AnswersPrices (F.may_return ask) opening.now.prices }
+    ensures done { IfOk result (λ _. BeginsAll has_feed (priced opening.now.prices) start.limits
         (streams (I.remaining reader.old) ahead.old (O.contents writer.old))
         (streams (I.remaining reader.new) ahead.new (O.contents writer.new))
         (begins_at opening.now start.rows)) }
     ensures fault { IfErr result
-        (λ fault. BeginFailsBy fault has_feed (prices_of (F.may_return ask)) start.limits
+        (λ fault. BeginFailsBy fault has_feed (priced opening.now.prices) start.limits
         (streams (I.remaining reader.old) ahead.old (O.contents writer.old))
         (streams (I.remaining reader.new) ahead.new (O.contents writer.new))
         (begins_at opening.now start.rows)) }
@@ -210,12 +212,13 @@ fn serve_book<F: PriceFn, I: Read, O: Write>(
     reader: &mut I,
     writer: &mut O,
 ) -> Result<(), RunFault>
-    ensures done { IfOk result (λ _. BeginsAll has_feed (prices_of (F.may_return book.old.tariff))
+    requires { AnswersPrices (F.may_return book.old.tariff) opening.now.prices }
+    ensures done { IfOk result (λ _. BeginsAll has_feed (priced opening.now.prices)
         book.old.picture.limits (streams (I.remaining reader.old) ahead.old (O.contents writer.old))
         (streams (I.remaining reader.new) ahead.new (O.contents writer.new))
         (standing_of opening.now book.old)) }
     ensures fault { IfErr result
-        (λ fault. BeginFailsBy fault has_feed (prices_of (F.may_return book.old.tariff))
+        (λ fault. BeginFailsBy fault has_feed (priced opening.now.prices)
         book.old.picture.limits (streams (I.remaining reader.old) ahead.old (O.contents writer.old))
         (streams (I.remaining reader.new) ahead.new (O.contents writer.new))
         (standing_of opening.now book.old)) }
@@ -266,13 +269,14 @@ fn serve_lines<F: PriceFn, I: Read, O: Write>(
     reader: &mut I,
     writer: &mut O,
 ) -> Result<(), RunFault>
+    requires { AnswersPrices (F.may_return book.old.tariff) opening.now.prices }
     ensures done { IfOk result
-        (λ _. ServesAll (prices_of (F.may_return book.old.tariff)) book.old.picture.limits
+        (λ _. ServesAll (priced opening.now.prices) book.old.picture.limits
         (streams (I.remaining reader.old) ahead.old (O.contents writer.old))
         (streams (I.remaining reader.new) ahead.new (O.contents writer.new))
         (standing_of opening.now book.old)) }
     ensures fault { IfErr result
-        (λ fault. LinesFailBy fault (prices_of (F.may_return book.old.tariff))
+        (λ fault. LinesFailBy fault (priced opening.now.prices)
         book.old.picture.limits (streams (I.remaining reader.old) ahead.old (O.contents writer.old))
         (streams (I.remaining reader.new) ahead.new (O.contents writer.new))
         (standing_of opening.now book.old)) }
@@ -296,13 +300,14 @@ fn serve_line<F: PriceFn, I: Read, O: Write>(
     reader: &mut I,
     writer: &mut O,
 ) -> Result<bool, RunFault>
+    requires { AnswersPrices (F.may_return book.old.tariff) opening.now.prices }
     ensures turn { IfOk result
-        (IsTurn (prices_of (F.may_return book.old.tariff)) book.old.picture.limits
+        (IsTurn (priced opening.now.prices) book.old.picture.limits
         (streams (I.remaining reader.old) ahead.old (O.contents writer.old))
         (streams (I.remaining reader.new) ahead.new (O.contents writer.new))
         (standing_of opening.now book.old) (standing_of opening.now book.new)) }
     ensures fault { IfErr result
-        (λ fault. TurnFailsBy fault (prices_of (F.may_return book.old.tariff))
+        (λ fault. TurnFailsBy fault (priced opening.now.prices)
         book.old.picture.limits (streams (I.remaining reader.old) ahead.old (O.contents writer.old))
         (streams (I.remaining reader.new) ahead.new (O.contents writer.new))
         (standing_of opening.now book.old)) }
@@ -322,14 +327,15 @@ fn answer_if<F: PriceFn, O: Write>(
     line: &[u8],
     writer: &mut O,
 ) -> Result<(), RunFault>
+    requires { AnswersPrices (F.may_return book.old.tariff) opening.now.prices }
     ensures told { IfOk result
         (λ _. OfLine has_feed line.now
-        (IsAnsweredBy (prices_of (F.may_return book.old.tariff)) book.old.picture.limits line.now
+        (IsAnsweredBy (priced opening.now.prices) book.old.picture.limits line.now
         (O.contents writer.old) (O.contents writer.new) (standing_of opening.now book.old)
         (standing_of opening.now book.new)) (Stays (O.contents writer.old) (O.contents writer.new)
         (standing_of opening.now book.old) (standing_of opening.now book.new))) }
     ensures fault { IfErr result
-        (λ fault. LineFailsBy fault has_feed (prices_of (F.may_return book.old.tariff))
+        (λ fault. LineFailsBy fault has_feed (priced opening.now.prices)
         book.old.picture.limits line.now (O.contents writer.old) (O.contents writer.new)
         (standing_of opening.now book.old)) }
     ensures same_book { IsSameBook book.old book.new }
@@ -351,20 +357,38 @@ fn answer<F: PriceFn, O: Write>(
     line: &[u8],
     writer: &mut O,
 ) -> Result<(), RunFault>
+    requires { AnswersPrices (F.may_return book.old.tariff) opening.now.prices }
     ensures answered { IfOk result
-        (λ _. IsAnsweredBy (prices_of (F.may_return book.old.tariff)) book.old.picture.limits
+        (λ _. IsAnsweredBy (priced opening.now.prices) book.old.picture.limits
         line.now (O.contents writer.old) (O.contents writer.new) (standing_of opening.now book.old)
         (standing_of opening.now book.new)) }
     ensures fault { IfErr result
-        (λ fault. AnswerFailsBy fault (prices_of (F.may_return book.old.tariff))
+        (λ fault. AnswerFailsBy fault (priced opening.now.prices)
         book.old.picture.limits line.now (O.contents writer.old) (O.contents writer.new)
         (standing_of opening.now book.old)) }
     ensures same_book { IsSameBook book.old book.new }
 {
-    match answer_line(alloc, opening, book, line) {
+    match priced_answer(alloc, opening, book, line) {
         Ok(text) => write_answer(writer, text),
         Err(_) => Err(RunFault::Memory),
     }
+}
+
+/// The answer to a line, at the prices of the opening.
+fn priced_answer<F: PriceFn>(
+    alloc: Global,
+    opening: &Opening,
+    book: &mut Book<F>,
+    line: &[u8],
+) -> Result<String, AllocError>
+    requires { AnswersPrices (F.may_return book.old.tariff) opening.now.prices }
+    ensures answer { IfOk result
+        (λ text. Answers (priced opening.now.prices) book.old.picture.limits (request_of line.now)
+        (string_bytes text) (standing_of opening.now book.old)
+        (standing_of opening.now book.new)) }
+    ensures same_book { IsSameBook book.old book.new }
+{
+    answer_line(alloc, opening, book, line)
 }
 
 /// Writes an answer and a line feed.

@@ -1,6 +1,6 @@
 use Rattle.std.proofs.Common.{rules, refl, subst}
 use Rattle.std.proofs.KnownBytes.{Keeps-refl}
-use Rattle.topo_price.specs.Prices.{prices_of}
+use Rattle.topo_settings.specs.Settings.{priced}
 use Rattle.topo_rows.specs.Shown.{Shown}
 use Rattle.topo_settings.proofs.Pricing.{err_so, ok_so}
 use Rattle.topo_serve.specs.Answers.{standing_of}
@@ -10,7 +10,7 @@ use Rattle.topo_serve.proofs.serve.serve_book.Goals as goal
 
 pub returns-in_err-answer_opening-clause-fault : goal.returns-in_err-answer_opening-clause-fault
 returns-in_err-answer_opening-clause-fault g c =
-    let price = prices_of (g.F.PriceFn.may_return c.args.book.now.tariff) in
+    let price = priced c.args.opening.now.prices in
     let limits = c.args.book.now.picture.limits in
     let has_feed = c.args.has_feed in
     let from = standing_of c.args.opening.now c.args.book.now in
@@ -26,7 +26,7 @@ returns-in_err-answer_opening-clause-fault g c =
 
 pub returns-then-has_feed-clause-done : goal.returns-then-has_feed-clause-done
 returns-then-has_feed-clause-done g c =
-    let price = prices_of (g.F.PriceFn.may_return c.args.book.now.tariff) in
+    let price = priced c.args.opening.now.prices in
     let limits = c.args.book.now.picture.limits in
     let has_feed = c.args.has_feed in
     let from = standing_of c.args.opening.now c.args.book.now in
@@ -40,7 +40,7 @@ returns-then-has_feed-clause-done g c =
 
 pub returns-then-has_feed-clause-fault : goal.returns-then-has_feed-clause-fault
 returns-then-has_feed-clause-fault g c =
-    let price = prices_of (g.F.PriceFn.may_return c.args.book.now.tariff) in
+    let price = priced c.args.opening.now.prices in
     let limits = c.args.book.now.picture.limits in
     let has_feed = c.args.has_feed in
     let from = standing_of c.args.opening.now c.args.book.now in
@@ -55,7 +55,7 @@ returns-then-has_feed-clause-fault g c =
 
 pub returns-clause-done : goal.returns-clause-done
 returns-clause-done g c =
-    let price = prices_of (g.F.PriceFn.may_return c.args.book.now.tariff) in
+    let price = priced c.args.opening.now.prices in
     let limits = c.args.book.now.picture.limits in
     let has_feed = c.args.has_feed in
     let from = standing_of c.args.opening.now c.args.book.now in

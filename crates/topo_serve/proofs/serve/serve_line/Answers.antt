@@ -1,5 +1,5 @@
 use Rattle.std.proofs.Common.{ℕ, List, rules, subst, sym}
-use Rattle.topo_price.specs.Prices.{prices_of}
+use Rattle.topo_settings.specs.Settings.{priced}
 use Rattle.topo_serve.specs.Answers.{standing_of}
 use Rattle.topo_serve.specs.Taking.{TakesLine}
 use Rattle.topo_serve.specs.Turns.{TurnFailsBy, streams}
@@ -8,7 +8,7 @@ use Rattle.topo_serve.proofs.serve.serve_line.Goals as goal
 
 pub returns-clause-turn : goal.returns-clause-turn
 returns-clause-turn g c =
-    let price = prices_of (g.F.PriceFn.may_return c.args.book.now.tariff) in
+    let price = priced c.args.opening.now.prices in
     let limits = c.args.book.now.picture.limits in
     let old = streams (g.I.Read.remaining c.args.reader.now) c.args.ahead.now (g.O.Write.contents c.args.writer.now) in
     let new = streams (g.I.Read.remaining c.take_line.new.reader) c.take_line.new.self (g.O.Write.contents c.answer_if.new.writer) in
@@ -21,7 +21,7 @@ returns-clause-turn g c =
 
 pub returns-in_err-answer_if-clause-fault : goal.returns-in_err-answer_if-clause-fault
 returns-in_err-answer_if-clause-fault g c =
-    let price = prices_of (g.F.PriceFn.may_return c.args.book.now.tariff) in
+    let price = priced c.args.opening.now.prices in
     let limits = c.args.book.now.picture.limits in
     let old = streams (g.I.Read.remaining c.args.reader.now) c.args.ahead.now (g.O.Write.contents c.args.writer.now) in
     let new = streams (g.I.Read.remaining c.take_line.new.reader) c.take_line.new.self (g.O.Write.contents c.answer_if.new.writer) in
