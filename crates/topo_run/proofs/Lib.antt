@@ -1,4 +1,3 @@
 pub mod Below
-pub mod OneList
 pub mod Passing
 pub mod Telling

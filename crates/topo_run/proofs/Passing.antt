@@ -1,8 +1,7 @@
 -- Passes that have carried lists out, and whose receipts are the whole history, make a run of the lists.
 use Rattle.std.proofs.Common.{◌≡◌, ℕ, zero, suc, ◌+◌, ◌<◌, ◌⊎◌, List, [], ◌∷◌, ◌++◌, All, Option, Result, Ok, Err, IfOk, map, length}
-use Rattle.std.proofs.Common.{take, get_or, slice_get, slice_index_or, Some, refl, sym, ap, subst, ◌∙◌, inl, inr, arith, length-append}
+use Rattle.std.proofs.Common.{take, get_or, slice_index_or, refl, sym, ap, subst, ◌∙◌, inl, inr, arith, length-append}
 use Rattle.std.proofs.lemmas.List.{get_or_append_left, get_or-append-add, take_all}
-use Rattle.topo_core.specs.declared.rows.Facts.{Facts}
 use Rattle.topo_core.specs.declared.rows.Rows.{Rows}
 use Rattle.topo_core.specs.declared.limits.Limits.{Limits}
 use Rattle.topo_core.specs.declared.calls.Call.{Call}
@@ -20,9 +19,8 @@ use Rattle.topo_service.specs.Passes.{PassState}
 use Rattle.topo_service.specs.Receipts.{AreWhole, HasNumber, receipt_in, receipts_due}
 use Rattle.topo_service.proofs.Numbers.{number_at}
 use Rattle.topo_price.specs.Prices.{Asking, prices_of}
-use Rattle.topo_settings.specs.Settings.{price_table, priced}
-use Rattle.topo_settings.proofs.Pricing.{back, run_so, there}
-use Rattle.topo_run.specs.Runs.{AnswersPrices}
+use Rattle.topo_settings.specs.Settings.{AnswersPrices, priced}
+use Rattle.topo_settings.proofs.Pricing.{run_so}
 use Rattle.topo_run.specs.Working.{AreOpened, HasWorked, HaveWorked}
 
 abbrev no_pass : PassState
@@ -150,12 +148,3 @@ pub own_run : {answers : Asking} {prices : List (Option ℕ)} {limits : Limits} 
 own_run {answers} {prices} {limits} {p} {q} {copies} {history} own same run =
     subst (λ (ls : List (List Command)). IsRun (priced prices) limits p ls history q) same
     (run_so (prices_of answers) (priced prices) own.only own.each limits p copies history q run)
-
--- a closure that answers what a table of the script's prices has
-pub own_prices : (answers : Asking) (prices table : List (Option ℕ)) → table ≡ price_table prices
-    → ((facts : Facts) (n : ℕ) → answers facts (Some n) → slice_get table facts.kind ≡ Some (Some n))
-    → ((facts : Facts) (n : ℕ) → slice_get table facts.kind ≡ Some (Some n) → answers facts (Some n)) → AnswersPrices answers prices
-own_prices answers prices table is tells told = record {
-  only = there (prices_of answers) prices table is tells told;
-  each = back (prices_of answers) prices table is tells told;
-}

@@ -1,7 +1,6 @@
 -- What a run writes.
-use Rattle.std.specs.Prelude.{◌≡◌, ℕ, List, [], ◌∷◌, ◌++◌, Option, Some, Ok, ⊤}
+use Rattle.std.specs.Prelude.{◌≡◌, ℕ, List, [], ◌∷◌, ◌++◌, Option, Ok, ⊤}
 use Rattle.std.specs.Io.KnownBytes.{Appends, Keeps}
-use Rattle.topo_core.specs.declared.rows.Facts.{Facts}
 use Rattle.topo_core.specs.declared.rows.Rows.{Rows}
 use Rattle.topo_core.specs.declared.limits.Limits.{Limits}
 use Rattle.topo_core.specs.History.{IsRun}
@@ -10,7 +9,6 @@ use Rattle.topo_forms.specs.declared.scripts.Script.{Script}
 use Rattle.topo_forms.specs.declared.reports.Report.{Report}
 use Rattle.topo_forms.specs.Reads.{IsFirstFault}
 use Rattle.topo_forms.specs.Scripts.{script_of}
-use Rattle.topo_price.specs.Prices.{Asking}
 use Rattle.topo_script.specs.ReportTexts.{report_text}
 use Rattle.topo_settings.specs.declared.fault.RunFault.{RunFault}
 use Rattle.topo_settings.specs.declared.fault.RunFault.TheVariants.{Memory, Script as OfScript, BadLimits, Price, Load, NoSeat}
@@ -21,11 +19,6 @@ use Rattle.topo_settings.specs.Settings.{IsSound, IsUnsound, priced, start_of}
 use Rattle.topo_settings.specs.Writing.{AppendsPart}
 
 -- ---- What a run makes
-
--- the closure answers for each kind the price that the list has for it
-pub record AnswersPrices (answers : Asking) (prices : List (Option ℕ)) : Type 0 where
-  pub only : (facts : Facts) (n : ℕ) → answers facts (Some n) → priced prices facts n
-  pub each : (facts : Facts) (n : ℕ) → priced prices facts n → answers facts (Some n)
 
 -- the report is that of a run of the script's lists at its prices, from this start under these limits
 pub record IsReportFrom (script : Script) (limits : Limits) (start : Rows) (report : Report) : Type 0 where

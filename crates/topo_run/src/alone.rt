@@ -53,20 +53,10 @@ fn carry_out<F: PriceFn, T: Gate>(
 /// How many vertices and how many edges the commands of a list add at most. No contract rests on
 /// it.
 fn most_added(list: &[Command]) -> (usize, usize) {
-    let mut vertices = 0usize;
-    let mut edges = 0usize;
-    for command in list {
-        match command {
-            Command::Plain(Call::Grow { .. }) => {
-                vertices = vertices.saturating_add(1);
-                edges = edges.saturating_add(1);
-            }
-            Command::Plain(Call::Insert { .. }) | Command::Planned { .. } => {
-                edges = edges.saturating_add(1);
-            }
-            Command::Plain(Call::Delete { .. }) => {}
-        }
-    }
+    let grows = |command: &&Command| matches!(command, Command::Plain(Call::Grow { .. }));
+    let adds = |command: &&Command| !matches!(command, Command::Plain(Call::Delete { .. }));
+    let vertices = list.iter().filter(grows).count();
+    let edges = list.iter().filter(adds).count();
     (vertices, edges)
 }
 

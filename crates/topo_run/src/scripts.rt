@@ -4,10 +4,10 @@ ghost use Rattle.std.specs.Prelude.{◌≡◌, IfErr, IfOk};
 ghost use Rattle.std.specs.Arc.{arc_value};
 ghost use Rattle.topo_price.specs.Prices.{IsPromise};
 ghost use Rattle.topo_run.specs.Headings.{IsReportBelow};
-ghost use Rattle.topo_run.specs.Runs.{AnswersPrices, FailsRun, IsReportFrom, IsReportOf};
+ghost use Rattle.topo_run.specs.Runs.{FailsRun, IsReportFrom, IsReportOf};
 ghost use Rattle.topo_run.specs.Working.{IsOfService};
 ghost use Rattle.topo_settings.specs.Limiting.{AreLimits};
-ghost use Rattle.topo_settings.specs.Settings.{price_table, start_of};
+ghost use Rattle.topo_settings.specs.Settings.{AnswersPrices, price_table, start_of};
 
 use crate::serving::run_lists;
 use std::alloc::{AllocError, Global};

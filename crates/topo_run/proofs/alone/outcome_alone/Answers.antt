@@ -5,7 +5,7 @@ use Rattle.topo_core.specs.declared.rows.Rows.{Rows}
 use Rattle.topo_core.specs.History.{IsRun, Replays}
 use Rattle.topo_price.specs.Prices.{prices_of}
 use Rattle.topo_rows.specs.Shown.{Shown}
-use Rattle.topo_run.proofs.OneList.{run_alone}
+use Rattle.topo_settings.proofs.OneList.{run_of_one}
 use Rattle.topo_run.proofs.Passing.{ok_both}
 use Rattle.topo_run.proofs.alone.outcome_alone.Goals as goal
 
@@ -21,8 +21,9 @@ returns-then-carry_out-clause-run g c =
     subst (λ (s : Shown). Replays (prices_of (g.F.PriceFn.may_return own)) s.limits s.rows book.history book.picture.rows) begins
     (subst (λ t. Replays (prices_of (g.F.PriceFn.may_return t)) book.start.limits book.start.rows book.history book.picture.rows)
     tariff c.history.ensures.legal) in
-    let run = run_alone (prices_of (g.F.PriceFn.may_return own)) start.limits start.rows book.picture.rows list book.history
-    (c.carry_out.ensures.entered c.if-carry_out.true) way in
+    let entered = c.carry_out.ensures.entered c.if-carry_out.true in
+    let run = run_of_one (prices_of (g.F.PriceFn.may_return own)) start.limits start.rows book.picture.rows list book.history
+    entered.callers entered.calls way in
     ok_both c.outcome_of.result _ _ _
     (λ outcome history picture. subst
     (λ (es : List Entry). IsRun (prices_of (g.F.PriceFn.may_return own)) start.limits start.rows (list ∷ []) es outcome.picture) (sym history)

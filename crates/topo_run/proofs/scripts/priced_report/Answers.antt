@@ -1,8 +1,7 @@
-use Rattle.std.proofs.Common.{refl, rules, subst}
-use Rattle.topo_core.specs.declared.limits.Limits.{Limits}
+use Rattle.std.proofs.Common.{refl, rules}
+use Rattle.topo_settings.proofs.Pricing.{own_prices}
 use Rattle.topo_settings.specs.Limiting.{AreLimits}
 use Rattle.topo_run.proofs.Below.{reports_of}
-use Rattle.topo_run.proofs.Passing.{own_prices}
 use Rattle.topo_run.proofs.scripts.priced_report.Goals as goal
 
 pub asked_report-requires-clause-own : goal.asked_report-requires-clause-own
