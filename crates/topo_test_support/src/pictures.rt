@@ -246,21 +246,14 @@ pub fn greatest_limits() -> Limits
     }
 }
 
-/// The named picture within these limits.
-pub fn picture_within(alloc: Global, named: &Named, limits: Limits) -> Result<Picture, LoadFault>
-    ensures limits { IfOk result (λ picture. picture.limits ≡ limits) }
-{
-    let Ok(rows) = rows_of(alloc, named) else {
-        return Err(LoadFault::Memory);
-    };
-    let picture = Picture::load(alloc, limits, &rows);
-    drop(rows);
-    picture
-}
-
 /// The named picture within the greatest limits.
 pub fn picture_of(alloc: Global, named: &Named) -> Result<Picture, LoadFault>
     ensures vertices { IfOk result (λ picture. picture.limits.vertices ≡ 65536) }
 {
-    picture_within(alloc, named, greatest_limits())
+    let Ok(rows) = rows_of(alloc, named) else {
+        return Err(LoadFault::Memory);
+    };
+    let picture = Picture::load(alloc, greatest_limits(), &rows);
+    drop(rows);
+    picture
 }

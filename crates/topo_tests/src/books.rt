@@ -234,6 +234,13 @@ const STORIES: &[&[(Step, &str)]] = &[
         (Step::Sizes, "2 3 Ok(3)"),
         (Step::History, BOTH),
     ],
+    // a full picture judges vertex and kind before it says that it is full
+    &[
+        (Step::Enter(5), GROWTH),
+        (Step::Grow(0, 7, 9, 64), "Refused(NoVertex)"),
+        (Step::Grow(0, 0, 0, 64), "Refused(BadKind)"),
+        (Step::Grow(0, 0, 0, 0), "Refused(Full)"),
+    ],
     // the replay names the first wrong reply
     &[
         (Step::Replay(&[Ok((2, 1)), Err(Refusal::Full)]), "Ok(3)"),

@@ -16,8 +16,6 @@ mod embeddings;
 #[cfg(test)]
 mod faults;
 #[cfg(test)]
-mod full_pictures;
-#[cfg(test)]
 mod generated;
 #[cfg(test)]
 mod guided;
