@@ -1,4 +1,4 @@
-//! The JSON forms of the project: scripts, pictures and reports, read and written.
+//! The JSON forms of the project, pictures and reports, as they are written.
 //!
 //! The readers are those of `topo_forms`. `picture_text` and `report` write: compact, keys in the
 //! order of their bytes, nothing else. What is written is read back as what was written.
