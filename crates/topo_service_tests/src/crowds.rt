@@ -1,7 +1,7 @@
 //! Many workers, with calls that meet one another.
 
 use crate::gates::Round;
-use crate::harness::{Start, Work, is_told, lists_of, told_of};
+use crate::harness::{Scene, Start, Work, are_carried_out, is_played};
 use crate::steps::Step;
 use std::alloc::{AllocError, Global};
 use std::process::Abort;
@@ -20,34 +20,33 @@ use topo_test_support::calls::{delete, grow, insert, planned};
 use topo_test_support::lawful::is_loaded_again;
 use topo_versions::ServiceBrand;
 
+/// Puts an edge in between the apexes, with a plan.
+const JOIN: Command = Command::Planned {
+    u: 3,
+    v: 4,
+    kind: 0,
+};
+
 /// Each list is an insertion between the apexes with a plan and the deletion of an edge.
+const APEX_LISTS: &[&[Command]] = &[
+    &[JOIN, Command::Plain(Call::Delete { edge: 0 })],
+    &[JOIN, Command::Plain(Call::Delete { edge: 1 })],
+    &[JOIN, Command::Plain(Call::Delete { edge: 2 })],
+    &[JOIN, Command::Plain(Call::Delete { edge: 3 })],
+];
+
+const APEX_SCENE: Scene<'static> = Scene {
+    start: Start::Bipyramid,
+    prices: (Some(1), &[]),
+    steps: &[(0, Step::Accepted(8))],
+    due: "[Done, Done, Done, Done]\n\
+        accepted: true\n\
+        []; 8 calls, replayed: true",
+};
+
 #[test]
 fn four_workers_plan_between_the_apexes(rt: HostRuntime) -> Result<(), Fail> {
-    let join = planned(3, 4);
-    let lists = lists_of(
-        rt.alloc(),
-        &[
-            &[join, Command::Plain(delete(0))],
-            &[join, Command::Plain(delete(1))],
-            &[join, Command::Plain(delete(2))],
-            &[join, Command::Plain(delete(3))],
-        ],
-    )?;
-    let told = told_of(
-        &rt,
-        Start::Bipyramid,
-        (Some(1), &[]),
-        Work::Lists(lists.as_slice(), &Round::Still),
-        &[(0, Step::Accepted(8))],
-    );
-    drop(lists);
-    is_told(
-        &rt,
-        told,
-        "[Done, Done, Done, Done]\n\
-         accepted: true\n\
-         []; 8 calls, replayed: true",
-    )
+    are_carried_out(&rt, &APEX_SCENE, APEX_LISTS, &Round::Still)
 }
 
 /// A number that looks like any other.
@@ -93,6 +92,19 @@ pub(crate) struct Watch {
     fallen: AtomicU32,
     /// How many calls were out of memory.
     failed: AtomicU32,
+}
+
+impl Watch {
+    /// How many views were taken, how many of them were unlawful, how many fell, and how many calls
+    /// failed.
+    fn counts(&self) -> [u32; 4] {
+        [
+            self.views.load(Ordering::SeqCst),
+            self.unlawful.load(Ordering::SeqCst),
+            self.fallen.load(Ordering::SeqCst),
+            self.failed.load(Ordering::SeqCst),
+        ]
+    }
 }
 
 /// Adds one where it is so.
@@ -186,6 +198,13 @@ pub(crate) fn work_all<
     );
 }
 
+const TREE_SCENE: Scene<'static> = Scene {
+    start: Start::Tree,
+    prices: (Some(1), &[]),
+    steps: &[(0, Step::Accepted(1_000))],
+    due: "accepted: true\n[]; 32000 calls, replayed: true",
+};
+
 /// The workers take all views, and nothing is amiss.
 #[test]
 fn sixteen_workers_make_thousands_of_calls(rt: HostRuntime) -> Result<(), Fail> {
@@ -195,17 +214,7 @@ fn sixteen_workers_make_thousands_of_calls(rt: HostRuntime) -> Result<(), Fail> 
         fallen: AtomicU32::new(0),
         failed: AtomicU32::new(0),
     };
-    let told = told_of(
-        &rt,
-        Start::Tree,
-        (Some(1), &[]),
-        Work::Crowd(16, &watch),
-        &[(0, Step::Accepted(1_000))],
-    );
-    is_told(&rt, told, "accepted: true\n[]; 32000 calls, replayed: true")?;
-    assert!(rt; watch.views.load(Ordering::SeqCst) == 320);
-    assert!(rt; watch.unlawful.load(Ordering::SeqCst) == 0);
-    assert!(rt; watch.fallen.load(Ordering::SeqCst) == 0);
-    assert!(rt; watch.failed.load(Ordering::SeqCst) == 0);
+    is_played(&rt, &TREE_SCENE, Work::Crowd(16, &watch))?;
+    assert!(rt; watch.counts() == [320, 0, 0, 0]);
     Ok(())
 }

@@ -1,15 +1,13 @@
 //! What is done round each command, and two workers at one time in an order that a gate sets.
 
-use crate::harness::{Start, Work, is_told, lists_of, told_of};
+use crate::harness::{Scene, Start, are_carried_out};
 use crate::inside::{Counted, Meeting};
 use crate::steps::Step;
-use std::process::Abort;
 use std::sync::atomic::Ordering;
 use std::test::Fail;
 use topo_core::calls::{Call, Command};
 use topo_service::Gate;
 use topo_service_test_support::gates::Turns;
-use topo_test_support::calls::{delete, insert, planned};
 use topo_test_support::prices::FIVE_TWO_NINE;
 
 /// What is done round each command.
@@ -36,6 +34,16 @@ impl Round {
             Round::FromFirstPrice(turns) => !turns.is_late(),
             Round::Together(meeting) => !meeting.late.load(Ordering::SeqCst),
             Round::Counted(counted) => !counted.is_amiss.load(Ordering::SeqCst),
+        }
+    }
+}
+
+impl Round {
+    /// Whether the calls are counted, and were so many for each worker.
+    pub(crate) fn has_counted(&self, due: usize) -> bool {
+        match self {
+            Round::Counted(counted) => counted.has_counted(due),
+            _ => false,
         }
     }
 }
@@ -67,67 +75,66 @@ impl Gate for Round {
     }
 }
 
-#[test]
-fn workers_run_at_one_time(rt: HostRuntime) -> Result<(), Fail> {
-    let second = Call::Insert {
+/// Each of two lists puts an edge in beside that of the seed.
+const SEED_LISTS: &[&[Command]] = &[
+    &[Command::Plain(Call::Insert {
+        u: 0,
+        v: 1,
+        kind: 0,
+    })],
+    &[Command::Plain(Call::Insert {
         u: 0,
         v: 1,
         kind: 1,
-    };
-    let lists = lists_of(
-        rt.alloc(),
-        &[&[Command::Plain(insert(0, 1))], &[Command::Plain(second)]],
-    )?;
+    })],
+];
+
+const SEED_SCENE: Scene<'static> = Scene {
+    start: Start::Seed,
+    prices: (Some(1), &[]),
+    steps: &[
+        (0, Step::Seen),
+        (0, Step::View),
+        (1, Step::Seen),
+        (1, Step::View),
+    ],
+    due: "[Done, Done]\n\
+        2 seen, 1 receipts\n\
+        version 2 with 3 edges\n\
+        1 seen, 1 receipts\n\
+        version 2 with 3 edges\n\
+        [(2, 3), (2, 3)]; 2 calls, replayed: true",
+};
+
+#[test]
+fn workers_run_at_one_time(rt: HostRuntime) -> Result<(), Fail> {
     let round = Round::InTurn(Turns::new());
-    let told = told_of(
-        &rt,
-        Start::Seed,
-        (Some(1), &[]),
-        Work::Lists(lists.as_slice(), &round),
-        &[
-            (0, Step::Seen),
-            (0, Step::View),
-            (1, Step::Seen),
-            (1, Step::View),
-        ],
-    );
-    drop(lists);
-    assert!(&rt; round.is_well());
-    is_told(
-        &rt,
-        told,
-        "[Done, Done]\n\
-         2 seen, 1 receipts\n\
-         version 2 with 3 edges\n\
-         1 seen, 1 receipts\n\
-         version 2 with 3 edges\n\
-         [(2, 3), (2, 3)]; 2 calls, replayed: true",
-    )
+    are_carried_out(&rt, &SEED_SCENE, SEED_LISTS, &round)
 }
+
+/// One list plans between the apexes, and the other takes the edge out that a plan crosses.
+const APEX_LISTS: &[&[Command]] = &[
+    &[Command::Planned {
+        u: 3,
+        v: 4,
+        kind: 0,
+    }],
+    &[Command::Plain(Call::Delete { edge: 1 })],
+];
+
+const APEX_SCENE: Scene<'static> = Scene {
+    start: Start::Bipyramid,
+    prices: (Some(1), FIVE_TWO_NINE),
+    steps: &[(0, Step::FirstReply)],
+    due: "[Done, Done]\n\
+        Inserted(Inserted { id: EdgeId(9), route: Route { start: 2, \
+        crossed: Listed { items: [] }, end: 2 }, price: 0 })\n\
+        []; 2 calls, replayed: true",
+};
 
 /// One worker plans while the other changes the picture.
 #[test]
 fn a_plan_is_made_anew_where_the_picture_changed_meanwhile(rt: HostRuntime) -> Result<(), Fail> {
-    let lists = lists_of(
-        rt.alloc(),
-        &[&[planned(3, 4)], &[Command::Plain(delete(1))]],
-    )?;
     let round = Round::FromFirstPrice(Turns::new());
-    let told = told_of(
-        &rt,
-        Start::Bipyramid,
-        (Some(1), FIVE_TWO_NINE),
-        Work::Lists(lists.as_slice(), &round),
-        &[(0, Step::FirstReply)],
-    );
-    drop(lists);
-    assert!(&rt; round.is_well());
-    is_told(
-        &rt,
-        told,
-        "[Done, Done]\n\
-         Inserted(Inserted { id: EdgeId(9), route: Route { start: 2, \
-         crossed: Listed { items: [] }, end: 2 }, price: 0 })\n\
-         []; 2 calls, replayed: true",
-    )
+    are_carried_out(&rt, &APEX_SCENE, APEX_LISTS, &round)
 }

@@ -21,6 +21,7 @@ use topo_core::calls::Command;
 use topo_core::rows::Facts;
 use topo_picture::Picture;
 use topo_price::tariff::{PriceFn, Tariff};
+use topo_route::plan::Plan;
 use topo_service::{FreshService, Pass, Service, run_workers};
 use topo_test_support::pictures::{BIPYRAMID, greatest_limits, picture_of};
 use topo_test_support::prices::{Entries, table_of};
@@ -32,7 +33,7 @@ pub(crate) trait TestRuntime: Threads + Wait + Abort + AllocGlobal + Sync {}
 impl<R: Threads + Wait + Abort + AllocGlobal + Sync> TestRuntime for R {}
 
 /// The picture that a service begins with.
-#[derive(Drop)]
+#[derive(Clone, Copy)]
 pub(crate) enum Start {
     /// Two vertices and the edge between them.
     Seed,
@@ -49,10 +50,12 @@ pub(crate) enum Start {
 pub(crate) enum Work<'a> {
     /// So many do nothing.
     Nothing(usize),
+    /// Two do nothing, and the test gives a plan for an insertion.
+    Given(&'a Plan),
     /// So many do nothing, and of those that are given out the second alone is handed back.
     SecondAlone(usize),
     /// One for each list carries it out, with the gate's calls round each command.
-    Lists(&'a [Vec<Command>], &'a Round),
+    Lists(&'a [&'a [Command]], &'a Round),
     /// So many make calls of their own, and look at versions meanwhile.
     Crowd(usize, &'a Watch),
 }
@@ -66,10 +69,42 @@ impl Work<'_> {
     }
 }
 
+/// What a service begins with, the steps after the work of its passes, and what is told then.
+#[derive(Clone, Copy)]
+pub(crate) struct Scene<'a> {
+    pub start: Start,
+    /// The price of all kinds of edges but some, and of those.
+    pub prices: (Option<u32>, Entries),
+    pub steps: Steps<'a>,
+    pub due: &'a str,
+}
+
 /// The text is the one that is due.
-pub(crate) fn is_told(rt: &impl Abort, told: Result<String, Fail>, due: &str) -> Result<(), Fail> {
-    let told = told?;
-    assert_eq!(rt; told.as_str(), due);
+pub(crate) fn is_due(rt: &impl Abort, told: &str, due: &str) {
+    assert!(rt; told == due, "{told}");
+}
+
+/// After this work what is told is what is due.
+pub(crate) fn is_played<R: TestRuntime>(
+    rt: &R,
+    scene: &Scene<'_>,
+    work: Work<'_>,
+) -> Result<(), Fail> {
+    let told = told_of(rt, scene.start, scene.prices, work, scene.steps)?;
+    is_due(rt, told.as_str(), scene.due);
+    Ok(())
+}
+
+/// So it is after these lists, with the calls of a gate round each command, which come as they are
+/// to.
+pub(crate) fn are_carried_out<R: TestRuntime>(
+    rt: &R,
+    scene: &Scene<'_>,
+    lists: &[&[Command]],
+    round: &Round,
+) -> Result<(), Fail> {
+    is_played(rt, scene, Work::Lists(lists, round))?;
+    assert!(rt; round.is_well());
     Ok(())
 }
 
@@ -156,6 +191,7 @@ fn tell<F: PriceFn + Drop + Send + Sync, K: ServiceBrand<F> + Send + Sync, R: Te
 ) -> Result<String, Fail> {
     let pass_count = match play.work {
         Work::Nothing(count) => *count,
+        Work::Given(_) => 2,
         Work::SecondAlone(count) => *count,
         Work::Lists(lists, _) => lists.len(),
         Work::Crowd(count, _) => *count,
@@ -212,7 +248,7 @@ fn carry_out<F: PriceFn + Drop + Send + Sync, K: ServiceBrand<F> + Send + Sync, 
     work: &Work<'_>,
 ) -> Result<String, Fail> {
     match work {
-        Work::Nothing(_) => Ok(String::new(rt.alloc())),
+        Work::Nothing(_) | Work::Given(_) => Ok(String::new(rt.alloc())),
         Work::SecondAlone(_) => {
             let given = passes.len();
             passes.truncate(2);
@@ -230,10 +266,7 @@ fn carry_out<F: PriceFn + Drop + Send + Sync, K: ServiceBrand<F> + Send + Sync, 
 }
 
 /// The lists as workers take them.
-pub(crate) fn lists_of(
-    alloc: Global,
-    lists: &[&[Command]],
-) -> Result<Vec<Vec<Command>>, AllocError> {
+fn lists_of(alloc: Global, lists: &[&[Command]]) -> Result<Vec<Vec<Command>>, AllocError> {
     let mut made = Vec::new(alloc);
     for list in lists {
         made.push(Vec::from_slice(alloc, *list)?)?;
@@ -242,7 +275,7 @@ pub(crate) fn lists_of(
 }
 
 /// Lets each pass carry out its list. The text says how the lists ended.
-fn run_lists<F: PriceFn + Drop + Send + Sync, K: ServiceBrand<F> + Send + Sync, R: TestRuntime>(
+fn run_made<F: PriceFn + Drop + Send + Sync, K: ServiceBrand<F> + Send + Sync, R: TestRuntime>(
     rt: &R,
     service: &Service<F, K>,
     passes: &mut [Pass<F, K>],
@@ -256,4 +289,18 @@ fn run_lists<F: PriceFn + Drop + Send + Sync, K: ServiceBrand<F> + Send + Sync, 
     let text = format!(in rt.alloc(); "{:?}\n", ends.as_slice());
     drop(ends);
     Ok(text?)
+}
+
+/// The same, of lists that are made first.
+fn run_lists<F: PriceFn + Drop + Send + Sync, K: ServiceBrand<F> + Send + Sync, R: TestRuntime>(
+    rt: &R,
+    service: &Service<F, K>,
+    passes: &mut [Pass<F, K>],
+    lists: &[&[Command]],
+    gate: &Round,
+) -> Result<String, Fail> {
+    let lists = lists_of(rt.alloc(), lists)?;
+    let told = run_made(rt, service, passes, lists.as_slice(), gate);
+    drop(lists);
+    told
 }

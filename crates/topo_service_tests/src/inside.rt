@@ -2,13 +2,12 @@
 //! with.
 
 use crate::gates::Round;
-use crate::harness::{Start, Work, is_told, lists_of, told_of};
+use crate::harness::{Scene, Start, are_carried_out};
 use std::process::Abort;
 use std::sync::atomic::{AtomicBool, AtomicUsize, Ordering};
 use std::test::Fail;
 use std::thread;
-use topo_core::calls::Command;
-use topo_test_support::calls::insert;
+use topo_core::calls::{Call, Command};
 
 /// How often a worker looks for the others at most.
 const LOOKS: u32 = 2_000_000;
@@ -47,6 +46,13 @@ pub(crate) struct Counted {
 }
 
 impl Counted {
+    /// Whether there were so many calls for each worker.
+    pub(crate) fn has_counted(&self, due: usize) -> bool {
+        self.calls
+            .iter()
+            .all(|calls| calls.load(Ordering::SeqCst) == due)
+    }
+
     /// Notes a call for a worker, before which there are to have been so many.
     pub(crate) fn note(&self, worker: usize, due: usize) {
         let is_due = match self.calls.get(worker) {
@@ -59,54 +65,46 @@ impl Counted {
     }
 }
 
+/// An edge beside that of the seed.
+const ALONG: Command = Command::Plain(Call::Insert {
+    u: 0,
+    v: 1,
+    kind: 0,
+});
+
+/// A service that begins with the seed, and what is told of it.
+fn seed_scene(due: &str) -> Scene<'_> {
+    Scene {
+        start: Start::Seed,
+        prices: (Some(1), &[]),
+        steps: &[],
+        due,
+    }
+}
+
 #[test]
 fn sixteen_workers_are_inside_at_one_time(rt: HostRuntime) -> Result<(), Fail> {
-    let list: &[Command] = &[Command::Plain(insert(0, 1))];
-    let lists = lists_of(rt.alloc(), &[list; WORKERS])?;
+    let scene = seed_scene(
+        "[Done, Done, Done, Done, Done, Done, Done, Done, \
+         Done, Done, Done, Done, Done, Done, Done, Done]\n[]; 16 calls, replayed: true",
+    );
     let round = Round::Together(Meeting {
         inside: AtomicUsize::new(0),
         late: AtomicBool::new(false),
     });
-    let told = told_of(
-        &rt,
-        Start::Seed,
-        (Some(1), &[]),
-        Work::Lists(lists.as_slice(), &round),
-        &[],
-    );
-    drop(lists);
-    is_told(
-        &rt,
-        told,
-        "[Done, Done, Done, Done, Done, Done, Done, Done, \
-         Done, Done, Done, Done, Done, Done, Done, Done]\n[]; 16 calls, replayed: true",
-    )?;
-    assert!(rt; round.is_well());
-    Ok(())
+    let list: &[Command] = &[ALONG];
+    are_carried_out(&rt, &scene, &[list; WORKERS], &round)
 }
 
 #[test]
 fn a_gate_is_called_before_and_after_each_command(rt: HostRuntime) -> Result<(), Fail> {
-    let list: &[Command] = &[Command::Plain(insert(0, 1)); 3];
-    let lists = lists_of(rt.alloc(), &[list, list])?;
+    let scene = seed_scene("[Done, Done]\n[]; 6 calls, replayed: true");
     let round = Round::Counted(Counted {
         calls: [AtomicUsize::new(0), AtomicUsize::new(0)],
         is_amiss: AtomicBool::new(false),
     });
-    let told = told_of(
-        &rt,
-        Start::Seed,
-        (Some(1), &[]),
-        Work::Lists(lists.as_slice(), &round),
-        &[],
-    );
-    drop(lists);
-    is_told(&rt, told, "[Done, Done]\n[]; 6 calls, replayed: true")?;
-    assert!(rt; round.is_well());
-    if let Round::Counted(counted) = &round {
-        for calls in &counted.calls {
-            assert_eq!(rt; calls.load(Ordering::SeqCst), 6);
-        }
-    }
+    let list: &[Command] = &[ALONG; 3];
+    are_carried_out(&rt, &scene, &[list, list], &round)?;
+    assert!(rt; round.has_counted(6));
     Ok(())
 }

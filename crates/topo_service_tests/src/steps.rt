@@ -16,7 +16,7 @@ use topo_versions::{ServiceBrand, Version};
 /// What a pass does at one step. What is kept is named by its place among what is kept of its kind.
 /// Edges are put in between two vertices, and are of kind 0.
 #[derive(Clone, Copy)]
-pub(crate) enum Step<'a> {
+pub(crate) enum Step {
     /// It makes a call.
     Make(Call),
     /// It tells how many accepted calls it has seen, and how many receipts it has.
@@ -39,14 +39,14 @@ pub(crate) enum Step<'a> {
     Check(u32, u32, usize),
     /// It inserts an edge by a plan that is kept.
     InsertPlanned(u32, u32, usize),
-    /// It inserts an edge by a plan of the test.
-    InsertBy(u32, u32, &'a Plan),
+    /// It inserts an edge by the plan that the test has given.
+    InsertGiven(u32, u32),
     /// How often a price was asked for since that was told.
     Asked,
 }
 
 /// Steps with the numbers of the passes that take them.
-pub(crate) type Steps<'a> = &'a [(usize, Step<'a>)];
+pub(crate) type Steps<'a> = &'a [(usize, Step)];
 
 /// What the steps have kept.
 #[derive(Drop)]
@@ -116,12 +116,7 @@ impl<F: PriceFn + Drop, K: ServiceBrand<F>> Kept<F, K> {
     }
 
     /// Takes a step that makes no call and looks for nothing, and tells what the pass sees.
-    fn look(
-        &mut self,
-        alloc: Global,
-        pass: &mut Pass<F, K>,
-        step: Step<'_>,
-    ) -> Result<String, Fail> {
+    fn look(&mut self, alloc: Global, pass: &mut Pass<F, K>, step: Step) -> Result<String, Fail> {
         match step {
             Step::Seen => {
                 let (seen, receipts) = (pass.seen(), pass.receipts().len());
@@ -173,7 +168,7 @@ impl Play<'_> {
         service: &Service<F, K>,
         pass: &mut Pass<F, K>,
         kept: &mut Kept<F, K>,
-        step: Step<'_>,
+        step: Step,
     ) -> Result<String, Fail> {
         let alloc = rt.alloc();
         let reply = match step {
@@ -186,7 +181,10 @@ impl Play<'_> {
                 let plan = kept.plans.as_slice().get(at).ok_or("a plan")?;
                 service.insert_planned(rt, pass, u, v, 0, plan)?
             }
-            Step::InsertBy(u, v, plan) => service.insert_planned(rt, pass, u, v, 0, plan)?,
+            Step::InsertGiven(u, v) => match self.work {
+                Work::Given(plan) => service.insert_planned(rt, pass, u, v, 0, *plan)?,
+                _ => return Err("a given plan".into()),
+            },
             Step::Find(u, v) => return kept.search(alloc, service, pass, (u, v), false),
             Step::Plan(u, v) => return kept.search(alloc, service, pass, (u, v), true),
             Step::Check(u, v, at) => return kept.check(alloc, service, pass, (u, v), at),

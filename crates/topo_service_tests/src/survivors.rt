@@ -1,8 +1,9 @@
 //! Routes that were found before other calls changed the picture.
 
 use crate::gates::Round;
-use crate::harness::{Start, TestRuntime, Work, told_of};
-use crate::steps::Step;
+use crate::harness::{Start, TestRuntime, Work, is_due, told_of};
+use crate::steps::{Step, Steps};
+use std::alloc::{AllocError, Global};
 use std::process::Abort;
 use std::test::Fail;
 use topo_core::calls::{Call, Command};
@@ -21,111 +22,173 @@ const TO: u32 = 26;
 /// The first edge that is put in later: a grid of this width has 112 edges.
 const FIRST_NEW: u32 = 112;
 
-/// What is told of a route that one pass finds, of these calls of another, and of an insertion
-/// along the route.
-fn told_after<R: TestRuntime>(rt: &R, between: &[Call]) -> Result<String, Fail> {
-    let mut steps = vec![in rt.alloc(); (1, Step::Find(FROM, TO))]?;
-    for call in between {
-        steps.push((0, Step::Make(*call)))?;
-    }
-    steps.push((1, Step::Asked))?;
-    steps.push((1, Step::InsertFound(0)))?;
-    steps.push((1, Step::Asked))?;
-    told_of(
-        rt,
-        Start::Grid,
-        (Some(1), &[]),
-        Work::Nothing(2),
-        steps.as_slice(),
-    )
+/// A change of the grid. Vertices are given by their rows and columns.
+#[derive(Clone, Copy)]
+enum Change {
+    /// A vertex grows in the first corner of this one.
+    Grow(u8, u8),
+    /// An edge is put in between these two.
+    Insert((u8, u8), (u8, u8)),
+    /// The edge from a vertex to the one on its right is taken out.
+    Right(u8, u8),
+    /// The edge from a vertex to the one below it is taken out.
+    Below(u8, u8),
+    /// Another call.
+    Other(Call),
 }
 
-/// Each row says what is called between, and whether the route is then taken with no price asked.
-fn are_told<R: TestRuntime>(rt: &R, rows: &[&[Call]], is_known: bool) -> Result<(), Fail> {
+/// Takes the edge out that was put in first.
+const TAKEN_BACK: Change = Change::Other(Call::Delete { edge: FIRST_NEW });
+
+/// The call that makes a change.
+fn call_of(change: Change) -> Call {
+    match change {
+        Change::Grow(row, column) => grow(GRID.at(row, column)),
+        Change::Insert((row, column), (down, along)) => {
+            insert(GRID.at(row, column), GRID.at(down, along))
+        }
+        Change::Right(row, column) => delete(GRID.right_of(row, column)),
+        Change::Below(row, column) => delete(GRID.below(row, column)),
+        Change::Other(call) => call,
+    }
+}
+
+/// The steps of a pass that finds a route, of another that makes these changes, and of the first,
+/// which puts an edge in along the route.
+fn steps_round(alloc: Global, between: &[Change]) -> Result<Vec<(usize, Step)>, AllocError> {
+    let mut steps = vec![in alloc; (1, Step::Find(FROM, TO))]?;
+    for change in between {
+        steps.push((0, Step::Make(call_of(*change))))?;
+    }
+    steps.extend_from_slice(&[
+        (1, Step::Asked),
+        (1, Step::InsertFound(0)),
+        (1, Step::Asked),
+    ])?;
+    Ok(steps)
+}
+
+/// What is told of these steps on the grid, where all prices are 1.
+fn told_on_grid<R: TestRuntime>(rt: &R, work: Work<'_>, steps: Steps<'_>) -> Result<String, Fail> {
+    told_of(rt, Start::Grid, (Some(1), &[]), work, steps)
+}
+
+/// What is told of a route that one pass finds, of changes by another, and of an insertion along
+/// the route.
+fn told_after<R: TestRuntime>(rt: &R, between: &[Change]) -> Result<String, Fail> {
+    let steps = steps_round(rt.alloc(), between)?;
+    let told = told_on_grid(rt, Work::Nothing(2), steps.as_slice());
+    drop(steps);
+    told
+}
+
+/// How what is told ends where so many changes come between, behind how many prices the last step
+/// has asked for.
+const ENDS: [&str; 4] = [
+    "times\n[]; 1 calls, replayed: true",
+    "times\n[]; 2 calls, replayed: true",
+    "times\n[]; 3 calls, replayed: true",
+    "times\n[]; 4 calls, replayed: true",
+];
+
+/// All calls are entered and replayed, and a route that is still known is taken with no price
+/// asked.
+fn is_end(rt: &impl Abort, told: &str, end: &str, is_known: bool) {
+    let rest = told.strip_suffix(end);
+    assert!(rt; rest.is_some(), "{told}");
+    let asks_none = rest.unwrap_or("").ends_with("asked 0 ");
+    assert!(rt; asks_none == is_known, "{told}");
+}
+
+/// Each row says what is changed between, and whether the route is then known.
+fn are_told<R: TestRuntime>(rt: &R, rows: &[&[Change]], is_known: bool) -> Result<(), Fail> {
     for between in rows {
-        let told = told_after(rt, between)?;
-        let calls = between.len() + 1;
-        let end = format!(in rt.alloc(); "times\n[]; {calls} calls, replayed: true")?;
-        let known = format!(in rt.alloc(); "asked 0 {end}")?;
-        assert!(rt; told.as_str().ends_with(end.as_str()), "{told}");
-        assert!(rt;
-            told.as_str().ends_with(known.as_str()) == is_known,
-            "{told}"
-        );
-        drop((told, end, known));
+        let end = *ENDS.get(between.len()).ok_or("so many changes")?;
+        let told = told_after(rt, *between)?;
+        is_end(rt, told.as_str(), end, is_known);
+        drop(told);
     }
     Ok(())
 }
 
+/// Changes elsewhere.
+const ELSEWHERE: &[&[Change]] = &[
+    &[],
+    &[Change::Grow(7, 7)],
+    &[Change::Insert((5, 5), (7, 6))],
+    &[Change::Right(6, 5)],
+    &[Change::Insert((5, 5), (7, 6)), TAKEN_BACK],
+    &[
+        Change::Other(Call::Grow {
+            u: 999,
+            position: 0,
+            kind: 0,
+        }),
+        Change::Other(Call::Delete { edge: 999 }),
+        Change::Insert((6, 6), (6, 6)),
+    ],
+    &[
+        Change::Insert((5, 5), (7, 6)),
+        Change::Below(5, 6),
+        Change::Grow(6, 6),
+    ],
+    &[
+        Change::Insert((0, 6), (2, 6)),
+        Change::Insert((6, 0), (7, 2)),
+    ],
+];
+
 #[test]
 fn a_route_outlives_what_changes_elsewhere(rt: HostRuntime) -> Result<(), Fail> {
-    are_told(
-        &rt,
-        &[
-            &[],
-            &[grow(GRID.at(7, 7))],
-            &[insert(GRID.at(5, 5), GRID.at(7, 6))],
-            &[delete(GRID.right_of(6, 5))],
-            &[insert(GRID.at(5, 5), GRID.at(7, 6)), delete(FIRST_NEW)],
-            &[grow(999), delete(999), insert(GRID.at(6, 6), GRID.at(6, 6))],
-            &[
-                insert(GRID.at(5, 5), GRID.at(7, 6)),
-                delete(GRID.below(5, 6)),
-                grow(GRID.at(6, 6)),
-            ],
-            &[
-                insert(GRID.at(0, 6), GRID.at(2, 6)),
-                insert(GRID.at(6, 0), GRID.at(7, 2)),
-            ],
-        ],
-        true,
-    )
+    are_told(&rt, ELSEWHERE, true)
 }
+
+/// Changes of the region of the search. The route leads from the vertex in row and column 1 to the
+/// one in row 3 and column 2.
+const NEARBY: &[&[Change]] = &[
+    &[Change::Grow(1, 1)],
+    &[Change::Grow(3, 2)],
+    &[Change::Insert((1, 1), (2, 2))],
+    &[Change::Insert((2, 0), (3, 1))],
+    &[Change::Below(1, 2)],
+    &[Change::Insert((1, 0), (3, 1)), TAKEN_BACK],
+    &[Change::Insert((5, 5), (7, 6)), Change::Grow(2, 2)],
+];
 
 #[test]
 fn a_route_is_looked_for_again_if_its_region_changed(rt: HostRuntime) -> Result<(), Fail> {
-    are_told(
-        &rt,
-        &[
-            &[grow(FROM)],
-            &[grow(TO)],
-            &[insert(FROM, GRID.at(2, 2))],
-            &[insert(GRID.at(2, 0), GRID.at(3, 1))],
-            &[delete(GRID.below(1, 2))],
-            &[insert(GRID.at(1, 0), GRID.at(3, 1)), delete(FIRST_NEW)],
-            &[insert(GRID.at(5, 5), GRID.at(7, 6)), grow(GRID.at(2, 2))],
-        ],
-        false,
-    )
+    are_told(&rt, NEARBY, false)
 }
 
-/// What one list tells that has an insertion between each two ends, of which some have the greater
-/// number first, planned or not: how many prices it asks for, and how it ends.
-fn told_of_insertions<R: TestRuntime>(rt: &R, is_planned: bool) -> Result<String, Fail> {
-    let ends = [
-        (FROM, TO),
-        (TO, FROM),
-        (GRID.at(5, 5), GRID.at(7, 6)),
-        (GRID.at(7, 0), GRID.at(0, 7)),
-        (GRID.at(6, 6), GRID.at(1, 2)),
-    ];
-    let mut list = Vec::new(rt.alloc());
-    for (u, v) in ends {
+/// The ends of insertions, of which some have the greater number first.
+const INSERTED: [(u32, u32); 5] = [
+    (FROM, TO),
+    (TO, FROM),
+    (5 * 8 + 5, 7 * 8 + 6),
+    (7 * 8, 7),
+    (6 * 8 + 6, 8 + 2),
+];
+
+/// The insertions as commands, planned or not.
+fn insertions(alloc: Global, is_planned: bool) -> Result<Vec<Command>, AllocError> {
+    let mut list = Vec::new(alloc);
+    for (u, v) in INSERTED {
         list.push(if is_planned {
             planned(u, v)
         } else {
             Command::Plain(insert(u, v))
         })?;
     }
-    let lists = vec![in rt.alloc(); list]?;
-    let told = told_of(
-        rt,
-        Start::Grid,
-        (Some(1), &[]),
-        Work::Lists(lists.as_slice(), &Round::Still),
-        &[(0, Step::Asked)],
-    );
-    drop(lists);
+    Ok(list)
+}
+
+/// What one list of the insertions tells, planned or not: how many prices it asks for, and how it
+/// ends.
+fn told_of_insertions<R: TestRuntime>(rt: &R, is_planned: bool) -> Result<String, Fail> {
+    let list = insertions(rt.alloc(), is_planned)?;
+    let work = Work::Lists(&[list.as_slice()], &Round::Still);
+    let told = told_on_grid(rt, work, &[(0, Step::Asked)]);
+    drop(list);
     told
 }
 
@@ -133,7 +196,7 @@ fn told_of_insertions<R: TestRuntime>(rt: &R, is_planned: bool) -> Result<String
 fn planned_insertions_of_one_list_ask_for_no_more_prices(rt: HostRuntime) -> Result<(), Fail> {
     let planned = told_of_insertions(&rt, true)?;
     let plain = told_of_insertions(&rt, false)?;
-    assert_eq!(&rt; planned.as_str(), plain.as_str());
+    is_due(&rt, planned.as_str(), plain.as_str());
     drop((planned, plain));
     Ok(())
 }

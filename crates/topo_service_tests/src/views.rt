@@ -1,15 +1,47 @@
 //! Views, plans and found routes on one thread, and passes that are missing.
 
-use crate::harness::{Start, Work, is_told, told_of};
+use crate::harness::{Scene, Start, Work, is_played};
 use crate::steps::Step;
 use std::test::Fail;
-use topo_test_support::calls::{delete, insert};
+use topo_core::calls::Call;
 use topo_test_support::prices::FIVE_TWO_NINE;
 
 /// The apexes of the bipyramid.
 const U: u32 = 3;
 
 const V: u32 = 4;
+
+/// An edge between the vertices of the seed.
+const ALONG: Step = Step::Make(Call::Insert {
+    u: 0,
+    v: 1,
+    kind: 0,
+});
+
+/// Edges from a vertex to itself.
+const FIRST_LOOP: Step = Step::Make(Call::Insert {
+    u: 0,
+    v: 0,
+    kind: 0,
+});
+
+const SECOND_LOOP: Step = Step::Make(Call::Insert {
+    u: 1,
+    v: 1,
+    kind: 0,
+});
+
+/// The edge between the apexes, without a plan.
+const JOIN: Step = Step::Make(Call::Insert {
+    u: U,
+    v: V,
+    kind: 0,
+});
+
+/// The edge between the apexes is taken out, and then the one that it crosses.
+const DELETE_JOIN: Step = Step::Make(Call::Delete { edge: 9 });
+
+const DELETE_CROSSED: Step = Step::Make(Call::Delete { edge: 1 });
 
 /// What the calls of two passes and their views tell.
 const VIEWS_TOLD: &str = "version 0 with 1 edges\n\
@@ -31,43 +63,34 @@ const VIEWS_TOLD: &str = "version 0 with 1 edges\n\
     3 seen, 3 receipts\n\
     [(0, 1), (1, 2), (2, 3), (2, 3), (3, 4)]; 5 calls, replayed: true";
 
-#[test]
-fn views_follow_the_calls(rt: HostRuntime) -> Result<(), Fail> {
-    let told = told_of(
-        &rt,
-        Start::Seed,
-        (Some(1), &[]),
-        Work::Nothing(2),
-        &[
+const SCENES: &[Scene<'static>] = &[
+    // views follow the calls
+    Scene {
+        start: Start::Seed,
+        prices: (Some(1), &[]),
+        steps: &[
             (0, Step::View),
-            (0, Step::Make(insert(0, 1))),
+            (0, ALONG),
             (0, Step::View),
             (0, Step::Seen),
-            (1, Step::Make(insert(0, 1))),
+            (1, ALONG),
             (1, Step::View),
-            (1, Step::Make(insert(0, 0))),
+            (1, FIRST_LOOP),
             (1, Step::View),
-            (0, Step::Make(insert(1, 1))),
+            (0, SECOND_LOOP),
             (0, Step::Seen),
-            (1, Step::Make(insert(0, 1))),
+            (1, ALONG),
             (0, Step::View),
             (0, Step::Seen),
             (1, Step::Seen),
         ],
-    );
-    is_told(&rt, told, VIEWS_TOLD)
-}
-
-#[test]
-fn a_good_plan_spares_the_search_and_a_stale_one_does_not_harm(
-    rt: HostRuntime,
-) -> Result<(), Fail> {
-    let told = told_of(
-        &rt,
-        Start::Bipyramid,
-        (Some(1), FIVE_TWO_NINE),
-        Work::Nothing(2),
-        &[
+        due: VIEWS_TOLD,
+    },
+    // a good plan spares the search, and a stale one does not harm
+    Scene {
+        start: Start::Bipyramid,
+        prices: (Some(1), FIVE_TWO_NINE),
+        steps: &[
             (0, Step::Plan(U, V)),
             (1, Step::Plan(U, V)),
             (0, Step::Asked),
@@ -75,111 +98,94 @@ fn a_good_plan_spares_the_search_and_a_stale_one_does_not_harm(
             (0, Step::Asked),
             (0, Step::InsertPlanned(U, V, 0)),
             (0, Step::Asked),
-            (0, Step::Make(delete(9))),
-            (0, Step::Make(delete(1))),
+            (0, DELETE_JOIN),
+            (0, DELETE_CROSSED),
             (1, Step::InsertPlanned(U, V, 1)),
         ],
-    );
-    is_told(
-        &rt,
-        told,
-        "planned for 2\n\
-         planned for 2\n\
-         asked 18 times\n\
-         good: true\n\
-         asked 19 times\n\
-         Inserted(Inserted { id: EdgeId(9), route: Route { start: 2, \
-         crossed: Listed { items: [Dart { edge: EdgeId(1), seg: 0, way: Back }] }, \
-         end: 2 }, price: 2 })\n\
-         asked 19 times\n\
-         Deleted(EdgeId(9))\n\
-         Deleted(EdgeId(1))\n\
-         Inserted(Inserted { id: EdgeId(10), route: Route { start: 2, \
-         crossed: Listed { items: [] }, end: 2 }, price: 0 })\n\
-         []; 4 calls, replayed: true",
-    )
-}
-
-/// The second of two found routes is late when it is used: its route is looked for again then, and
-/// since the apexes have a face in common by then, no price is asked.
-#[test]
-fn a_found_route_is_taken_as_it_is_and_a_late_one_does_not_harm(
-    rt: HostRuntime,
-) -> Result<(), Fail> {
-    let told = told_of(
-        &rt,
-        Start::Bipyramid,
-        (Some(1), FIVE_TWO_NINE),
-        Work::Nothing(2),
-        &[
+        due: "planned for 2\n\
+            planned for 2\n\
+            asked 18 times\n\
+            good: true\n\
+            asked 19 times\n\
+            Inserted(Inserted { id: EdgeId(9), route: Route { start: 2, \
+            crossed: Listed { items: [Dart { edge: EdgeId(1), seg: 0, way: Back }] }, \
+            end: 2 }, price: 2 })\n\
+            asked 19 times\n\
+            Deleted(EdgeId(9))\n\
+            Deleted(EdgeId(1))\n\
+            Inserted(Inserted { id: EdgeId(10), route: Route { start: 2, \
+            crossed: Listed { items: [] }, end: 2 }, price: 0 })\n\
+            []; 4 calls, replayed: true",
+    },
+    // A found route is taken as it is. The second of two is late when it is used: its route is
+    // looked for again then, and since the apexes have a face in common by then, no price is asked.
+    Scene {
+        start: Start::Bipyramid,
+        prices: (Some(1), FIVE_TWO_NINE),
+        steps: &[
             (0, Step::Find(U, V)),
             (1, Step::Find(U, V)),
             (0, Step::Find(U, U)),
             (0, Step::Find(U, 9)),
             (0, Step::Asked),
             (0, Step::InsertFound(0)),
-            (0, Step::Make(delete(9))),
-            (0, Step::Make(delete(1))),
+            (0, DELETE_JOIN),
+            (0, DELETE_CROSSED),
             (1, Step::InsertFound(1)),
             (1, Step::Asked),
         ],
-    );
-    is_told(
-        &rt,
-        told,
-        "(3, 4) for 2\n\
-         (3, 4) for 2\n\
-         Refused(SameEnds)\n\
-         Refused(NoVertex)\n\
-         asked 14 times\n\
-         Inserted(Inserted { id: EdgeId(9), route: Route { start: 2, \
-         crossed: Listed { items: [Dart { edge: EdgeId(1), seg: 0, way: Back }] }, \
-         end: 2 }, price: 2 })\n\
-         Deleted(EdgeId(9))\n\
-         Deleted(EdgeId(1))\n\
-         Inserted(Inserted { id: EdgeId(10), route: Route { start: 2, \
-         crossed: Listed { items: [] }, end: 2 }, price: 0 })\n\
-         asked 0 times\n\
-         []; 4 calls, replayed: true",
-    )
-}
+        due: "(3, 4) for 2\n\
+            (3, 4) for 2\n\
+            Refused(SameEnds)\n\
+            Refused(NoVertex)\n\
+            asked 14 times\n\
+            Inserted(Inserted { id: EdgeId(9), route: Route { start: 2, \
+            crossed: Listed { items: [Dart { edge: EdgeId(1), seg: 0, way: Back }] }, \
+            end: 2 }, price: 2 })\n\
+            Deleted(EdgeId(9))\n\
+            Deleted(EdgeId(1))\n\
+            Inserted(Inserted { id: EdgeId(10), route: Route { start: 2, \
+            crossed: Listed { items: [] }, end: 2 }, price: 0 })\n\
+            asked 0 times\n\
+            []; 4 calls, replayed: true",
+    },
+    // where each way is closed, a search says that there is no route, and not that memory ran out
+    Scene {
+        start: Start::Bipyramid,
+        prices: (None, &[]),
+        steps: &[(0, Step::Plan(U, V)), (0, Step::Find(U, V)), (0, JOIN)],
+        due: "Refused(NoRoute)\n\
+            Refused(NoRoute)\n\
+            Refused(NoRoute)\n\
+            []; 1 calls, replayed: true",
+    },
+];
 
-/// Where each way is closed, a search says that there is no route, and not that memory ran out.
 #[test]
-fn no_route_is_not_out_of_memory(rt: HostRuntime) -> Result<(), Fail> {
-    let told = told_of(
-        &rt,
-        Start::Bipyramid,
-        (None, &[]),
-        Work::Nothing(2),
-        &[
-            (0, Step::Plan(U, V)),
-            (0, Step::Find(U, V)),
-            (0, Step::Make(insert(U, V))),
-        ],
-    );
-    is_told(
-        &rt,
-        told,
-        "Refused(NoRoute)\n\
-         Refused(NoRoute)\n\
-         Refused(NoRoute)\n\
-         []; 1 calls, replayed: true",
-    )
+fn what_two_passes_see_of_each_other(rt: HostRuntime) -> Result<(), Fail> {
+    for scene in SCENES {
+        is_played(&rt, scene, Work::Nothing(2))?;
+    }
+    Ok(())
 }
 
 /// A service has sixteen passes. Where only the second is handed back, the first that is missing is
 /// told. A service without passes ends with an empty history.
+const PASSES: &[(usize, &str)] = &[
+    (20, "16 given out\n[]; 43 PassMissing(0), 1 passes"),
+    (0, "0 given out\n[]; 0 calls, replayed: true"),
+];
+
 #[test]
 fn the_seventeenth_pass_is_refused_and_missing_ones_are_told(rt: HostRuntime) -> Result<(), Fail> {
-    let rows = [
-        (20, "16 given out\n[]; 43 PassMissing(0), 1 passes"),
-        (0, "0 given out\n[]; 0 calls, replayed: true"),
-    ];
-    for (passes, due) in rows {
-        let work = Work::SecondAlone(passes);
-        let told = told_of(&rt, Start::Seed, (Some(1), &[]), work, &[]);
-        is_told(&rt, told, due)?;
+    for (passes, due) in PASSES {
+        let scene = Scene {
+            start: Start::Seed,
+            prices: (Some(1), &[]),
+            steps: &[],
+            due: *due,
+        };
+        is_played(&rt, &scene, Work::SecondAlone(*passes))?;
     }
     Ok(())
 }
