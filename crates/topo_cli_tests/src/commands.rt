@@ -1,14 +1,12 @@
-//! The commands on a reader and a writer, with texts that they read and what they write then.
+//! Texts that the commands read, what they write then, and what is told of them.
 
 use std::alloc::Global;
 use std::io::{Read, Write};
+use std::process::Abort;
 use std::sync::Wait;
 use std::test::Fail;
 use std::thread::Threads;
-use topo_check::{check_io, replay_io};
-use topo_cli::Verb;
-use topo_run::{OpenGate, run_io};
-use topo_serve::serve_io;
+use topo_cli::{Verb, answer};
 use topo_settings::RunFault;
 
 pub(crate) const SCRIPT: &str = "{\"version\":1,\"workers\":[[[\"grow\",1,0,0],[\"grow\",1,1,7]]]}";
@@ -45,20 +43,39 @@ pub(crate) const COMMANDS: &[(Verb, &str, &str)] = &[
     (Verb::Check, CROSSED, SIZE),
 ];
 
-/// Carries out a command.
-pub(crate) fn carry_out<R: Threads + Wait + Sync, I: Read, O: Write>(
+/// What a test hands on to what it calls.
+pub(crate) trait TestRuntime: Threads + Wait + Abort + AllocGlobal + Sync {}
+
+impl<R: Threads + Wait + Abort + AllocGlobal + Sync> TestRuntime for R {}
+
+/// The command ends so on this reader and this writer.
+pub(crate) fn ends<R: TestRuntime, I: Read, O: Write>(
     rt: &R,
-    alloc: Global,
     verb: Verb,
     reader: &mut I,
     writer: &mut O,
-) -> Result<(), RunFault> {
-    match verb {
-        Verb::Run => run_io(rt, alloc, reader, writer, &OpenGate),
-        Verb::Replay => replay_io(alloc, reader, writer),
-        Verb::Check => check_io(alloc, reader, writer),
-        Verb::Serve => serve_io(alloc, reader, writer),
-    }
+    due: Result<(), RunFault>,
+) {
+    let told = answer(rt, rt.alloc(), verb, reader, writer);
+    assert!(rt; told == due, "{verb:?}: {told:?}");
+}
+
+/// The bytes are those of a text.
+pub(crate) fn are_of(rt: &impl Abort, bytes: &[u8], text: &str) {
+    assert!(rt; bytes == text.as_bytes());
+}
+
+/// The command ends so on this reader, and has written this text.
+pub(crate) fn writes<R: TestRuntime, I: Read>(
+    rt: &R,
+    verb: Verb,
+    reader: &mut I,
+    due: Result<(), RunFault>,
+    text: &str,
+) {
+    let mut written: Vec<u8> = Vec::new(rt.alloc());
+    ends(rt, verb, reader, &mut written, due);
+    are_of(rt, written.as_slice(), text);
 }
 
 /// A text with spaces after it, up to a length.

@@ -1,14 +1,10 @@
 //! What the program does with the words of a command line: its status, and which bytes go where.
 
-use crate::commands::{CROSSED, REPLAYED, REPORT, SCRIPT, SIZE};
+use crate::commands::{CROSSED, REPLAYED, REPORT, SCRIPT, SIZE, TestRuntime, are_of};
 use crate::serving::{ANSWERS, SESSION};
 use crate::streams::{BreakingReader, EndlessReader, FailingWriter, FullWriter, SlowWriter};
-use std::alloc::Global;
 use std::io::{Read, Write};
 use std::process::Abort;
-use std::sync::Wait;
-use std::test::Fail;
-use std::thread::Threads;
 use topo_cli::program::WordsFault;
 use topo_cli::{Outcome, perform, refuse};
 
@@ -48,99 +44,95 @@ fn ends(status: u8) -> Outcome {
     }
 }
 
-/// The words on this input end the program with this status, and write just these texts.
-fn check_row<R: Threads + Wait + Abort + Sync>(
-    rt: &R,
-    alloc: Global,
-    words: &[&str],
-    input: &str,
-    wanted: (u8, &str, &str),
-) -> Result<(), Fail> {
+/// What the words on this input end the program with, and these texts are written.
+fn check_row<R: TestRuntime>(rt: &R, words: &[&str], input: &str, wanted: (u8, &str, &str)) {
     let (status, written, told) = wanted;
-    let mut out: Vec<u8> = Vec::new(alloc);
-    let mut err: Vec<u8> = Vec::new(alloc);
-    let outcome = perform(rt, alloc, words, &mut input.as_bytes(), &mut out, &mut err);
+    let mut out: Vec<u8> = Vec::new(rt.alloc());
+    let mut err: Vec<u8> = Vec::new(rt.alloc());
+    let outcome = perform(
+        rt,
+        rt.alloc(),
+        words,
+        &mut input.as_bytes(),
+        &mut out,
+        &mut err,
+    );
+    are_of(rt, out.as_slice(), written);
+    are_of(rt, err.as_slice(), told);
     assert!(rt; outcome == ends(status));
-    assert!(rt; out.as_slice() == written.as_bytes());
-    assert!(rt; err.as_slice() == told.as_bytes());
-    Ok(())
 }
 
-#[test]
-fn commands(rt: HostRuntime) -> Result<(), Fail> {
-    let alloc = rt.alloc();
-    check_row(&rt, alloc, &["planar", "run"], SCRIPT, (0, REPORT, ""))?;
-    check_row(&rt, alloc, &["planar", "replay"], REPORT, (0, REPLAYED, ""))?;
-    check_row(&rt, alloc, &["planar", "check"], CROSSED, (0, SIZE, ""))?;
-    check_row(&rt, alloc, &["planar", "serve"], SESSION, (0, ANSWERS, ""))
-}
+/// The name of a command, its input, the status, and what is written to the two writers.
+type Row = (&'static str, &'static str, (u8, &'static str, &'static str));
+
+const ROWS: &[Row] = &[
+    ("run", SCRIPT, (0, REPORT, "")),
+    ("replay", REPORT, (0, REPLAYED, "")),
+    ("check", CROSSED, (0, SIZE, "")),
+    ("serve", SESSION, (0, ANSWERS, "")),
+    // inputs that are at fault
+    ("run", "{", (1, "", "planar: 50 NotJson\n")),
+    ("run", "{}", (1, "", "planar: 52 BadShape $/version\n")),
+    ("replay", SCRIPT, (1, "", "planar: 52 BadShape $\n")),
+    ("serve", SCRIPT, (1, "", "planar: 52 BadShape $\n")),
+    ("check", "{}", (1, "", "planar: 52 BadShape $/crossings\n")),
+    // a command that is not known
+    ("walk", SCRIPT, (2, "", NO_COMMAND)),
+];
 
 #[test]
-fn faults(rt: HostRuntime) -> Result<(), Fail> {
-    let alloc = rt.alloc();
-    let rows = [
-        (["planar", "run"], "{", "planar: 50 NotJson\n"),
-        (["planar", "run"], "{}", "planar: 52 BadShape $/version\n"),
-        (["planar", "replay"], SCRIPT, "planar: 52 BadShape $\n"),
-        (["planar", "serve"], SCRIPT, "planar: 52 BadShape $\n"),
-        (
-            ["planar", "check"],
-            "{}",
-            "planar: 52 BadShape $/crossings\n",
-        ),
-    ];
-    for (words, input, told) in rows {
-        check_row(&rt, alloc, &words, input, (1, "", told))?;
+fn commands(rt: HostRuntime) {
+    for (name, input, wanted) in ROWS {
+        check_row(&rt, &["planar", *name], *input, *wanted);
     }
-    Ok(())
 }
 
+/// The words cannot be read: the program ends with this status, and tells this.
+fn check_refused(rt: &(impl Abort + AllocGlobal), fault: WordsFault, status: u8, told: &str) {
+    let mut err: Vec<u8> = Vec::new(rt.alloc());
+    let outcome = refuse(fault, &mut err);
+    are_of(rt, err.as_slice(), told);
+    assert!(rt; outcome == ends(status));
+}
+
+/// What is told of words that are no text.
+const NOT_TEXT: &str = "planar: the words of the command line are not UTF-8\n";
+
 #[test]
-fn words_that_are_refused(rt: HostRuntime) -> Result<(), Fail> {
-    let alloc = rt.alloc();
-    check_row(&rt, alloc, &["planar", "walk"], SCRIPT, (2, "", NO_COMMAND))?;
-    let words = ["planar", "run", "--fast"];
-    check_row(&rt, alloc, &words, SCRIPT, (2, "", NO_OPTION))?;
+fn words_that_are_refused(rt: HostRuntime) {
     check_row(
         &rt,
-        alloc,
-        &["planar", "check", "-h"],
-        CROSSED,
-        (2, "", HELP),
-    )?;
-    for fault in [WordsFault::NotText, WordsFault::Memory] {
-        let (status, told) = match fault {
-            WordsFault::NotText => (2, "planar: the words of the command line are not UTF-8\n"),
-            WordsFault::Memory => (3, "planar: 8 Memory\n"),
-        };
-        let mut err: Vec<u8> = Vec::new(alloc);
-        assert!(rt; refuse(fault, &mut err) == ends(status));
-        assert!(rt; err.as_slice() == told.as_bytes());
-    }
-    Ok(())
+        &["planar", "run", "--fast"],
+        SCRIPT,
+        (2, "", NO_OPTION),
+    );
+    check_row(&rt, &["planar", "check", "-h"], CROSSED, (2, "", HELP));
+    check_refused(&rt, WordsFault::NotText, 2, NOT_TEXT);
+    check_refused(&rt, WordsFault::Memory, 3, "planar: 8 Memory\n");
 }
 
-/// The command `run` on this reader, with these writers.
-fn run<R: Threads + Wait + AllocGlobal + Sync, I: Read, O: Write, E: Write>(
-    rt: &R,
-    reader: &mut I,
-    out: &mut O,
-    err: &mut E,
-) -> Outcome {
-    perform(rt, rt.alloc(), &["planar", "run"], reader, out, err)
+/// A run of the script with these writers ends so.
+fn run_ends<R: TestRuntime, O: Write, E: Write>(rt: &R, out: &mut O, err: &mut E, due: Outcome) {
+    let mut reader = SCRIPT.as_bytes();
+    let outcome = perform(rt, rt.alloc(), &["planar", "run"], &mut reader, out, err);
+    assert!(rt; outcome == due);
 }
 
 /// A run on this reader ends with status 1, writes nothing, and tells this fault.
-fn check_reader<R: Threads + Wait + Abort + AllocGlobal + Sync, I: Read>(
-    rt: &R,
-    reader: &mut I,
-    told: &str,
-) {
+fn check_reader<R: TestRuntime, I: Read>(rt: &R, reader: &mut I, told: &str) {
     let mut out: Vec<u8> = Vec::new(rt.alloc());
     let mut err: Vec<u8> = Vec::new(rt.alloc());
-    assert!(rt; run(rt, reader, &mut out, &mut err) == ends(1));
-    assert!(rt; out.is_empty());
-    assert!(rt; err.as_slice() == told.as_bytes());
+    let outcome = perform(
+        rt,
+        rt.alloc(),
+        &["planar", "run"],
+        reader,
+        &mut out,
+        &mut err,
+    );
+    are_of(rt, out.as_slice(), "");
+    are_of(rt, err.as_slice(), told);
+    assert!(rt; outcome == ends(1));
 }
 
 #[test]
@@ -152,26 +144,35 @@ fn broken_readers(rt: HostRuntime) {
     check_reader(&rt, &mut EndlessReader { given: 0 }, "planar: 51 TooLong\n");
 }
 
+/// Where the first writer has so much room, the second tells that it failed.
+fn check_room<R: TestRuntime>(rt: &R, room: usize) {
+    let mut out = FailingWriter::new(rt.alloc(), room);
+    let mut err = SlowWriter::new(rt.alloc(), 1);
+    run_ends(rt, &mut out, &mut err, ends(1));
+    let kept = out.kept.as_slice();
+    assert!(rt; kept.len() == room && REPORT.as_bytes().starts_with(kept));
+    are_of(rt, err.kept.as_slice(), "planar: 56 WriteFault\n");
+    assert!(rt; err.passed_on == err.kept.len());
+}
+
 #[test]
 fn broken_writers(rt: HostRuntime) {
-    let alloc = rt.alloc();
     for room in [0, 1, 100] {
-        let mut out = FailingWriter::new(alloc, room);
-        let mut err = SlowWriter::new(alloc, 1);
-        assert!(rt; run(&rt, &mut SCRIPT.as_bytes(), &mut out, &mut err) == ends(1));
-        assert!(rt; out.kept.as_slice() == &REPORT.as_bytes()[..room]);
-        assert!(rt; err.kept.as_slice() == "planar: 56 WriteFault\n".as_bytes());
-        assert_eq!(rt; err.passed_on, err.kept.len());
+        check_room(&rt, room);
     }
     let untold = Outcome {
         status: 1,
         is_told: false,
     };
-    let mut err = FailingWriter::new(alloc, 10);
-    assert!(rt; run(&rt, &mut SCRIPT.as_bytes(), &mut FullWriter, &mut err) == untold);
-    assert!(rt; err.kept.as_slice() == "planar: 56".as_bytes());
-    let mut out = SlowWriter::new(alloc, 1);
-    assert!(rt; run(&rt, &mut SCRIPT.as_bytes(), &mut out, &mut FullWriter) == ends(0));
-    assert!(rt; out.kept.as_slice() == REPORT.as_bytes());
-    assert_eq!(rt; out.passed_on, REPORT.len());
+    let mut err = FailingWriter::new(rt.alloc(), 10);
+    run_ends(&rt, &mut FullWriter, &mut err, untold);
+    are_of(&rt, err.kept.as_slice(), "planar: 56");
+}
+
+#[test]
+fn a_run_that_tells_nothing(rt: HostRuntime) {
+    let mut out = SlowWriter::new(rt.alloc(), 1);
+    run_ends(&rt, &mut out, &mut FullWriter, ends(0));
+    are_of(&rt, out.kept.as_slice(), REPORT);
+    assert!(rt; out.passed_on == REPORT.len());
 }

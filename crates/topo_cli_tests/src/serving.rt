@@ -1,13 +1,13 @@
 //! The command `serve` on readers and writers that are slow or break, and on lines that are no
 //! text, are too long, or have no line feed.
 
-use crate::commands::{SCRIPT, feeds, padded};
+use crate::commands::{SCRIPT, TestRuntime, are_of, ends, feeds, padded, writes};
 use crate::streams::{BreakingReader, FailingWriter, FullWriter, SlowReader, SlowWriter};
 use std::alloc::Global;
-use std::process::Abort;
 use std::test::Fail;
+use topo_cli::Verb;
 use topo_forms::ScriptFault;
-use topo_serve::serve_io;
+use topo_forms::path::Path;
 use topo_settings::RunFault;
 
 /// The greatest number of bytes that a line has, but the first.
@@ -47,81 +47,96 @@ fn first_answers(alloc: Global, count: usize) -> Result<String, Fail> {
 }
 
 /// These bytes are answered by these.
-fn check_session<R: Abort>(rt: &R, alloc: Global, read: &[u8], answers: &str) -> Result<(), Fail> {
+fn check_session<R: TestRuntime>(rt: &R, read: &[u8], answers: &str) {
     let mut reader = read;
-    let mut written: Vec<u8> = Vec::new(alloc);
-    assert!(rt; serve_io(alloc, &mut reader, &mut written) == Ok(()));
-    assert!(rt; written.as_slice() == answers.as_bytes());
-    Ok(())
+    writes(rt, Verb::Serve, &mut reader, Ok(()), answers);
 }
 
 #[test]
 fn sessions(rt: HostRuntime) -> Result<(), Fail> {
-    let alloc = rt.alloc();
-    check_session(&rt, alloc, SESSION.as_bytes(), ANSWERS)?;
-    let open_end = SESSION.trim_end().as_bytes();
-    check_session(&rt, alloc, open_end, ANSWERS)?;
-    check_session(&rt, alloc, b"{\"version\":1}", OPENED)?;
+    check_session(&rt, SESSION.as_bytes(), ANSWERS);
+    check_session(&rt, SESSION.trim_end().as_bytes(), ANSWERS);
+    check_session(&rt, b"{\"version\":1}", OPENED);
+    let told = format!(in rt.alloc(); "{OPENED}{{\"fault\":[50,\"NotJson\"]}}\n{OPENED}")?;
     let not_text = b"{\"version\":1}\n[\"grow\",1,0,\xff]\n\"counts\"\n";
-    let told = format!(in alloc; "{OPENED}{{\"fault\":[50,\"NotJson\"]}}\n{OPENED}")?;
-    check_session(&rt, alloc, not_text, told.as_str())
-}
-
-#[test]
-fn slow_streams(rt: HostRuntime) -> Result<(), Fail> {
-    let alloc = rt.alloc();
-    let mut slow = SlowReader::new(SESSION.as_bytes());
-    let mut writer = SlowWriter::new(alloc, 1);
-    assert!(rt; serve_io(alloc, &mut slow, &mut writer) == Ok(()));
-    assert!(rt; writer.kept.as_slice() == ANSWERS.as_bytes());
-    assert_eq!(rt; writer.passed_on, ANSWERS.len());
+    check_session(&rt, not_text, told.as_str());
+    drop(told);
     Ok(())
 }
 
 #[test]
-fn sessions_that_break(rt: HostRuntime) -> Result<(), Fail> {
-    let alloc = rt.alloc();
+fn slow_streams(rt: HostRuntime) {
+    let mut slow = SlowReader::new(SESSION.as_bytes());
+    let mut writer = SlowWriter::new(rt.alloc(), 1);
+    ends(&rt, Verb::Serve, &mut slow, &mut writer, Ok(()));
+    are_of(&rt, writer.kept.as_slice(), ANSWERS);
+    assert!(rt; writer.passed_on == ANSWERS.len());
+}
+
+#[test]
+fn sessions_whose_readers_break(rt: HostRuntime) -> Result<(), Fail> {
     for turns in 0..SESSION.len() + 1 {
+        let due = first_answers(rt.alloc(), feeds(&SESSION.as_bytes()[..turns]))?;
         let mut reader = BreakingReader::new(SESSION.as_bytes(), turns);
-        let mut written: Vec<u8> = Vec::new(alloc);
-        let told = serve_io(alloc, &mut reader, &mut written);
-        assert!(rt; told == Err(RunFault::ReadFault));
-        let due = first_answers(alloc, feeds(&SESSION.as_bytes()[..turns]))?;
-        assert!(rt; written.as_slice() == due.as_bytes());
+        writes(
+            &rt,
+            Verb::Serve,
+            &mut reader,
+            Err(RunFault::ReadFault),
+            due.as_str(),
+        );
+        drop(due);
     }
+    Ok(())
+}
+
+#[test]
+fn sessions_whose_writers_break(rt: HostRuntime) {
+    let fault = RunFault::WriteFault;
     for room in 0..ANSWERS.len() {
-        let mut reader = SESSION.as_bytes();
-        let mut writer = FailingWriter::new(alloc, room);
-        let told = serve_io(alloc, &mut reader, &mut writer);
-        assert!(rt; told == Err(RunFault::WriteFault));
+        let mut writer = FailingWriter::new(rt.alloc(), room);
+        ends(
+            &rt,
+            Verb::Serve,
+            &mut SESSION.as_bytes(),
+            &mut writer,
+            Err(fault),
+        );
         assert!(rt; writer.kept.as_slice() == &ANSWERS.as_bytes()[..room]);
     }
-    let told = serve_io(alloc, &mut SESSION.as_bytes(), &mut FullWriter);
-    assert!(rt; told == Err(RunFault::WriteFault));
-    let mut stuck = SlowWriter::stuck(alloc);
-    let told = serve_io(alloc, &mut SESSION.as_bytes(), &mut stuck);
-    assert!(rt; told == Err(RunFault::WriteFault));
-    assert!(rt; stuck.kept.as_slice() == OPENED.as_bytes());
-    Ok(())
+    ends(
+        &rt,
+        Verb::Serve,
+        &mut SESSION.as_bytes(),
+        &mut FullWriter,
+        Err(fault),
+    );
+    let mut stuck = SlowWriter::stuck(rt.alloc());
+    ends(
+        &rt,
+        Verb::Serve,
+        &mut SESSION.as_bytes(),
+        &mut stuck,
+        Err(fault),
+    );
+    are_of(&rt, stuck.kept.as_slice(), OPENED);
 }
 
 #[test]
-fn first_lines_that_open_nothing(rt: HostRuntime) -> Result<(), Fail> {
-    let alloc = rt.alloc();
+fn first_lines_that_open_nothing(rt: HostRuntime) {
     for (read, fault) in [
         ("", ScriptFault::NotJson),
         ("\n{\"version\":1}\n", ScriptFault::NotJson),
+        (SCRIPT, ScriptFault::BadShape(Path::WHOLE)),
     ] {
-        let mut written: Vec<u8> = Vec::new(alloc);
-        let told = serve_io(alloc, &mut read.as_bytes(), &mut written);
-        assert!(rt; told == Err(RunFault::Script(fault)));
-        assert!(rt; written.is_empty());
+        writes(
+            &rt,
+            Verb::Serve,
+            &mut read.as_bytes(),
+            Err(RunFault::Script(fault)),
+            "",
+        );
     }
-    let mut written: Vec<u8> = Vec::new(alloc);
-    let told = serve_io(alloc, &mut SCRIPT.as_bytes(), &mut written);
-    assert!(rt; matches!(told, Err(RunFault::Script(ScriptFault::BadShape(_)))));
-    assert!(rt; written.is_empty());
-    Ok(())
 }
 
 /// A session with a request behind so many spaces, and another.
@@ -132,13 +147,21 @@ fn session_behind(alloc: Global, spaces: usize) -> Result<Vec<u8>, Fail> {
     Ok(bytes)
 }
 
+/// The session with so many spaces is answered by the counts of the start, by this, and by the counts
+/// again.
+fn is_answered_behind<R: TestRuntime>(rt: &R, spaces: usize, told: &str) -> Result<(), Fail> {
+    let session = session_behind(rt.alloc(), spaces)?;
+    let answers = format!(in rt.alloc(); "{OPENED}{told}{OPENED}");
+    if let Ok(answers) = &answers {
+        check_session(rt, session.as_slice(), answers.as_str());
+    }
+    drop(session);
+    drop(answers?);
+    Ok(())
+}
+
 #[test]
 fn long_lines(rt: HostRuntime) -> Result<(), Fail> {
-    let alloc = rt.alloc();
-    let longest = session_behind(alloc, LONGEST - 8)?;
-    let answers = format!(in alloc; "{OPENED}{OPENED}{OPENED}")?;
-    check_session(&rt, alloc, longest.as_slice(), answers.as_str())?;
-    let too_long = session_behind(alloc, LONGEST - 7)?;
-    let answers = format!(in alloc; "{OPENED}{{\"fault\":[51,\"TooLong\"]}}\n{OPENED}")?;
-    check_session(&rt, alloc, too_long.as_slice(), answers.as_str())
+    is_answered_behind(&rt, LONGEST - 8, OPENED)?;
+    is_answered_behind(&rt, LONGEST - 7, "{\"fault\":[51,\"TooLong\"]}\n")
 }

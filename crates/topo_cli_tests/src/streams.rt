@@ -43,21 +43,11 @@ impl Read for SlowReader<'_> {
             return Err(io::Error::from(ErrorKind::Interrupted));
         }
         self.was_interrupted = false;
-        match self.bytes.split_first() {
-            Some((first, rest)) => {
-                if buf.is_empty() {
-                    return Ok(0);
-                }
-                buf[0] = *first;
-                self.bytes = rest;
-                Ok(1)
-            }
-            None => if self.fails {
-                Err(io::Error::from(ErrorKind::BrokenPipe))
-            } else {
-                Ok(0)
-            },
+        if self.fails && self.bytes.is_empty() {
+            return Err(io::Error::from(ErrorKind::BrokenPipe));
         }
+        let room = buf.len().min(1);
+        self.bytes.read(&mut buf[..room])
     }
 }
 
@@ -141,17 +131,8 @@ impl Read for BreakingReader<'_> {
             return Err(io::Error::from(ErrorKind::BrokenPipe));
         }
         self.turns -= 1;
-        match self.bytes.split_first() {
-            Some((first, rest)) => {
-                if buf.is_empty() {
-                    return Ok(0);
-                }
-                buf[0] = *first;
-                self.bytes = rest;
-                Ok(1)
-            }
-            None => Ok(0),
-        }
+        let room = buf.len().min(1);
+        self.bytes.read(&mut buf[..room])
     }
 }
 
