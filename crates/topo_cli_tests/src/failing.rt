@@ -62,7 +62,7 @@ fn failing_readers(rt: HostRuntime) {
     }
 }
 
-/// A command whose writer has so much room fails, and the writer is left with the first bytes of the
+/// A command whose writer has so much room fails, and leaves the writer with the first bytes of the
 /// text, and no others.
 fn is_cut<R: TestRuntime>(rt: &R, verb: Verb, read: &str, due: &str, room: usize) {
     let mut writer = FailingWriter::new(rt.alloc(), room);

@@ -147,8 +147,8 @@ fn session_behind(alloc: Global, spaces: usize) -> Result<Vec<u8>, Fail> {
     Ok(bytes)
 }
 
-/// The session with so many spaces is answered by the counts of the start, by this, and by the counts
-/// again.
+/// The session with so many spaces is answered by the counts of the start, by this, and by the
+/// counts again.
 fn is_answered_behind<R: TestRuntime>(rt: &R, spaces: usize, told: &str) -> Result<(), Fail> {
     let session = session_behind(rt.alloc(), spaces)?;
     let answers = format!(in rt.alloc(); "{OPENED}{told}{OPENED}");

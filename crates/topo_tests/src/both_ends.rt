@@ -53,8 +53,8 @@ fn is_same(found: &Option<PricedRoute>, plan: &Option<Plan>) -> bool {
     }
 }
 
-/// A search from both ends of a picture finds what the plan says. In a measured picture it is guided
-/// to its target if all prices are 1.
+/// A search from both ends of a picture finds what the plan says. In a measured picture it is
+/// guided to its target if all prices are 1.
 fn is_led<F: PriceFn>(
     rt: &impl Abort,
     alloc: Global,
