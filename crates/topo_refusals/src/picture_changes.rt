@@ -4,8 +4,8 @@ ghost use Rattle.std.specs.Prelude.{OnOk};
 ghost use Rattle.topo_core.specs.Routes.{IsSimpleRoute};
 
 use crate::picture_reads::{frozen_of, planned};
-use crate::printed::{copied, picture_state};
-use crate::retry::{Console, refused};
+use crate::printed::{copied, picture_state, print_picture, refused_on};
+use crate::retry::Console;
 use anyhow::{Result, bail};
 use topo_core::calls::{Call, Refusal};
 use topo_dual::Frozen;
@@ -15,44 +15,35 @@ use topo_route::check::check;
 use topo_route::plan::Plan;
 use topo_test_support::plans::are_ends;
 
-/// A growth.
-fn grow<R: Console>(rt: &R, picture: &mut Picture, u: u32, position: u32, kind: u32) -> Result<()> {
-    let before = picture_state(rt, picture)?;
+/// A growth in a picture in this state.
+fn grow<R: Console>(
+    rt: &R,
+    picture: &mut Picture,
+    (u, position, kind): (u32, u32, u32),
+    before: &str,
+) -> Result<()> {
     let answer = match picture.grow(rt.alloc(), u, position, kind) {
         Err(Refusal::Memory) => {
-            refused(
-                rt,
-                "Picture::grow",
-                before.as_str(),
-                picture_state(rt, picture)?,
-            )?;
+            refused_on(rt, "Picture::grow", before, picture)?;
             picture.grow(rt.alloc(), u, position, kind)
         }
         answer => answer,
     };
-    let state = picture_state(rt, picture)?;
-    println!(rt; "grow {u} {position} {kind}: {answer:?}{state}")?;
-    Ok(())
+    print!(rt; "grow {u} {position} {kind}: {answer:?}")?;
+    print_picture(rt, "", picture)
 }
 
-/// A deletion.
-fn delete<R: Console>(rt: &R, picture: &mut Picture, edge: u32) -> Result<()> {
-    let before = picture_state(rt, picture)?;
+/// A deletion in a picture in this state.
+fn delete<R: Console>(rt: &R, picture: &mut Picture, edge: u32, before: &str) -> Result<()> {
     let answer = match picture.delete(edge) {
         Err(Refusal::Memory) => {
-            refused(
-                rt,
-                "Picture::delete",
-                before.as_str(),
-                picture_state(rt, picture)?,
-            )?;
+            refused_on(rt, "Picture::delete", before, picture)?;
             picture.delete(edge)
         }
         answer => answer,
     };
-    let state = picture_state(rt, picture)?;
-    println!(rt; "delete {edge}: {answer:?}{state}")?;
-    Ok(())
+    print!(rt; "delete {edge}: {answer:?}")?;
+    print_picture(rt, "", picture)
 }
 
 /// Lets a plan pass whose route is the first.
@@ -86,50 +77,63 @@ fn pass_on<R: Eprint + AllocGlobal, F: PriceFn>(
     passed
 }
 
-/// An insertion along the route of a plan, which is checked.
+/// An insertion along the route of a plan, which is checked, in a picture in this state.
 fn apply<R: Console, F: PriceFn>(
     rt: &R,
     picture: &mut Picture,
     tariff: &Tariff<F>,
-    u: u32,
-    v: u32,
+    (u, v): (u32, u32),
     plan: &Plan,
+    before: &str,
 ) -> Result<()> {
     pass_on(rt, picture, tariff, u, v, plan)?;
     picture.admit(u, v, 0)?;
-    let before = picture_state(rt, picture)?;
     let answer = match picture.apply(rt.alloc(), u, v, 0, plan) {
         Err(Refusal::Memory) => {
-            refused(
-                rt,
-                "Picture::apply",
-                before.as_str(),
-                picture_state(rt, picture)?,
-            )?;
+            refused_on(rt, "Picture::apply", before, picture)?;
             picture.apply(rt.alloc(), u, v, 0, plan)
         }
         answer => answer,
     };
-    let state = picture_state(rt, picture)?;
-    println!(rt; "apply {u} {v} 0: {answer:?}{state}")?;
-    Ok(())
+    print!(rt; "apply {u} {v} 0: {answer:?}")?;
+    print_picture(rt, "", picture)
 }
 
-/// An insertion along the first route, which is searched for.
+/// An insertion along the first route, which is searched for, in a picture in this state.
 fn join<R: Console, F: PriceFn>(
     rt: &R,
     picture: &mut Picture,
     tariff: &Tariff<F>,
-    u: u32,
-    v: u32,
+    ends: (u32, u32),
+    before: &str,
 ) -> Result<()> {
+    let (u, v) = ends;
     let plan = planned(rt, picture, tariff, u, v)?;
-    let told = apply(rt, picture, tariff, u, v, &plan);
+    let told = apply(rt, picture, tariff, ends, &plan, before);
     drop(plan);
     told
 }
 
-/// Changes of a picture, one after the other. An edge that is put in is of kind 0.
+/// One change of a picture. An edge that is put in is of kind 0.
+fn change_once<R: Console, F: PriceFn>(
+    rt: &R,
+    picture: &mut Picture,
+    tariff: &Tariff<F>,
+    change: Call,
+) -> Result<()> {
+    let before = picture_state(rt, picture)?;
+    let told = match change {
+        Call::Grow { u, position, kind } => {
+            grow(rt, picture, (u, position, kind), before.as_str())
+        }
+        Call::Insert { u, v, kind: _ } => join(rt, picture, tariff, (u, v), before.as_str()),
+        Call::Delete { edge } => delete(rt, picture, edge, before.as_str()),
+    };
+    drop(before);
+    told
+}
+
+/// Changes of a picture, one after the other.
 fn change_all<R: Console, F: PriceFn>(
     rt: &R,
     picture: &mut Picture,
@@ -137,11 +141,7 @@ fn change_all<R: Console, F: PriceFn>(
     changes: &[Call],
 ) -> Result<()> {
     for change in changes {
-        match *change {
-            Call::Grow { u, position, kind } => grow(rt, picture, u, position, kind)?,
-            Call::Insert { u, v, kind: _ } => join(rt, picture, tariff, u, v)?,
-            Call::Delete { edge } => delete(rt, picture, edge)?,
-        }
+        change_once(rt, picture, tariff, *change)?;
     }
     Ok(())
 }
