@@ -92,8 +92,8 @@ class Signals(unittest.TestCase):
         self.noted = self.folder / "noted"
 
     def sleeping(self, calls: int = 0) -> str:
-        """A program that hands on so many calls, and then notes its number and sleeps: it never looks at its input again. It
-        accepts every picture."""
+        """A program that hands on so many calls, and then reads a line, notes its number and sleeps. It accepts every picture.
+        If there is no line, since what began it has ended, then it ends, as `planar` does."""
         count = self.folder / "count"
         count.write_text("0")
         hand_on = f'exec {os.path.abspath(find_program())} "$@"' if calls else ":"
@@ -101,6 +101,7 @@ class Signals(unittest.TestCase):
             f'[ "$1" != check ] || {{ echo "{LAWFUL}"; exit 0; }}',
             f"n=$(($(cat {count}) + 1)); echo $n > {count}",
             f"[ $n -gt {calls} ] || {hand_on}",
+            'read -r line; [ -n "$line" ] || exit 1',
             f"echo $$ >> {self.noted}",
             "exec sleep 600",
         )
