@@ -48,7 +48,7 @@ plain_tokens n read same close =
 
 pub cut_tokens : {segment : ℕ} {ts mid rest : List Token} → Spells 0 number_form ts segment mid → after_end_array mid ≡ Some rest
     → SpellsRefusal 6 (codes "Cut") ts (Cut segment) rest
-unfolding refusal_form cut_form
+unfolding cut_form
 cut_tokens {segment} s close = (
   item s.spelled no_items,
   element_then s (omega arith) (few_done close),

@@ -54,7 +54,7 @@ cut_form path d = do
   segment ← element number_form path 2 d
   Ok (Cut segment)
 
-unfoldable pub refusal_form : Path → Data → Read Refusal
+abbrev pub refusal_form : Path → Data → Read Refusal
 refusal_form path d = if is_pair 3 6 (codes "Cut") d then cut_form path d else plain_refusal path d
 
 -- ---- Replies

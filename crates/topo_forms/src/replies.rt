@@ -107,7 +107,7 @@ fn read_cut(alloc: Global, path: Path, value: &Value) -> Result<Refusal, ScriptF
 impl Form for Refusal {
     ghost form = { refusal_form };
 
-    #[tactic(auto, using(crate::proofs::Steps::gives_same), unfolding(crate::specs::ReplyForms::refusal_form))]
+    #[tactic(auto, using(crate::proofs::Steps::gives_same))]
     fn read(alloc: Global, path: Path, value: &Value) -> Result<Self, ScriptFault> {
         if is_pair(3, 6, "Cut", value) {
             read_cut(alloc, path, value)

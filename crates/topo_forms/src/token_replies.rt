@@ -54,7 +54,7 @@ impl FromTokens for Dart {
 }
 
 /// A refusal without a segment, and its name.
-#[tactic(auto, unfolding(crate::specs::ReplyForms::refusal_form, crate::specs::ReplyForms::plain_refusal))]
+#[tactic(auto, unfolding(crate::specs::ReplyForms::plain_refusal))]
 fn refusal_of(number: u64) -> Option<(&'static str, Refusal)>
     ensures { IfSome result
         (λ named. (path : Path)

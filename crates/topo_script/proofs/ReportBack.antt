@@ -107,7 +107,7 @@ unfolding cut_form
 cut_back path segment h = went _ _ segment (element_back number_form path 2 (refusal_data (Cut segment)) _ segment refl (short_back _ segment h))
 
 refusal_back : (path : Path) (why : Refusal) → RefusalFits why → refusal_form path (refusal_data why) ≡ Ok why
-unfolding refusal_form plain_refusal
+unfolding plain_refusal
 refusal_back path NoVertex h = refl
 refusal_back path SameEnds h = refl
 refusal_back path NoPosition h = refl

@@ -30,16 +30,18 @@ pub route_by_heights-requires-clause-known : goal.route_by_heights-requires-clau
 route_by_heights-requires-clause-known g c =
     let dual = c.args.priced.now.graph.now in
     let done = c.in_ok-least_heights.ensures in
-    for_all (prices_of (g.F.PriceFn.may_return c.args.priced.now.tariff.now)) (g.D.FaceGraph.named dual) (g.met.D.FaceGraph.lawful dual) (g.met.D.FaceGraph.has_names dual)
-    c.args.u c.args.v (dart_heights (g.D.FaceGraph.named c.args.priced.now.graph.now) (g.D.FaceGraph.face_of c.args.priced.now.graph.now) c.least_heights.new.work.to_end.heights)
-    done.in_range done.are_heights
+    let named = g.D.FaceGraph.named dual in
+    let heights = dart_heights named (g.D.FaceGraph.face_of dual) c.least_heights.new.work.to_end.heights in
+    for_all (prices_of (g.F.PriceFn.may_return c.args.priced.now.tariff.now)) named (g.met.D.FaceGraph.lawful dual) (g.met.D.FaceGraph.has_names dual)
+    c.args.u c.args.v heights done.in_range done.are_heights
 
 pub returns-in-Some : goal.returns-in-Some
 returns-in-Some g c =
-    let rows = g.D.Dual.shows c.args.priced.now.graph.now in
-    let numbered = g.met.D.Dual.numbered c.args.priced.now.graph.now in
+    let dual = c.args.priced.now.graph.now in
+    let rows = g.D.Dual.shows dual in
+    let numbered = g.met.D.Dual.numbered dual in
     let price = prices_of (g.F.PriceFn.may_return c.args.priced.now.tariff.now) in
-    let heights = dart_heights (g.D.FaceGraph.named c.args.priced.now.graph.now) (g.D.FaceGraph.face_of c.args.priced.now.graph.now) c.least_heights.new.work.to_end.heights in
+    let heights = dart_heights (g.D.FaceGraph.named dual) (g.D.FaceGraph.face_of dual) c.least_heights.new.work.to_end.heights in
     let by_numbers = subst (λ (n : Named). MatchOption c.in_ok-found.found (HasNoRoute price n.rows c.args.u c.args.v)
     (IsFirstRoute price n c.args.u c.args.v heights)) numbered c.in_ok-found.ensures in
     let found = subst (λ o. MatchOption o (HasNoRoute price rows c.args.u c.args.v) (IsFirstRoute price (canonical rows) c.args.u c.args.v heights))
