@@ -3,8 +3,8 @@
 ghost use Rattle.topo_price.specs.Prices.{IsPromise};
 
 use crate::prepared_calls::enter_ready;
-use crate::printed::{copied, picture_state, refused_in, refused_on};
-use crate::retry::{Console, tell};
+use crate::printed::{book_state, copied, picture_state};
+use crate::retry::{Console, refused, tell};
 use anyhow::Result;
 use std::alloc::{AllocError, Global};
 use std::sync::Arc;
@@ -47,45 +47,23 @@ pub(crate) fn shared<R: Eprint + AllocGlobal, F: PriceFn + Drop>(
     }
 }
 
-/// The book that begins with a copy of a picture, if there is memory for it.
-fn begun<R: Console, F: PriceFn + Drop>(
-    rt: &R,
-    start: &Picture,
-    tariff: &Arc<Tariff<F>>,
-) -> Result<Option<Book<F>>> {
-    let share = Arc::try_clone(tariff)?;
-    let copy = copied(rt, start)?;
-    Ok(Book::new(rt.alloc(), copy, share).ok())
-}
-
-/// The book that begins with a picture in this state, which is compared if the book is out of
-/// memory. It is begun once more then.
-fn begun_again<R: Console, F: PriceFn + Drop>(
-    rt: &R,
-    start: &Picture,
-    tariff: &Arc<Tariff<F>>,
-    before: &str,
-) -> Result<Book<F>> {
-    if let Some(book) = begun(rt, start, tariff)? {
-        return Ok(book);
-    }
-    refused_on(rt, "Book::new", before, start)?;
-    match begun(rt, start, tariff)? {
-        Some(book) => Ok(book),
-        None => Err(AllocError.into()),
-    }
-}
-
-/// The same of a picture.
+/// The book that begins with a picture. If it is out of memory, the picture is compared with its
+/// state before, and the book is begun once more.
 pub(crate) fn book_of<R: Console, F: PriceFn + Drop>(
     rt: &R,
     start: &Picture,
     tariff: &Arc<Tariff<F>>,
 ) -> Result<Book<F>> {
     let before = picture_state(rt, start)?;
-    let book = begun_again(rt, start, tariff, before.as_str());
-    drop(before);
-    book
+    let share = Arc::try_clone(tariff)?;
+    let copy = copied(rt, start)?;
+    if let Ok(book) = Book::new(rt.alloc(), copy, share) {
+        return Ok(book);
+    }
+    refused(rt, "Book::new", before.as_str(), picture_state(rt, start)?)?;
+    let share = Arc::try_clone(tariff)?;
+    let copy = copied(rt, start)?;
+    Ok(Book::new(rt.alloc(), copy, share)?)
 }
 
 /// What the call of a book is named.
@@ -113,25 +91,7 @@ fn made<F: PriceFn>(
     }
 }
 
-/// The reply to a call that is carried out and entered at once, an insertion with the plan if there
-/// is one.
-fn reply_to<R: Console, F: PriceFn>(
-    rt: &R,
-    book: &mut Book<F>,
-    call: Call,
-    plan: Option<&Plan>,
-    before: &str,
-) -> Result<Reply> {
-    match made(rt.alloc(), book, call, plan) {
-        Ok(reply) => Ok(reply),
-        Err(_) => {
-            refused_in(rt, name_of(call, plan), before, book)?;
-            Ok(made(rt.alloc(), book, call, plan)?)
-        }
-    }
-}
-
-/// Makes such a call, and prints its reply.
+/// A call that is carried out and entered at once, an insertion with the plan if there is one.
 fn make<R: Console, F: PriceFn>(
     rt: &R,
     book: &mut Book<F>,
@@ -139,7 +99,13 @@ fn make<R: Console, F: PriceFn>(
     plan: Option<&Plan>,
     before: &str,
 ) -> Result<()> {
-    let reply = reply_to(rt, book, call, plan, before)?;
+    let reply = match made(rt.alloc(), book, call, plan) {
+        Ok(reply) => reply,
+        Err(_) => {
+            refused(rt, name_of(call, plan), before, book_state(rt, book)?)?;
+            made(rt.alloc(), book, call, plan)?
+        }
+    };
     let told = match (call, plan) {
         (Call::Insert { u, v, kind }, Some(_)) => {
             println!(rt; "planned insertion {u} {v} {kind}: {reply:?}")

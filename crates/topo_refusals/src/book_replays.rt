@@ -1,53 +1,34 @@
 //! The replay of a book's history.
 
-use crate::printed::{book_state, print_picture, refused_in};
-use crate::retry::Console;
+use crate::printed::{book_state, picture_state};
+use crate::retry::{Console, refused};
 use anyhow::Result;
 use topo_book::{Book, ReplayFault, replay};
 use topo_picture::Picture;
 use topo_price::tariff::PriceFn;
 
-/// The replay of the history from a picture, once more if that is out of memory.
-fn replayed<R: Console, F: PriceFn>(
-    rt: &R,
-    book: &Book<F>,
-    start: &Picture,
-    before: &str,
-) -> Result<Result<Picture, ReplayFault>> {
-    match replay(rt.alloc(), start, book.history(), book.tariff()) {
-        Err(ReplayFault::Memory) => {
-            refused_in(rt, "replay", before, book)?;
-            Ok(replay(rt.alloc(), start, book.history(), book.tariff()))
-        }
-        answer => Ok(answer),
-    }
-}
-
-/// Replays the history from a picture, and prints the one that it leads to.
-fn replay_beside<R: Console, F: PriceFn>(
-    rt: &R,
-    book: &Book<F>,
-    start: &Picture,
-    before: &str,
-) -> Result<()> {
-    match replayed(rt, book, start, before)? {
-        Ok(picture) => {
-            let told = print_picture(rt, "replay:", &picture);
-            drop(picture);
-            told
-        }
-        Err(fault) => Ok(println!(rt; "replay: {fault}")?),
-    }
-}
-
-/// The same of a book.
+/// Replays the history from a picture, once more if that is out of memory.
 pub(crate) fn replay_from<R: Console, F: PriceFn>(
     rt: &R,
     book: &Book<F>,
     start: &Picture,
 ) -> Result<()> {
     let before = book_state(rt, book)?;
-    let told = replay_beside(rt, book, start, before.as_str());
-    drop(before);
-    told
+    let answer = match replay(rt.alloc(), start, book.history(), book.tariff()) {
+        Err(ReplayFault::Memory) => {
+            refused(rt, "replay", before.as_str(), book_state(rt, book)?)?;
+            replay(rt.alloc(), start, book.history(), book.tariff())
+        }
+        answer => answer,
+    };
+    match answer {
+        Ok(picture) => {
+            let state = picture_state(rt, &picture);
+            drop(picture);
+            let state = state?;
+            println!(rt; "replay:{state}")?;
+        }
+        Err(fault) => println!(rt; "replay: {fault}")?,
+    }
+    Ok(())
 }

@@ -6,7 +6,7 @@ use crate::book_calls::{Step, book_of, shared, take_step};
 use crate::book_replays::replay_from;
 use crate::picture_changes::change;
 use crate::picture_reads::{planned, read};
-use crate::printed::{book_state, print_book};
+use crate::printed::book_state;
 use crate::retry::Console;
 use anyhow::Result;
 use topo_book::Book;
@@ -129,21 +129,7 @@ pub(crate) const CHORDS: BookScript = BookScript {
     ],
 };
 
-/// Takes one step of a book by a plan, and prints the book.
-fn go_on<R: Console, F: PriceFn>(
-    rt: &R,
-    book: &mut Book<F>,
-    plan: &Plan,
-    step: &Step,
-) -> Result<()> {
-    let before = book_state(rt, book)?;
-    let told = take_step(rt, book, plan, step, before.as_str());
-    drop(before);
-    told?;
-    print_book(rt, "the book:", book)
-}
-
-/// Takes one step after the other, and replays the book.
+/// Takes one step of a book after the other by a plan, prints the book after each, and replays it.
 fn tell_by<R: Console, F: PriceFn>(
     rt: &R,
     script: &BookScript,
@@ -151,8 +137,11 @@ fn tell_by<R: Console, F: PriceFn>(
     book: &mut Book<F>,
     plan: &Plan,
 ) -> Result<()> {
+    let mut state = book_state(rt, book)?;
     for step in script.steps {
-        go_on(rt, book, plan, step)?;
+        take_step(rt, book, plan, step, state.as_str())?;
+        state = book_state(rt, book)?;
+        println!(rt; "the book:{state}")?;
     }
     replay_from(rt, book, start)?;
     replay_from(rt, book, book.picture())
@@ -165,7 +154,8 @@ fn tell_of<R: Console, F: PriceFn>(
     start: &Picture,
     book: &mut Book<F>,
 ) -> Result<()> {
-    print_book(rt, "new book:", book)?;
+    let state = book_state(rt, book)?;
+    println!(rt; "new book:{state}")?;
     let (u, v) = script.ends;
     let plan = planned(rt, start, book.tariff(), u, v)?;
     let told = tell_by(rt, script, start, book, &plan);

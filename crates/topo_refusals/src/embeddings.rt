@@ -37,26 +37,15 @@ fn state<R: Eprint + AllocGlobal>(
     }
 }
 
-/// An equal embedding of one in this state.
-fn copy_of<R: Console>(
-    rt: &R,
-    embedding: &Embedding,
-    halves: &[Half],
-    before: &str,
-) -> Result<Embedding> {
-    match embedding.copy() {
-        Ok(copy) => Ok(copy),
-        Err(_) => {
-            let after = state(rt, embedding, halves)?;
-            refused(rt, "Embedding::copy", before, after)?;
-            Ok(embedding.copy()?)
-        }
-    }
-}
-
-/// Prints an equal embedding.
+/// An equal embedding.
 fn copy<R: Console>(rt: &R, embedding: &Embedding, halves: &[Half], before: &str) -> Result<()> {
-    let copy = copy_of(rt, embedding, halves, before)?;
+    let copy = match embedding.copy() {
+        Ok(copy) => copy,
+        Err(_) => {
+            refused(rt, "Embedding::copy", before, state(rt, embedding, halves)?)?;
+            embedding.copy()?
+        }
+    };
     let (as_many, given) = (copy.room() >= embedding.room(), state(rt, &copy, halves));
     drop(copy);
     let given = given?;
@@ -64,46 +53,23 @@ fn copy<R: Console>(rt: &R, embedding: &Embedding, halves: &[Half], before: &str
     Ok(())
 }
 
-/// Makes room for more segments in an embedding in this state.
-fn reserve<R: Console>(
-    rt: &R,
-    embedding: &mut Embedding,
-    halves: &[Half],
-    before: &str,
-) -> Result<()> {
+/// Makes room for more segments in an embedding, and copies it.
+fn use_store<R: Console>(rt: &R, embedding: &mut Embedding, halves: &[Half]) -> Result<()> {
+    let before = state(rt, embedding, halves)?;
+    println!(rt; "embedding:{before}")?;
     if embedding.reserve(MORE).is_err() {
         let after = state(rt, embedding, halves)?;
-        refused(rt, "Embedding::reserve", before, after)?;
+        refused(rt, "Embedding::reserve", before.as_str(), after)?;
         embedding.reserve(MORE)?;
     }
     let enough = embedding.room() >= MORE;
     let after = state(rt, embedding, halves)?;
     println!(rt; "reserve: {enough}{after}")?;
-    Ok(())
+    copy(rt, embedding, halves, before.as_str())
 }
 
-/// Prints an embedding in this state, makes room for more segments in it, and copies it.
-fn use_beside<R: Console>(
-    rt: &R,
-    embedding: &mut Embedding,
-    halves: &[Half],
-    before: &str,
-) -> Result<()> {
-    println!(rt; "embedding:{before}")?;
-    reserve(rt, embedding, halves, before)?;
-    copy(rt, embedding, halves, before)
-}
-
-/// The same of an embedding.
-fn use_store<R: Console>(rt: &R, embedding: &mut Embedding, halves: &[Half]) -> Result<()> {
-    let before = state(rt, embedding, halves)?;
-    let told = use_beside(rt, embedding, halves, before.as_str());
-    drop(before);
-    told
-}
-
-/// An embedding of one segment.
-fn embed_segment<R: Console>(rt: &R) -> Result<()> {
+/// An embedding of one segment, and one of two whose four halves lie round one point.
+pub(crate) fn embed<R: Console>(rt: &R) -> Result<()> {
     let (mut embedding, half) = match Embedding::seed(rt.alloc(), 7) {
         Ok(made) => made,
         Err(_) => {
@@ -113,11 +79,7 @@ fn embed_segment<R: Console>(rt: &R) -> Result<()> {
     };
     let told = use_store(rt, &mut embedding, &[half, half.twin()]);
     drop(embedding);
-    told
-}
-
-/// An embedding of two segments whose four halves lie round one point.
-fn embed_turns<R: Console>(rt: &R) -> Result<()> {
+    told?;
     let (mut embedding, halves) = match Embedding::from_turns(rt.alloc(), &[2, 3, 1, 0], &[3, 4]) {
         Ok(made) => made,
         Err(_) => {
@@ -128,10 +90,4 @@ fn embed_turns<R: Console>(rt: &R) -> Result<()> {
     let told = use_store(rt, &mut embedding, halves.as_slice());
     drop(embedding);
     told
-}
-
-/// Both.
-pub(crate) fn embed<R: Console>(rt: &R) -> Result<()> {
-    embed_segment(rt)?;
-    embed_turns(rt)
 }

@@ -4,8 +4,8 @@ ghost use Rattle.std.specs.Prelude.{OnOk};
 ghost use Rattle.topo_core.specs.Routes.{IsSimpleRoute};
 
 use crate::picture_reads::{frozen_of, planned};
-use crate::printed::{copied, picture_state, print_picture, refused_on};
-use crate::retry::Console;
+use crate::printed::{copied, picture_state};
+use crate::retry::{Console, refused};
 use anyhow::{Result, bail};
 use topo_core::calls::{Call, Refusal};
 use topo_dual::Frozen;
@@ -15,35 +15,44 @@ use topo_route::check::check;
 use topo_route::plan::Plan;
 use topo_test_support::plans::are_ends;
 
-/// A growth in a picture in this state.
-fn grow<R: Console>(
-    rt: &R,
-    picture: &mut Picture,
-    (u, position, kind): (u32, u32, u32),
-    before: &str,
-) -> Result<()> {
+/// A growth.
+fn grow<R: Console>(rt: &R, picture: &mut Picture, u: u32, position: u32, kind: u32) -> Result<()> {
+    let before = picture_state(rt, picture)?;
     let answer = match picture.grow(rt.alloc(), u, position, kind) {
         Err(Refusal::Memory) => {
-            refused_on(rt, "Picture::grow", before, picture)?;
+            refused(
+                rt,
+                "Picture::grow",
+                before.as_str(),
+                picture_state(rt, picture)?,
+            )?;
             picture.grow(rt.alloc(), u, position, kind)
         }
         answer => answer,
     };
-    print!(rt; "grow {u} {position} {kind}: {answer:?}")?;
-    print_picture(rt, "", picture)
+    let state = picture_state(rt, picture)?;
+    println!(rt; "grow {u} {position} {kind}: {answer:?}{state}")?;
+    Ok(())
 }
 
-/// A deletion in a picture in this state.
-fn delete<R: Console>(rt: &R, picture: &mut Picture, edge: u32, before: &str) -> Result<()> {
+/// A deletion.
+fn delete<R: Console>(rt: &R, picture: &mut Picture, edge: u32) -> Result<()> {
+    let before = picture_state(rt, picture)?;
     let answer = match picture.delete(edge) {
         Err(Refusal::Memory) => {
-            refused_on(rt, "Picture::delete", before, picture)?;
+            refused(
+                rt,
+                "Picture::delete",
+                before.as_str(),
+                picture_state(rt, picture)?,
+            )?;
             picture.delete(edge)
         }
         answer => answer,
     };
-    print!(rt; "delete {edge}: {answer:?}")?;
-    print_picture(rt, "", picture)
+    let state = picture_state(rt, picture)?;
+    println!(rt; "delete {edge}: {answer:?}{state}")?;
+    Ok(())
 }
 
 /// Lets a plan pass whose route is the first.
@@ -77,63 +86,50 @@ fn pass_on<R: Eprint + AllocGlobal, F: PriceFn>(
     passed
 }
 
-/// An insertion along the route of a plan, which is checked, in a picture in this state.
+/// An insertion along the route of a plan, which is checked.
 fn apply<R: Console, F: PriceFn>(
     rt: &R,
     picture: &mut Picture,
     tariff: &Tariff<F>,
-    (u, v): (u32, u32),
+    u: u32,
+    v: u32,
     plan: &Plan,
-    before: &str,
 ) -> Result<()> {
     pass_on(rt, picture, tariff, u, v, plan)?;
     picture.admit(u, v, 0)?;
+    let before = picture_state(rt, picture)?;
     let answer = match picture.apply(rt.alloc(), u, v, 0, plan) {
         Err(Refusal::Memory) => {
-            refused_on(rt, "Picture::apply", before, picture)?;
+            refused(
+                rt,
+                "Picture::apply",
+                before.as_str(),
+                picture_state(rt, picture)?,
+            )?;
             picture.apply(rt.alloc(), u, v, 0, plan)
         }
         answer => answer,
     };
-    print!(rt; "apply {u} {v} 0: {answer:?}")?;
-    print_picture(rt, "", picture)
+    let state = picture_state(rt, picture)?;
+    println!(rt; "apply {u} {v} 0: {answer:?}{state}")?;
+    Ok(())
 }
 
-/// An insertion along the first route, which is searched for, in a picture in this state.
+/// An insertion along the first route, which is searched for.
 fn join<R: Console, F: PriceFn>(
     rt: &R,
     picture: &mut Picture,
     tariff: &Tariff<F>,
-    ends: (u32, u32),
-    before: &str,
+    u: u32,
+    v: u32,
 ) -> Result<()> {
-    let (u, v) = ends;
     let plan = planned(rt, picture, tariff, u, v)?;
-    let told = apply(rt, picture, tariff, ends, &plan, before);
+    let told = apply(rt, picture, tariff, u, v, &plan);
     drop(plan);
     told
 }
 
-/// One change of a picture. An edge that is put in is of kind 0.
-fn change_once<R: Console, F: PriceFn>(
-    rt: &R,
-    picture: &mut Picture,
-    tariff: &Tariff<F>,
-    change: Call,
-) -> Result<()> {
-    let before = picture_state(rt, picture)?;
-    let told = match change {
-        Call::Grow { u, position, kind } => {
-            grow(rt, picture, (u, position, kind), before.as_str())
-        }
-        Call::Insert { u, v, kind: _ } => join(rt, picture, tariff, (u, v), before.as_str()),
-        Call::Delete { edge } => delete(rt, picture, edge, before.as_str()),
-    };
-    drop(before);
-    told
-}
-
-/// Changes of a picture, one after the other.
+/// Changes of a picture, one after the other. An edge that is put in is of kind 0.
 fn change_all<R: Console, F: PriceFn>(
     rt: &R,
     picture: &mut Picture,
@@ -141,7 +137,11 @@ fn change_all<R: Console, F: PriceFn>(
     changes: &[Call],
 ) -> Result<()> {
     for change in changes {
-        change_once(rt, picture, tariff, *change)?;
+        match *change {
+            Call::Grow { u, position, kind } => grow(rt, picture, u, position, kind)?,
+            Call::Insert { u, v, kind: _ } => join(rt, picture, tariff, u, v)?,
+            Call::Delete { edge } => delete(rt, picture, edge)?,
+        }
     }
     Ok(())
 }

@@ -3,7 +3,7 @@
 
 ghost use Rattle.std.specs.Prelude.{◌≡◌, IfOk};
 
-use crate::printed::{picture_state, refused_on, rows_state};
+use crate::printed::{picture_state, rows_state};
 use crate::retry::{Console, refused, tell};
 use anyhow::{Result, bail};
 use std::alloc::{AllocError, Global};
@@ -19,42 +19,34 @@ use topo_rows::LoadFault;
 use topo_test_support::pictures::{Named, greatest_limits, rows_of};
 use topo_test_support::plans::are_ends;
 
-/// The picture that these rows load as, which look so.
-fn load<R: Console>(rt: &R, rows: &Rows, before: &str) -> Result<Picture> {
+/// The picture that these rows load as.
+fn load<R: Console>(rt: &R, rows: &Rows) -> Result<Picture> {
     let (alloc, limits) = (rt.alloc(), greatest_limits());
+    let before = rows_state(rt, limits, rows)?;
     match Picture::load(alloc, limits, rows) {
         Err(LoadFault::Memory) => {
-            let after = rows_state(rt, limits, rows)?;
-            refused(rt, "Picture::load", before, after)?;
+            refused(
+                rt,
+                "Picture::load",
+                before.as_str(),
+                rows_state(rt, limits, rows)?,
+            )?;
             Ok(Picture::load(alloc, limits, rows)?)
         }
         answer => Ok(answer?),
     }
 }
 
-/// The rows of a named picture.
-fn named_rows<R: Console>(rt: &R, named: &Named) -> Result<Rows, AllocError> {
-    match rows_of(rt.alloc(), named) {
-        Ok(rows) => Ok(rows),
-        Err(_) => {
-            tell(rt, "bookkeeping");
-            rows_of(rt.alloc(), named)
-        }
-    }
-}
-
-/// The picture that rows load as.
-fn load_rows<R: Console>(rt: &R, rows: &Rows) -> Result<Picture> {
-    let before = rows_state(rt, greatest_limits(), rows)?;
-    let picture = load(rt, rows, before.as_str());
-    drop(before);
-    picture
-}
-
 /// A named picture, which is loaded.
 pub(crate) fn loaded<R: Console>(rt: &R, named: &Named) -> Result<Picture> {
-    let rows = named_rows(rt, named)?;
-    let picture = load_rows(rt, &rows);
+    let rows = match rows_of(rt.alloc(), named) {
+        Ok(rows) => rows,
+        Err(_) => {
+            tell(rt, "bookkeeping");
+            rows_of(rt.alloc(), named)?
+        }
+    };
+    let picture = load(rt, &rows);
     drop(rows);
     picture
 }
@@ -70,77 +62,42 @@ fn print_likeness<R: Print>(rt: &R, call: &str, picture: &str, given: String) ->
     Ok(())
 }
 
-/// A copy of a picture in this state.
-fn copy_of<R: Console>(rt: &R, picture: &Picture, before: &str) -> Result<Picture> {
-    match picture.copy(rt.alloc()) {
-        Ok(copy) => Ok(copy),
-        Err(_) => {
-            refused_on(rt, "Picture::copy", before, picture)?;
-            Ok(picture.copy(rt.alloc())?)
-        }
-    }
-}
-
-/// The picture is copied.
+/// The picture is copied, and gives its rows.
 fn copy<R: Console>(rt: &R, picture: &Picture, before: &str) -> Result<()> {
-    let copy = copy_of(rt, picture, before)?;
+    let copy = match picture.copy(rt.alloc()) {
+        Ok(copy) => copy,
+        Err(_) => {
+            refused(rt, "Picture::copy", before, picture_state(rt, picture)?)?;
+            picture.copy(rt.alloc())?
+        }
+    };
     let given = picture_state(rt, &copy);
     drop(copy);
-    print_likeness(rt, "copy", before, given?)
-}
-
-/// The rows of a picture in this state.
-fn rows_from<R: Console>(rt: &R, picture: &Picture, before: &str) -> Result<Rows> {
-    match picture.rows(rt.alloc()) {
-        Ok(rows) => Ok(rows),
+    print_likeness(rt, "copy", before, given?)?;
+    let rows = match picture.rows(rt.alloc()) {
+        Ok(rows) => rows,
         Err(_) => {
-            refused_on(rt, "Picture::rows", before, picture)?;
-            Ok(picture.rows(rt.alloc())?)
+            refused(rt, "Picture::rows", before, picture_state(rt, picture)?)?;
+            picture.rows(rt.alloc())?
         }
-    }
-}
-
-/// The picture gives its rows.
-fn give_rows<R: Console>(rt: &R, picture: &Picture, before: &str) -> Result<()> {
-    let rows = rows_from(rt, picture, before)?;
+    };
     let given = rows_state(rt, picture.limits(), &rows);
     drop(rows);
     print_likeness(rt, "rows", before, given?)
 }
 
-/// The frozen picture, of a picture in this state.
-fn frozen_from<R: Console>(rt: &R, picture: &Picture, before: &str) -> Result<Frozen> {
-    match picture.freeze(rt.alloc()) {
-        Ok(frozen) => Ok(frozen),
-        Err(_) => {
-            refused_on(rt, "Picture::freeze", before, picture)?;
-            Ok(picture.freeze(rt.alloc())?)
-        }
-    }
-}
-
 /// The picture is frozen.
 fn freeze<R: Console>(rt: &R, picture: &Picture, before: &str) -> Result<()> {
-    let frozen = frozen_from(rt, picture, before)?;
+    let frozen = match picture.freeze(rt.alloc()) {
+        Ok(frozen) => frozen,
+        Err(_) => {
+            refused(rt, "Picture::freeze", before, picture_state(rt, picture)?)?;
+            picture.freeze(rt.alloc())?
+        }
+    };
     let given = frozen_rows(rt, picture, before, &frozen);
     drop(frozen);
     print_likeness(rt, "freeze", before, given?)
-}
-
-/// The rows of a frozen picture, of a picture in this state.
-fn rows_of_frozen<R: Console>(
-    rt: &R,
-    picture: &Picture,
-    before: &str,
-    frozen: &Frozen,
-) -> Result<Rows> {
-    match frozen.rows(rt.alloc()) {
-        Ok(rows) => Ok(rows),
-        Err(_) => {
-            refused_on(rt, "Frozen::rows", before, picture)?;
-            Ok(frozen.rows(rt.alloc())?)
-        }
-    }
 }
 
 /// The text of the rows that a frozen picture gives.
@@ -150,7 +107,13 @@ fn frozen_rows<R: Console>(
     before: &str,
     frozen: &Frozen,
 ) -> Result<String> {
-    let rows = rows_of_frozen(rt, picture, before, frozen)?;
+    let rows = match frozen.rows(rt.alloc()) {
+        Ok(rows) => rows,
+        Err(_) => {
+            refused(rt, "Frozen::rows", before, picture_state(rt, picture)?)?;
+            frozen.rows(rt.alloc())?
+        }
+    };
     let given = rows_state(rt, picture.limits(), &rows);
     drop(rows);
     Ok(given?)
@@ -168,7 +131,7 @@ fn number<R: Console>(rt: &R, picture: &Picture, before: &str) -> Result<()> {
     let darts = match numbered_darts(rt.alloc(), picture) {
         Ok(darts) => darts,
         Err(_) => {
-            refused_on(rt, "Picture::numbered", before, picture)?;
+            refused(rt, "Picture::numbered", before, picture_state(rt, picture)?)?;
             numbered_darts(rt.alloc(), picture)?
         }
     };
@@ -176,23 +139,15 @@ fn number<R: Console>(rt: &R, picture: &Picture, before: &str) -> Result<()> {
     Ok(())
 }
 
-/// The picture that was loaded, in this state, is printed, copied, gives its rows, is frozen, and
-/// its darts are numbered.
-fn read_beside<R: Console>(rt: &R, name: &str, picture: &Picture, before: &str) -> Result<()> {
-    let counts = picture.counts();
-    println!(rt; "load {name}: {counts:?}{before}")?;
-    copy(rt, picture, before)?;
-    give_rows(rt, picture, before)?;
-    freeze(rt, picture, before)?;
-    number(rt, picture, before)
-}
-
-/// The same of a picture.
+/// The picture that was loaded is printed, copied, gives its rows, is frozen, and its darts are
+/// numbered.
 pub(crate) fn read<R: Console>(rt: &R, name: &str, picture: &Picture) -> Result<()> {
     let before = picture_state(rt, picture)?;
-    let told = read_beside(rt, name, picture, before.as_str());
-    drop(before);
-    told
+    let counts = picture.counts();
+    println!(rt; "load {name}: {counts:?}{before}")?;
+    copy(rt, picture, before.as_str())?;
+    freeze(rt, picture, before.as_str())?;
+    number(rt, picture, before.as_str())
 }
 
 /// The frozen picture.
@@ -211,65 +166,50 @@ pub(crate) fn frozen_of<R: Eprint + AllocGlobal>(
     }
 }
 
-/// The rows of a frozen picture.
-fn rows_again<R: Eprint + AllocGlobal>(rt: &R, frozen: &Frozen) -> Result<Rows, AllocError> {
-    match frozen.rows(rt.alloc()) {
-        Ok(rows) => Ok(rows),
-        Err(_) => {
-            tell(rt, "bookkeeping");
-            frozen.rows(rt.alloc())
-        }
-    }
-}
-
 /// The text of a frozen picture: the limits and its rows.
 fn frozen_state<R: Eprint + AllocGlobal>(
     rt: &R,
     limits: Limits,
     frozen: &Frozen,
 ) -> Result<String, AllocError> {
-    let rows = rows_again(rt, frozen)?;
+    let rows = match frozen.rows(rt.alloc()) {
+        Ok(rows) => rows,
+        Err(_) => {
+            tell(rt, "bookkeeping");
+            frozen.rows(rt.alloc())?
+        }
+    };
     let state = rows_state(rt, limits, &rows);
     drop(rows);
     state
 }
 
-/// What a search between two vertices of a frozen picture finds. It is made once more if it is out
-/// of memory.
-fn searched<R: Console, F: PriceFn>(
-    rt: &R,
-    frozen: &Frozen,
-    limits: Limits,
-    tariff: &Tariff<F>,
-    (u, v): (u32, u32),
-    before: &str,
-) -> Result<Option<Plan>> {
-    if !are_ends(frozen, u, v) {
-        bail!("no two vertices");
-    }
-    match search(rt.alloc(), frozen, tariff, u, v) {
-        Ok(found) => Ok(found),
-        Err(_) => {
-            let after = frozen_state(rt, limits, frozen)?;
-            refused(rt, "search", before, after)?;
-            Ok(search(rt.alloc(), frozen, tariff, u, v)?)
-        }
-    }
-}
-
-/// The plan of the first route between two vertices of a frozen picture.
+/// The plan of the first route between two vertices of a frozen picture. The search is made once
+/// more if it is out of memory.
 fn planned_on<R: Console, F: PriceFn>(
     rt: &R,
     frozen: &Frozen,
     limits: Limits,
     tariff: &Tariff<F>,
-    ends: (u32, u32),
+    u: u32,
+    v: u32,
 ) -> Result<Plan> {
+    if !are_ends(frozen, u, v) {
+        bail!("no two vertices");
+    }
     let before = frozen_state(rt, limits, frozen)?;
-    let found = searched(rt, frozen, limits, tariff, ends, before.as_str());
-    drop(before);
-    let found = found?;
-    let (u, v) = ends;
+    let found = match search(rt.alloc(), frozen, tariff, u, v) {
+        Ok(found) => found,
+        Err(_) => {
+            refused(
+                rt,
+                "search",
+                before.as_str(),
+                frozen_state(rt, limits, frozen)?,
+            )?;
+            search(rt.alloc(), frozen, tariff, u, v)?
+        }
+    };
     let told = println!(rt; "search {u} {v}: {found:?}");
     if let Err(error) = told {
         drop(found);
@@ -290,7 +230,7 @@ pub(crate) fn planned<R: Console, F: PriceFn>(
     v: u32,
 ) -> Result<Plan> {
     let frozen = frozen_of(rt, picture)?;
-    let plan = planned_on(rt, &frozen, picture.limits(), tariff, (u, v));
+    let plan = planned_on(rt, &frozen, picture.limits(), tariff, u, v);
     drop(frozen);
     plan
 }

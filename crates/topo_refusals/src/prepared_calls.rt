@@ -5,8 +5,8 @@ ghost use Rattle.topo_price.specs.Prices.{prices_of};
 ghost use Rattle.topo_book.specs.Books.{CanFollow};
 
 use crate::book_calls::CALLER;
-use crate::printed::{book_state, print_picture, refused_in};
-use crate::retry::{Console, compare};
+use crate::printed::{book_state, picture_state};
+use crate::retry::{Console, compare, refused};
 use anyhow::Result;
 use std::alloc::{AllocError, Global};
 use topo_book::{Book, Next};
@@ -45,7 +45,7 @@ fn ready<R: Console, F: PriceFn>(
     match prepared(rt.alloc(), book, call, plan) {
         Ok(next) => Ok(next),
         Err(_) => {
-            refused_in(rt, name, before, book)?;
+            refused(rt, name, before, book_state(rt, book)?)?;
             Ok(prepared(rt.alloc(), book, call, plan)?)
         }
     }
@@ -63,12 +63,12 @@ fn show_ready<R: Console, F: PriceFn>(
     let entry = next.entry();
     println!(rt; "ready: {entry:?}")?;
     if let Some(picture) = next.picture() {
-        print_picture(rt, "to come:", picture)?;
+        let state = picture_state(rt, picture)?;
+        println!(rt; "to come:{state}")?;
     }
     let after = book_state(rt, book)?;
-    let compared = compare(rt, name, before, after.as_str());
-    drop(after);
-    Ok(compared?)
+    compare(rt, name, before, after.as_str())?;
+    Ok(())
 }
 
 /// Makes a call ready, again if it is out of memory, and enters it. Until it is entered nothing has

@@ -1,7 +1,6 @@
 //! Pictures and books as texts, to compare and to print.
 
-use crate::retry::{Console, refused, tell};
-use anyhow::Result;
+use crate::retry::tell;
 use std::alloc::{AllocError, Global};
 use std::fmt;
 use topo_book::Book;
@@ -166,43 +165,4 @@ pub(crate) fn copied<R: Eprint + AllocGlobal>(
             picture.copy(rt.alloc())
         }
     }
-}
-
-/// Says which call on a picture was out of memory, and compares the picture with what it was
-/// before.
-pub(crate) fn refused_on<R: Console>(
-    rt: &R,
-    call: &str,
-    before: &str,
-    picture: &Picture,
-) -> Result<()> {
-    let after = picture_state(rt, picture)?;
-    refused(rt, call, before, after)?;
-    Ok(())
-}
-
-/// The same of a call of a book.
-pub(crate) fn refused_in<R: Console, F: PriceFn>(
-    rt: &R,
-    call: &str,
-    before: &str,
-    book: &Book<F>,
-) -> Result<()> {
-    let after = book_state(rt, book)?;
-    refused(rt, call, before, after)?;
-    Ok(())
-}
-
-/// Prints a picture behind a text.
-pub(crate) fn print_picture<R: Console>(rt: &R, text: &str, picture: &Picture) -> Result<()> {
-    let state = picture_state(rt, picture)?;
-    println!(rt; "{text}{state}")?;
-    Ok(())
-}
-
-/// Prints a book behind a text.
-pub(crate) fn print_book<R: Console, F: PriceFn>(rt: &R, text: &str, book: &Book<F>) -> Result<()> {
-    let state = book_state(rt, book)?;
-    println!(rt; "{text}{state}")?;
-    Ok(())
 }

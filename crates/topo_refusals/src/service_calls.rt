@@ -82,26 +82,7 @@ fn made<'a, F: PriceFn + Drop, K: ServiceBrand<F>, R: Wait>(
     }
 }
 
-/// The reply to a call, which is made once more if it is out of memory.
-fn reply_to<'a, F: PriceFn + Drop, K: ServiceBrand<F>, R: Wait + Console>(
-    rt: &R,
-    service: &'a Service<F, K>,
-    passes: &mut [Pass<F, K>],
-    call: Call,
-    known: Option<&'a KnownRoute<F, K>>,
-    name: &str,
-) -> Result<Reply> {
-    let before = look(rt, passes)?;
-    match made(rt, service, passes, call, known) {
-        Ok(reply) => Ok(reply),
-        Err(_) => {
-            compare_service(rt, name, &before, passes, false)?;
-            Ok(made(rt, service, passes, call, known)?)
-        }
-    }
-}
-
-/// Makes a call, and prints its reply and the service.
+/// Makes a call, once more if it is out of memory. The service is printed.
 fn make<'a, F: PriceFn + Drop, K: ServiceBrand<F>, R: Wait + Console>(
     rt: &R,
     service: &'a Service<F, K>,
@@ -110,7 +91,14 @@ fn make<'a, F: PriceFn + Drop, K: ServiceBrand<F>, R: Wait + Console>(
     known: Option<&'a KnownRoute<F, K>>,
 ) -> Result<()> {
     let name = name_of(call, known);
-    let reply = reply_to(rt, service, passes, call, known, name)?;
+    let before = look(rt, passes)?;
+    let reply = match made(rt, service, passes, call, known) {
+        Ok(reply) => reply,
+        Err(_) => {
+            compare_service(rt, name, &before, passes, false)?;
+            made(rt, service, passes, call, known)?
+        }
+    };
     let told = match known {
         Some(KnownRoute::Found(_)) => println!(rt; "{name}: Ok({reply:?})"),
         _ => println!(rt; "{name} {call:?}: {reply:?}"),

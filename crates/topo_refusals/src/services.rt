@@ -8,8 +8,8 @@ ghost use Rattle.topo_price.specs.Prices.{IsPromise};
 use crate::book_calls::shared;
 use crate::book_replays::replay_from;
 use crate::picture_reads::loaded;
-use crate::printed::{copied, picture_state, print_book, refused_on};
-use crate::retry::{Console, tell};
+use crate::printed::{book_state, copied, picture_state};
+use crate::retry::{Console, refused, tell};
 use crate::service_calls::make_service_calls;
 use crate::worker_lists::Watch;
 use anyhow::{Result, bail};
@@ -57,38 +57,30 @@ fn serve_with<F: PriceFn + Drop + Send + Sync, R: Threads + Wait + Console + Syn
     serve_at(rt, start, &tariff, watch)
 }
 
-/// A service that begins with a picture in this state, which is printed. If it is out of memory, it
-/// is begun once more.
-fn serve_beside<F: PriceFn + Drop + Send + Sync, R: Threads + Wait + Console + Sync>(
-    rt: &R,
-    start: &Picture,
-    tariff: &Arc<Tariff<F>>,
-    watch: &Watch,
-    before: &str,
-) -> Result<()> {
-    let (name, counts) = (BIPYRAMID.name, start.counts());
-    println!(rt; "load {name}: {counts:?}{before}")?;
-    if begun(rt, start, tariff, watch)? {
-        return Ok(());
-    }
-    refused_on(rt, "Service::new", before, start)?;
-    if begun(rt, start, tariff, watch)? {
-        return Ok(());
-    }
-    bail!("no service")
-}
-
-/// The same of a picture.
+/// A service that begins with a picture, which is printed. If it is out of memory, it is begun once
+/// more.
 fn serve_at<F: PriceFn + Drop + Send + Sync, R: Threads + Wait + Console + Sync>(
     rt: &R,
     start: &Picture,
     tariff: &Arc<Tariff<F>>,
     watch: &Watch,
 ) -> Result<()> {
+    let (name, counts) = (BIPYRAMID.name, start.counts());
     let before = picture_state(rt, start)?;
-    let told = serve_beside(rt, start, tariff, watch, before.as_str());
-    drop(before);
-    told
+    println!(rt; "load {name}: {counts:?}{before}")?;
+    if begun(rt, start, tariff, watch)? {
+        return Ok(());
+    }
+    refused(
+        rt,
+        "Service::new",
+        before.as_str(),
+        picture_state(rt, start)?,
+    )?;
+    if begun(rt, start, tariff, watch)? {
+        return Ok(());
+    }
+    bail!("no service")
 }
 
 /// Whether a service began, which is then used and closed.
@@ -187,7 +179,8 @@ fn finish<F: PriceFn + Drop, K: ServiceBrand<F>, R: Console>(
     told?;
     match end {
         Ok(book) => {
-            print_book(rt, "closed:", book)?;
+            let state = book_state(rt, book)?;
+            println!(rt; "closed:{state}")?;
             replay_from(rt, book, book.start())?;
             Ok(true)
         }

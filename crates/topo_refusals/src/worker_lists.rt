@@ -3,7 +3,7 @@
 
 use crate::book_scripts::JOIN;
 use crate::retry::{Console, tell};
-use crate::service_views::{CALLER, ServiceView, compare_service, look, show};
+use crate::service_views::{CALLER, compare_service, look, show};
 use anyhow::{Result, bail};
 use std::alloc::{AllocError, Global};
 use std::sync::Wait;
@@ -187,33 +187,8 @@ fn run<
     Ok(end)
 }
 
-/// What is left of the list where it ended so: the rest after a command that was out of memory. If
+/// Runs the list, and gives what is left of it: the rest after a command that was out of memory. If
 /// the room for the answer is refused, no call was made, and the whole list is left.
-fn left_of<F: PriceFn + Drop, K: ServiceBrand<F>, R: Console>(
-    rt: &R,
-    passes: &mut [Pass<F, K>],
-    watch: &Watch,
-    (before, had): (&ServiceView, usize),
-    end: Result<WorkerEnd, AllocError>,
-) -> Result<&'static [Command]> {
-    match end {
-        Ok(WorkerEnd::Done) => Ok(&[]),
-        Ok(WorkerEnd::OutOfMemory(at)) => {
-            tell(rt, "a command of run_workers");
-            compare_end(rt, watch, had, receipts(passes).len(), at)?;
-            match COMMANDS.get(at..) {
-                Some(rest) => Ok(rest),
-                None => bail!("no command {at}"),
-            }
-        }
-        Err(_) => {
-            compare_service(rt, "run_workers", before, passes, false)?;
-            Ok(COMMANDS)
-        }
-    }
-}
-
-/// Runs the list, and gives what is left of it.
 fn run_first<
     F: PriceFn + Drop + Send + Sync,
     K: ServiceBrand<F> + Send + Sync,
@@ -226,12 +201,21 @@ fn run_first<
 ) -> Result<&'static [Command]> {
     let before = look(rt, passes)?;
     let had = receipts(passes).len();
-    let left = match run(rt, service, passes, watch, COMMANDS) {
-        Ok(end) => left_of(rt, passes, watch, (&before, had), end),
-        Err(error) => Err(error),
-    };
-    drop(before);
-    left
+    match run(rt, service, passes, watch, COMMANDS)? {
+        Ok(WorkerEnd::Done) => Ok(&[]),
+        Ok(WorkerEnd::OutOfMemory(at)) => {
+            tell(rt, "a command of run_workers");
+            compare_end(rt, watch, had, receipts(passes).len(), at)?;
+            match COMMANDS.get(at..) {
+                Some(rest) => Ok(rest),
+                None => bail!("no command {at}"),
+            }
+        }
+        Err(_) => {
+            compare_service(rt, "run_workers", &before, passes, false)?;
+            Ok(COMMANDS)
+        }
+    }
 }
 
 /// Prints the receipts of a list that was run.

@@ -53,64 +53,27 @@ fn is_same(found: &Option<PricedRoute>, plan: &Option<Plan>) -> bool {
     }
 }
 
-/// A search from both ends of a picture finds what the plan says. In a measured picture it is
-/// guided to its target if all prices are 1.
+/// So does a search of a measured picture, which is guided to its target if all prices are 1.
 fn is_led<F: PriceFn>(
     rt: &impl Abort,
     alloc: Global,
-    picture: &Picture,
+    measured: &Picture,
     tariff: &Tariff<F>,
     ends: (u32, u32),
     plan: &Option<Plan>,
     work: &mut Workspace,
 ) -> Result<(), Fail> {
     let (u, v) = ends;
-    assert!(rt; are_ends(picture, u, v));
-    let found = first_route(alloc, &picture.embedded(), tariff, u, v, work)?;
+    assert!(rt; are_ends(measured, u, v));
+    let found = first_route(alloc, &measured.embedded(), tariff, u, v, work)?;
     let same = is_same(&found, plan);
     drop(found);
     assert!(rt; same, "{ends:?}");
     Ok(())
 }
 
-/// The same of a measured copy of a picture.
-fn is_led_beside<F: PriceFn>(
-    rt: &impl Abort,
-    alloc: Global,
-    picture: &Picture,
-    tariff: &Tariff<F>,
-    ends: (u32, u32),
-    plan: &Option<Plan>,
-    work: &mut Workspace,
-) -> Result<(), Fail> {
-    let mut measured = picture.copy(alloc)?;
-    let told = match measured.guide_searches(alloc, tariff) {
-        Ok(()) => is_led(rt, alloc, &measured, tariff, ends, plan, work),
-        Err(_) => Err("memory".into()),
-    };
-    drop(measured);
-    told
-}
-
-/// A search from both ends finds what the plan says. From vertex 0 a search of a measured copy does
-/// so too.
-fn is_as_planned<F: PriceFn>(
-    rt: &impl Abort,
-    alloc: Global,
-    picture: &Picture,
-    tariff: &Tariff<F>,
-    ends: (u32, u32),
-    plan: &Option<Plan>,
-    work: &mut Workspace,
-) -> Result<(), Fail> {
-    is_led(rt, alloc, picture, tariff, ends, plan, work)?;
-    if ends.0 > 0 {
-        return Ok(());
-    }
-    is_led_beside(rt, alloc, picture, tariff, ends, plan, work)
-}
-
-/// The two searches of a pair find the same, with the prices of a closure.
+/// The two searches of a pair find the same, with the prices of a closure. From vertex 0 a search
+/// of a measured copy does so too.
 fn is_agreed<F: PriceFn + Drop>(
     rt: &impl Abort,
     alloc: Global,
@@ -123,12 +86,24 @@ fn is_agreed<F: PriceFn + Drop>(
     requires promise { IsPromise (F.may_return ask) }
 {
     let ((picture, frozen), (u, v)) = (pictures, ends);
+    assert!(rt; are_ends(picture, u, v));
     assert!(rt; are_ends_of(frozen, u, v));
     let tariff = Tariff::new(ask);
-    let plan = search(alloc, frozen, &tariff, u, v)?;
-    let told = is_as_planned(rt, alloc, picture, &tariff, ends, &plan, work);
-    drop(plan);
-    told
+    let plan = search(alloc, frozen, &tariff, u, v);
+    let found = first_route(alloc, &picture.embedded(), &tariff, u, v, work);
+    let same = match (&found, &plan) {
+        (Ok(found), Ok(plan)) => is_same(found, plan),
+        _ => false,
+    };
+    drop(found);
+    assert!(rt; same, "{ends:?}");
+    let plan = plan?;
+    if u > 0 {
+        return Ok(());
+    }
+    let mut measured = picture.copy(alloc)?;
+    measured.guide_searches(alloc, &tariff)?;
+    is_led(rt, alloc, &measured, &tariff, ends, &plan, work)
 }
 
 /// Two different ones of so many vertices.

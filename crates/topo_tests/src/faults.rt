@@ -22,20 +22,6 @@ fn check_error<E: Error>(rt: &impl Abort, alloc: Global, fault: E, text: &str) -
     Ok(())
 }
 
-/// A fault is printed as this text.
-fn is_printed<E: Error>(rt: &impl Abort, alloc: Global, fault: E, text: &str) -> Result<(), Fail> {
-    let printed = format!(in alloc; "{fault}")?;
-    assert!(rt; printed.as_str() == text, "{printed}");
-    Ok(())
-}
-
-/// A text begins with a number and a space.
-fn is_numbered(rt: &impl Abort, alloc: Global, number: u32, text: &str) -> Result<(), Fail> {
-    let front = format!(in alloc; "{number} ")?;
-    assert!(rt; text.starts_with(front.as_str()), "{number}: {text}");
-    Ok(())
-}
-
 /// A fault is printed as this text, which begins with its number and a space, and so is the error
 /// of any kind that `?` makes of it.
 fn check_number<E: Error + Copy>(
@@ -45,8 +31,10 @@ fn check_number<E: Error + Copy>(
     number: u32,
     text: &str,
 ) -> Result<(), Fail> {
-    is_printed(rt, alloc, fault, text)?;
-    is_numbered(rt, alloc, number, text)?;
+    let printed = format!(in alloc; "{fault}")?;
+    assert!(rt; printed.as_str() == text, "{printed}");
+    let front = format!(in alloc; "{number} ")?;
+    assert!(rt; text.starts_with(front.as_str()), "{number}: {printed}");
     check_error(rt, alloc, fault, text)
 }
 

@@ -58,23 +58,6 @@ fn is_inserted(reply: &Reply, edge: u32, first: &Answer) -> bool {
     }
 }
 
-/// Whether an insertion by a plan puts this edge in along this route, and how many prices it asks
-/// for.
-fn inserted_by<F: PriceFn>(
-    alloc: Global,
-    book: &mut Book<F>,
-    (u, v): (u32, u32),
-    plan: &Plan,
-    (edge, first): (u32, &Answer),
-    asked: &AtomicU32,
-) -> Result<(bool, u32), AllocError> {
-    asked.store(0, Ordering::SeqCst);
-    let reply = book.insert_planned(alloc, 0, u, v, 0, plan)?;
-    let is_right = is_inserted(&reply, edge, first);
-    drop(reply);
-    Ok((is_right, asked.load(Ordering::SeqCst)))
-}
-
 impl Story for ByPlan<'_> {
     /// The check says what is due. An insertion takes the first route, whatever the plan; one that
     /// passes spares the search, so that no price is asked for but by the check.
@@ -85,15 +68,18 @@ impl Story for ByPlan<'_> {
         book: &mut Book<F>,
         asked: &AtomicU32,
     ) -> Result<(), Fail> {
-        let row = self.row;
+        let (row, (u, v)) = (self.row, self.ends);
         let said = said_of(rt, alloc, book, self.ends, self.plan)?;
         assert!(rt; said == self.said, "row {row}: {said:?}");
-        let Some(due) = self.inserted else {
+        let Some((edge, first)) = self.inserted else {
             return Ok(());
         };
-        let checked = asked.load(Ordering::SeqCst);
-        let (is_right, inserted) = inserted_by(alloc, book, self.ends, self.plan, due, asked)?;
-        assert!(rt; is_right, "row {row}");
+        let checked = asked.swap(0, Ordering::SeqCst);
+        let reply = book.insert_planned(alloc, 0, u, v, 0, self.plan)?;
+        let inserted = asked.load(Ordering::SeqCst);
+        let is_right = is_inserted(&reply, edge, first);
+        assert!(rt; is_right, "row {row}: {reply:?}");
+        drop(reply);
         assert!(rt;
             said.is_err() || checked > 0 && inserted == checked,
             "row {row}: {checked} and {inserted} prices"

@@ -16,7 +16,7 @@ use topo_price::tariff::{PriceFn, Tariff};
 use topo_route::check::check;
 use topo_route::dual::{Dual, has_number};
 use topo_route::face_graph::FaceGraph;
-use topo_route::plan::{Plan, SeenRoute};
+use topo_route::plan::SeenRoute;
 use topo_route::search::{first_route, first_route_seen, search};
 use topo_route::workspace::Workspace;
 use topo_test_support::pictures::{BARRIER, BIPYRAMID, JOINED, Named, PARALLEL, SEED, picture_of};
@@ -233,34 +233,6 @@ fn have_prices<F: PriceFn>(
     }
 }
 
-/// So it is, or the test fails and names the question.
-fn insist(rt: &impl Abort, is_so: bool, question: &Question, what: &str) {
-    let ((named, _grown), (u, v), at) = (question.on, question.ends, question.at);
-    let name = named.name;
-    assert!(rt; is_so, "{what}: {name}, {u} to {v} at {at:?}");
-}
-
-/// Whether what the search from one end has found is the route of a question with its heights, and
-/// passes the check.
-fn is_right_plan<F: PriceFn>(
-    frozen: &Frozen,
-    tariff: &Tariff<F>,
-    question: &Question,
-    plan: &Option<Plan>,
-) -> bool {
-    let (u, v) = question.ends;
-    match (plan, &question.first) {
-        (Some(plan), Some(first)) => {
-            is_answer(&plan.route, plan.price, first)
-                && (question.heights.is_empty() || plan.heights.as_slice() == question.heights)
-                && are_ends_of(frozen, u, v)
-                && check(frozen, tariff, u, v, plan) == Ok(())
-        }
-        (None, None) => true,
-        _ => false,
-    }
-}
-
 /// The search from one end finds the route of a question with its heights, and passes the check. It
 /// asks for each edge once.
 fn is_planned<F: PriceFn>(
@@ -271,28 +243,33 @@ fn is_planned<F: PriceFn>(
     question: &Question,
     asked: &AtomicU32,
 ) -> Result<(), Fail> {
-    let (u, v) = question.ends;
-    assert!(rt; are_ends_of(frozen, u, v));
+    let ((named, grown), (u, v), at) = (question.on, question.ends, question.at);
+    let name = named.name;
+    assert!(rt; are_ends_of(frozen, u, v), "{name}, {u} to {v}");
     asked.store(0, Ordering::SeqCst);
     let plan = search(alloc, frozen, tariff, u, v)?;
     let asked = asked.load(Ordering::SeqCst) as usize;
-    let is_right = is_right_plan(frozen, tariff, question, &plan);
-    drop(plan);
-    let (named, grown) = question.on;
-    let edges = named.edges.len().saturating_add(grown.len());
-    insist(
-        rt,
-        asked == edges,
-        question,
-        "how many prices a search asks for",
+    assert!(rt;
+        asked == named.edges.len().saturating_add(grown.len()),
+        "{name}, {u} to {v} at {at:?}: {asked} prices"
     );
-    insist(rt, is_right, question, "the plan of a search");
+    let is_right = match (&plan, &question.first) {
+        (Some(plan), Some(first)) => {
+            is_answer(&plan.route, plan.price, first)
+                && (question.heights.is_empty() || plan.heights.as_slice() == question.heights)
+                && check(frozen, tariff, u, v, plan) == Ok(())
+        }
+        (None, None) => true,
+        _ => false,
+    };
+    assert!(rt; is_right, "{name}, {u} to {v} at {at:?}: {plan:?}");
+    drop(plan);
     Ok(())
 }
 
-/// The search from both ends finds the route of a question, whatever the workspace served for. For
-/// one that crosses nothing it asks for no more prices than there are edges.
-fn is_found<F: PriceFn>(
+/// The searches from both ends find the route of a question, whatever the workspace served for. For
+/// one that crosses nothing they ask for no more prices than there are edges.
+fn is_first<F: PriceFn>(
     rt: &impl Abort,
     alloc: Global,
     picture: &Picture,
@@ -301,8 +278,9 @@ fn is_found<F: PriceFn>(
     asked: &AtomicU32,
     work: &mut Workspace,
 ) -> Result<(), Fail> {
-    let (u, v) = question.ends;
-    assert!(rt; are_ends(picture, u, v));
+    let ((u, v), at) = (question.ends, question.at);
+    let name = question.on.0.name;
+    assert!(rt; are_ends(picture, u, v), "{name}, {u} to {v}");
     asked.store(0, Ordering::SeqCst);
     let found = first_route(alloc, &picture.embedded(), tariff, u, v, work)?;
     let is_right = match (&found, &question.first) {
@@ -310,40 +288,24 @@ fn is_found<F: PriceFn>(
         (None, None) => true,
         _ => false,
     };
+    assert!(rt; is_right, "{name}, {u} to {v} at {at:?}: {found:?}");
     drop(found);
+    let asked = asked.load(Ordering::SeqCst);
     let crosses = match &question.first {
         Some(first) => !first.1.is_empty(),
         None => true,
     };
-    let is_little = crosses || asked.load(Ordering::SeqCst) <= picture.counts().edges;
-    insist(rt, is_right, question, "the route from both ends");
-    insist(
-        rt,
-        is_little,
-        question,
-        "how many prices a search from both ends asks for",
+    assert!(rt;
+        crosses || asked <= picture.counts().edges,
+        "{name}, {u} to {v} at {at:?}: {asked} prices"
     );
-    Ok(())
-}
-
-/// So does the search that gives its region.
-fn is_found_again<F: PriceFn>(
-    rt: &impl Abort,
-    alloc: Global,
-    picture: &Picture,
-    tariff: &Tariff<F>,
-    question: &Question,
-    work: &mut Workspace,
-) -> Result<(), Fail> {
-    let (u, v) = question.ends;
-    assert!(rt; are_ends(picture, u, v));
     let seen = first_route_seen(alloc, &picture.embedded(), tariff, u, v, work)?;
     let is_right = match &seen {
         Some(seen) => is_seen(seen, question),
         None => question.first.is_none(),
     };
     drop(seen);
-    insist(rt, is_right, question, "the route with its region");
+    assert!(rt; is_right, "{name}, {u} to {v} at {at:?}, with its region");
     Ok(())
 }
 
@@ -372,8 +334,7 @@ impl Story for Asking<'_> {
         let told = is_planned(rt, alloc, &frozen, tariff, question, asked);
         drop(frozen);
         told?;
-        is_found(rt, alloc, picture, tariff, question, asked, &mut *self.work)?;
-        is_found_again(rt, alloc, picture, tariff, question, &mut *self.work)
+        is_first(rt, alloc, picture, tariff, question, asked, &mut *self.work)
     }
 }
 
