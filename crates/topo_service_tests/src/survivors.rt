@@ -143,8 +143,8 @@ fn a_route_outlives_what_changes_elsewhere(rt: HostRuntime) -> Result<(), Fail> 
     are_told(&rt, ELSEWHERE, true)
 }
 
-/// Changes of the region of the search. The route leads from the vertex in row and column 1 to the
-/// one in row 3 and column 2.
+/// Changes of the region of the search. The route leads from the vertex at (1, 1), that is, row and
+/// column, to the one at (3, 2).
 const NEARBY: &[&[Change]] = &[
     &[Change::Grow(1, 1)],
     &[Change::Grow(3, 2)],
