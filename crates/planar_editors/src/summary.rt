@@ -9,13 +9,13 @@ use topo_core::calls::{Entry, Reply};
 use topo_picture::Picture;
 use topo_price::tariff::PriceFn;
 use topo_service::close::CloseFault;
-use topo_versions::{ServiceBrand, StoreReader};
+use topo_versions::ServiceBrand;
 
 /// How the service ended: with a book, whose history is that of one thread, or with a fault.
 pub(crate) fn tell<F: PriceFn + Drop, K: ServiceBrand<F>, R: Print + AllocGlobal>(
     rt: &R,
     served: Result<()>,
-    end: &Result<Book<F>, CloseFault<F, K, StoreReader<F, K>>>,
+    end: &Result<Book<F>, CloseFault<F, K>>,
 ) -> Result<()> {
     served?;
     match end {

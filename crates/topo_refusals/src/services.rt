@@ -24,7 +24,7 @@ use topo_service::close::CloseFault;
 use topo_service::{FreshService, Pass, Service};
 use topo_test_support::pictures::BIPYRAMID;
 use topo_test_support::prices::{FIVE_TWO_NINE, table_of};
-use topo_versions::{ServiceBrand, StoreReader};
+use topo_versions::ServiceBrand;
 
 /// One pass looks at versions, one makes the calls, and one plans.
 const PASSES: usize = 3;
@@ -174,7 +174,7 @@ fn give_out<F: PriceFn + Drop, K: ServiceBrand<F>, R: Print + Eprint>(
 fn finish<F: PriceFn + Drop, K: ServiceBrand<F>, R: Console>(
     rt: &R,
     told: Result<()>,
-    end: &Result<Book<F>, CloseFault<F, K, StoreReader<F, K>>>,
+    end: &Result<Book<F>, CloseFault<F, K>>,
 ) -> Result<bool> {
     told?;
     match end {

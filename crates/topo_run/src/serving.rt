@@ -22,7 +22,7 @@ use topo_picture::Picture;
 use topo_price::tariff::{PriceFn, Tariff};
 use topo_service::{EndFault, FreshService, Gate, Pass, Service, WorkerEnd, run_workers};
 use topo_settings::RunFault;
-use topo_versions::{ServiceBrand, StoreReader};
+use topo_versions::ServiceBrand;
 
 /// Copies of lists of commands.
 fn lists_of(alloc: Global, lists: &[Listed<Command>]) -> Result<Vec<Vec<Command>>, AllocError>
@@ -45,7 +45,7 @@ fn open_pass<F: PriceFn + Drop, K: ServiceBrand<F>>(
     ensures same { service.new.tariff ≡ service.old.tariff }
     ensures fault { IfErr result IsOfService }
 {
-    match service.pass::<StoreReader<F, K>>() {
+    match service.pass() {
         Ok(pass) => Ok(pass),
         Err(_) => Err(RunFault::NoSeat),
     }
@@ -156,7 +156,7 @@ fn serve<
             },
         },
         Err(fault) => {
-            let _ = service.close::<StoreReader<F, K>, R>(rt, Vec::new(alloc));
+            let _ = service.close(rt, Vec::new(alloc));
             Err(fault)
         }
     }

@@ -1,6 +1,6 @@
 -- A route that was found on the version that is published is the first on the picture of now. So is one that was found on an
 -- earlier version, if nothing that its search has seen was changed since.
-use Rattle.std.proofs.Common.{◌≡◌, ◌+◌, ℕ, List, [], Option, Some, length, sym, subst}
+use Rattle.std.proofs.Common.{◌≡◌, ◌+◌, ℕ, List, Option, Some, length, sym, subst}
 use Rattle.topo_core.specs.declared.rows.Rows.{Rows}
 use Rattle.topo_core.specs.declared.limits.Limits.{Limits}
 use Rattle.topo_core.specs.declared.routes.Route.{Route}

@@ -1,6 +1,6 @@
 -- Receipts that are as many as the entries are all of them.
-use Rattle.std.proofs.Common.{◌≡◌, ℕ, zero, suc, ◌+◌, ◌<◌, ◌≤◌, ◌==◌, Bool, true, false, List, [], ◌∷◌, ◌++◌, ◌⊎◌}
-use Rattle.std.proofs.Common.{inl, inr, ⊎_elim, length, map, refl, ap, sym, ◌∙◌, subst, arith, length-append, All}
+use Rattle.std.proofs.Common.{◌≡◌, ℕ, ◌+◌, ◌≤◌, ◌==◌, Bool, true, false, List, [], ◌∷◌, ◌++◌, ◌⊎◌}
+use Rattle.std.proofs.Common.{inl, inr, ⊎_elim, length, refl, ap, sym, ◌∙◌, arith, length-append, All}
 use Rattle.std.proofs.lemmas.List.{append-nil, length-map}
 use Rattle.std.proofs.lemmas.List.Sums.{sum_by-cons}
 use Rattle.std.proofs.lemmas.List.Elements.{All-head, All-tail, All-cons}

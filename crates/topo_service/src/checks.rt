@@ -10,18 +10,15 @@ ghost use Rattle.topo_service.specs.Receipts.{HasNumber, receipt_count, receipt_
 
 use crate::faults::EndFault;
 use crate::locked_state::LockedState;
-use crate::pass::{PassOver, Receipt};
+use crate::pass::{Pass, Receipt};
 use std::sync::Wait;
 use std::sync::ledger::Share;
 use topo_core::calls::Entry;
 use topo_price::tariff::PriceFn;
-use topo_versions::{ServiceBrand, VersionReader, VersionWriter, wait_forever};
+use topo_versions::{ServiceBrand, VersionWriter, wait_forever};
 
 /// Whether a pass with this number is there.
-fn is_there<F: PriceFn, K: ServiceBrand<F>, G: VersionReader<F, K>>(
-    number: u32,
-    passes: &[PassOver<F, K, G>],
-) -> bool
+fn is_there<F: PriceFn, K: ServiceBrand<F>>(number: u32, passes: &[Pass<F, K>]) -> bool
     ensures yes { result ≡ true → HasNumber number passes.now }
     ensures no { result ≡ false → HasNumber number passes.now → ⊥ }
 {
@@ -34,10 +31,7 @@ fn is_there<F: PriceFn, K: ServiceBrand<F>, G: VersionReader<F, K>>(
 }
 
 /// The least number below `given` that no pass has.
-fn first_missing<F: PriceFn, K: ServiceBrand<F>, G: VersionReader<F, K>>(
-    given: u32,
-    passes: &[PassOver<F, K, G>],
-) -> Option<u32>
+fn first_missing<F: PriceFn, K: ServiceBrand<F>>(given: u32, passes: &[Pass<F, K>]) -> Option<u32>
     ensures none { IfNone result ((n : ℕ) → n < given → HasNumber n passes.now) }
     ensures some { IfSome result
         (λ n. (n < given) × (HasNumber n passes.now → ⊥)
@@ -96,8 +90,8 @@ fn first_difference(number: u32, receipts: &[Receipt], history: &[Entry]) -> Opt
 }
 
 /// The first pass with a receipt that is not its caller's entry at its place, and the place.
-fn first_mismatch<F: PriceFn, K: ServiceBrand<F>, G: VersionReader<F, K>>(
-    passes: &[PassOver<F, K, G>],
+fn first_mismatch<F: PriceFn, K: ServiceBrand<F>>(
+    passes: &[Pass<F, K>],
     history: &[Entry],
 ) -> Option<(u32, usize)>
     ensures none { IfNone result (All (λ p. AreFirst history.now p.number p.receipts) passes.now) }
@@ -112,9 +106,9 @@ fn first_mismatch<F: PriceFn, K: ServiceBrand<F>, G: VersionReader<F, K>>(
 }
 
 /// Why the service does not end well, if so.
-pub(crate) fn first_fault<F: PriceFn, K: ServiceBrand<F>, G: VersionReader<F, K>>(
+pub(crate) fn first_fault<F: PriceFn, K: ServiceBrand<F>>(
     given: u32,
-    passes: &[PassOver<F, K, G>],
+    passes: &[Pass<F, K>],
     history: &[Entry],
 ) -> Option<EndFault>
     ensures all_there { IfNone result ((n : ℕ) → n < given → HasNumber n passes.now) }
@@ -131,13 +125,12 @@ pub(crate) fn first_fault<F: PriceFn, K: ServiceBrand<F>, G: VersionReader<F, K>
 }
 
 /// Joins the shares of the ledger. What each pass has seen begins the accepted entries.
-pub(crate) fn gather<
-    F: PriceFn,
-    K: ServiceBrand<F>,
-    W: VersionWriter<F, K>,
-    G: VersionReader<F, K>,
-    R: Wait,
->(rt: &R, state: &LockedState<F, K, W>, rest: Share<K>, passes: Vec<PassOver<F, K, G>>) -> Share<K>
+pub(crate) fn gather<F: PriceFn, K: ServiceBrand<F>, W: VersionWriter<F, K>, R: Wait>(
+    rt: &R,
+    state: &LockedState<F, K, W>,
+    rest: Share<K>,
+    passes: Vec<Pass<F, K>>,
+) -> Share<K>
     ensures parts { result.parts ≡ rest.parts + vec_len passes }
     ensures amount { result.amount ≡ rest.amount + receipt_count passes.items }
     ensures apart { 0 < vec_len passes → result.parts ≤ K.parts }
@@ -145,18 +138,7 @@ pub(crate) fn gather<
 {
     let mut rest = rest;
     for pass in passes {
-        let PassOver {
-            number: _,
-            receipts: _receipts,
-            share,
-            reader: _reader,
-            prefix,
-            work: _work,
-            own: _own,
-            inbox: _inbox,
-            lookahead: _,
-            of: _,
-        } = pass;
+        let (prefix, share) = pass.into_parts();
         if !prefix.is_prefix_of(state.prefix()) {
             wait_forever(rt);
         }

@@ -13,7 +13,7 @@ ghost use Rattle.topo_core.specs.declared.limits.TheConstants.{MAX_PASSES};
 use crate::checks::{first_fault, gather};
 use crate::faults::EndFault;
 use crate::locked_state::LockedState;
-use crate::pass::PassOver;
+use crate::pass::Pass;
 use crate::service::ServiceOver;
 use crate::share_pool::SharePool;
 use std::alloc::{AllocError, Global};
@@ -24,16 +24,16 @@ use topo_core::limits::MAX_PASSES;
 use topo_picture::Picture;
 use topo_price::tariff::{PriceFn, Tariff};
 use topo_versions::{
-    FreshLog, LogLength, LogPrefix, ServiceBrand, StoreWriter, Version, VersionReader,
-    VersionWriter, new_store, wait_forever,
+    FreshLog, LogLength, LogPrefix, ServiceBrand, StoreWriter, Version, VersionWriter, new_store,
+    wait_forever,
 };
 
 /// The end of a service that was not well, with the book and the passes as they were handed in.
 #[derive(Drop)]
-pub struct CloseFault<F: PriceFn, K: ServiceBrand<F>, G: VersionReader<F, K>> {
+pub struct CloseFault<F: PriceFn, K: ServiceBrand<F>> {
     pub fault: EndFault,
     pub book: Book<F>,
-    pub passes: Vec<PassOver<F, K, G>>,
+    pub passes: Vec<Pass<F, K>>,
 }
 
 /// A fresh ledger and log, not bound to a service yet.
@@ -192,11 +192,11 @@ impl<F: PriceFn + Drop, K: ServiceBrand<F>, W: VersionWriter<F, K>> ServiceOver<
     /// picture, and the receipts of the passes are all of it. Else the fault names the least number
     /// of a pass that is not there, and where none is missing, a receipt that differs. It takes no
     /// memory.
-    pub fn close<G: VersionReader<F, K>, R: Wait>(
+    pub fn close<R: Wait>(
         self,
         rt: &R,
-        passes: Vec<PassOver<F, K, G>>,
-    ) -> Result<Book<F>, CloseFault<F, K, G>>
+        passes: Vec<Pass<F, K>>,
+    ) -> Result<Book<F>, CloseFault<F, K>>
         ensures tariff { IfOk result (λ b. b.tariff ≡ self.tariff) }
         ensures start { IfOk result (λ b. b.start ≡ K.start) }
         ensures legal { IfOk result (λ b. Replays (prices_of (F.may_return b.tariff))

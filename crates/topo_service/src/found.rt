@@ -10,7 +10,7 @@ ghost use Rattle.topo_service.specs.Faults.{IsPlanFault, IsPlanRefusal};
 ghost use Rattle.topo_service.specs.Found.{IsFoundRoute, IsHeldBy};
 
 use crate::faults::PassFault;
-use crate::pass::PassOver;
+use crate::pass::Pass;
 use std::alloc::Global;
 use std::marker::Model;
 use topo_book::Book;
@@ -21,7 +21,7 @@ use topo_route::plan::{PricedRoute, SeenRoute};
 use topo_route::region::Region;
 use topo_route::search::first_route_seen;
 use topo_route::workspace::Workspace;
-use topo_versions::{LogPrefix, ServiceBrand, Version, VersionReader};
+use topo_versions::{LogPrefix, ServiceBrand, Version};
 
 /// The first of the cheapest routes between two vertices at the service's prices, as it was found
 /// on one version. It holds that version, and remembers what the search has seen of it. So the
@@ -226,7 +226,7 @@ pub(crate) fn first_on<A: PriceFn>(
     }
 }
 
-impl<F: PriceFn, K: ServiceBrand<F>, G: VersionReader<F, K>> PassOver<F, K, G> {
+impl<F: PriceFn, K: ServiceBrand<F>> Pass<F, K> {
     /// The first of the cheapest routes from `u` to `v` at the service's prices on the version of
     /// now. It copies nothing of the picture, and waits for nobody. NoView comes first, then
     /// NoVertex, then SameEnds, by the picture of that version, then NoRoute; Memory if the search

@@ -44,6 +44,6 @@ pub mod workers;
 pub use close::{CloseFault, FreshService, Service};
 pub use faults::{EndFault, PassFault, ServiceFault};
 pub use found::FoundRoute;
-pub use pass::{Pass, PassOver, Receipt, View};
+pub use pass::{Pass, Receipt, View};
 pub use service::ServiceOver;
 pub use workers::{Gate, WorkerEnd, run_workers};

@@ -25,7 +25,7 @@ use topo_core::calls::{Call, Entry};
 use topo_price::tariff::PriceFn;
 use topo_route::plan::PricedRoute;
 use topo_versions::{
-    LogLength, LogPrefix, ReaderFactory, ServiceBrand, VersionReader, VersionWriter, wait_forever,
+    LogLength, LogPrefix, ServiceBrand, VersionReader, VersionWriter, wait_forever,
 };
 
 /// The book, the number of its calls, and the versions. Contracts see the book.
@@ -264,10 +264,7 @@ impl<F: PriceFn, K: ServiceBrand<F>, W: VersionWriter<F, K>> LockedState<F, K, W
     }
 
     /// A reader of versions.
-    pub(crate) fn reader<G: VersionReader<F, K>>(&self) -> Result<G, AllocError>
-    where
-        W: ReaderFactory<F, K, G>,
-    {
+    pub(crate) fn reader(&self) -> Result<VersionReader<F, K>, AllocError> {
         self.writer.reader()
     }
 

@@ -23,7 +23,7 @@ use topo_price::tariff::{PriceFn, Tariff};
 use topo_route::plan::Plan;
 use topo_route::search::search;
 use topo_route::workspace::Workspace;
-use topo_versions::{LogPrefix, ServiceBrand, StoreReader, Version, VersionReader};
+use topo_versions::{LogPrefix, ServiceBrand, Version, VersionReader};
 
 /// A call of a pass, and what it was answered.
 #[derive(Drop)]
@@ -34,12 +34,11 @@ pub struct Receipt {
 
 /// A caller's number, its receipts, its share of the ledger, its reader of versions and the
 /// accepted entries that it has seen. Contracts see its number, its receipts and these entries.
-#[derive(Drop)]
-pub struct PassOver<F: PriceFn, K: ServiceBrand<F>, G: VersionReader<F, K>> {
+pub struct Pass<F: PriceFn, K: ServiceBrand<F>> {
     pub(crate) number: u32,
     pub(crate) receipts: Vec<Receipt>,
     pub(crate) share: Share<K>,
-    pub(crate) reader: G,
+    pub(crate) reader: VersionReader<F, K>,
     // The accepted entries that it has seen.
     pub(crate) prefix: LogPrefix<F, K>,
     // What its searches write on, once there was one.
@@ -57,10 +56,17 @@ pub struct PassOver<F: PriceFn, K: ServiceBrand<F>, G: VersionReader<F, K>> {
 /// A view: a version, with the picture that its accepted entries lead to.
 pub type View<F, K> = Version<F, K>;
 
-/// A pass of a service.
-pub type Pass<F, K> = PassOver<F, K, StoreReader<F, K>>;
+// Written out, so that it is proved once: a derived one is proved anew in each function that lets
+// such a value go.
+impl<F: PriceFn, K: ServiceBrand<F>> Drop for Pass<F, K> {
+    fn drop(self) {
+        let (prefix, share) = self.into_parts();
+        drop(prefix);
+        drop(share);
+    }
+}
 
-impl<F: PriceFn, K: ServiceBrand<F>, G: VersionReader<F, K>> Model for PassOver<F, K, G> {
+impl<F: PriceFn, K: ServiceBrand<F>> Model for Pass<F, K> {
     ghost use Rattle.std.specs.Prelude.{◌≡◌, length};
     ghost use Rattle.topo_service.specs.Passes.{PassState};
 
@@ -118,7 +124,7 @@ fn plan_on<A: PriceFn>(
     }
 }
 
-impl<F: PriceFn, K: ServiceBrand<F>, G: VersionReader<F, K>> PassOver<F, K, G> {
+impl<F: PriceFn, K: ServiceBrand<F>> Pass<F, K> {
     /// Its number: the caller in the entries of its calls.
     pub fn number(&self) -> u32
         ensures { result ≡ self.now.number }
@@ -140,6 +146,27 @@ impl<F: PriceFn, K: ServiceBrand<F>, G: VersionReader<F, K>> PassOver<F, K, G> {
         ensures legal { AreLegal (prices_named F.may_return K.closure) K.start self.now.seen }
     {
         self.prefix.len()
+    }
+
+    /// The accepted entries that it has seen, and its share of the ledger. The pass ends.
+    pub(crate) fn into_parts(self) -> (LogPrefix<F, K>, Share<K>)
+        ensures seen { result.0 ≡ self.seen }
+        ensures parts { result.1.parts ≡ 1 }
+        ensures amount { result.1.amount ≡ length self.receipts }
+    {
+        let Pass {
+            number: _,
+            receipts: _receipts,
+            share,
+            reader: _reader,
+            prefix,
+            work: _work,
+            own: _own,
+            inbox: _inbox,
+            lookahead: _,
+            of: _,
+        } = self;
+        (prefix, share)
     }
 
     /// Whether its next planned insertion looks for its route ahead.

@@ -17,7 +17,7 @@ use crate::found::FoundRoute;
 use crate::inbox::Inbox;
 use crate::locked_state::LockedState;
 use crate::lookahead::Lookahead;
-use crate::pass::{PassOver, Receipt};
+use crate::pass::{Pass, Receipt};
 use crate::reply_pair::ReplyPair;
 use crate::share_pool::SharePool;
 use std::alloc::{AllocError, Global};
@@ -27,9 +27,7 @@ use topo_book::RouteSource;
 use topo_core::calls::{Call, Reply};
 use topo_price::tariff::{PriceFn, Tariff};
 use topo_route::plan::Plan;
-use topo_versions::{
-    LogPrefix, ReaderFactory, ServiceBrand, VersionReader, VersionWriter, wait_forever,
-};
+use topo_versions::{LogPrefix, ServiceBrand, VersionWriter, wait_forever};
 
 /// One lock round a book, with the passes that were given out. Contracts see what answers its
 /// prices, how many passes it gives out at most, and how many it has given out.
@@ -74,9 +72,7 @@ impl<F: PriceFn, K: ServiceBrand<F>, W: VersionWriter<F, K>> ServiceOver<F, K, W
 
     /// The next pass, with no receipt. NoSeat is answered where as many were given out as there may
     /// be, or the version store has no place for a reader. It waits for nobody.
-    pub fn pass<G: VersionReader<F, K>>(&mut self) -> Result<PassOver<F, K, G>, ServiceFault>
-    where
-        W: ReaderFactory<F, K, G>,
+    pub fn pass(&mut self) -> Result<Pass<F, K>, ServiceFault>
         ensures number { IfOk result (λ p. p.number ≡ self.old.given) }
         ensures receipts { IfOk result (λ p. p.receipts ≡ []) }
         ensures seen { IfOk result (λ p. p.seen ≡ []) }
@@ -97,7 +93,7 @@ impl<F: PriceFn, K: ServiceBrand<F>, W: VersionWriter<F, K>> ServiceOver<F, K, W
         };
         let number = self.given;
         self.given += 1;
-        Ok(PassOver {
+        Ok(Pass {
             number,
             receipts: Vec::new(self.alloc),
             share,
@@ -115,10 +111,10 @@ impl<F: PriceFn, K: ServiceBrand<F>, W: VersionWriter<F, K>> ServiceOver<F, K, W
     /// answers the first reason why not, under the lock. The pass gains a receipt, and has then
     /// seen the version of its call. Out of memory may stand in place of any answer; nothing was
     /// published then, and the pass is as it was.
-    pub fn insert<G: VersionReader<F, K>, R: Wait>(
+    pub fn insert<R: Wait>(
         &self,
         rt: &R,
-        pass: &mut PassOver<F, K, G>,
+        pass: &mut Pass<F, K>,
         u: u32,
         v: u32,
         kind: u32,
@@ -142,10 +138,10 @@ impl<F: PriceFn, K: ServiceBrand<F>, W: VersionWriter<F, K>> ServiceOver<F, K, W
 
     /// As `insert`, whatever the plan: its route is taken where the plan passes the check on the
     /// picture of now, which spares the search, and else the route is looked for.
-    pub fn insert_planned<G: VersionReader<F, K>, R: Wait>(
+    pub fn insert_planned<R: Wait>(
         &self,
         rt: &R,
-        pass: &mut PassOver<F, K, G>,
+        pass: &mut Pass<F, K>,
         u: u32,
         v: u32,
         kind: u32,
@@ -172,10 +168,10 @@ impl<F: PriceFn, K: ServiceBrand<F>, W: VersionWriter<F, K>> ServiceOver<F, K, W
     /// As `insert` between the ends of a route that was found. The route is taken as it is if the
     /// entries since then are looked through and changed nothing that its search has seen; else
     /// the route is looked for.
-    pub fn insert_found<G: VersionReader<F, K>, R: Wait>(
+    pub fn insert_found<R: Wait>(
         &self,
         rt: &R,
-        pass: &mut PassOver<F, K, G>,
+        pass: &mut Pass<F, K>,
         kind: u32,
         found: &FoundRoute<F, K>,
     ) -> Result<Reply, AllocError>
@@ -198,10 +194,10 @@ impl<F: PriceFn, K: ServiceBrand<F>, W: VersionWriter<F, K>> ServiceOver<F, K, W
     }
 
     /// Takes an edge out, or answers why not; in all else as `insert`.
-    pub fn delete<G: VersionReader<F, K>, R: Wait>(
+    pub fn delete<R: Wait>(
         &self,
         rt: &R,
-        pass: &mut PassOver<F, K, G>,
+        pass: &mut Pass<F, K>,
         edge: u32,
     ) -> Result<Reply, AllocError>
         ensures number { pass.new.number ≡ pass.old.number }
@@ -223,10 +219,10 @@ impl<F: PriceFn, K: ServiceBrand<F>, W: VersionWriter<F, K>> ServiceOver<F, K, W
 
     /// Puts a new vertex on a new edge of this kind into the corner at `position` of `u`, or
     /// answers the first reason why not; in all else as `insert`.
-    pub fn grow<G: VersionReader<F, K>, R: Wait>(
+    pub fn grow<R: Wait>(
         &self,
         rt: &R,
-        pass: &mut PassOver<F, K, G>,
+        pass: &mut Pass<F, K>,
         u: u32,
         position: u32,
         kind: u32,
@@ -249,10 +245,10 @@ impl<F: PriceFn, K: ServiceBrand<F>, W: VersionWriter<F, K>> ServiceOver<F, K, W
     }
 
     /// One call under the lock, and its reply.
-    pub(crate) fn call<'a, G: VersionReader<F, K>, R: Wait>(
+    pub(crate) fn call<'a, R: Wait>(
         &'a self,
         rt: &R,
-        pass: &mut PassOver<F, K, G>,
+        pass: &mut Pass<F, K>,
         call: Call,
         source: RouteSource<'a, FoundRoute<F, K>>,
     ) -> Result<Reply, AllocError>
@@ -276,10 +272,10 @@ impl<F: PriceFn, K: ServiceBrand<F>, W: VersionWriter<F, K>> ServiceOver<F, K, W
 
     /// One call under the lock, of which the pass keeps the receipt. The reply is copied once more
     /// only if it is asked for.
-    pub(crate) fn enter<'a, G: VersionReader<F, K>, R: Wait>(
+    pub(crate) fn enter<'a, R: Wait>(
         &'a self,
         rt: &R,
-        pass: &mut PassOver<F, K, G>,
+        pass: &mut Pass<F, K>,
         call: Call,
         source: RouteSource<'a, FoundRoute<F, K>>,
         is_asked: bool,
@@ -298,10 +294,10 @@ impl<F: PriceFn, K: ServiceBrand<F>, W: VersionWriter<F, K>> ServiceOver<F, K, W
 
     /// As `enter` of an insertion, if the route that was found for it still stands. Else nothing is
     /// entered, and the pass has seen what it had missed.
-    pub(crate) fn enter_standing<G: VersionReader<F, K>, R: Wait>(
+    pub(crate) fn enter_standing<R: Wait>(
         &self,
         rt: &R,
-        pass: &mut PassOver<F, K, G>,
+        pass: &mut Pass<F, K>,
         kind: u32,
         found: &FoundRoute<F, K>,
     ) -> Result<bool, AllocError>
@@ -328,17 +324,11 @@ impl<F: PriceFn, K: ServiceBrand<F>, W: VersionWriter<F, K>> ServiceOver<F, K, W
 }
 
 /// The pass sees what it has missed.
-fn catch_up<F, K, W, G, R>(
-    rt: &R,
-    alloc: Global,
-    state: &LockedState<F, K, W>,
-    pass: &mut PassOver<F, K, G>,
-)
+fn catch_up<F, K, W, R>(rt: &R, alloc: Global, state: &LockedState<F, K, W>, pass: &mut Pass<F, K>)
 where
     F: PriceFn,
     K: ServiceBrand<F>,
     W: VersionWriter<F, K>,
-    G: VersionReader<F, K>,
     R: Wait,
     ensures number { pass.new.number ≡ pass.old.number }
     ensures receipts { pass.new.receipts ≡ pass.old.receipts }
@@ -354,11 +344,11 @@ where
 
 /// One call on what lies under the lock, of which the pass keeps the receipt. Its place is taken
 /// first.
-fn enter_in<'a, F, K, W, G, R>(
+fn enter_in<'a, F, K, W, R>(
     rt: &R,
     alloc: Global,
     state: &mut LockedState<F, K, W>,
-    pass: &mut PassOver<F, K, G>,
+    pass: &mut Pass<F, K>,
     call: Call,
     source: RouteSource<'a, FoundRoute<F, K>>,
     is_asked: bool,
@@ -367,7 +357,6 @@ where
     F: PriceFn,
     K: ServiceBrand<F>,
     W: VersionWriter<F, K>,
-    G: VersionReader<F, K>,
     R: Wait,
     ensures number { pass.new.number ≡ pass.old.number }
     ensures asked { IfOk result (λ reply. is_some reply ≡ is_asked) }

@@ -11,7 +11,7 @@ ghost use Rattle.topo_versions.specs.Names.{prices_named};
 ghost use Rattle.topo_versions.specs.Versions.{AreLegal};
 
 use crate::found::{FoundRoute, first_on};
-use crate::pass::PassOver;
+use crate::pass::Pass;
 use crate::service::ServiceOver;
 use std::alloc::{AllocError, Global};
 use std::sync::Wait;
@@ -20,7 +20,7 @@ use std::thread::Threads;
 use topo_book::RouteSource;
 use topo_core::calls::{Call, Command};
 use topo_price::tariff::PriceFn;
-use topo_versions::{ServiceBrand, VersionReader, VersionWriter};
+use topo_versions::{ServiceBrand, VersionWriter};
 
 /// What is called round each command: with the place of the list, and the command's place in it.
 pub trait Gate: Sync {
@@ -39,17 +39,10 @@ pub enum WorkerEnd {
 }
 
 /// One call, of which the pass keeps the receipt. Nobody asks for its reply.
-fn enter<
-    'a,
-    F: PriceFn,
-    K: ServiceBrand<F>,
-    W: VersionWriter<F, K>,
-    G: VersionReader<F, K>,
-    R: Wait,
->(
+fn enter<'a, F: PriceFn, K: ServiceBrand<F>, W: VersionWriter<F, K>, R: Wait>(
     rt: &R,
     service: &'a ServiceOver<F, K, W>,
-    pass: &mut PassOver<F, K, G>,
+    pass: &mut Pass<F, K>,
     call: Call,
     source: RouteSource<'a, FoundRoute<F, K>>,
 ) -> Result<(), AllocError>
@@ -64,10 +57,10 @@ fn enter<
 
 /// The first of the cheapest routes on the pass's own version, looked for without the lock; none if
 /// there is none, or it is out of memory.
-fn find_ahead<F: PriceFn, K: ServiceBrand<F>, W: VersionWriter<F, K>, G: VersionReader<F, K>>(
+fn find_ahead<F: PriceFn, K: ServiceBrand<F>, W: VersionWriter<F, K>>(
     alloc: Global,
     service: &ServiceOver<F, K, W>,
-    pass: &mut PassOver<F, K, G>,
+    pass: &mut Pass<F, K>,
     u: u32,
     v: u32,
 ) -> Option<FoundRoute<F, K>>
@@ -92,17 +85,11 @@ fn find_ahead<F: PriceFn, K: ServiceBrand<F>, W: VersionWriter<F, K>, G: Version
 /// Inserts an edge whose route is looked for first on the pass's own version, without the lock. A
 /// route that comes too late is looked for once more so, unless the one before was late too. If
 /// that finds none, it is an insertion.
-fn insert_ahead<
-    F: PriceFn,
-    K: ServiceBrand<F>,
-    W: VersionWriter<F, K>,
-    G: VersionReader<F, K>,
-    R: Wait,
->(
+fn insert_ahead<F: PriceFn, K: ServiceBrand<F>, W: VersionWriter<F, K>, R: Wait>(
     rt: &R,
     alloc: Global,
     service: &ServiceOver<F, K, W>,
-    pass: &mut PassOver<F, K, G>,
+    pass: &mut Pass<F, K>,
     u: u32,
     v: u32,
     kind: u32,
@@ -134,17 +121,11 @@ fn insert_ahead<
 
 /// Carries a command out. A planned insertion looks for its route ahead, unless the routes that the
 /// pass found last came too late.
-fn carry_out<
-    F: PriceFn,
-    K: ServiceBrand<F>,
-    W: VersionWriter<F, K>,
-    G: VersionReader<F, K>,
-    R: Wait,
->(
+fn carry_out<F: PriceFn, K: ServiceBrand<F>, W: VersionWriter<F, K>, R: Wait>(
     rt: &R,
     alloc: Global,
     service: &ServiceOver<F, K, W>,
-    pass: &mut PassOver<F, K, G>,
+    pass: &mut Pass<F, K>,
     command: Command,
 ) -> Result<(), AllocError>
     ensures number { pass.new.number ≡ pass.old.number }
@@ -170,18 +151,11 @@ fn carry_out<
 }
 
 /// Carries a list out, until it is out of memory.
-fn work<
-    F: PriceFn,
-    K: ServiceBrand<F>,
-    W: VersionWriter<F, K>,
-    G: VersionReader<F, K>,
-    R: Wait,
-    T: Gate,
->(
+fn work<F: PriceFn, K: ServiceBrand<F>, W: VersionWriter<F, K>, R: Wait, T: Gate>(
     rt: &R,
     alloc: Global,
     service: &ServiceOver<F, K, W>,
-    pass: &mut PassOver<F, K, G>,
+    pass: &mut Pass<F, K>,
     worker: usize,
     list: &[Command],
     gate: &T,
@@ -203,14 +177,13 @@ fn run_each<
     F: PriceFn + Drop + Send + Sync,
     K: ServiceBrand<F> + Send + Sync,
     W: VersionWriter<F, K> + Send,
-    G: VersionReader<F, K> + Send,
     R: Threads + Wait + Sync,
     T: Gate,
 >(
     rt: &R,
     alloc: Global,
     service: &ServiceOver<F, K, W>,
-    passes: &mut [PassOver<F, K, G>],
+    passes: &mut [Pass<F, K>],
     lists: &[Vec<Command>],
     gate: &T,
 )
@@ -230,7 +203,7 @@ fn run_each<
         rt,
         passes,
         threads,
-        &|i, pass: &mut PassOver<F, K, G>|
+        &|i, pass: &mut Pass<F, K>|
             requires { i < length lists.now }
             ensures made { HasMade pass.entry.now pass.exit.now
                 (slice_index_or (map commands lists.entry.now) i []) }
@@ -245,9 +218,9 @@ fn run_each<
 }
 
 /// How many receipts each pass has.
-fn receipt_counts<F: PriceFn, K: ServiceBrand<F>, G: VersionReader<F, K>>(
+fn receipt_counts<F: PriceFn, K: ServiceBrand<F>>(
     alloc: Global,
-    passes: &[PassOver<F, K, G>],
+    passes: &[Pass<F, K>],
 ) -> Result<Vec<usize>, AllocError>
     ensures { IfOk result (λ counts. counts.items ≡ map receipts_of passes.now) }
 {
@@ -259,9 +232,9 @@ fn receipt_counts<F: PriceFn, K: ServiceBrand<F>, G: VersionReader<F, K>>(
 }
 
 /// How the work of a pass on a list ended, by how many receipts it had before.
-fn end_of<F: PriceFn, K: ServiceBrand<F>, G: VersionReader<F, K>>(
+fn end_of<F: PriceFn, K: ServiceBrand<F>>(
     before: usize,
-    pass: &PassOver<F, K, G>,
+    pass: &Pass<F, K>,
     list: &[Command],
 ) -> WorkerEnd
     requires { before ≤ receipts_of pass.now }
@@ -276,10 +249,10 @@ fn end_of<F: PriceFn, K: ServiceBrand<F>, G: VersionReader<F, K>>(
 }
 
 /// Tells how the work on each list ended.
-fn tell_ends<F: PriceFn, K: ServiceBrand<F>, G: VersionReader<F, K>>(
+fn tell_ends<F: PriceFn, K: ServiceBrand<F>>(
     ends: &mut Vec<WorkerEnd>,
     before: &[usize],
-    passes: &[PassOver<F, K, G>],
+    passes: &[Pass<F, K>],
     lists: &[Vec<Command>],
 )
     requires empty { ends.old.items ≡ [] }
@@ -307,14 +280,13 @@ pub fn run_workers<
     F: PriceFn + Drop + Send + Sync,
     K: ServiceBrand<F> + Send + Sync,
     W: VersionWriter<F, K> + Send,
-    G: VersionReader<F, K> + Send,
     R: Threads + Wait + Sync,
     T: Gate,
 >(
     rt: &R,
     alloc: Global,
     service: &ServiceOver<F, K, W>,
-    passes: &mut [PassOver<F, K, G>],
+    passes: &mut [Pass<F, K>],
     lists: &[Vec<Command>],
     gate: &T,
 ) -> Result<Vec<WorkerEnd>, AllocError>

@@ -18,7 +18,7 @@ pub mod wait;
 
 pub use brand::{LogBrand, ServiceBrand};
 pub use log_prefix::{FreshLog, LogLength, LogPrefix};
-pub use publishing::{ReaderFactory, VersionReader, VersionWriter};
-pub use store::{StoreReader, StoreWriter, new_store};
+pub use publishing::VersionWriter;
+pub use store::{StoreWriter, VersionReader, new_store};
 pub use version::Version;
 pub use wait::wait_forever;

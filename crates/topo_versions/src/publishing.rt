@@ -8,13 +8,15 @@ ghost use Rattle.topo_versions.specs.Versions.{IsVersionFrom};
 
 use crate::brand::ServiceBrand;
 use crate::log_prefix::LogPrefix;
-use crate::version::Version;
+use crate::store::VersionReader;
 use std::alloc::AllocError;
 use std::sync::{Arc, Wait};
 use topo_picture::Picture;
 use topo_price::tariff::PriceFn;
 
-/// What publishes versions.
+/// What publishes versions. It is a trait, with one type that has it, since a service holds it under
+/// a lock: what lies there has to have a proved destructor, and the writer of `left_right` has none.
+/// A type parameter needs none.
 pub trait VersionWriter<F: PriceFn, K: ServiceBrand<F>> {
     /// The entries of the version that readers take now, if there is one.
     ghost published: { Self → Option (List Entry) };
@@ -26,21 +28,9 @@ pub trait VersionWriter<F: PriceFn, K: ServiceBrand<F>> {
             (arc_value picture) }
         ensures { published self.new ≡ Some prefix.now };
 
+    /// A reader; out of memory also if no place for one is left.
+    fn reader(&self) -> Result<VersionReader<F, K>, AllocError>;
+
     /// Ends it.
     fn end<R: Wait>(self, rt: &R);
-}
-
-/// What takes versions.
-pub trait VersionReader<F: PriceFn, K: ServiceBrand<F>>: Drop {
-    /// The current version; none where the store has ended or no further share of it is left.
-    fn current(&mut self) -> Option<Version<F, K>>;
-}
-
-/// What makes readers.
-pub trait ReaderFactory<F: PriceFn, K: ServiceBrand<F>, G: VersionReader<F, K>>: VersionWriter<
-    F,
-    K,
-> {
-    /// A reader; out of memory also if no place for one is left.
-    fn reader(&self) -> Result<G, AllocError>;
 }

@@ -11,9 +11,16 @@ use topo_price::tariff::PriceFn;
 
 /// A slot of the store: the version that readers take, and nothing in the slot that they have left,
 /// so that the store keeps no version before the one of now.
-#[derive(Drop)]
 pub struct Slot<F: PriceFn, K: ServiceBrand<F>> {
     version: Option<Version<F, K>>,
+}
+
+// Written out, so that it does not ask that the closure may be dropped.
+impl<F: PriceFn, K: ServiceBrand<F>> Drop for Slot<F, K> {
+    fn drop(self) {
+        let Slot { version } = self;
+        drop(version);
+    }
 }
 
 impl<F: PriceFn, K: ServiceBrand<F>> Model for Slot<F, K> {
@@ -26,7 +33,7 @@ impl<F: PriceFn, K: ServiceBrand<F>> Model for Slot<F, K> {
 }
 
 // A slot is written whole, and takes in no operations.
-impl<F: PriceFn + Drop, K: ServiceBrand<F>> Absorb<()> for Slot<F, K> {
+impl<F: PriceFn, K: ServiceBrand<F>> Absorb<()> for Slot<F, K> {
     type State = ();
 
     ghost state = { λ s. tt };

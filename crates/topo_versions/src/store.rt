@@ -7,7 +7,7 @@ ghost use Rattle.topo_versions.specs.Versions.{IsVersionFrom, entries_shown};
 
 use crate::brand::ServiceBrand;
 use crate::log_prefix::LogPrefix;
-use crate::publishing::{ReaderFactory, VersionReader, VersionWriter};
+use crate::publishing::VersionWriter;
 use crate::slot::Slot;
 use crate::version::Version;
 use core::mem::replace_with;
@@ -19,14 +19,42 @@ use std::sync::{Arc, Wait};
 use topo_picture::Picture;
 use topo_price::tariff::PriceFn;
 
-/// A reader of versions.
-pub type StoreReader<F, K> = Reader<Slot<F, K>, (), Unruled>;
+/// What takes versions.
+pub struct VersionReader<F: PriceFn, K: ServiceBrand<F>> {
+    reader: Reader<Slot<F, K>, (), Unruled>,
+}
+
+// Written out, so that it is proved once: a derived one is proved anew in each function that lets
+// such a value go.
+impl<F: PriceFn, K: ServiceBrand<F>> Drop for VersionReader<F, K> {
+    fn drop(self) {
+        let VersionReader { reader } = self;
+        drop(reader);
+    }
+}
+
+impl<F: PriceFn, K: ServiceBrand<F>> VersionReader<F, K> {
+    /// The version of now; none where the store has ended or no further share of it is left.
+    pub fn current(&mut self) -> Option<Version<F, K>> {
+        replace_with(
+            &mut self.reader,
+            (),
+            |reader, ()| match reader.enter_as::<Unruled>() {
+                Ok(reading) => {
+                    let found = reading.get().version();
+                    (reading.leave(), found)
+                }
+                Err(reader) => (reader, None),
+            },
+        )
+    }
+}
 
 /// The writer of versions.
 pub type StoreWriter<F, K> = Writer<Slot<F, K>, (), (), Unruled>;
 
 /// A store that shows a version to so many readers at most.
-pub fn new_store<F: PriceFn + Drop, K: ServiceBrand<F>>(
+pub fn new_store<F: PriceFn, K: ServiceBrand<F>>(
     alloc: Global,
     first: Version<F, K>,
     readers: usize,
@@ -37,20 +65,7 @@ pub fn new_store<F: PriceFn + Drop, K: ServiceBrand<F>>(
     StoreWriter::<F, K>::new(alloc, Slot::of(first), Slot::blank(), readers)
 }
 
-// Takes the version of now, where the store is still there and a further share of it is left.
-fn current_version<F: PriceFn + Drop, K: ServiceBrand<F>>(
-    reader: StoreReader<F, K>,
-) -> (StoreReader<F, K>, Option<Version<F, K>>) {
-    match reader.enter_as::<Unruled>() {
-        Ok(reading) => {
-            let found = reading.get().version();
-            (reading.leave(), found)
-        }
-        Err(reader) => (reader, None),
-    }
-}
-
-impl<F: PriceFn + Drop, K: ServiceBrand<F>> VersionWriter<F, K> for StoreWriter<F, K> {
+impl<F: PriceFn, K: ServiceBrand<F>> VersionWriter<F, K> for StoreWriter<F, K> {
     ghost published = { λ w. entries_shown w.desk.shown.value };
 
     // The next version is shown in the slot that is blank. Once the readers have left the other
@@ -76,20 +91,13 @@ impl<F: PriceFn + Drop, K: ServiceBrand<F>> VersionWriter<F, K> for StoreWriter<
         );
     }
 
+    fn reader(&self) -> Result<VersionReader<F, K>, AllocError> {
+        Ok(VersionReader {
+            reader: self.factory().reader()?,
+        })
+    }
+
     fn end<R: Wait>(self, rt: &R) {
         drop(self.take(rt));
-    }
-}
-
-impl<F: PriceFn + Drop, K: ServiceBrand<F>> VersionReader<F, K> for StoreReader<F, K> {
-    fn current(&mut self) -> Option<Version<F, K>> {
-        replace_with(self, (), |reader, ()| current_version(reader))
-    }
-}
-
-impl<F: PriceFn + Drop, K: ServiceBrand<F>> ReaderFactory<F, K, StoreReader<F, K>>
-    for StoreWriter<F, K> {
-    fn reader(&self) -> Result<StoreReader<F, K>, AllocError> {
-        self.factory().reader()
     }
 }

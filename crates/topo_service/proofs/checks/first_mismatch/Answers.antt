@@ -1,4 +1,4 @@
-use Rattle.std.proofs.Common.{ap, sym, ◌∙◌, subst, List, All, ◌≡◌, take, length}
+use Rattle.std.proofs.Common.{sym, subst, List, All, take}
 use Rattle.std.proofs.lemmas.List.{take_more, take_all}
 use Rattle.std.proofs.lemmas.List.Elements.{All-push}
 use Rattle.topo_core.specs.Items.{IsIn}

@@ -1,4 +1,4 @@
-use Rattle.std.proofs.Common.{◌≡◌, [], ◌∷◌, length, ap, ◌∙◌, arith, length-append, map-id, rules}
+use Rattle.std.proofs.Common.{◌≡◌, [], ◌∷◌, length, arith, length-append, map-id, rules}
 use Rattle.std.proofs.lemmas.List.Sums.{sum_by-append}
 use Rattle.std.proofs.lemmas.List.Elements.{All-push}
 use Rattle.std.proofs.lemmas.Iterator.Consumers.{YieldsList-end}
@@ -12,12 +12,12 @@ loop-pass-preserved g c =
     let i = c.loop-pass.invariant in
     let ys = c.loop-pass.yielded in
     let p = c.in-Some.pass in
+    let taken = c.into_parts-prefix.ensures in
     let one = length-append ys (p ∷ []) in
     let here : IsPrefix p.seen (versions c.args.state.now.history) =
-    rw (← c.prefix.ensures.now, ← ap (λ s. s.seen) c.pass.view_is) (c.is_prefix_of.ensures.prefix c.if-not-is_prefix_of.false) in
-    let amount : c.pass.inside.share.amount ≡ length p.receipts = c.pass.invariant.1 ∙ ap (λ s. length s.receipts) c.pass.view_is in (
-      omega (arith, i.0, c.merge.ensures.parts, c.pass.invariant.0, one),
-      omega (arith, i.1, c.merge.ensures.amount, amount, sum_by-append (λ (s : PassState). length s.receipts) ys (p ∷ [])),
+    rw (← c.prefix.ensures.now, ← taken.seen) (c.is_prefix_of.ensures.prefix c.if-not-is_prefix_of.false) in (
+      omega (arith, i.0, c.merge.ensures.parts, taken.parts, one),
+      omega (arith, i.1, c.merge.ensures.amount, taken.amount, sum_by-append (λ (s : PassState). length s.receipts) ys (p ∷ [])),
       (λ _. c.merge.ensures.apart),
       All-push (λ (s : PassState). IsPrefix s.seen (versions c.args.state.now.history)) ys p i.3 here,
     )

@@ -1,4 +1,4 @@
-use Rattle.std.proofs.Common.{◌≡◌, ◌+◌, ◌<◌, ◌≤◌, ℕ, length, All}
+use Rattle.std.proofs.Common.{◌≡◌, ◌+◌, ◌<◌, ◌≤◌, length, All}
 use Rattle.topo_core.specs.History.{IsPrefix, versions}
 use Rattle.topo_service.specs.Passes.{PassState}
 use Rattle.topo_service.specs.Receipts.{receipt_count}

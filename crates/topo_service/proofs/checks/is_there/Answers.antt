@@ -1,7 +1,6 @@
-use Rattle.std.proofs.Common.{◌≡◌, length, get_or, ap, sym, ◌∙◌, subst, arith, List}
+use Rattle.std.proofs.Common.{ap, sym, ◌∙◌, subst}
 use Rattle.std.proofs.lemmas.List.{take_more}
 use Rattle.topo_service.specs.Receipts.{HasNumber}
-use Rattle.topo_service.specs.Passes.{PassState}
 use Rattle.topo_service.proofs.Numbers.{number_at, number_push}
 use Rattle.topo_service.proofs.checks.is_there.Goals as goal
 

@@ -1,4 +1,4 @@
-use Rattle.std.proofs.Common.{ℕ, take}
+use Rattle.std.proofs.Common.{take}
 use Rattle.topo_service.specs.Receipts.{HasNumber}
 use Rattle.topo_service.proofs.checks.is_there.Given as goal
 

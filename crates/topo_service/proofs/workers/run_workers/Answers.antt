@@ -1,8 +1,6 @@
-use Rattle.std.proofs.Common.{◌≡◌, ◌<◌, ◌-◌, ℕ, [], length, map, slice_index_or, sym, ap, ◌∙◌, arith, List, rules}
+use Rattle.std.proofs.Common.{◌≡◌, ◌<◌, ◌-◌, [], length, map, slice_index_or, ap, ◌∙◌, arith, rules}
 use Rattle.std.proofs.lemmas.List.{get_or-map}
-use Rattle.topo_service.specs.declared.workers.WorkerEnd.{WorkerEnd}
 use Rattle.topo_service.specs.Commands.{commands, end_by, receipts_of}
-use Rattle.topo_service.specs.Passes.{PassState}
 use Rattle.topo_service.proofs.Working.{ended}
 use Rattle.topo_service.proofs.workers.run_workers.Goals as goal
 

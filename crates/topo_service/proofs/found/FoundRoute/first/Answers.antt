@@ -1,6 +1,6 @@
 use Rattle.std.proofs.Common.{subst}
 use Rattle.topo_versions.specs.Names.{prices_named}
-use Rattle.topo_service.specs.Found.{FoundState, IsFoundRoute}
+use Rattle.topo_service.specs.Found.{IsFoundRoute}
 use Rattle.topo_service.proofs.found.FoundRoute.first.Goals as goal
 
 pub returns-clause-found : goal.returns-clause-found

@@ -1,4 +1,4 @@
-use Rattle.std.proofs.Common.{◌≡◌, ◌∙◌, List, [], length, ap, refl, subst, sym}
+use Rattle.std.proofs.Common.{List, [], length, ap, refl, subst, sym}
 use Rattle.topo_core.specs.declared.calls.Entry.{Entry}
 use Rattle.topo_versions.specs.Names.{prices_named}
 use Rattle.topo_versions.specs.Versions.{AreLegal}

@@ -1,11 +1,4 @@
-use Rattle.std.proofs.Common.{◌≡◌, sym, ap, ◌∙◌}
-use Rattle.topo_core.specs.declared.calls.Entry.{Entry}
-use Rattle.topo_price.specs.Prices.{prices_of}
-use Rattle.topo_route.specs.Plans.{IsPlan}
-use Rattle.topo_versions.specs.Names.{prices_named}
-use Rattle.topo_versions.specs.Versions.{IsVersionFrom}
-use Rattle.topo_service.specs.Faults.{IsPlanRefusal}
-use Rattle.topo_service.proofs.pass.PassOver.plan.Goals as goal
+use Rattle.topo_service.proofs.pass.Pass.plan.Goals as goal
 
 pub returns-in-Ok-clause-planned : goal.returns-in-Ok-clause-planned
 returns-in-Ok-clause-planned g c = (

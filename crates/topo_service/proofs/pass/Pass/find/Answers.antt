@@ -3,7 +3,7 @@ use Rattle.topo_core.specs.declared.calls.Entry.{Entry}
 use Rattle.topo_versions.specs.Names.{prices_named}
 use Rattle.topo_versions.specs.Versions.{IsVersionFrom}
 use Rattle.topo_service.specs.Passes.{PassState}
-use Rattle.topo_service.proofs.pass.PassOver.find.Goals as goal
+use Rattle.topo_service.proofs.pass.Pass.find.Goals as goal
 
 pub returns-in-Err-clause-fault : goal.returns-in-Err-clause-fault
 returns-in-Err-clause-fault g c =
