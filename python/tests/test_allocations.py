@@ -2,19 +2,13 @@
 values, whatever the order of its keys and the gaps between its tokens."""
 
 import json
-import os
-import shutil
 import subprocess
-import tempfile
 import unittest
-from pathlib import Path
 from typing import Any, Dict
 
 from fezdrok import find_program
 
-from .support import ROOT, needs_program
-
-REFUSED = b"an allocation was refused\n"
+from .refusing import RefusingTest
 
 # So many vertices a picture has, and so many growths a script or a report.
 COUNT = 4_000
@@ -74,22 +68,11 @@ def escaped_layout(form: Dict[str, Any]) -> bytes:
     return own_layout(form).replace(f'"{key}":'.encode(), f'"\\u{ord(key[0]):04x}{key[1:]}":'.encode())
 
 
-@needs_program
-@unittest.skipUnless(shutil.which("cc"), "left out: there is no C compiler")
-class Allocations(unittest.TestCase):
-    @classmethod
-    def setUpClass(cls) -> None:
-        folder = tempfile.TemporaryDirectory()
-        cls.addClassCleanup(folder.cleanup)
-        cls.library = os.fspath(Path(folder.name) / "refuse_allocation.so")
-        subprocess.run(["cc", "-shared", "-fPIC", "-O2", "-o", cls.library, ROOT / ".ci" / "refuse_allocation.c"], check=True)
-
+class Allocations(RefusingTest):
     def makes_more_than(self, verb: str, text: bytes, allocations: int) -> bool:
         """Whether a command makes more allocations than so many: whether the next one is there to be refused."""
-        environment = {"LD_PRELOAD": self.library, "REFUSED_ALLOCATION": str(allocations + 1)}
-        done = subprocess.run([find_program(), verb], input=text, capture_output=True, timeout=60, env=environment)
-        is_refused = done.stderr.startswith(REFUSED)
-        self.assertTrue(is_refused or (done.returncode, done.stderr) == (0, b""), done.stderr[:200])
+        status, _, told, is_refused = self.run_refusing(verb, text, allocations + 1)
+        self.assertTrue(is_refused or (status, told) == (0, b""), told[:200])
         return is_refused
 
     def check(self, verb: str, form: Dict[str, Any], for_each: int) -> None:

@@ -1,48 +1,24 @@
 """The program where one allocation is refused, each in turn: a command has its whole answer, or none and says why."""
 
-import os
-import shutil
-import subprocess
-import tempfile
 import unittest
-from pathlib import Path
-from typing import Tuple
 
-from fezdrok import find_program
+from .refusing import RefusingTest
+from .support import EXAMPLES
 
-from .support import EXAMPLES, ROOT, needs_program
-
-REFUSED = b"an allocation was refused\n"
 MOST = 20_000
 
 
-@needs_program
-@unittest.skipUnless(shutil.which("cc"), "left out: there is no C compiler")
-class RefusedAllocations(unittest.TestCase):
-    @classmethod
-    def setUpClass(cls) -> None:
-        folder = tempfile.TemporaryDirectory()
-        cls.addClassCleanup(folder.cleanup)
-        cls.library = os.fspath(Path(folder.name) / "refuse_allocation.so")
-        subprocess.run(["cc", "-shared", "-fPIC", "-O2", "-o", cls.library, ROOT / ".ci" / "refuse_allocation.c"], check=True)
-
-    def ended(self, verb: str, text: bytes, number: int) -> Tuple[int, bytes, bytes]:
-        """The status of a run that is refused the allocation of this number, or of none where it is 0, and its output."""
-        environment = {"LD_PRELOAD": self.library, "REFUSED_ALLOCATION": str(number)}
-        done = subprocess.run([find_program(), verb], input=text, capture_output=True, timeout=60, env=environment)
-        return done.returncode, done.stdout, done.stderr
-
+class RefusedAllocations(RefusingTest):
     def refuse_each(self, verb: str, text: bytes) -> int:
         """Refuses each allocation of a command in turn, and returns after how many of them it was out of memory."""
-        status, answer, told = self.ended(verb, text, 0)
+        status, answer, told, _ = self.run_refusing(verb, text, 0)
         self.assertEqual((status, told), (0, b""))
         wanted = 0
         for number in range(1, MOST):
-            status, output, told = self.ended(verb, text, number)
-            if not told.startswith(REFUSED):
+            status, output, told, is_refused = self.run_refusing(verb, text, number)
+            if not is_refused:
                 self.assertEqual((status, output, told), (0, answer, b""))
                 return wanted
-            told = told[len(REFUSED):]
             if status == 0:
                 self.assertEqual((output, told), (answer, b""), number)   # it did without
             else:
