@@ -14,9 +14,9 @@ use std::sync::{Arc, Wait};
 use topo_picture::Picture;
 use topo_price::tariff::PriceFn;
 
-/// What publishes versions. It is a trait, with one type that has it, since a service holds it under
-/// a lock: what lies there has to have a proved destructor, and the writer of `left_right` has none.
-/// A type parameter needs none.
+/// What publishes versions. It is a trait, with one type that has it, since a service holds it
+/// under a lock. What lies there has to have a proved destructor, which the writer of `left_right`
+/// has not, and which a type parameter need not have.
 pub trait VersionWriter<F: PriceFn, K: ServiceBrand<F>> {
     /// The entries of the version that readers take now, if there is one.
     ghost published: { Self → Option (List Entry) };
