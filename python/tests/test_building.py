@@ -17,19 +17,24 @@ from fezdrok import program as program_module
 
 from .support import ROOT
 
-#: Stands for the command rt: it takes the program away, waits for the file `go`, and makes a program that says the source.
-#: `rt try` keeps none: it ends when its program has been taken.
+#: Stands for the command rt: it waits for the file `go`, and makes a program that says the source. `rt ci` makes it in the
+#: folder of the crate. `rt try`, which runs there, keeps none: it ends when its program has been taken.
 TOOLCHAIN = """#!/bin/sh
-echo called >> ../../calls
-[ "$1" = try ] || rm -f out/planar
-while [ ! -e ../../go ]; do sleep 0.05; done
-[ ! -e ../../fails ] || { echo "no proof"; exit 1; }
-place=out
-[ "$1" = run ] || place=$(mktemp -d)
-mkdir -p $place
-printf '#!/bin/sh\\necho "%s" "$@"\\n' "$(cat src/main.rt)" > $place/planar
-chmod +x $place/planar
-[ "$1" = run ] || { mkdir $place/1; cp $place/planar $place/1/program; until [ -e "$TMPDIR/../planar" ]; do sleep 0.05; done; rm -r $place; }
+top=$(dirname "$0")/..
+echo called >> $top/calls
+while [ ! -e $top/go ]; do sleep 0.05; done
+[ ! -e $top/fails ] || { echo "no proof"; exit 1; }
+if [ "$1" = ci ]; then
+    cd crates/planar
+    program=out/planar
+else
+    made=$(mktemp -d)
+    program=$made/1/program
+fi
+mkdir -p $(dirname $program)
+printf '#!/bin/sh\\necho "%s" "$@"\\n' "$(cat src/main.rt)" > $program
+chmod +x $program
+[ "$1" = ci ] || { until [ -e "$TMPDIR/../planar" ]; do sleep 0.05; done; rm -r $made; }
 """
 
 
@@ -38,16 +43,18 @@ class Folder(unittest.TestCase):
         folder = tempfile.TemporaryDirectory()
         self.addCleanup(folder.cleanup)
         self.root = Path(folder.name).resolve()
-        for name in ("planar", "try", ".ci/sources", ".ci/below", ".ci/built", ".ci/place"):
+        for name in ("planar", "try", ".ci/sources", ".ci/below", ".ci/built", ".ci/copy", ".ci/place"):
             (self.root / name).parent.mkdir(exist_ok=True)
             shutil.copy(ROOT / name, self.root / name)
-        (self.root / "crates.txt").write_text("planar: std\n")
+        (self.root / "crates.txt").write_text("# programs\nplanar: std\nother: std\n")
+        (self.root / "HANDLES").write_text("Handles allowed: none.\n")
         for name, text in {"crates/planar/src/main.rt": "first", "crates/topo_examples/data/bipyramid.json": "{}", "bin/rt": TOOLCHAIN}.items():
             (self.root / name).parent.mkdir(parents=True)
             (self.root / name).write_text(text)
         (self.root / "bin" / "rt").chmod(0o755)
         self.script, self.built = self.root / "planar", self.root / "out" / "planar"
-        self.environment = {"PATH": f"{self.root / 'bin'}{os.pathsep}{os.environ['PATH']}"}
+        (self.root / "scratch").mkdir()
+        self.environment = {"PATH": f"{self.root / 'bin'}{os.pathsep}{os.environ['PATH']}", "TMPDIR": os.fspath(self.root / "scratch")}
         self.start(mock.patch.dict(os.environ, self.environment))
         self.start(mock.patch.object(program_module, "_told", set()))
         self.allow()
@@ -74,6 +81,10 @@ class Folder(unittest.TestCase):
         file = self.root / "calls"
         return len(file.read_text().splitlines()) if file.exists() else 0
 
+    def left(self) -> "list[Path]":
+        """The temporary folders that are there."""
+        return [it for it in (self.root / "scratch").iterdir() if it.is_dir()]
+
     def wait_for_calls(self, count: int):
         end = time.monotonic() + 20
         while self.calls() < count and time.monotonic() < end:
@@ -92,6 +103,7 @@ class Building(Folder):
         self.assertEqual([self.said(self.script) for _ in range(2)], ["first word\n"] * 2)
         self.assertEqual(self.calls(), 1)
         self.assertEqual(sorted(os.listdir(self.root / "out")), ["planar", "planar.lock", "planar.sources"])
+        self.assertEqual(self.left(), [])
 
     def test_the_old_one_stays_until_the_new_one_is_built(self):
         self.said(self.script)
@@ -132,7 +144,7 @@ class Building(Folder):
         self.wait_for_calls(1)
         process.send_signal(signal.SIGTERM)
         process.communicate(timeout=5)   # its streams are closed only when the toolchain has ended too
-        self.assertEqual(process.returncode, 130)
+        self.assertEqual((process.returncode, self.left()), (130, []))
         self.allow()
         self.assertEqual(self.said(self.script), "first word\n")
 
@@ -165,6 +177,7 @@ class Unproved(Folder):
         done = subprocess.run([self.root / "try", "word"], capture_output=True, text=True, timeout=60)
         self.assertEqual((done.returncode, done.stdout), (2, ""))
         self.assertIn("no proof\ntry: the program was not built\n", done.stderr)
+        self.assertEqual(self.left(), [])
 
 
 class Package(Folder):
