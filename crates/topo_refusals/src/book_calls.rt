@@ -4,7 +4,7 @@ ghost use Rattle.topo_price.specs.Prices.{IsPromise};
 
 use crate::prepared_calls::enter_ready;
 use crate::printed::{book_state, copied, picture_state};
-use crate::retry::{Console, refused, tell};
+use crate::retry::{BOOKKEEPING, Console, refused, tell};
 use anyhow::Result;
 use std::alloc::{AllocError, Global};
 use std::sync::Arc;
@@ -41,7 +41,7 @@ pub(crate) fn shared<R: Eprint + AllocGlobal, F: PriceFn + Drop>(
     match Arc::new(rt.alloc(), Tariff::new(ask)) {
         Ok(tariff) => Ok(tariff),
         Err(failed) => {
-            tell(rt, "bookkeeping");
+            tell(rt, BOOKKEEPING);
             Ok(Arc::new(rt.alloc(), failed.value).map_err(AllocError::from)?)
         }
     }

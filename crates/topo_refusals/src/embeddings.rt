@@ -1,7 +1,7 @@
 //! An embedding in its store: each call that takes memory is made once more if it is out of memory,
 //! and what the embedding shows is printed.
 
-use crate::retry::{Console, refused, tell};
+use crate::retry::{BOOKKEEPING, Console, refused, retried, twice};
 use anyhow::Result;
 use std::alloc::{AllocError, Global};
 use topo_map::{Embedding, Half};
@@ -28,24 +28,13 @@ fn state<R: Eprint + AllocGlobal>(
     embedding: &Embedding,
     halves: &[Half],
 ) -> Result<String, AllocError> {
-    match text_of(rt.alloc(), embedding, halves) {
-        Ok(text) => Ok(text),
-        Err(_) => {
-            tell(rt, "bookkeeping");
-            text_of(rt.alloc(), embedding, halves)
-        }
-    }
+    twice(rt, BOOKKEEPING, |alloc| text_of(alloc, embedding, halves))
 }
 
 /// An equal embedding.
 fn copy<R: Console>(rt: &R, embedding: &Embedding, halves: &[Half], before: &str) -> Result<()> {
-    let copy = match embedding.copy() {
-        Ok(copy) => copy,
-        Err(_) => {
-            refused(rt, "Embedding::copy", before, state(rt, embedding, halves)?)?;
-            embedding.copy()?
-        }
-    };
+    let look = |rt: &R| state(rt, embedding, halves);
+    let copy = retried(rt, "Embedding::copy", before, look, |_| embedding.copy())?;
     let (as_many, given) = (copy.room() >= embedding.room(), state(rt, &copy, halves));
     drop(copy);
     let given = given?;
@@ -70,23 +59,13 @@ fn use_store<R: Console>(rt: &R, embedding: &mut Embedding, halves: &[Half]) -> 
 
 /// An embedding of one segment, and one of two whose four halves lie round one point.
 pub(crate) fn embed<R: Console>(rt: &R) -> Result<()> {
-    let (mut embedding, half) = match Embedding::seed(rt.alloc(), 7) {
-        Ok(made) => made,
-        Err(_) => {
-            tell(rt, "Embedding::seed");
-            Embedding::seed(rt.alloc(), 7)?
-        }
-    };
+    let (mut embedding, half) = twice(rt, "Embedding::seed", |alloc| Embedding::seed(alloc, 7))?;
     let told = use_store(rt, &mut embedding, &[half, half.twin()]);
     drop(embedding);
     told?;
-    let (mut embedding, halves) = match Embedding::from_turns(rt.alloc(), &[2, 3, 1, 0], &[3, 4]) {
-        Ok(made) => made,
-        Err(_) => {
-            tell(rt, "Embedding::from_turns");
-            Embedding::from_turns(rt.alloc(), &[2, 3, 1, 0], &[3, 4])?
-        }
-    };
+    let (mut embedding, halves) = twice(rt, "Embedding::from_turns", |alloc| {
+        Embedding::from_turns(alloc, &[2, 3, 1, 0], &[3, 4])
+    })?;
     let told = use_store(rt, &mut embedding, halves.as_slice());
     drop(embedding);
     told

@@ -35,21 +35,9 @@ fn grow<R: Console>(rt: &R, picture: &mut Picture, u: u32, position: u32, kind: 
     Ok(())
 }
 
-/// A deletion.
+/// A deletion, which takes no memory.
 fn delete<R: Console>(rt: &R, picture: &mut Picture, edge: u32) -> Result<()> {
-    let before = picture_state(rt, picture)?;
-    let answer = match picture.delete(edge) {
-        Err(Refusal::Memory) => {
-            refused(
-                rt,
-                "Picture::delete",
-                before.as_str(),
-                picture_state(rt, picture)?,
-            )?;
-            picture.delete(edge)
-        }
-        answer => answer,
-    };
+    let answer = picture.delete(edge);
     let state = picture_state(rt, picture)?;
     println!(rt; "delete {edge}: {answer:?}{state}")?;
     Ok(())

@@ -4,7 +4,7 @@
 ghost use Rattle.std.specs.Prelude.{◌≡◌, IfOk};
 
 use crate::printed::{picture_state, rows_state};
-use crate::retry::{Console, refused, tell};
+use crate::retry::{BOOKKEEPING, Console, refused, retried, tell, twice};
 use anyhow::{Result, bail};
 use std::alloc::{AllocError, Global};
 use topo_core::limits::Limits;
@@ -39,13 +39,7 @@ fn load<R: Console>(rt: &R, rows: &Rows) -> Result<Picture> {
 
 /// A named picture, which is loaded.
 pub(crate) fn loaded<R: Console>(rt: &R, named: &Named) -> Result<Picture> {
-    let rows = match rows_of(rt.alloc(), named) {
-        Ok(rows) => rows,
-        Err(_) => {
-            tell(rt, "bookkeeping");
-            rows_of(rt.alloc(), named)?
-        }
-    };
+    let rows = twice(rt, BOOKKEEPING, |alloc| rows_of(alloc, named))?;
     let picture = load(rt, &rows);
     drop(rows);
     picture
@@ -62,25 +56,28 @@ fn print_likeness<R: Print>(rt: &R, call: &str, picture: &str, given: String) ->
     Ok(())
 }
 
+/// Makes a call that reads the picture, once more if it is out of memory.
+fn read_twice<T, R: Console, C: Fn(Global) -> Result<T, AllocError>>(
+    rt: &R,
+    picture: &Picture,
+    name: &str,
+    before: &str,
+    call: C,
+) -> Result<T>
+    requires { C.IsAlwaysCallable call }
+{
+    retried(rt, name, before, |rt: &R| picture_state(rt, picture), call)
+}
+
 /// The picture is copied, and gives its rows.
 fn copy<R: Console>(rt: &R, picture: &Picture, before: &str) -> Result<()> {
-    let copy = match picture.copy(rt.alloc()) {
-        Ok(copy) => copy,
-        Err(_) => {
-            refused(rt, "Picture::copy", before, picture_state(rt, picture)?)?;
-            picture.copy(rt.alloc())?
-        }
-    };
+    let copied = |alloc: Global| picture.copy(alloc);
+    let copy = read_twice(rt, picture, "Picture::copy", before, copied)?;
     let given = picture_state(rt, &copy);
     drop(copy);
     print_likeness(rt, "copy", before, given?)?;
-    let rows = match picture.rows(rt.alloc()) {
-        Ok(rows) => rows,
-        Err(_) => {
-            refused(rt, "Picture::rows", before, picture_state(rt, picture)?)?;
-            picture.rows(rt.alloc())?
-        }
-    };
+    let shown = |alloc: Global| picture.rows(alloc);
+    let rows = read_twice(rt, picture, "Picture::rows", before, shown)?;
     let given = rows_state(rt, picture.limits(), &rows);
     drop(rows);
     print_likeness(rt, "rows", before, given?)
@@ -88,13 +85,8 @@ fn copy<R: Console>(rt: &R, picture: &Picture, before: &str) -> Result<()> {
 
 /// The picture is frozen.
 fn freeze<R: Console>(rt: &R, picture: &Picture, before: &str) -> Result<()> {
-    let frozen = match picture.freeze(rt.alloc()) {
-        Ok(frozen) => frozen,
-        Err(_) => {
-            refused(rt, "Picture::freeze", before, picture_state(rt, picture)?)?;
-            picture.freeze(rt.alloc())?
-        }
-    };
+    let freeze = |alloc: Global| picture.freeze(alloc);
+    let frozen = read_twice(rt, picture, "Picture::freeze", before, freeze)?;
     let given = frozen_rows(rt, picture, before, &frozen);
     drop(frozen);
     print_likeness(rt, "freeze", before, given?)
@@ -107,13 +99,8 @@ fn frozen_rows<R: Console>(
     before: &str,
     frozen: &Frozen,
 ) -> Result<String> {
-    let rows = match frozen.rows(rt.alloc()) {
-        Ok(rows) => rows,
-        Err(_) => {
-            refused(rt, "Frozen::rows", before, picture_state(rt, picture)?)?;
-            frozen.rows(rt.alloc())?
-        }
-    };
+    let shown = |alloc: Global| frozen.rows(alloc);
+    let rows = read_twice(rt, picture, "Frozen::rows", before, shown)?;
     let given = rows_state(rt, picture.limits(), &rows);
     drop(rows);
     Ok(given?)
@@ -128,13 +115,8 @@ fn numbered_darts(alloc: Global, picture: &Picture) -> Result<u32, AllocError> {
 
 /// The darts of the picture are numbered.
 fn number<R: Console>(rt: &R, picture: &Picture, before: &str) -> Result<()> {
-    let darts = match numbered_darts(rt.alloc(), picture) {
-        Ok(darts) => darts,
-        Err(_) => {
-            refused(rt, "Picture::numbered", before, picture_state(rt, picture)?)?;
-            numbered_darts(rt.alloc(), picture)?
-        }
-    };
+    let count = |alloc: Global| numbered_darts(alloc, picture);
+    let darts = read_twice(rt, picture, "Picture::numbered", before, count)?;
     println!(rt; "numbered: {darts} darts")?;
     Ok(())
 }
@@ -160,7 +142,7 @@ pub(crate) fn frozen_of<R: Eprint + AllocGlobal>(
     match picture.freeze(rt.alloc()) {
         Ok(frozen) => Ok(frozen),
         Err(_) => {
-            tell(rt, "bookkeeping");
+            tell(rt, BOOKKEEPING);
             picture.freeze(rt.alloc())
         }
     }
@@ -172,13 +154,7 @@ fn frozen_state<R: Eprint + AllocGlobal>(
     limits: Limits,
     frozen: &Frozen,
 ) -> Result<String, AllocError> {
-    let rows = match frozen.rows(rt.alloc()) {
-        Ok(rows) => rows,
-        Err(_) => {
-            tell(rt, "bookkeeping");
-            frozen.rows(rt.alloc())?
-        }
-    };
+    let rows = twice(rt, BOOKKEEPING, |alloc| frozen.rows(alloc))?;
     let state = rows_state(rt, limits, &rows);
     drop(rows);
     state
@@ -198,18 +174,9 @@ fn planned_on<R: Console, F: PriceFn>(
         bail!("no two vertices");
     }
     let before = frozen_state(rt, limits, frozen)?;
-    let found = match search(rt.alloc(), frozen, tariff, u, v) {
-        Ok(found) => found,
-        Err(_) => {
-            refused(
-                rt,
-                "search",
-                before.as_str(),
-                frozen_state(rt, limits, frozen)?,
-            )?;
-            search(rt.alloc(), frozen, tariff, u, v)?
-        }
-    };
+    let look = |rt: &R| frozen_state(rt, limits, frozen);
+    let look_for = |alloc: Global| search(alloc, frozen, tariff, u, v);
+    let found = retried(rt, "search", before.as_str(), look, look_for)?;
     let told = println!(rt; "search {u} {v}: {found:?}");
     if let Err(error) = told {
         drop(found);

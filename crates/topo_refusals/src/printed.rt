@@ -1,6 +1,6 @@
 //! Pictures and books as texts, to compare and to print.
 
-use crate::retry::tell;
+use crate::retry::{BOOKKEEPING, twice};
 use std::alloc::{AllocError, Global};
 use std::fmt;
 use topo_book::Book;
@@ -108,13 +108,7 @@ fn state<R: Eprint + AllocGlobal>(
     history: Option<&[Entry]>,
     picture: &Picture,
 ) -> Result<String, AllocError> {
-    match state_of(rt.alloc(), history, picture) {
-        Ok(text) => Ok(text),
-        Err(_) => {
-            tell(rt, "bookkeeping");
-            state_of(rt.alloc(), history, picture)
-        }
-    }
+    twice(rt, BOOKKEEPING, |alloc| state_of(alloc, history, picture))
 }
 
 /// The text of a picture: its limits and its rows.
@@ -144,13 +138,7 @@ pub(crate) fn rows_state<R: Eprint + AllocGlobal>(
         limits,
         rows,
     };
-    match text_of(rt.alloc(), lines) {
-        Ok(text) => Ok(text),
-        Err(_) => {
-            tell(rt, "bookkeeping");
-            text_of(rt.alloc(), lines)
-        }
-    }
+    twice(rt, BOOKKEEPING, |alloc| text_of(alloc, lines))
 }
 
 /// A copy of a picture.
@@ -158,11 +146,5 @@ pub(crate) fn copied<R: Eprint + AllocGlobal>(
     rt: &R,
     picture: &Picture,
 ) -> Result<Picture, AllocError> {
-    match picture.copy(rt.alloc()) {
-        Ok(copy) => Ok(copy),
-        Err(_) => {
-            tell(rt, "bookkeeping");
-            picture.copy(rt.alloc())
-        }
-    }
+    twice(rt, BOOKKEEPING, |alloc| picture.copy(alloc))
 }

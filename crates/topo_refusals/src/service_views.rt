@@ -1,7 +1,7 @@
 //! What is seen of a service, as a text.
 
 use crate::printed::{Lines, TEXT_BYTES};
-use crate::retry::{Console, compare, tell};
+use crate::retry::{BOOKKEEPING, Console, compare, tell, twice};
 use anyhow::{Result, bail};
 use std::alloc::{AllocError, Global};
 use topo_core::rows::Rows;
@@ -85,13 +85,11 @@ pub(crate) fn look<F: PriceFn + Drop, K: ServiceBrand<F>, R: Eprint + AllocGloba
     };
     let others = &*others;
     let version = looker.view()?;
-    let text = match version_text(rt.alloc(), others, &version) {
-        Ok(text) => Ok(text),
-        Err(_) => {
-            tell(rt, "bookkeeping");
-            version_text(rt.alloc(), others, &version)
-        }
-    };
+    let text = twice(
+        rt,
+        BOOKKEEPING,
+        |alloc| version_text(alloc, others, &version),
+    );
     drop(version);
     Ok(ServiceView { text: text?, seen })
 }

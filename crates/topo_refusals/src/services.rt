@@ -9,7 +9,7 @@ use crate::book_calls::shared;
 use crate::book_replays::replay_from;
 use crate::picture_reads::loaded;
 use crate::printed::{book_state, copied, picture_state};
-use crate::retry::{Console, refused, tell};
+use crate::retry::{BOOKKEEPING, Console, refused, tell};
 use crate::service_calls::make_service_calls;
 use crate::worker_lists::Watch;
 use anyhow::{Result, bail};
@@ -141,7 +141,7 @@ fn use_passes<
     R: Threads + Wait + Console + Sync,
 >(rt: &R, service: &mut Service<F, K>, passes: &mut Vec<Pass<F, K>>, watch: &Watch) -> Result<()> {
     if passes.reserve(PASSES).is_err() {
-        tell(rt, "bookkeeping");
+        tell(rt, BOOKKEEPING);
         passes.reserve(PASSES)?;
     }
     for _ in 0..PASSES {

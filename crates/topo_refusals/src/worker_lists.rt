@@ -2,7 +2,7 @@
 //! after it.
 
 use crate::book_scripts::JOIN;
-use crate::retry::{Console, tell};
+use crate::retry::{BOOKKEEPING, Console, tell, twice};
 use crate::service_views::{CALLER, compare_service, look, show};
 use anyhow::{Result, bail};
 use std::alloc::{AllocError, Global};
@@ -172,13 +172,7 @@ fn run<
     watch: &Watch,
     commands: &[Command],
 ) -> Result<Result<WorkerEnd, AllocError>> {
-    let lists = match list_of(rt.alloc(), commands) {
-        Ok(lists) => lists,
-        Err(_) => {
-            tell(rt, "bookkeeping");
-            list_of(rt.alloc(), commands)?
-        }
-    };
+    let lists = twice(rt, BOOKKEEPING, |alloc| list_of(alloc, commands))?;
     let end = run_list(rt, service, passes, watch, lists.as_slice());
     drop(lists);
     if matches!(end, Ok(WorkerEnd::Done)) {
