@@ -12,7 +12,7 @@ struct session {
     FILE *asked, *answered;
 };
 
-/* Begins a process; 0 where the system has none. A program that is not there ends at the first line. */
+/* Begins a process; 0 where the system has none. A program that is not there is told, and ends at the first line. */
 static int begin(struct session *it, const char *program) {
     int to[2], from[2];
     if (pipe(to) || pipe(from) || (it->process = fork()) < 0)
@@ -23,6 +23,7 @@ static int begin(struct session *it, const char *program) {
         for (int i = 0; i < 2; i++)
             close(to[i]), close(from[i]);
         execlp(program, program, "serve", (char *)NULL);
+        perror(program);
         _exit(127);
     }
     close(to[0]); /* else the program would not see the end of its input, nor we that of its answers */
