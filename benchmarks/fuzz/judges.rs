@@ -30,8 +30,8 @@ pub enum Answer {
 
 impl Answer {
     /// Whether it is the fault of a text that is not of its form.
-    pub fn is_of_form(&self) -> bool {
-        matches!(self, Answer::Fault(line) if ["50 ", "52 ", "53", "54 "].iter().any(|number| line.starts_with(number)))
+    pub fn is_form_fault(&self) -> bool {
+        matches!(self, Answer::Fault(line) if ["50 ", "52 ", "53 ", "54 "].iter().any(|number| line.starts_with(number)))
     }
 
     /// The number and the name of the fault, if it is one, or what came instead.
@@ -47,7 +47,7 @@ impl Answer {
         match (self, due) {
             (Answer::Done(line), Answer::Done(other)) => line == other,
             (Answer::Fault(line), Answer::Fault(other)) => {
-                line == other || self.is_of_form() && due.is_of_form()
+                line == other || self.is_form_fault() && due.is_form_fault()
             }
             _ => false,
         }

@@ -48,7 +48,7 @@ impl Fuzz {
             Some(name) => *self.faults.entry(name).or_default() += 1,
             None => self.lawful += 1,
         }
-        let is_open = || due.is_of_form() && may_have_member_twice(text);
+        let is_open = || due.is_form_fault() && may_have_member_twice(text);
         if !told.agrees_with(&due) && !is_open() {
             self.different += 1;
             let kept = self
