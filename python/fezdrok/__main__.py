@@ -15,7 +15,7 @@ import sys
 from typing import BinaryIO, List, Optional, TextIO
 
 from .faults import Fault, PlanarError, ProgramNotFound
-from .pictures import compact
+from .pictures import json_text
 from .program import Program
 
 
@@ -27,9 +27,9 @@ def answer(program: Program, script: bytes) -> str:
     try:
         return program.run(script).rstrip("\n")
     except Fault as fault:
-        return compact({"fault": [part for part in (fault.number, fault.name, fault.value) if part is not None]})
+        return json_text({"fault": [part for part in (fault.number, fault.name, fault.value) if part is not None]})
     except PlanarError as failure:
-        return compact({"failed": str(failure)})
+        return json_text({"failed": str(failure)})
 
 
 def main(words: Optional[List[str]] = None, source: Optional[BinaryIO] = None, target: Optional[TextIO] = None) -> int:

@@ -14,7 +14,7 @@ from typing import Any, Dict, Iterator, List, NamedTuple, Set, Tuple
 from .faults import read_as
 
 
-def compact(value: Any) -> str:
+def json_text(value: Any) -> str:
     """A value as JSON text in the form of the program: no space, keys in order."""
     return json.dumps(value, separators=(",", ":"), sort_keys=True)
 
@@ -156,7 +156,7 @@ class Picture:
 
     def to_text(self) -> str:
         """The picture as the program writes it."""
-        return compact(self.to_json())
+        return json_text(self.to_json())
 
     # ---- Rows by their ids
 

@@ -7,7 +7,7 @@ from operator import index
 from typing import Any, Dict, List, Optional, Sequence
 
 from .faults import NoReport, ProgramFailed
-from .pictures import Counts, Picture, compact
+from .pictures import Counts, Picture, json_text
 from .program import PathLike, Program
 from .reports import Call, Delete, Grow, Insert, Limits, Planned, Report, version_of
 
@@ -76,7 +76,7 @@ class Planarizer:
 
     def script_text(self) -> str:
         """The script as one line of JSON, as `planar run` reads it."""
-        return compact(self.script())
+        return json_text(self.script())
 
     def run(self) -> Report:
         """Carry out all commands from the start picture on. The commands stay, so a second run does the same."""

@@ -6,7 +6,7 @@ from dataclasses import dataclass
 from typing import Any, Callable, Dict, Iterable, List, Optional, Sequence, Tuple, Union
 
 from .faults import read_as
-from .pictures import Dart, Picture, compact
+from .pictures import Dart, Picture, json_text
 
 Prices = Tuple[Optional[int], ...]
 
@@ -218,7 +218,7 @@ class Report:
 
     def to_text(self) -> str:
         """The report as the program writes it, without its line feed."""
-        return compact(self.to_json())
+        return json_text(self.to_json())
 
 
 class Reports(Sequence[Report]):
@@ -271,7 +271,7 @@ def difference(
         return f"it has {len(report.history)} calls, and not {len(calls)}"
     for place, (entry, call) in enumerate(zip(report.history, calls)):
         if entry.caller != 0 or entry.call != as_entered(call):
-            return f"its call {place} is {compact(entry.call.to_json())} of list {entry.caller}, and not {compact(as_entered(call).to_json())} of list 0"
+            return f"its call {place} is {json_text(entry.call.to_json())} of list {entry.caller}, and not {json_text(as_entered(call).to_json())} of list 0"
     return None
 
 
@@ -284,7 +284,7 @@ def _first_difference(picture: Picture, due: Picture) -> str:
     if len(value) != len(wanted):
         return f"it has {len(value)} {name}, and not {len(wanted)}"
     place = next(place for place in range(len(value)) if value[place] != wanted[place])
-    return f"its {name}[{place}] is {compact(value[place])}, and not {compact(wanted[place])}"
+    return f"its {name}[{place}] is {json_text(value[place])}, and not {json_text(wanted[place])}"
 
 
 def as_entered(call: Call) -> Call:

@@ -8,8 +8,7 @@ from types import TracebackType
 from typing import Any, Callable, Dict, List, NamedTuple, Optional, Sequence, Tuple, Type, TypeVar, Union
 
 from .faults import Fault, ProgramFailed, SessionClosed
-from .pictures import Counts, Crossing, Edge, Picture
-from .pictures import compact as json_text
+from .pictures import Counts, Crossing, Edge, Picture, json_text
 from .planarizer import Planarizer
 from .program import PathLike, Program
 from .reports import Call, Delete, Deleted, Grow, Grown, Insert, Inserted, Limits, Prices, Refused, Report, reply_from_json

@@ -9,7 +9,7 @@ from typing import Any, Callable, Dict, Iterable, List, Mapping, Optional, Seque
 
 from .faults import NotPlanarized
 from .graphs import Node, PricedGraph
-from .pictures import Picture, compact
+from .pictures import Picture, json_text
 from .program import PathLike
 from .reports import Limits, Refused, version_of, without_last_ones
 from .session import Session
@@ -53,7 +53,7 @@ class Kept:
 
     def _report_text(self, settings: Dict[str, Any]) -> str:
         told = ",".join(f'{{"call":{call},"caller":0,"reply":{reply}}}' for call, reply in self.history[: self.calls])
-        limits, prices, start = (compact(value) for value in (settings["limits"], settings["prices"], self.start.to_json()))
+        limits, prices, start = (json_text(value) for value in (settings["limits"], settings["prices"], self.start.to_json()))
         return f'{{"history":[{told}],"limits":{limits},"picture":{self.picture},"prices":{prices},"start":{start},"version":{settings["version"]}}}'
 
 
