@@ -8,7 +8,7 @@ from typing import Dict, FrozenSet, Iterable, List, Optional, Sequence, Tuple, U
 
 from .embeddings import picture_of
 from .faults import wanted
-from .graphs import GraphEdge, Node, PricedGraph, incidence, places_of, rank
+from .graphs import GraphEdge, Joined, Node, PricedGraph, incidence, places_of, rank
 from .pictures import Edge, Picture
 from .planar_part import planar_part, short_cycles_first
 from .progress import Clock
@@ -131,17 +131,10 @@ def _embedded(source: PricedGraph, places: Sequence[int], seed: Optional[str]) -
 def _joined(source: PricedGraph, places: Sequence[int]) -> Dict[FrozenSet[Node], int]:
     """One edge for each pair of nodes that an edge without a price joins, and edges that connect what they leave
     apart, in this order: for each pair the place of its edge."""
-    parts = {node: node for node in source.nodes}
-
-    def part(node: Node) -> Node:
-        while parts[node] != node:
-            parts[node] = node = parts[parts[node]]
-        return node
-
+    parts = Joined(source.nodes)
     chosen: Dict[FrozenSet[Node], int] = {}
     for place in sorted(places, key=lambda place: source.price(place) is not None):
         u, v = source.edges[place][:2]
-        if source.price(place) is None or part(u) != part(v):
+        if parts.join(u, v) or source.price(place) is None:
             chosen.setdefault(frozenset((u, v)), place)
-            parts[part(u)] = part(v)
     return chosen

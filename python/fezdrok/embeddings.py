@@ -9,7 +9,7 @@ from dataclasses import dataclass
 from typing import TYPE_CHECKING, Any, Callable, Dict, FrozenSet, List, Mapping, Sequence, Tuple
 
 from .faults import wanted
-from .graphs import Node
+from .graphs import Node, reach
 from .pictures import Dart, Edge, Picture, Point
 
 if TYPE_CHECKING:
@@ -139,13 +139,7 @@ def _judge_connected(rotations: Mapping[Node, Sequence[Node]]) -> None:
     """ValueError unless there is an edge and every node hangs together with every other."""
     if not any(rotations.values()):
         raise ValueError("the embedding has no edge: the smallest picture is one edge between two vertices")
-    root = next(iter(rotations))
-    reached, waiting = {root}, [root]
-    while waiting:
-        fresh = set(rotations[waiting.pop()]) - reached
-        reached |= fresh
-        waiting.extend(fresh)
-    if len(reached) < len(rotations):
+    if len(reach(next(iter(rotations)), rotations.__getitem__)) < len(rotations):
         raise ValueError("the embedding is not connected")
 
 

@@ -7,7 +7,7 @@ from types import TracebackType
 from typing import TYPE_CHECKING, Any, Callable, Dict, List, Optional, Sequence, Tuple, Type
 
 from .faults import NotPlanarized
-from .graphs import KINDS, GraphEdge, Node, Price
+from .graphs import KINDS, GraphEdge, Node, Price, judge_kinds
 from .pictures import Counts
 from .program import PathLike
 from .reports import Deleted, Grown, Inserted, Limits, Refused, Reply, Report
@@ -33,7 +33,7 @@ class GraphSession:
             raise ValueError("the graph is not connected: begin a session for each of the planarization's parts")
         if not result.picture.edges:
             raise ValueError("the graph has no edge: the smallest picture is one edge between two vertices")
-        self.prices = _price_table(result.prices, prices)
+        self.prices = _session_prices(result.prices, prices)
         self.graph = result.graph.copy()
         self._source = result
         self._reports: Sequence[Report] = result.reports
@@ -186,9 +186,8 @@ class GraphSession:
         self._session.close()
 
 
-def _price_table(known: Sequence[Price], more: Sequence[Price]) -> Tuple[Price, ...]:
-    """The prices that are known, those that come to them, and 1 where there is room; ValueError where they are too many."""
+def _session_prices(known: Sequence[Price], more: Sequence[Price]) -> Tuple[Price, ...]:
+    """The prices that are known, those that come to them, and 1 if there is room; ValueError if they are too many."""
     table = tuple(dict.fromkeys((*known, *more)))
-    if len(table) > KINDS:
-        raise ValueError(f"there are {len(table)} different prices: the program knows {KINDS} kinds of edges, one for each price")
+    judge_kinds(len(table))
     return table if 1 in table or len(table) == KINDS else (*table, 1)

@@ -83,7 +83,7 @@ def _judge_attribute(name: str, data: Sequence[Dict[str, Any]]) -> None:
 
 def judge_connected(source: PricedGraph) -> None:
     """ValueError unless the graph is connected."""
-    reached = reach(source.edges, source.edges[0][0])
+    reached = reach(source.edges[0][0], neighbours(source.edges))
     if len(reached) < len(source.nodes):
         outside = next(node for node in source.nodes if node not in reached)
         raise ValueError(f"the graph is not connected: {outside!r} cannot be reached from {source.edges[0][0]!r}")
@@ -92,12 +92,12 @@ def judge_connected(source: PricedGraph) -> None:
 def components(source: PricedGraph) -> List[PricedGraph]:
     """The connected parts of a graph, in the order of their first nodes, with the kinds and prices of the whole. A node
     without edges is a part."""
-    at = incidence(source.edges, range(len(source.edges)))
+    near = neighbours(source.edges)
     part_of: Dict[Node, int] = {}
     count = 0
     for node in source.nodes:
         if node not in part_of:
-            part_of.update(dict.fromkeys(reach(source.edges, node, at), count))
+            part_of.update(dict.fromkeys(reach(node, near), count))
             count += 1
     if count == 1:
         return [source]
@@ -126,16 +126,40 @@ def incidence(edges: Sequence[GraphEdge], places: Iterable[int]) -> Dict[Node, L
     return found
 
 
-def reach(edges: Sequence[GraphEdge], root: Node, at: Optional[Dict[Node, List[Tuple[int, Node]]]] = None) -> Set[Node]:
-    """The nodes that can be reached from the root, in whatever direction the edges go; `at` is their `incidence`, where
-    it is known."""
-    at = incidence(edges, range(len(edges))) if at is None else at
+def reach(root: Node, near: Callable[[Node], Iterable[Node]]) -> Set[Node]:
+    """The nodes that can be reached from the root, by steps from a node to those near it."""
     reached, waiting = {root}, [root]
     while waiting:
-        fresh = {other for _, other in at.get(waiting.pop(), ())} - reached
+        fresh = set(near(waiting.pop())) - reached
         reached |= fresh
         waiting.extend(fresh)
     return reached
+
+
+def neighbours(edges: Sequence[GraphEdge]) -> Callable[[Node], Iterable[Node]]:
+    """What gives the nodes that edges join with a node, in whatever direction they go."""
+    at = incidence(edges, range(len(edges)))
+    return lambda node: (other for _, other in at.get(node, ()))
+
+
+class Joined:
+    """Nodes that are joined one by one, and which of them hang together so far."""
+
+    def __init__(self, nodes: Iterable[Node]):
+        self._above = {node: node for node in nodes}
+
+    def _top(self, node: Node) -> Node:
+        """The node that stands for all that hang together with this one."""
+        above = self._above
+        while above[node] != node:
+            above[node] = node = above[above[node]]
+        return node
+
+    def join(self, u: Node, v: Node) -> bool:
+        """Joins two nodes. Whether they did not hang together before."""
+        u, v = self._top(u), self._top(v)
+        self._above[u] = v
+        return u != v
 
 
 def bridges(edges: Sequence[GraphEdge]) -> Set[int]:
@@ -229,11 +253,16 @@ def places_of(edges: Sequence[GraphEdge], wanted: Iterable[GraphEdge], directed:
 
 
 def _price_table(prices: Iterable[Price]) -> Tuple[Price, ...]:
-    """The different prices, the dearest first, or a ValueError where there are more than kinds."""
+    """The different prices, the dearest first, or a ValueError if there are more than kinds."""
     different = sorted(set(prices), key=lambda price: -rank(price))
-    if len(different) > KINDS:
-        raise ValueError(f"there are {len(different)} different prices: the program knows {KINDS} kinds of edges, one for each price; round_prices=True has near ones share a kind")
+    judge_kinds(len(different), "; round_prices=True has near ones share a kind")
     return tuple(different)
+
+
+def judge_kinds(count: int, advice: str = "") -> None:
+    """ValueError if so many different prices are more than kinds."""
+    if count > KINDS:
+        raise ValueError(f"there are {count} different prices: the program knows {KINDS} kinds of edges, one for each price{advice}")
 
 
 def _rounded(prices: Iterable[Price]) -> Dict[Price, Price]:

@@ -4,6 +4,7 @@ from __future__ import annotations
 
 from typing import Dict, FrozenSet, Iterable, List, Optional, Sequence, Set, Tuple
 
+from .graphs import Joined
 from .left_right import is_planar
 from .progress import Clock
 
@@ -65,20 +66,9 @@ class _Part:
 
 def _connecting(count: int, ends: Sequence[Tuple[int, int]], taken: Sequence[int], places: Sequence[int]) -> List[int]:
     """Edges that connect what those that were taken leave apart. They can be drawn with them without crossings."""
-    parts = list(range(count))
-
-    def part(vertex: int) -> int:
-        while parts[vertex] != vertex:
-            parts[vertex] = vertex = parts[parts[vertex]]
-        return vertex
-
-    found: List[int] = []
-    for place in (*taken, *places):
-        u, v = (part(end) for end in ends[place])
-        parts[u] = v
-        found += [place] if u != v else []
-    joined = set(taken)
-    return [place for place in found if place not in joined]
+    parts, known = Joined(range(count)), set(taken)
+    found = [place for place in (*taken, *places) if parts.join(*ends[place])]
+    return [place for place in found if place not in known]
 
 
 def short_cycles_first(count: int, ends: Sequence[Tuple[int, int]], places: Iterable[int]) -> List[int]:
