@@ -55,7 +55,12 @@ class Lines:
             process = subprocess.Popen(
                 [path, "serve"], stdin=pipe, stdout=pipe, stderr=self._errors, bufsize=0, start_new_session=True, pass_fds=[reading]
             )
-            kill_when_closed(reading, process.pid)
+            try:
+                kill_when_closed(reading, process.pid)
+            except BaseException:
+                with process:  # which closes its pipes and waits for it
+                    process.kill()
+                raise
         except OSError:
             self._life.close()
             self._errors.close()

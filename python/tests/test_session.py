@@ -340,6 +340,19 @@ class Ends(unittest.TestCase):
         with self.assertRaises(ProgramNotStarted):
             Session(program=path)
 
+    def test_a_process_that_could_outlive_this_one(self):
+        """The system refuses to end it with this one."""
+        begun, before = [], os.listdir("/dev/fd")
+
+        def refused(reading, process):
+            begun.append(process)
+            raise OSError("no such thing")
+
+        with mock.patch.object(serving, "kill_when_closed", refused), self.assertRaisesRegex(ProgramNotStarted, "no such thing"):
+            Session(program=fake(self, "exec sleep 30"))
+        self.assertEqual([ended(process) for process in begun], [True])
+        self.assertEqual(os.listdir("/dev/fd"), before)
+
     def test_much_on_standard_error(self):
         with Session(program=fake(self, f"head -c 1000000 /dev/zero >&2; {BEGUN} echo '{COUNTS}'")) as session:
             self.assertEqual(session.counts(), Counts(2, 0, 1, 1, 1))
