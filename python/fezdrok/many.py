@@ -24,15 +24,15 @@ Outcome = Union[Planarization, Exception]
 #: A graph with its place in the list.
 Job = Tuple[int, Any]
 #: True for a bar, False for none, None for a bar on a terminal, or a function of the graphs done and their number.
-Progress = Union[None, bool, Callable[[int, Optional[int]], None]]
+Counting = Union[None, bool, Callable[[int, Optional[int]], None]]
 
 
-def planarize_many(graphs: Iterable[Any], processes: Optional[int] = None, progress: Progress = None, **options: Any) -> List[Outcome]:
+def planarize_many(graphs: Iterable[Any], processes: Optional[int] = None, progress: Counting = None, **options: Any) -> List[Outcome]:
     """Planarize many graphs; the outcomes stand in the order of the graphs.
 
     A graph that fails has its exception in its place, and the others go on. Graphs whose worker was killed are tried
-    once more, one by one; the exception BrokenProcessPool stands for one that kills its worker again. `processes` is how many work at once
-    (without it one a processor), `options` are those of `planarize` and count for every graph; functions among them
+    once more, one by one; the exception BrokenProcessPool stands for one that kills its worker again. `processes` is how many work at once,
+    at least 1 (without it one a processor), `options` are those of `planarize` and count for every graph; functions among them
     must be such that pickle can name. Graphs are taken from the iterable as they are needed.
 
     The program is called once before the work begins. ProgramNotFound, and every other failure of that call, is raised.
@@ -41,15 +41,18 @@ def planarize_many(graphs: Iterable[Any], processes: Optional[int] = None, progr
     Unfinished in the places of the others and a PlanarWarning; of an iterable without a length, the graphs behind the
     last one that is done have no place. Where none is done, the interrupt goes on.
     """
+    workers = (os.cpu_count() or 1) if processes is None else processes
+    if workers < 1:
+        raise ValueError(f"processes is {processes!r}: it must be at least 1, or None for one a processor")
+    tell = _teller(progress)
     program = Planarizer(program=options.get("program"))
     program.check(Picture.seed())
     options["program"] = program.program.path
     total = len(graphs) if isinstance(graphs, Sized) else None
-    tell = _teller(progress)
     outcomes: Dict[int, Outcome] = {}
     tell(0, total)
     try:
-        with closing(_each(graphs, processes or os.cpu_count() or 1, options)) as each:
+        with closing(_each(graphs, workers, options)) as each:
             for place, outcome in each:
                 outcomes[place] = outcome
                 tell(len(outcomes), total)
@@ -151,10 +154,12 @@ def _outcome(done: "Future[Outcome]") -> Outcome:
 # ---- Progress
 
 
-def _teller(progress: Progress) -> Callable[[int, Optional[int]], None]:
-    """What is told after each graph."""
+def _teller(progress: Counting) -> Callable[[int, Optional[int]], None]:
+    """What is told after each graph; ValueError if it is neither a function nor True, False or None."""
     if callable(progress):
         return progress
+    if progress is not None and not isinstance(progress, bool):
+        raise ValueError(f"progress is {progress!r}: it must be True, False, None, or a function of the graphs done and their number")
     if progress or (progress is None and sys.stderr.isatty()):
         return Bar(sys.stderr)
     return lambda done, total: None

@@ -77,11 +77,16 @@ class Many(unittest.TestCase):
 
 @needs_networkx
 class Programs(unittest.TestCase):
-    """With programs that are shell scripts."""
+    """With programs that are shell scripts, or none."""
 
     def test_no_program(self):
         with self.assertRaises(ProgramNotFound):
             planarize_many([nx.path_graph(2)], program="/nowhere/planar")
+
+    def test_wrong_arguments(self):
+        for words, due in (({"processes": 0}, "processes is 0"), ({"processes": -1}, "processes is -1"), ({"progress": "yes"}, "progress is 'yes'"), ({"progress": 1}, "progress is 1")):
+            with self.assertRaisesRegex(ValueError, due):
+                planarize_many([nx.path_graph(2)], program="/nowhere/planar", **words)
 
     def test_faults_pass_from_the_workers(self):
         body = 'if [ "$1" = check ]; then echo "lawful vertices=2 crossings=0 edges=1 segments=1 faces=1"; exit 0; fi; echo "planar: 8 Memory" >&2; exit 3'
