@@ -1,7 +1,7 @@
 """`python3 -m fezdrok`: reads scripts, one a line, and writes one line for each, in the same order.
 
-The line is the report, or `{"fault":[NUMBER,NAME,VALUE]}` for a script that the program refused, or
-`{"failed":TEXT}` where the program itself failed. So every line that is read has an answer, as a step of a pipe wants it,
+The line is the report, or `{"fault":[NUMBER,NAME,VALUE]}` for a script that the program refused (without a value, or with
+several, if the fault is so), or `{"failed":TEXT}` if the program itself failed. So every line that is read has an answer, as a step of a pipe wants it,
 also one that is no UTF-8: the program gets its bytes as they are. An empty line is a script too, and is refused. The
 status is 0 where every script had a report, 1 where one had none, and 2 where there is no program. Where nobody reads
 the answers any more, it ends without a word, with the status 141 as a program that the signal of a closed pipe ended.
@@ -12,7 +12,7 @@ from __future__ import annotations
 import argparse
 import os
 import sys
-from typing import BinaryIO, List, Optional, TextIO
+from typing import BinaryIO, List, Optional, TextIO, Tuple
 
 from .faults import Fault, PlanarError, ProgramNotFound
 from .pictures import json_text
@@ -22,14 +22,14 @@ from .program import Program
 CLOSED = 141
 
 
-def answer(program: Program, script: bytes) -> str:
-    """The line for one script."""
+def answer(program: Program, script: bytes) -> Tuple[str, bool]:
+    """The line for one script, and whether it is a report."""
     try:
-        return program.run(script).rstrip("\n")
+        return program.run(script).rstrip("\n"), True
     except Fault as fault:
-        return json_text({"fault": [part for part in (fault.number, fault.name, fault.value) if part is not None]})
+        return json_text({"fault": fault.words}), False
     except PlanarError as failure:
-        return json_text({"failed": str(failure)})
+        return json_text({"failed": str(failure)}), False
 
 
 def main(words: Optional[List[str]] = None, source: Optional[BinaryIO] = None, target: Optional[TextIO] = None) -> int:
@@ -43,8 +43,8 @@ def main(words: Optional[List[str]] = None, source: Optional[BinaryIO] = None, t
         parser.error(str(missing))
     status = 0
     for line in source or sys.stdin.buffer:
-        text = answer(program, line)
-        status = status if text.startswith('{"history":') else 1
+        text, is_report = answer(program, line)
+        status = status if is_report else 1
         try:
             print(text, file=target or sys.stdout, flush=True)
         except BrokenPipeError:

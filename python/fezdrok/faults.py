@@ -4,9 +4,9 @@ from __future__ import annotations
 
 import json
 from importlib import import_module
-from typing import Any, Callable, Optional, Union
+from typing import Any, Callable, List, Optional, Tuple, Union
 
-Value = Union[int, str, None]
+Value = Union[int, str, Tuple[int, ...], None]
 
 
 class PlanarWarning(UserWarning):
@@ -64,7 +64,7 @@ class Fault(PlanarError):
     """Status 1: the first fault of the text that the program read, as `52 BadShape $/workers`.
 
     `number` and `name` are those of docs/FORMATS.md. `value` is what stands behind the name: a path as text,
-    a kind or an index as a number, or None where nothing stands there.
+    a kind or an index as a number, several numbers as a tuple, or None if nothing stands there.
     """
 
     status = 1
@@ -75,11 +75,14 @@ class Fault(PlanarError):
         self.name = name
         self.value = value
 
+    @property
+    def words(self) -> List[Union[int, str]]:
+        """The number, the name and what stands behind it, one after another."""
+        values = self.value if isinstance(self.value, tuple) else () if self.value is None else (self.value,)
+        return [self.number, self.name, *values]
+
     def __str__(self) -> str:
-        words = [str(self.number), self.name]
-        if self.value is not None:
-            words.append(str(self.value))
-        return " ".join(words)
+        return " ".join(map(str, self.words))
 
 
 class MemoryFault(Fault):
@@ -132,7 +135,8 @@ def wanted(module: str, purpose: str) -> Any:
 
 
 def read_value(text: Optional[str]) -> Value:
-    """The value of a fault line: a number where it is written in digits, else the text itself."""
-    if text is None:
-        return None
-    return int(text) if text.isdigit() else text
+    """The value of a fault line: a number if it is written in digits, a tuple if these are several, else the text itself."""
+    if text is None or not text.replace(" ", "").isdecimal():
+        return text
+    numbers = tuple(map(int, text.split()))
+    return numbers[0] if len(numbers) == 1 else numbers

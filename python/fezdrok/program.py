@@ -19,7 +19,7 @@ Text = Union[str, bytes]
 
 VARIABLE = "FEZDROK_PLANAR"
 
-_FAULT_LINE = re.compile(r"^planar: (\d+) (\w+)(?: (\S+))?$", re.MULTILINE)
+_FAULT_LINE = re.compile(r"^planar: (\d+) (\w+)(?: (\S+(?: \d+)*))?$", re.MULTILINE)
 
 
 def repository_script() -> Path:

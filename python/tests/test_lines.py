@@ -27,8 +27,14 @@ class Lines(unittest.TestCase):
     def test_failures_have_a_line_too(self):
         status, lines = self.answers("{}\n{}\n", "--program", fake(self, "echo 'planar: 52 BadShape $/version' >&2; exit 1"))
         self.assertEqual((status, lines), (1, ['{"fault":[52,"BadShape","$/version"]}'] * 2))
+        _, lines = self.answers("{}\n", "--program", fake(self, "echo 'planar: 40 Mismatch 2 15' >&2; exit 1"))
+        self.assertEqual(lines, ['{"fault":[40,"Mismatch",2,15]}'])
         status, lines = self.answers("{}\n", "--program", fake(self, "exit 70"))
         self.assertEqual((status, [list(json.loads(line)) for line in lines]), (1, [["failed"]]))
+
+    def test_every_report_counts_as_one(self):
+        status, lines = self.answers("{}\n", "--program", fake(self, "cat > /dev/null; echo '{\"version\":1}'"))
+        self.assertEqual((status, lines), (0, ['{"version":1}']))
 
     def test_no_program(self):
         with mock.patch("sys.stderr", io.StringIO()) as stream, self.assertRaises(SystemExit) as caught:

@@ -83,6 +83,11 @@ class Statuses(unittest.TestCase):
         self.assertEqual(self.failure("echo 'planar: 60 WrongReply 3' >&2; exit 1").value, 3)
         self.assertIsNone(self.failure("echo 'planar: 50 NotJson' >&2; exit 1").value)
 
+    def test_a_fault_with_two_numbers(self):
+        fault = self.failure("echo 'planar: 40 Mismatch 2 15' >&2; exit 1")
+        self.assertEqual((type(fault), fault.number, fault.name, fault.value), (Fault, 40, "Mismatch", (2, 15)))
+        self.assertEqual((str(fault), fault.words), ("40 Mismatch 2 15", [40, "Mismatch", 2, 15]))
+
     def test_the_fault_is_the_last_line(self):
         fault = self.failure("echo 'planar: something else' >&2; echo 'planar: 53 BadVersion' >&2; exit 1")
         self.assertEqual(str(fault), "53 BadVersion")
@@ -109,7 +114,7 @@ class Statuses(unittest.TestCase):
             Program(fake(self, "echo 'planar: 51 TooLong' >&2; exit 1")).run(" " * 10_000_000)
 
     def test_exceptions_pass_between_processes(self):
-        for fault in (Fault(52, "BadShape", "$"), MemoryFault(8, "Memory"), ProgramFailed(-9, "oh")):
+        for fault in (Fault(52, "BadShape", "$"), Fault(40, "Mismatch", (2, 15)), MemoryFault(8, "Memory"), ProgramFailed(-9, "oh")):
             again = pickle.loads(pickle.dumps(fault))
             self.assertEqual((type(again), str(again), vars(again)), (type(fault), str(fault), vars(fault)))
 
