@@ -1,7 +1,8 @@
 -- Passes that have carried lists out, and whose receipts are the whole history, make a run of the lists.
 use Rattle.std.proofs.Common.{◌≡◌, ℕ, zero, suc, ◌+◌, ◌<◌, ◌⊎◌, List, [], ◌∷◌, ◌++◌, All, Option, Result, Ok, Err, IfOk, map, length}
 use Rattle.std.proofs.Common.{take, get_or, slice_index_or, refl, sym, ap, subst, ◌∙◌, inl, inr, arith, length-append}
-use Rattle.std.proofs.lemmas.List.{get_or_append_left, get_or-append-add, take_all}
+use Rattle.std.proofs.lemmas.List.{get_or_append_left, get_or-append-add, length-map, take_all}
+use Rattle.std.proofs.lemmas.Option.{slice_get_within}
 use Rattle.topo_core.specs.declared.rows.Rows.{Rows}
 use Rattle.topo_core.specs.declared.limits.Limits.{Limits}
 use Rattle.topo_core.specs.declared.calls.Call.{Call}
@@ -15,6 +16,7 @@ use Rattle.topo_service.specs.declared.pass.Receipt.{Receipt}
 use Rattle.topo_service.specs.declared.workers.WorkerEnd.{WorkerEnd}
 use Rattle.topo_service.specs.declared.workers.WorkerEnd.TheVariants.{Done}
 use Rattle.topo_service.specs.Commands.{HasDone, HasEnded}
+use Rattle.topo_service.specs.Faults.{HasDifference}
 use Rattle.topo_service.specs.Passes.{PassState}
 use Rattle.topo_service.specs.Receipts.{AreWhole, HasNumber, receipt_in, receipts_due}
 use Rattle.topo_service.proofs.Numbers.{number_at}
@@ -70,6 +72,34 @@ run_of_passes price limits p q lists passes history worked whole replayed = reco
 -- no pass is missing
 pub has_number : (lists : List (List Command)) (passes : List PassState) (n : ℕ) → HaveWorked lists passes → n < length passes → HasNumber n passes
 has_number lists passes n worked below = number_at n passes n no_pass below (worked.each n no_pass (omega (arith, worked.count))).is_numbered
+
+-- ---- A receipt that differs
+
+-- the place of a pass
+place_in : (pass : PassState) (passes : List PassState) → IsIn pass passes → (i : ℕ) × (i < length passes) × (get_or passes i no_pass ≡ pass)
+place_in pass [] h = absurd h
+place_in pass (other ∷ passes) (inl here) = (0, omega arith, sym here)
+place_in pass (other ∷ passes) (inr later) =
+    let (i, below, is) = place_in pass passes later in
+    (suc i, omega arith, is)
+
+-- a pass that has worked has as many receipts as its list has commands
+receipts_worked : (number : ℕ) (list : List Command) (pass : PassState) → HasWorked number list pass → length pass.receipts ≡ length list
+receipts_worked number list pass worked =
+    omega (arith, length-map pass.receipts call_in, length-map list call_of, ap length worked.calls)
+
+-- it is one of a command of the lists
+pub differing : (lists : List (List Command)) (passes : List PassState) (history : List Entry) (number k : ℕ) → HaveWorked lists passes
+    → HasDifference history passes number k → (number < length lists) × (k < length (slice_index_or lists number []))
+differing lists passes history number k worked found =
+    let (i, below, is) = place_in found.pass passes found.there in
+    let one : HasWorked i (slice_index_or lists i []) found.pass =
+    subst (λ (pass : PassState). HasWorked i (slice_index_or lists i []) pass) is (worked.each i no_pass (omega (arith, worked.count))) in
+    let here : i ≡ number = sym one.is_numbered ∙ found.is_numbered in
+    let own : HasWorked number (slice_index_or lists number []) found.pass =
+    subst (λ (n : ℕ). HasWorked n (slice_index_or lists n []) found.pass) here one in
+    let within : k < length found.pass.receipts = slice_get_within found.pass.receipts k found.differs.receipt found.differs.there in
+    (omega (arith, worked.count, here), omega (arith, receipts_worked number (slice_index_or lists number []) found.pass own))
 
 -- ---- Passes that were opened
 

@@ -1,14 +1,22 @@
--- What is told of a script whose service fails.
+-- What is told of a script whose run fails.
+use Rattle.std.proofs.Common.{◌≡◌, ℕ, List, arith, length}
+use Rattle.topo_core.specs.declared.calls.Command.{Command}
 use Rattle.topo_forms.specs.declared.scripts.Script.{Script}
 use Rattle.topo_settings.specs.declared.fault.RunFault.{RunFault}
-use Rattle.topo_settings.specs.declared.fault.RunFault.TheVariants.{Memory, NoSeat}
-use Rattle.topo_settings.specs.declared.fault.RunFault.TheVariants.{Mismatch}
+use Rattle.topo_settings.specs.declared.fault.RunFault.TheVariants.{Memory, NoSeat, Mismatch}
 use Rattle.topo_run.specs.Runs.{FailsRun, IsSoundScript}
-use Rattle.topo_run.specs.Working.{IsOfService}
+use Rattle.topo_run.specs.Working.{IsOfOpening, IsOfRun, IsOfService}
 
--- a fault of the service, where nothing that is set is at fault
-pub service_fails : (script : Script) (fault : RunFault) → IsSoundScript script → IsOfService fault → FailsRun script fault
-service_fails script Memory sound is = is
-service_fails script NoSeat sound is = sound
-service_fails script (Mismatch list i) sound is = sound
-service_fails script _ sound is = absurd is
+-- a fault of a run of the script's lists, if nothing that is set is at fault
+pub run_fails : (script : Script) (fault : RunFault) → IsSoundScript script → IsOfRun script.workers fault → FailsRun script fault
+run_fails script Memory sound is = is
+run_fails script NoSeat sound is = (sound, is)
+run_fails script (Mismatch list i) sound is = (sound, is.0, is.1, is.2)
+run_fails script _ sound is = absurd is
+
+-- a fault when passes are opened for lists is one of a service for them
+pub opening_fails : (lists : List (List Command)) (count : ℕ) (fault : RunFault) → count ≡ length lists → IsOfOpening count fault → IsOfService lists fault
+opening_fails lists count Memory same is = is
+opening_fails lists count NoSeat same is = omega (arith, same)
+opening_fails lists count (Mismatch list i) same is = absurd is
+opening_fails lists count _ same is = absurd is

@@ -1,5 +1,5 @@
 -- What a run writes.
-use Rattle.std.specs.Prelude.{◌≡◌, ℕ, List, [], ◌∷◌, ◌++◌, Option, Ok, ⊤}
+use Rattle.std.specs.Prelude.{◌≡◌, ◌<◌, ℕ, List, [], ◌∷◌, ◌++◌, Option, Ok, length, slice_index_or, ⊤}
 use Rattle.std.specs.Io.KnownBytes.{Appends, Keeps}
 use Rattle.topo_core.specs.declared.rows.Rows.{Rows}
 use Rattle.topo_core.specs.declared.limits.Limits.{Limits}
@@ -50,16 +50,18 @@ pub record IsSoundScript (script : Script) : Type 0 where
   pub limits : Limits
   pub sound : IsSound script.limits script.prices script.start limits
 
--- what is told of a script: the first of its limits, its prices and its start that is at fault; where none is, what the
--- service is at fault of
+-- what is told of a script: the first of its limits, its prices and its start that is at fault; if none is, what the
+-- service is at fault of, which only several lists have: it has no place for one of them, or the receipt of a command of
+-- theirs differs, which is named by the places of its list and of the command in it
 abbrev pub FailsRun : Script → RunFault → Type 0
 FailsRun script Memory = ⊤
 FailsRun script (OfScript fault) = ⊥
 FailsRun script BadLimits = IsUnsound script.limits script.prices script.start BadLimits
 FailsRun script (Price fault) = IsUnsound script.limits script.prices script.start (Price fault)
 FailsRun script (Load fault) = IsUnsound script.limits script.prices script.start (Load fault)
-FailsRun script NoSeat = IsSoundScript script
-FailsRun script (Mismatch list i) = IsSoundScript script
+FailsRun script NoSeat = IsSoundScript script × (1 < length script.workers)
+FailsRun script (Mismatch list i) =
+    IsSoundScript script × (1 < length script.workers) × (list < length script.workers) × (i < length (slice_index_or script.workers list []))
 FailsRun script (WrongReply i) = ⊥
 FailsRun script WrongPicture = ⊥
 FailsRun script ReadFault = ⊥

@@ -26,9 +26,22 @@ pub record HasEntered (list : List Command) (history : List Entry) : Type 0 wher
   pub calls : map (λ entry. entry.call) history ≡ map call_of list
   pub callers : All (λ entry. entry.caller ≡ 0) history
 
--- a fault of the service: out of memory, no place for a list, or a receipt that differs
-abbrev pub IsOfService : RunFault → Type 0
-IsOfService Memory = ⊤
-IsOfService NoSeat = ⊤
-IsOfService (Mismatch list i) = ⊤
-IsOfService _ = ⊥
+-- a fault of a service at which passes are opened, so many of them: out of memory, or no place for one
+abbrev pub IsOfOpening : ℕ → RunFault → Type 0
+IsOfOpening count Memory = ⊤
+IsOfOpening count NoSeat = 0 < count
+IsOfOpening count _ = ⊥
+
+-- a fault of a service for these lists: out of memory, no place for one of them, or a receipt that differs, of a command of theirs
+abbrev pub IsOfService : List (List Command) → RunFault → Type 0
+IsOfService lists Memory = ⊤
+IsOfService lists NoSeat = 0 < length lists
+IsOfService lists (Mismatch list i) = (list < length lists) × (i < length (slice_index_or lists list []))
+IsOfService lists _ = ⊥
+
+-- a fault of a run of these lists; one list alone has no service, and so is only out of memory
+abbrev pub IsOfRun : List (List Command) → RunFault → Type 0
+IsOfRun lists Memory = ⊤
+IsOfRun lists NoSeat = 1 < length lists
+IsOfRun lists (Mismatch list i) = (1 < length lists) × (list < length lists) × (i < length (slice_index_or lists list []))
+IsOfRun lists _ = ⊥

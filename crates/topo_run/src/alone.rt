@@ -5,7 +5,7 @@ ghost use Rattle.std.specs.Arc.{arc_value};
 ghost use Rattle.topo_book.specs.Books.{IsSameBook};
 ghost use Rattle.topo_core.specs.History.{IsRun, call_of};
 ghost use Rattle.topo_price.specs.Prices.{prices_of};
-ghost use Rattle.topo_run.specs.Working.{HasEntered, IsOfService};
+ghost use Rattle.topo_run.specs.Working.{HasEntered};
 
 use crate::outcome::{RunOutcome, outcome_of};
 use std::alloc::{AllocError, Global};
@@ -70,7 +70,7 @@ pub(crate) fn outcome_alone<F: PriceFn + Drop, T: Gate>(
 ) -> Result<RunOutcome, RunFault>
     ensures run { IfOk result (λ outcome. IsRun (prices_of (F.may_return (arc_value tariff)))
         start.limits start.rows (list.now ∷ []) outcome.history outcome.picture) }
-    ensures fault { IfErr result IsOfService }
+    ensures fault { IfErr result (λ fault. fault ≡ RunFault.Memory) }
 {
     let Ok(mut book) = Book::new(alloc, start, tariff) else {
         return Err(RunFault::Memory);

@@ -1,7 +1,6 @@
 //! What a run of lists leads to.
 
 ghost use Rattle.std.specs.Prelude.{◌≡◌, IfErr, IfOk};
-ghost use Rattle.topo_run.specs.Working.{IsOfService};
 
 use std::alloc::Global;
 use topo_book::Book;
@@ -25,7 +24,7 @@ pub(crate) fn outcome_of<F: PriceFn + Drop>(
 ) -> Result<RunOutcome, RunFault>
     ensures history { IfOk result (λ outcome. outcome.history ≡ book.history) }
     ensures picture { IfOk result (λ outcome. outcome.picture ≡ book.picture.rows) }
-    ensures fault { IfErr result IsOfService }
+    ensures fault { IfErr result (λ fault. fault ≡ RunFault.Memory) }
 {
     let Ok((history, picture)) = book.into_history_and_rows(alloc) else {
         return Err(RunFault::Memory);

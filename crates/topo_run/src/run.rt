@@ -5,7 +5,7 @@ ghost use Rattle.topo_forms.specs.Reads.{Gives};
 ghost use Rattle.topo_forms.specs.Scripts.{script_of};
 ghost use Rattle.topo_run.specs.Runs.{FailsBy, FailsRun, IsDone, IsFaultOfBytes};
 ghost use Rattle.topo_run.specs.Runs.{IsLineOfBytes, IsRunLine, ShowsRun};
-ghost use Rattle.topo_run.specs.Working.{IsOfService};
+ghost use Rattle.topo_run.specs.Working.{IsOfRun};
 ghost use Rattle.topo_script.specs.ReportTexts.{report_text};
 ghost use Rattle.topo_settings.specs.Settings.{price_table, start_of};
 
@@ -100,7 +100,7 @@ fn priced_line<R: Threads + Wait + Sync, T: Gate>(
     requires start { start.rows ≡ start_of script.start }
     ensures line { IfOk result
         (λ line. ShowsRun script start.limits start.rows (string_bytes line)) }
-    ensures fault { IfErr result IsOfService }
+    ensures fault { IfErr result (IsOfRun script.workers) }
 {
     let report = priced_report(rt, alloc, script, start, table, gate)?;
     match report_line(alloc, &report) {

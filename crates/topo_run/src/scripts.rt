@@ -1,11 +1,12 @@
 //! Runs of scripts, and their reports.
 
-ghost use Rattle.std.specs.Prelude.{◌≡◌, IfErr, IfOk};
+ghost use Rattle.std.specs.Prelude.{◌≡◌, ◌≤◌, IfErr, IfOk, OnOk, length};
 ghost use Rattle.std.specs.Arc.{arc_value};
+ghost use Rattle.topo_core.specs.declared.limits.TheConstants.{MAX_PASSES};
 ghost use Rattle.topo_price.specs.Prices.{IsPromise};
 ghost use Rattle.topo_run.specs.Headings.{IsReportBelow};
 ghost use Rattle.topo_run.specs.Runs.{FailsRun, IsReportFrom, IsReportOf};
-ghost use Rattle.topo_run.specs.Working.{IsOfService};
+ghost use Rattle.topo_run.specs.Working.{IsOfRun};
 ghost use Rattle.topo_settings.specs.Limiting.{AreLimits};
 ghost use Rattle.topo_settings.specs.Settings.{AnswersPrices, price_table, start_of};
 
@@ -34,7 +35,8 @@ use topo_settings::settings::validate;
 /// before it takes the lock. A refused command is entered and changes nothing, and the run goes on.
 /// The fault is the first of the script's limits, its prices and its start; then Memory if any of
 /// it was out of memory, also in one of the threads, NoSeat if there are more than `MAX_PASSES`
-/// lists, and Mismatch where a receipt is not in the history.
+/// lists, and Mismatch if a receipt is not in the history, with the places of its list and of its
+/// command. One list alone is carried out in this thread, and has no fault of the last two.
 pub fn run_script<F: PriceFn + Drop + Send + Sync, R: Threads + Wait + Sync, T: Gate>(
     rt: &R,
     alloc: Global,
@@ -44,6 +46,7 @@ pub fn run_script<F: PriceFn + Drop + Send + Sync, R: Threads + Wait + Sync, T: 
 ) -> Result<Report, RunFault>
     requires { AnswersPrices (F.may_return (arc_value tariff)) script.now.prices }
     ensures report { IfOk result (IsReportOf script.now) }
+    ensures seats { OnOk result (length script.now.workers ≤ MAX_PASSES) }
     ensures fault { IfErr result (FailsRun script.now) }
 {
     let prices = script.prices.as_slice();
@@ -108,7 +111,8 @@ fn run_from<F: PriceFn + Drop + Send + Sync, R: Threads + Wait + Sync, T: Gate>(
 ) -> Result<Report, RunFault>
     requires { AnswersPrices (F.may_return (arc_value tariff)) heading.prices }
     ensures report { IfOk result (IsReportBelow heading lists.now start.limits start.rows) }
-    ensures fault { IfErr result IsOfService }
+    ensures seats { OnOk result (length lists.now ≤ MAX_PASSES) }
+    ensures fault { IfErr result (IsOfRun lists.now) }
 {
     let outcome = run_lists(rt, alloc, start, tariff, lists, gate)?;
     Ok(Report {
@@ -134,7 +138,7 @@ fn asked_report<F: PriceFn + Drop + Send + Sync, R: Threads + Wait + Sync, T: Ga
     requires promise { IsPromise (F.may_return ask) }
     requires own { AnswersPrices (F.may_return ask) heading.prices }
     ensures report { IfOk result (IsReportBelow heading lists.now start.limits start.rows) }
-    ensures fault { IfErr result IsOfService }
+    ensures fault { IfErr result (IsOfRun lists.now) }
 {
     let Ok(tariff) = Arc::new(alloc, Tariff::new(ask)) else {
         return Err(RunFault::Memory);
@@ -165,7 +169,7 @@ pub(crate) fn priced_report<R: Threads + Wait + Sync, T: Gate>(
     requires prices { table ≡ price_table script.prices }
     requires start { start.rows ≡ start_of script.start }
     ensures report { IfOk result (IsReportFrom script start.limits start.rows) }
-    ensures fault { IfErr result IsOfService }
+    ensures fault { IfErr result (IsOfRun script.workers) }
 {
     // For the proof: what the type keeps.
     table.laws();

@@ -1,11 +1,12 @@
 //! Lists of commands, carried out by the passes of one service.
 
-ghost use Rattle.std.specs.Prelude.{◌≡◌, ◌+◌, ◌<◌, ℕ, List, [], All};
-ghost use Rattle.std.specs.Prelude.{IfErr, IfOk, Some, length, map, true};
+ghost use Rattle.std.specs.Prelude.{◌≡◌, ◌+◌, ◌<◌, ◌≤◌, ℕ, List, [], All};
+ghost use Rattle.std.specs.Prelude.{IfErr, IfOk, OnOk, Some, length, map, true};
 ghost use Rattle.std.specs.Arc.{arc_value};
 ghost use Rattle.topo_core.specs.History.{IsRun};
 ghost use Rattle.topo_price.specs.Prices.{prices_of};
-ghost use Rattle.topo_run.specs.Working.{AreOpened, HaveWorked, IsOfService};
+ghost use Rattle.topo_run.specs.Working.{AreOpened, HaveWorked, IsOfOpening, IsOfRun};
+ghost use Rattle.topo_run.specs.Working.{IsOfService};
 ghost use Rattle.topo_service.specs.Commands.{commands};
 ghost use Rattle.topo_core.specs.declared.limits.TheConstants.{MAX_PASSES};
 
@@ -42,8 +43,9 @@ fn open_pass<F: PriceFn + Drop, K: ServiceBrand<F>>(
     ensures number { IfOk result (λ p. p.number ≡ service.old.given) }
     ensures receipts { IfOk result (λ p. p.receipts ≡ []) }
     ensures given { IfOk result (λ p. service.new.given ≡ service.old.given + 1) }
+    ensures seat { IfOk result (λ p. service.old.given < MAX_PASSES) }
     ensures same { service.new.tariff ≡ service.old.tariff }
-    ensures fault { IfErr result IsOfService }
+    ensures fault { IfErr result (λ fault. fault ≡ RunFault.NoSeat) }
 {
     match service.pass() {
         Ok(pass) => Ok(pass),
@@ -61,8 +63,9 @@ fn open_passes<F: PriceFn + Drop, K: ServiceBrand<F>>(
     ensures opened { IfOk result (λ passes. AreOpened passes.items) }
     ensures count { IfOk result (λ passes. length passes.items ≡ count) }
     ensures given { IfOk result (λ passes. service.new.given ≡ count) }
+    ensures seats { IfOk result (λ passes. count ≤ MAX_PASSES) }
     ensures same { service.new.tariff ≡ service.old.tariff }
-    ensures fault { IfErr result IsOfService }
+    ensures fault { IfErr result (IsOfOpening count) }
 {
     let mut passes = Vec::new(alloc);
     for _i in 0..count {
@@ -103,8 +106,9 @@ fn run_all<
     requires { service.old.given ≡ 0 }
     ensures worked { IfOk result (λ passes. HaveWorked (map commands lists.now) passes.items) }
     ensures given { IfOk result (λ passes. service.new.given ≡ length passes.items) }
+    ensures seats { IfOk result (λ passes. length lists.now ≤ MAX_PASSES) }
     ensures same { service.new.tariff ≡ service.old.tariff }
-    ensures fault { IfErr result IsOfService }
+    ensures fault { IfErr result (IsOfOpening (length lists.now)) }
 {
     let mut passes = open_passes(alloc, service, lists.len())?;
     let ran = run_workers(rt, alloc, &*service, passes.as_mut_slice(), lists, gate);
@@ -141,7 +145,8 @@ fn serve<
     requires prices { K.closure ≡ Some (arc_value tariff) }
     ensures run { IfOk result (λ outcome. IsRun (prices_of (F.may_return (arc_value tariff)))
         start.limits start.rows (map commands lists.now) outcome.history outcome.picture) }
-    ensures fault { IfErr result IsOfService }
+    ensures seats { OnOk result (length lists.now ≤ MAX_PASSES) }
+    ensures fault { IfErr result (IsOfService (map commands lists.now)) }
 {
     let places = lists.len().max(1).min(MAX_PASSES as usize) as u32;
     let Ok(mut service) = Service::<F, K>::with_places(alloc, fresh, start, tariff, places) else {
@@ -173,7 +178,8 @@ fn run_together<F: PriceFn + Drop + Send + Sync, R: Threads + Wait + Sync, T: Ga
 ) -> Result<RunOutcome, RunFault>
     ensures run { IfOk result (λ outcome. IsRun (prices_of (F.may_return (arc_value tariff)))
         start.limits start.rows lists.now outcome.history outcome.picture) }
-    ensures fault { IfErr result IsOfService }
+    ensures seats { OnOk result (length lists.now ≤ MAX_PASSES) }
+    ensures fault { IfErr result (IsOfService lists.now) }
 {
     let Ok(copies) = lists_of(alloc, lists) else {
         return Err(RunFault::Memory);
@@ -194,7 +200,8 @@ pub(crate) fn run_lists<F: PriceFn + Drop + Send + Sync, R: Threads + Wait + Syn
 ) -> Result<RunOutcome, RunFault>
     ensures run { IfOk result (λ outcome. IsRun (prices_of (F.may_return (arc_value tariff)))
         start.limits start.rows lists.now outcome.history outcome.picture) }
-    ensures fault { IfErr result IsOfService }
+    ensures seats { OnOk result (length lists.now ≤ MAX_PASSES) }
+    ensures fault { IfErr result (IsOfRun lists.now) }
 {
     match lists {
         [list] => outcome_alone(alloc, start, tariff, list.as_slice(), gate),

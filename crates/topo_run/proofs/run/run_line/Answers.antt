@@ -3,7 +3,7 @@ use Rattle.topo_core.specs.declared.rows.Rows.{Rows}
 use Rattle.topo_settings.proofs.Pricing.{err_so, ok_so}
 use Rattle.topo_settings.proofs.Validating.{sound_so}
 use Rattle.topo_settings.specs.Settings.{IsSound, start_of}
-use Rattle.topo_run.proofs.Telling.{service_fails}
+use Rattle.topo_run.proofs.Telling.{run_fails}
 use Rattle.topo_run.specs.Runs.{IsReportFrom}
 use Rattle.topo_run.proofs.run.run_line.Goals as goal
 
@@ -31,4 +31,4 @@ returns-clause-fault g c =
     let begun : _ ≡ script.start = search rules in
     let sound : IsSound script.limits script.prices script.start limits =
     sound_so script.limits _ script.prices _ script.start limits c.as_slice-prices.ensures begun c.in_ok-table.ensures.sound in
-    err_so c.priced_line.result _ _ (λ fault is. service_fails script fault (record { limits = limits; sound = sound }) is) c.priced_line.ensures.fault
+    err_so c.priced_line.result _ _ (λ fault is. run_fails script fault (record { limits = limits; sound = sound }) is) c.priced_line.ensures.fault

@@ -1,11 +1,13 @@
-use Rattle.std.proofs.Common.{◌≡◌, IfOk, ap, rules, subst, ◌∙◌}
+use Rattle.std.proofs.Common.{◌≡◌, IfOk, List, ap, rules, subst, ◌∙◌}
+use Rattle.topo_core.specs.declared.calls.Command.{Command}
 use Rattle.topo_core.specs.declared.rows.Rows.{Rows}
 use Rattle.topo_settings.proofs.Pricing.{err_so, ok_so}
 use Rattle.topo_settings.proofs.Validating.{sound_so}
 use Rattle.topo_settings.specs.Settings.{IsSound, start_of}
 use Rattle.topo_run.proofs.Below.{reports_of}
-use Rattle.topo_run.proofs.Telling.{service_fails}
+use Rattle.topo_run.proofs.Telling.{run_fails}
 use Rattle.topo_run.specs.Runs.{IsReportFrom}
+use Rattle.topo_run.specs.Working.{IsOfRun}
 use Rattle.topo_run.proofs.scripts.run_script.Goals as goal
 
 pub returns-clause-report : goal.returns-clause-report
@@ -34,4 +36,5 @@ returns-clause-fault g c =
     let begun : _ ≡ script.start = search rules in
     let sound : IsSound script.limits script.prices script.start limits =
     sound_so script.limits _ script.prices _ script.start limits c.as_slice-prices.ensures begun c.in_ok-_table.ensures.sound in
-    err_so c.run_from.result _ _ (λ fault is. service_fails script fault (record { limits = limits; sound = sound }) is) c.run_from.ensures.fault
+    err_so c.run_from.result _ _ (λ fault is. run_fails script fault (record { limits = limits; sound = sound })
+    (subst (λ (lists : List (List Command)). IsOfRun lists fault) c.as_slice.ensures is)) c.run_from.ensures.fault

@@ -15,5 +15,9 @@ loop-i-preserved g c =
           (opened_push passes pass inv.opened (omega (arith, inv.count, inv.given, c.in_ok-pass.ensures.number)) c.in_ok-pass.ensures.receipts);
       count = rw pushed (omega (arith, length-append passes (pass ∷ []), inv.count));
       given = omega (arith, c.in_ok-pass.ensures.given, inv.given);
+      seats = omega (arith, c.in_ok-pass.ensures.seat, inv.given);
       same = search rules;
     }
+
+pub returns-clause-seats : goal.returns-clause-seats
+returns-clause-seats g c = omega (arith, c.loop-i.invariant.seats, c.loop-i-test.false)

@@ -1,4 +1,5 @@
-use Rattle.std.proofs.Common.{◌≡◌, length}
+use Rattle.std.proofs.Common.{◌≡◌, ◌≤◌, length}
+use Rattle.topo_core.specs.declared.limits.TheConstants.{MAX_PASSES}
 use Rattle.topo_run.specs.Working.{AreOpened}
 use Rattle.topo_run.proofs.serving.open_passes.Given as goal
 
@@ -7,5 +8,6 @@ invariant-loop-i g l = record {
   opened : AreOpened l.passes.items;
   count : length l.passes.items ≡ l._i;
   given : l.service.given ≡ l._i;
+  seats : l._i ≤ MAX_PASSES;
   same : l.service.tariff ≡ l.fn.service.tariff;
 }

@@ -1,4 +1,5 @@
-use Rattle.std.proofs.Common.{List, arith, map, subst, sym, ◌∙◌}
+use Rattle.std.proofs.Common.{List, arith, length, map, subst, sym, ◌∙◌}
+use Rattle.std.proofs.lemmas.List.{length-map}
 use Rattle.std.specs.Arc.{arc_value}
 use Rattle.topo_core.specs.declared.calls.Entry.{Entry}
 use Rattle.topo_core.specs.declared.rows.Rows.{Rows}
@@ -8,7 +9,11 @@ use Rattle.topo_service.specs.declared.faults.EndFault.{EndFault}
 use Rattle.topo_service.specs.Commands.{commands}
 use Rattle.topo_service.specs.Faults.{IsEndFault}
 use Rattle.topo_service.specs.Passes.{PassState}
-use Rattle.topo_run.proofs.Passing.{has_number, ok_both, served}
+use Rattle.topo_run.proofs.Passing.{differing, has_number, ok_both, served}
+use Rattle.topo_run.proofs.Telling.{opening_fails}
+use Rattle.topo_run.specs.Working.{IsOfService}
+use Rattle.topo_settings.proofs.Pricing.{err_so}
+use Rattle.topo_settings.specs.declared.fault.RunFault.{RunFault}
 use Rattle.topo_run.proofs.serving.serve.Goals as goal
 
 pub unreachable-requires : goal.unreachable-requires
@@ -34,3 +39,19 @@ returns-in-Ok-close-clause-run g c =
     (λ (es : List Entry). IsRun (prices_of (g.F.PriceFn.may_return own)) start.limits start.rows lists es outcome.picture) (sym history)
     (subst (λ (p : Rows). IsRun (prices_of (g.F.PriceFn.may_return own)) start.limits start.rows lists book.history p) (sym picture) run))
     c.outcome_of.ensures.history c.outcome_of.ensures.picture
+
+pub returns-in-Ok-close-clause-fault : goal.returns-in-Ok-close-clause-fault
+returns-in-Ok-close-clause-fault g c = err_so c.outcome_of.result _ _
+    (λ fault is. subst (λ (f : RunFault). IsOfService (map commands c.args.lists.now) f) (sym is) tt) c.outcome_of.ensures.fault
+
+pub returns-in-Mismatch-clause-fault : goal.returns-in-Mismatch-clause-fault
+returns-in-Mismatch-clause-fault g c =
+    let passes : List PassState = c.in-Ok-run_all.passes.items in
+    let found = subst (λ (fault : EndFault). IsEndFault c.run_all.new.service.given c.in-Err-close.end.book.history passes fault)
+    c.in-Mismatch.is c.in-Err-close.ensures.fault in
+    differing (map commands c.args.lists.now) passes c.in-Err-close.end.book.history c.in-Mismatch.number c.in-Mismatch.k c.in-Ok-run_all.ensures.worked
+    found.1
+
+pub returns-in-Err-clause-fault : goal.returns-in-Err-clause-fault
+returns-in-Err-clause-fault g c = opening_fails (map commands c.args.lists.now) (length c.args.lists.now) c.in-Err.fault
+    (sym (length-map c.args.lists.now commands)) c.in-Err.ensures.fault
