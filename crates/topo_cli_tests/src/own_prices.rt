@@ -11,6 +11,8 @@ use std::sync::atomic::{AtomicBool, AtomicU32, Ordering};
 use std::sync::{Arc, Wait};
 use std::test::Fail;
 use std::thread::Threads;
+use topo_core::limits::MAX_PASSES;
+use topo_core::listed::Listed;
 use topo_core::rows::Facts;
 use topo_forms::{Report, Script, read_script};
 use topo_price::table::PriceTable;
@@ -155,6 +157,30 @@ fn check_run<R: Threads + Wait + Abort + Sync>(
     gate.before(0, 0);
     assert!(rt; !gate.is_amiss.load(Ordering::SeqCst));
     Ok(())
+}
+
+/// Checks that lists that are more than a service has places are told so, and that as many as it
+/// has are carried out.
+fn check_places<R: Threads + Wait + Abort + Sync>(rt: &R, alloc: Global) -> Result<(), Fail> {
+    let gate = AskedGate {
+        asked: AtomicU32::new(0),
+        asked_inside: AtomicU32::new(0),
+        is_amiss: AtomicBool::new(false),
+    };
+    let mut script = read_script(alloc, TWO_LISTS.as_bytes()).expect(rt, "a script");
+    for _list in 2..MAX_PASSES {
+        script.workers.push(Listed::from_vec(Vec::new(alloc)))?;
+    }
+    assert!(rt; counted_text(rt, alloc, &script, &gate).is_ok());
+    script.workers.push(Listed::from_vec(Vec::new(alloc)))?;
+    let told = counted_text(rt, alloc, &script, &gate);
+    assert!(rt; matches!(&told, Err(RunFault::NoSeat)));
+    Ok(())
+}
+
+#[test]
+fn more_lists_than_places(rt: HostRuntime) -> Result<(), Fail> {
+    check_places(&rt, rt.alloc())
 }
 
 #[test]
