@@ -1,5 +1,5 @@
 -- The text that answers a line, and what the line makes of the history and the picture.
-use Rattle.std.specs.Prelude.{◌≡◌, ℕ, List, [], ◌∷◌, ◌++◌, codes, decimal, Option, Ok, Err}
+use Rattle.std.specs.Prelude.{◌≡◌, ◌⊎◌, ℕ, List, [], ◌∷◌, ◌++◌, codes, decimal, Option, Ok, Err}
 use Rattle.serde_json.specs.Data.{Data, object, no_members, member}
 use Rattle.serde_json.specs.Written.{compact_text}
 use Rattle.topo_book.specs.Books.{BookState}
@@ -100,3 +100,16 @@ Answers price limits (Ok AskCounts) text old new = TellsCounts old.picture text 
 Answers price limits (Ok AskPicture) text old new = (text ≡ rows_text old.picture) × (new ≡ old)
 Answers price limits (Ok AskReport) text old new = (text ≡ report_text (report_so_far old)) × (new ≡ old)
 Answers price limits (Err fault) text old new = (text ≡ fault_answer fault) × (new ≡ old)
+
+-- ---- Answers that are out of memory
+
+-- the line asks for a command, which is carried out as for an answer; of the answer only the text is missing
+pub record LosesReply (price : Pricing) (limits : Limits) (asked : Read Request) (old new : Standing) : Type 0 where
+  pub command : Command
+  pub asks : asked ≡ Ok (Carry command)
+  pub lost : List ℕ
+  pub carried : CarriesOut price limits command lost old new
+
+-- There is no answer: the session stands as it stood, or a command was carried out and only the text of its reply is lost.
+abbrev pub LosesAnswer : Pricing → Limits → Read Request → Standing → Standing → Type 0
+LosesAnswer price limits asked old new = (new ≡ old) ⊎ LosesReply price limits asked old new

@@ -1,6 +1,7 @@
 //! The answer to one line of a session.
 
-ghost use Rattle.std.specs.Prelude.{◌≡◌, ◌++◌, ◌∷◌, [], IfOk, OnOk, codes, decimal, string_bytes};
+ghost use Rattle.std.specs.Prelude.{◌≡◌, ◌++◌, ◌∷◌, [], IfOk, Ok, OnErr, OnOk};
+ghost use Rattle.std.specs.Prelude.{codes, decimal, string_bytes};
 ghost use Rattle.topo_book.specs.Books.{IsSameBook, IsUnchanged};
 ghost use Rattle.topo_core.specs.History.{call_of};
 ghost use Rattle.topo_core.specs.Steps.{Step};
@@ -12,7 +13,8 @@ ghost use Rattle.topo_script.specs.Pictures.{rows_text};
 ghost use Rattle.serde_json.specs.Written.{compact_text};
 ghost use Rattle.topo_script.specs.ReportTexts.{reply_data, report_text};
 ghost use Rattle.topo_forms.specs.declared.sessions.Opening.{Opening};
-ghost use Rattle.topo_serve.specs.Answers.{Answers, CarriesOut, TellsCounts, counts_text};
+ghost use Rattle.topo_forms.specs.declared.sessions.Request.TheVariants.{Carry};
+ghost use Rattle.topo_serve.specs.Answers.{Answers, CarriesOut, LosesAnswer, TellsCounts, counts_text};
 ghost use Rattle.topo_serve.specs.Answers.{fault_answer, report_so_far, standing_of};
 
 use std::alloc::{AllocError, Global};
@@ -28,7 +30,8 @@ use topo_script::{picture_text, report};
 
 /// Answers a line, which stands here without its line feed: a command by its reply, after it was
 /// carried out, and another request by its text. A line that is of no form is answered by its first
-/// fault, and changes nothing. The answer has no line feed.
+/// fault, and changes nothing. The answer has no line feed. Out of memory, the book is as it was,
+/// or the command was carried out and only the text of its reply is lost.
 pub fn answer_line<F: PriceFn>(
     alloc: Global,
     opening: &Opening,
@@ -38,6 +41,10 @@ pub fn answer_line<F: PriceFn>(
     ensures answer { IfOk result
         (λ text. Answers (prices_of (F.may_return book.old.tariff)) book.old.picture.limits
         (request_of line.now) (string_bytes text) (standing_of opening.now book.old)
+        (standing_of opening.now book.new)) }
+    ensures lost { OnErr result
+        (LosesAnswer (prices_of (F.may_return book.old.tariff)) book.old.picture.limits
+        (request_of line.now) (standing_of opening.now book.old)
         (standing_of opening.now book.new)) }
     ensures same_book { IsSameBook book.old book.new }
 {
@@ -62,6 +69,7 @@ fn enter<F: PriceFn>(
         reply book.new.picture.rows) }
     ensures entered { IfOk result (λ reply. book.new.history ≡ book.old.history
         ++ record { caller = 0; call = call_of command; reply = reply } ∷ []) }
+    ensures unchanged { OnErr result (IsUnchanged book.old book.new) }
     ensures same_book { IsSameBook book.old book.new }
 {
     match command {
@@ -72,7 +80,8 @@ fn enter<F: PriceFn>(
     }
 }
 
-/// Carries a command out, and gives the text of its reply.
+/// Carries a command out, and gives the text of its reply. Where there is no memory for the text,
+/// the command is carried out all the same.
 fn answer_command<F: PriceFn>(
     alloc: Global,
     book: &mut Book<F>,
@@ -82,6 +91,9 @@ fn answer_command<F: PriceFn>(
         (λ text. (h : Opening)
         → CarriesOut (prices_of (F.may_return book.old.tariff)) book.old.picture.limits command
         (string_bytes text) (standing_of h book.old) (standing_of h book.new)) }
+    ensures lost { OnErr result ((h : Opening)
+        → LosesAnswer (prices_of (F.may_return book.old.tariff)) book.old.picture.limits
+        (Ok (Carry command)) (standing_of h book.old) (standing_of h book.new)) }
     ensures same_book { IsSameBook book.old book.new }
 {
     let reply = enter(alloc, book, command)?;
