@@ -106,3 +106,7 @@ ahead_all items shown at n same there len above =
 
 pub part_plain : (rest : List ℕ) (n : ℕ) → n ≡ length (first_line rest) → IsPlain (take n rest)
 part_plain rest n len = subst IsPlain (sym (ap (λ (k : ℕ). take k rest) len ∙ first_taken rest)) (first_plain rest)
+
+-- the parts of what is ahead are of one call of read
+pub few_ahead : (ahead : List ℕ) (at : ℕ) (items parts : List ℕ) → drop at items ≡ ahead → ahead ≡ parts → length items ≤ 8192 → length parts ≤ 8192
+few_ahead ahead at items parts is parted few = omega (arith, few, ap length is, ap length parted, length-drop at items)

@@ -1,5 +1,5 @@
 -- The first line of a session, and the session behind it.
-use Rattle.std.proofs.Common.{◌≡◌, ℕ, Bool, true, false, List, [], ◌∷◌, ◌++◌, Option, Result, Ok, Err, IfOk, take, length, ◌<◌}
+use Rattle.std.proofs.Common.{◌≡◌, ℕ, Bool, true, false, List, [], ◌∷◌, ◌++◌, Option, Result, Ok, Err, IfOk, take, length, ◌<◌, ◌≤◌}
 use Rattle.std.proofs.Common.{inl, inr, refl, sym, ap, subst, ◌∙◌, arith, append_assoc, append-nil, length-append, ltb-true}
 use Rattle.std.specs.Io.KnownBytes.{Appends, Consumes, IsAtEnd}
 use Rattle.std.proofs.KnownBytes.{Appends-trans, Consumes-trans, Keeps-refl}
@@ -62,18 +62,20 @@ module _ (old_left new_left : Option (List ℕ)) (ahead line : List ℕ) (plain 
   })
   first_whole false t over = inr (inl over.0)
 
-  pub line_none : (fault : RunFault) (has_feed : Bool) → Takes old_left new_left [] ahead (line ++ feed_if has_feed) → OverUnless has_feed new_left ahead
-      → IsFaultOfOpening line fault
+  pub line_none : (fault : RunFault) (has_feed : Bool) (t : Takes old_left new_left [] ahead (line ++ feed_if has_feed)) → length t.read ≤ 268443649
+      → OverUnless has_feed new_left ahead → IsFaultOfOpening line fault
       → OpensNone old_left new_left fault
-  line_none fault has_feed t over first = record {
+  line_none fault has_feed t few over first = record {
     input = t.read;
     consumed = t.consumed;
     whole = first_whole has_feed t over;
     first = subst (λ (l : List ℕ). IsFaultOfOpening l fault) (sym (first_read has_feed t over)) first;
+    few = few;
   }
 
-  pub long_none : Takes old_left new_left [] ahead (line ++ []) → 268435456 < length line → OpensNone old_left new_left (Script TooLong)
-  long_none t long =
+  pub long_none : (t : Takes old_left new_left [] ahead (line ++ [])) → length t.read ≤ 268443649 → 268435456 < length line
+      → OpensNone old_left new_left (Script TooLong)
+  long_none t few long =
       let first : first_line t.read ≡ line ++ first_line ahead = ap first_line (t.parted ∙ append_assoc line [] ahead) ∙ first_behind line ahead plain in
       let longer : 268435456 < length (first_line t.read) = omega (arith, ap length first, length-append line (first_line ahead)) in
       record {
@@ -81,7 +83,13 @@ module _ (old_left new_left : Option (List ℕ)) (ahead line : List ℕ) (plain 
         consumed = t.consumed;
         whole = inr (inr longer);
         first = opening_long (first_line t.read) longer;
+        few = few;
       }
+
+-- as much is read, whatever says that nothing was ahead
+read_same : (a b : Option (List ℕ)) (old ahead taken : List ℕ) (n : ℕ) → old ≡ [] → (t : Takes a b old ahead taken) (u : Takes a b [] ahead taken)
+    → length t.read ≤ n → length u.read ≤ n
+read_same a b old ahead taken n none t u few = omega (arith, few, ap length none, ap length t.parted, ap length u.parted, length-append old t.read)
 
 pub first_so : (old_left new_left : Option (List ℕ)) (old ahead kept : List ℕ) (part q : Part) → part ≡ q
     → TakesFirst 268435457 old_left new_left old ahead kept part
@@ -98,14 +106,19 @@ module _ (old_left new_left : Option (List ℕ)) (old ahead kept : List ℕ) (no
   pub first_long : (part : Part) → part ≡ More → TakesFirst 268435457 old_left new_left old ahead kept part → OpensNone old_left new_left (Script TooLong)
   first_long part is t =
       let u = subst (λ (q : Part). TakesFirst 268435457 old_left new_left old ahead kept q) is t in
-      long_none old_left new_left ahead u.line u.plain (subst (λ (o : List ℕ). Takes old_left new_left o ahead (u.line ++ [])) none u.takes)
+      let takes = subst (λ (o : List ℕ). Takes old_left new_left o ahead (u.line ++ [])) none u.takes in
+      long_none old_left new_left ahead u.line u.plain takes (read_same old_left new_left old ahead (u.line ++ []) 268443649 none u.takes takes u.few)
       (kept_long 268435457 268435456 kept u.line u.is_kept u.ends (ltb-true 268435456 268435457 refl))
 
   module _ (has_feed : Bool) (line : List ℕ) (plain : IsPlain line) (takes : Takes old_left new_left old ahead (line ++ feed_if has_feed))
       (over : OverUnless has_feed new_left ahead)
-      (is_kept : kept ≡ take 268435457 line) where
+      (is_kept : kept ≡ take 268435457 line)
+      (few : length takes.read ≤ 268443649) where
     taken : Takes old_left new_left [] ahead (line ++ feed_if has_feed)
     taken = subst (λ (o : List ℕ). Takes old_left new_left o ahead (line ++ feed_if has_feed)) none takes
+
+    few_taken : length taken.read ≤ 268443649
+    few_taken = read_same old_left new_left old ahead (line ++ feed_if has_feed) 268443649 none takes taken few
 
     pub opens_so : (opening : Opening) (fed : Bool) → opening_of kept ≡ Ok opening → fed ≡ has_feed → Opens old_left new_left ahead opening fed
     opens_so opening fed opens same = subst (Opens old_left new_left ahead opening) (sym same) (record {
@@ -114,10 +127,11 @@ module _ (old_left new_left : Option (List ℕ)) (old ahead kept : List ℕ) (no
       takes = taken;
       over = over;
       opens = sym (opening_kept line kept is_kept) ∙ opens;
+      few = few_taken;
     })
 
     pub none_so : (fault : RunFault) → OpensNoneBy kept fault → OpenFailsBy fault old_left new_left
-    none_so (Script fault) is = line_none old_left new_left ahead line plain (Script fault) has_feed taken over
+    none_so (Script fault) is = line_none old_left new_left ahead line plain (Script fault) has_feed taken few_taken over
         (subst (λ (r : Read Opening). IsFirstFault r fault) (opening_kept line kept is_kept) is)
     none_so _ is = absurd is
 
@@ -127,11 +141,11 @@ pub unsound_none : (old_left new_left held : Option (List ℕ)) (ahead : List �
     → IsUnsound opening.limits opening.prices opening.start fault → ServeFailsBy fault old_left new_left held held
 unsound_none ol nl held ahead opening has_feed Memory o is = inl (Keeps-refl held)
 unsound_none ol nl held ahead opening has_feed BadLimits o is =
-    (line_none ol nl ahead o.line o.plain BadLimits has_feed o.takes o.over (record { opening = opening; opens = o.opens; fails = is }), Keeps-refl held)
+    (line_none ol nl ahead o.line o.plain BadLimits has_feed o.takes o.few o.over (record { opening = opening; opens = o.opens; fails = is }), Keeps-refl held)
 unsound_none ol nl held ahead opening has_feed (Price fault) o is =
-    (line_none ol nl ahead o.line o.plain (Price fault) has_feed o.takes o.over (record { opening = opening; opens = o.opens; fails = is }), Keeps-refl held)
+    (line_none ol nl ahead o.line o.plain (Price fault) has_feed o.takes o.few o.over (record { opening = opening; opens = o.opens; fails = is }), Keeps-refl held)
 unsound_none ol nl held ahead opening has_feed (Load fault) o is =
-    (line_none ol nl ahead o.line o.plain (Load fault) has_feed o.takes o.over (record { opening = opening; opens = o.opens; fails = is }), Keeps-refl held)
+    (line_none ol nl ahead o.line o.plain (Load fault) has_feed o.takes o.few o.over (record { opening = opening; opens = o.opens; fails = is }), Keeps-refl held)
 unsound_none ol nl held ahead opening has_feed _ o is = absurd is
 
 -- ---- The session behind an opening

@@ -1,12 +1,12 @@
 -- Laws of what is taken of a reader.
-use Rattle.std.proofs.Common.{◌≡◌, ℕ, List, [], ◌++◌, Option, take, ◌≤◌, length, true, false, sym, ap, subst, ◌∙◌, append_assoc, append-nil}
+use Rattle.std.proofs.Common.{◌≡◌, ℕ, List, [], ◌++◌, Option, take, ◌≤◌, ◌+◌, length, length-append, arith, true, false, sym, ap, subst, ◌∙◌, append_assoc, append-nil}
 use Rattle.std.specs.Io.KnownBytes.{Consumes, IsAtEnd}
 use Rattle.std.proofs.lemmas.List.{take_all}
 use Rattle.std.proofs.KnownBytes.{Consumes-nil, Consumes-trans}
 use Rattle.topo_serve.specs.Lines.{IsPlain}
 use Rattle.topo_serve.specs.declared.ahead.Part.{Part}
 use Rattle.topo_serve.specs.declared.ahead.Part.TheVariants.{End, Feed, More}
-use Rattle.topo_serve.specs.Taking.{Consumed, EndsBy, EndsFirst, Takes, TakesFirst, TakesLine, TakesPart, feed_of}
+use Rattle.topo_serve.specs.Taking.{Consumed, EndsBy, EndsFirst, IsNoEnd, PartsAhead, Takes, TakesFirst, TakesLine, TakesPart, feed_of}
 use Rattle.topo_serve.proofs.LineLaws.{plain_append, take_more}
 
 pub consumed_trans : (a b c : Option (List ℕ)) → Consumed a b → Consumed b c → Consumed a c
@@ -17,6 +17,10 @@ takes_consumed a b old new taken t = record { read = t.read; consumed = t.consum
 
 pub takes_none : (a : Option (List ℕ)) (ahead : List ℕ) → Takes a a ahead ahead []
 takes_none a ahead = record { read = []; consumed = Consumes-nil a; parted = append-nil ahead }
+
+-- no more is read than is taken and ahead
+pub read_within : (a b : Option (List ℕ)) (old new taken : List ℕ) (n : ℕ) (t : Takes a b old new taken) → length (taken ++ new) ≤ n → length t.read ≤ n
+read_within a b old new taken n t few = omega (arith, few, ap length t.parted, length-append old t.read)
 
 pub takes_trans : (a b c : Option (List ℕ)) (old mid new x y : List ℕ) → Takes a b old mid x → Takes b c mid new y → Takes a c old new (x ++ y)
 takes_trans a b c old mid new x y p q = record {
@@ -37,6 +41,24 @@ part_over {most} {new} {line} within none consumed over empty = record {
   takes = record { read = new; consumed = consumed; parted = ap (λ (t : List ℕ). t ++ new) none };
   kept = sym (ap (take most) (append-nil line) ∙ take_all most line within);
   ended = (over, empty);
+  few = omega (arith, ap length empty);
+}
+
+ends_by : (part : Part) (left : Option (List ℕ)) (ahead : List ℕ) → IsNoEnd part → EndsBy part left ahead
+ends_by Feed left ahead is = tt
+ends_by More left ahead is = tt
+ends_by End left ahead is = absurd is
+
+-- a part of what is ahead, where nothing is read
+pub part_ahead : {most : ℕ} {left : Option (List ℕ)} {old new line after : List ℕ} {part : Part} → PartsAhead most old new line after part
+    → TakesPart most left left old new line after part
+part_ahead {left} {old} {new} {part} p = record {
+  more = p.more;
+  plain = p.plain;
+  takes = record { read = []; consumed = Consumes-nil left; parted = append-nil old ∙ p.parted };
+  kept = p.kept;
+  ended = ends_by part left new p.no_end;
+  few = p.few;
 }
 
 -- ---- Parts of a line
@@ -85,20 +107,36 @@ module _ (most : ℕ) (a b c : Option (List ℕ)) (old mid new line after so_far
     kept = all_kept;
   }
 
-  first_ends : (q : Part) → part ≡ q → EndsFirst most q after c new → TakesFirst most a c old new after q
-  first_ends q is ends = record {
-    line = so_far ++ p.more;
-    plain = all_plain;
-    takes = subst (λ (q : Part). Takes a c old new ((so_far ++ p.more) ++ feed_of q)) is all_taken;
-    is_kept = all_kept;
-    ends = ends;
-  }
+  all_few : length so_far ≤ most → length (((so_far ++ p.more) ++ feed_of part) ++ new) ≤ most + 8192
+  all_few short = omega (
+    arith,
+    short,
+    p.few,
+    length-append ((so_far ++ p.more) ++ feed_of part) new,
+    length-append (so_far ++ p.more) (feed_of part),
+    length-append so_far p.more,
+    length-append (p.more ++ feed_of part) new,
+    length-append p.more (feed_of part),
+  )
 
-  pub first_fed : part ≡ Feed → TakesFirst most a c old new after Feed
-  first_fed is = first_ends Feed is tt
+  first_ends : (q : Part) → part ≡ q → length so_far ≤ most → EndsFirst most q after c new → TakesFirst most a c old new after q
+  first_ends q is short ends =
+      let takes = subst (λ (q : Part). Takes a c old new ((so_far ++ p.more) ++ feed_of q)) is all_taken in
+      let few = subst (λ (q : Part). length (((so_far ++ p.more) ++ feed_of q) ++ new) ≤ most + 8192) is (all_few short) in
+      record {
+        line = so_far ++ p.more;
+        plain = all_plain;
+        takes = takes;
+        is_kept = all_kept;
+        ends = ends;
+        few = read_within a c old new ((so_far ++ p.more) ++ feed_of q) (most + 8192) takes few;
+      }
 
-  pub first_long : part ≡ More → length after ≡ most → TakesFirst most a c old new after More
-  first_long is whole = first_ends More is whole
+  pub first_fed : part ≡ Feed → length so_far ≤ most → TakesFirst most a c old new after Feed
+  first_fed is short = first_ends Feed is short tt
 
-  pub first_over : part ≡ End → TakesFirst most a c old new after End
-  first_over is = first_ends End is (subst (λ (q : Part). EndsBy q c new) is p.ended)
+  pub first_long : part ≡ More → length so_far ≤ most → length after ≡ most → TakesFirst most a c old new after More
+  first_long is short whole = first_ends More is short whole
+
+  pub first_over : part ≡ End → length so_far ≤ most → TakesFirst most a c old new after End
+  first_over is short = first_ends End is short (subst (λ (q : Part). EndsBy q c new) is p.ended)

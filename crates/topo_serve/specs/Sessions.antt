@@ -1,5 +1,5 @@
 -- What a session reads and writes.
-use Rattle.std.specs.Prelude.{◌≡◌, ◌⊎◌, ◌<◌, ℕ, List, [], ◌∷◌, ◌++◌, length, Option, Ok, Err, ⊤}
+use Rattle.std.specs.Prelude.{◌≡◌, ◌⊎◌, ◌<◌, ◌≤◌, ℕ, List, [], ◌∷◌, ◌++◌, length, Option, Ok, Err, ⊤}
 use Rattle.std.specs.Io.KnownBytes.{Appends, Consumes, IsAtEnd, Keeps}
 use Rattle.topo_core.specs.declared.calls.Command.{Command}
 use Rattle.topo_core.specs.declared.limits.Limits.{Limits}
@@ -95,12 +95,14 @@ IsFaultOfOpening bytes WrongPicture = ⊥
 IsFaultOfOpening bytes ReadFault = ⊥
 IsFaultOfOpening bytes WriteFault = ⊥
 
--- what was read begins with a line that is no opening: this is its first fault
+-- What was read begins with a line that is no opening: this is its first fault. No more was read than 268,435,457 bytes,
+-- which is one byte more than an opening may have, and the 8192 of one call of read.
 pub record OpensNone (old_left new_left : Option (List ℕ)) (fault : RunFault) : Type 0 where
   pub input : List ℕ
   pub consumed : Consumes old_left new_left input
   pub whole : IsFirstRead input new_left
   pub first : IsFaultOfOpening (first_line input) fault
+  pub few : length input ≤ 268443649
 
 -- ---- What a session writes
 

@@ -1,5 +1,5 @@
 -- What is taken of a reader, behind bytes that were read ahead.
-use Rattle.std.specs.Prelude.{◌≡◌, ℕ, List, [], ◌∷◌, ◌++◌, Option, length, take, true, false, Bool, ⊤}
+use Rattle.std.specs.Prelude.{◌≡◌, ◌≤◌, ◌+◌, ℕ, List, [], ◌∷◌, ◌++◌, Option, length, take, true, false, Bool, ⊤}
 use Rattle.std.specs.Io.KnownBytes.{Consumes, IsAtEnd}
 use Rattle.topo_serve.specs.Lines.{IsPlain}
 use Rattle.topo_serve.specs.declared.ahead.Part.{Part}
@@ -31,13 +31,15 @@ EndsBy Feed left ahead = ⊤
 EndsBy More left ahead = ⊤
 EndsBy End left ahead = IsOver left ahead
 
--- a part of a line is taken, and its line feed where it ends there. Of the line at most so many bytes are kept
+-- A part of a line is taken, and its line feed where it ends there. Of the line at most so many bytes are kept. The part and
+-- what is ahead behind it are from one call of read.
 pub record TakesPart (most : ℕ) (old_left new_left : Option (List ℕ)) (old_ahead new_ahead old_line new_line : List ℕ) (part : Part) : Type 0 where
   pub more : List ℕ
   pub plain : IsPlain more
   pub takes : Takes old_left new_left old_ahead new_ahead (more ++ feed_of part)
   pub kept : new_line ≡ take most (old_line ++ more)
   pub ended : EndsBy part new_left new_ahead
+  pub few : length ((more ++ feed_of part) ++ new_ahead) ≤ 8192
 
 -- the line feed of a line, or none at the end
 abbrev pub feed_if : Bool → List ℕ
@@ -68,6 +70,7 @@ pub record PartsAhead (most : ℕ) (old_ahead new_ahead old_line new_line : List
   pub parted : old_ahead ≡ (more ++ feed_of part) ++ new_ahead
   pub kept : new_line ≡ take most (old_line ++ more)
   pub no_end : IsNoEnd part
+  pub few : length ((more ++ feed_of part) ++ new_ahead) ≤ 8192
 
 abbrev pub EndsFirst : ℕ → Part → List ℕ → Option (List ℕ) → List ℕ → Type 0
 EndsFirst most Feed kept left ahead = ⊤
@@ -75,10 +78,11 @@ EndsFirst most More kept left ahead = length kept ≡ most
 EndsFirst most End kept left ahead = IsOver left ahead
 
 -- The first line is taken, with its line feed, or up to the end, or further than so many bytes. Of the line at most so many
--- bytes are kept.
+-- bytes are kept, and no more than these and those of one call of read are read.
 pub record TakesFirst (most : ℕ) (old_left new_left : Option (List ℕ)) (old_ahead new_ahead kept : List ℕ) (part : Part) : Type 0 where
   pub line : List ℕ
   pub plain : IsPlain line
   pub takes : Takes old_left new_left old_ahead new_ahead (line ++ feed_of part)
   pub is_kept : kept ≡ take most line
   pub ends : EndsFirst most part kept new_left new_ahead
+  pub few : length takes.read ≤ most + 8192

@@ -1,5 +1,5 @@
 -- What the turns of a session read and write: in each a line is read and answered.
-use Rattle.std.specs.Prelude.{◌≡◌, ◌⊎◌, ℕ, Bool, true, false, List, [], ◌∷◌, ◌++◌, Option, Ok, ⊤}
+use Rattle.std.specs.Prelude.{◌≡◌, ◌⊎◌, ◌≤◌, ℕ, Bool, true, false, List, [], ◌∷◌, ◌++◌, length, Option, Ok, ⊤}
 use Rattle.std.specs.Io.KnownBytes.{Appends, Consumes, IsAtEnd, Keeps}
 use Rattle.topo_core.specs.declared.limits.Limits.{Limits}
 use Rattle.topo_core.specs.declared.rows.Rows.{Rows}
@@ -156,6 +156,7 @@ pub record Opens (old_left new_left : Option (List ℕ)) (ahead : List ℕ) (ope
   pub takes : Takes old_left new_left [] ahead (line ++ feed_if has_feed)
   pub over : OverUnless has_feed new_left ahead
   pub opens : opening_of line ≡ Ok opening
+  pub few : length takes.read ≤ 268443649
 
 -- the first fault of the opening that bytes spell
 abbrev pub OpensNoneBy : List ℕ → RunFault → Type 0

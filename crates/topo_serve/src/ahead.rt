@@ -12,7 +12,7 @@ use std::io::{ErrorKind, Read};
 use std::marker::Model;
 use topo_settings::RunFault;
 
-/// The greatest number of bytes that one call of `read` is given room for.
+/// The greatest number of bytes that one call of `read` is given room for. Contracts count with it.
 const CHUNK_BYTES: usize = 8192;
 
 /// Bytes that were read and are not yet part of a line.
@@ -48,7 +48,7 @@ impl Model for Ahead {
 
     ghost view = { λ a. drop a.at a.bytes.items };
 
-    ghost invariant = { λ a. a.at ≤ vec_len a.bytes };
+    ghost invariant = { λ a. (a.at ≤ vec_len a.bytes) × (vec_len a.bytes ≤ 8192) };
 }
 
 /// How many bytes are before the first line feed: all of them, where there is none.
@@ -188,7 +188,7 @@ impl Ahead {
     }
 
     /// As `take_line`, but no further than until `line` has as many bytes as it gets at most, which
-    /// is told by `More`.
+    /// is told by `More`. No more bytes than these and those of one call of `read` are read.
     pub fn take_first<R: Read>(
         &mut self,
         most: usize,

@@ -8,14 +8,14 @@ pub returns-in-Feed-clause-opens : goal.returns-in-Feed-clause-opens
 returns-in-Feed-clause-opens g c =
     let t = first_so _ _ _ _ _ _ Feed c.in-Feed.is c.in_ok-take_first.ensures.line in
     let is_kept = c.as_slice.ensures.value ∙ t.is_kept in
-    both_so c.read_first.result _ _ _ (λ made opens fed. opens_so _ _ _ _ _ c.requires true t.line t.plain t.takes tt is_kept made.0 made.1 opens fed)
+    both_so c.read_first.result _ _ _ (λ made opens fed. opens_so _ _ _ _ _ c.requires true t.line t.plain t.takes tt is_kept t.few made.0 made.1 opens fed)
     c.read_first.ensures.opens c.read_first.ensures.fed
 
 pub returns-in-Feed-clause-fault : goal.returns-in-Feed-clause-fault
 returns-in-Feed-clause-fault g c =
     let t = first_so _ _ _ _ _ _ Feed c.in-Feed.is c.in_ok-take_first.ensures.line in
     let is_kept = c.as_slice.ensures.value ∙ t.is_kept in
-    err_so c.read_first.result _ _ (λ fault is. none_so _ _ _ _ _ c.requires true t.line t.plain t.takes tt is_kept fault is)
+    err_so c.read_first.result _ _ (λ fault is. none_so _ _ _ _ _ c.requires true t.line t.plain t.takes tt is_kept t.few fault is)
     c.read_first.ensures.fault
 
 pub returns-clause-opens : goal.returns-clause-opens
@@ -23,14 +23,14 @@ returns-clause-opens g c =
     let t = first_so _ _ _ _ _ _ End c.in-End.is c.in_ok-take_first.ensures.line in
     let is_kept = c.as_slice-in-End.ensures.value ∙ t.is_kept in
     both_so c.read_first-in-End.result _ _ _
-    (λ made opens fed. opens_so _ _ _ _ _ c.requires false t.line t.plain t.takes t.ends is_kept made.0 made.1 opens fed)
+    (λ made opens fed. opens_so _ _ _ _ _ c.requires false t.line t.plain t.takes t.ends is_kept t.few made.0 made.1 opens fed)
     c.read_first-in-End.ensures.opens c.read_first-in-End.ensures.fed
 
 pub returns-clause-fault : goal.returns-clause-fault
 returns-clause-fault g c =
     let t = first_so _ _ _ _ _ _ End c.in-End.is c.in_ok-take_first.ensures.line in
     let is_kept = c.as_slice-in-End.ensures.value ∙ t.is_kept in
-    err_so c.read_first-in-End.result _ _ (λ fault is. none_so _ _ _ _ _ c.requires false t.line t.plain t.takes t.ends is_kept fault is)
+    err_so c.read_first-in-End.result _ _ (λ fault is. none_so _ _ _ _ _ c.requires false t.line t.plain t.takes t.ends is_kept t.few fault is)
     c.read_first-in-End.ensures.fault
 
 pub returns-in-More-clause-fault : goal.returns-in-More-clause-fault

@@ -1,26 +1,29 @@
-use Rattle.std.proofs.Common.{◌++◌, ◌≡◌, length, rules}
+use Rattle.std.proofs.Common.{◌++◌, ◌≡◌, ◌≢◌, ◌≤◌, ap, arith, length, rules}
+use Rattle.std.proofs.lemmas.List.{length-take}
 use Rattle.topo_serve.proofs.TakingLaws.{first_fed, first_long, first_over, line_on}
 use Rattle.topo_serve.proofs.ahead.Ahead.take_first.Goals as goal
 
 pub returns-in-Feed-clause-line : goal.returns-in-Feed-clause-line
 returns-in-Feed-clause-line g c =
-    let (so_far, plain, takes, kept, within) = c.loop.invariant in
-    first_fed _ _ _ _ _ _ _ _ _ so_far (record { plain = plain; takes = takes; kept = kept }) _ c.in_ok-take_part.ensures.part c.in-Feed.is
+    let (so_far, plain, takes, kept, within, short) = c.loop.invariant in
+    first_fed _ _ _ _ _ _ _ _ _ so_far (record { plain = plain; takes = takes; kept = kept }) _ c.in_ok-take_part.ensures.part c.in-Feed.is short
 
 pub returns-then-len-most-clause-line : goal.returns-then-len-most-clause-line
 returns-then-len-most-clause-line g c =
-    let (so_far, plain, takes, kept, within) = c.loop.invariant in
+    let (so_far, plain, takes, kept, within, short) = c.loop.invariant in
     let whole : length c.take_part.new.line.items ≡ c.args.most = search rules in
-    first_long _ _ _ _ _ _ _ _ _ so_far (record { plain = plain; takes = takes; kept = kept }) _ c.in_ok-take_part.ensures.part c.in-More.is whole
+    first_long _ _ _ _ _ _ _ _ _ so_far (record { plain = plain; takes = takes; kept = kept }) _ c.in_ok-take_part.ensures.part c.in-More.is short whole
 
 pub returns-in-End-clause-line : goal.returns-in-End-clause-line
 returns-in-End-clause-line g c =
-    let (so_far, plain, takes, kept, within) = c.loop.invariant in
-    first_over _ _ _ _ _ _ _ _ _ so_far (record { plain = plain; takes = takes; kept = kept }) _ c.in_ok-take_part.ensures.part c.in-End.is
+    let (so_far, plain, takes, kept, within, short) = c.loop.invariant in
+    first_over _ _ _ _ _ _ _ _ _ so_far (record { plain = plain; takes = takes; kept = kept }) _ c.in_ok-take_part.ensures.part c.in-End.is short
 
 pub loop-preserved : goal.loop-preserved
 loop-preserved g c =
-    let (so_far, plain, takes, kept, within) = c.loop.invariant in
+    let (so_far, plain, takes, kept, within, short) = c.loop.invariant in
     let part = c.in_ok-take_part.ensures.part in
     let on = line_on _ _ _ _ _ _ _ _ _ so_far (record { plain = plain; takes = takes; kept = kept }) _ part c.in-More.is in
-    (so_far ++ part.more, on.plain, on.takes, on.kept, c.in_ok-take_part.ensures.within)
+    let below : length c.take_part.new.line.items ≢ c.args.most = search rules in
+    let longer : length (so_far ++ part.more) ≤ c.args.most = omega (arith, below, ap length on.kept, length-take c.args.most (so_far ++ part.more)) in
+    (so_far ++ part.more, on.plain, on.takes, on.kept, c.in_ok-take_part.ensures.within, longer)

@@ -1,8 +1,11 @@
 use Rattle.std.proofs.Common.{rules, arith, ◌≡◌, ◌≤◌, ◌∙◌, [], length, sym}
 use Rattle.std.proofs.lemmas.List.{drop_all}
 use Rattle.std.specs.Io.KnownBytes.{Consumes, IsAtEnd}
-use Rattle.topo_serve.proofs.TakingLaws.{part_over}
+use Rattle.topo_serve.proofs.TakingLaws.{part_ahead, part_over}
 use Rattle.topo_serve.proofs.ahead.Ahead.take_part.Goals as goal
+
+pub returns-then-self-len-clause-part : goal.returns-then-self-len-clause-part
+returns-then-self-len-clause-part g c = part_ahead c.in_ok-part.ensures.parts
 
 pub returns-then-branch-clause-part : goal.returns-then-branch-clause-part
 returns-then-branch-clause-part g c =
