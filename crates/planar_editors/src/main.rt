@@ -52,9 +52,7 @@ fn begin<F: PriceFn + Drop + Send + Sync, R: Threads + Wait + Print + AllocGloba
     requires promise { IsPromise (F.may_return prices) }
 {
     let alloc = rt.alloc();
-    let Ok(limits) = Limits::new(1_000, 1_000, 10_000) else {
-        return Err(Error::msg("limits that are out of range"));
-    };
+    let limits = Limits::new(1_000, 1_000, 10_000)?;
     // two vertices, 0 and 1, with an edge between them
     let start = Picture::seed(alloc, limits)?;
     let tariff = Arc::new(alloc, Tariff::new(prices))?;
@@ -101,10 +99,7 @@ fn give_out<F: PriceFn + Drop, K: ServiceBrand<F>>(
     passes: &mut Vec<Pass<F, K>>,
 ) -> Result<()> {
     for _ in 0..EDITORS + 1 {
-        match service.pass() {
-            Ok(pass) => passes.push(pass)?,
-            Err(fault) => return Err(Error::msg(fault.number())),
-        }
+        passes.push(service.pass()?)?;
     }
     Ok(())
 }

@@ -2,7 +2,7 @@
 
 use crate::EDITORS;
 use crate::editing::LOOKS;
-use anyhow::{Error, Result};
+use anyhow::Result;
 use std::alloc::Global;
 use topo_book::{Book, replay};
 use topo_core::calls::{Entry, Reply};
@@ -20,7 +20,7 @@ pub(crate) fn tell<F: PriceFn + Drop, K: ServiceBrand<F>, R: Print + AllocGlobal
     served?;
     match end {
         Ok(book) => tell_book(rt, rt.alloc(), book),
-        Err(end) => Err(Error::msg(end.fault.number())),
+        Err(end) => Err(end.fault.into()),
     }
 }
 

@@ -143,6 +143,31 @@ fn a_route_outlives_what_changes_elsewhere(rt: HostRuntime) -> Result<(), Fail> 
     are_told(&rt, ELSEWHERE, true)
 }
 
+/// A route outlives a growth elsewhere and refused calls, if they are no more than are looked
+/// through.
+fn outlives_calls<R: TestRuntime>(
+    rt: &R,
+    refused: u32,
+    end: &str,
+    is_known: bool,
+) -> Result<(), Fail> {
+    let mut between = vec![in rt.alloc(); Change::Grow(7, 7)]?;
+    for _call in 0..refused {
+        between.push(Change::Other(Call::Delete { edge: 999 }))?;
+    }
+    let told = told_after(rt, between.as_slice());
+    drop(between);
+    let told = told?;
+    is_end(rt, told.as_str(), end, is_known);
+    Ok(())
+}
+
+#[test]
+fn a_route_outlives_as_many_calls_as_are_looked_through(rt: HostRuntime) -> Result<(), Fail> {
+    outlives_calls(&rt, 255, "times\n[]; 257 calls, replayed: true", true)?;
+    outlives_calls(&rt, 256, "times\n[]; 258 calls, replayed: true", false)
+}
+
 /// Changes of the region of the search. The route leads from the vertex at (1, 1), that is, row and
 /// column, to the one at (3, 2).
 const NEARBY: &[&[Change]] = &[

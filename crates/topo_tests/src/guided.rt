@@ -44,7 +44,8 @@ fn asked_for<F: PriceFn>(
     Ok(asked.load(Ordering::SeqCst))
 }
 
-/// Once the picture was measured, a search asks for three quarters of the prices at most.
+/// Once the picture was measured, a search asks for three quarters of the prices at most. A copy is
+/// not measured, and a deletion takes out what was.
 fn asks_for_fewer<F: PriceFn>(
     rt: &impl Abort,
     alloc: Global,
@@ -52,11 +53,18 @@ fn asks_for_fewer<F: PriceFn>(
     tariff: &Tariff<F>,
     asked: &AtomicU32,
 ) -> Result<(), Fail> {
+    assert!(rt; !picture.has_guided_searches());
     let before = asked_for(rt, alloc, picture, tariff, asked)?;
     picture.guide_searches(alloc, tariff)?;
     assert!(rt; picture.has_guided_searches());
     let after = asked_for(rt, alloc, picture, tariff, asked)?;
     assert!(rt; after <= before / 4 * 3, "{before} and then {after}");
+    let copy = picture.copy(alloc)?;
+    let is_measured = copy.has_guided_searches();
+    drop(copy);
+    assert!(rt; !is_measured);
+    assert!(rt; picture.delete(0).is_ok());
+    assert!(rt; !picture.has_guided_searches());
     Ok(())
 }
 
@@ -75,6 +83,30 @@ fn is_guided<F: PriceFn + Drop>(
     let told = asks_for_fewer(rt, alloc, &mut picture, &tariff, asked);
     drop(picture);
     told
+}
+
+/// At prices above 1 of a closure nothing is kept of a measuring: no price is known before it is
+/// asked for, and what is measured must fit all prices.
+fn is_measured_in_vain<F: PriceFn + Drop>(
+    rt: &impl Abort,
+    alloc: Global,
+    ask: F,
+) -> Result<(), Fail>
+    requires callable { F.is_callable ask }
+    requires promise { IsPromise (F.may_return ask) }
+{
+    let tariff = Tariff::new(ask);
+    let mut picture = GRID.picture(alloc)?;
+    let measured = picture.guide_searches(alloc, &tariff);
+    let is_guided = picture.has_guided_searches();
+    drop(picture);
+    assert!(rt; measured.is_ok() && !is_guided);
+    Ok(())
+}
+
+#[test]
+fn a_closure_at_higher_prices_guides_no_search(rt: HostRuntime) -> Result<(), Fail> {
+    is_measured_in_vain(&rt, rt.alloc(), |_facts: &Facts| Some(7))
 }
 
 #[test]

@@ -268,7 +268,8 @@ fn is_planned<F: PriceFn>(
 }
 
 /// The searches from both ends find the route of a question, whatever the workspace served for. For
-/// one that crosses nothing they ask for no more prices than there are edges.
+/// one that crosses nothing they ask for no more prices than there are edges; else each end reaches
+/// some faces, and none twice.
 fn is_first<F: PriceFn>(
     rt: &impl Abort,
     alloc: Global,
@@ -298,6 +299,11 @@ fn is_first<F: PriceFn>(
     assert!(rt;
         crosses || asked <= picture.counts().edges,
         "{name}, {u} to {v} at {at:?}: {asked} prices"
+    );
+    let (reached, faces) = (work.reached(), picture.counts().faces as usize);
+    assert!(rt;
+        !crosses || reached > 0 && reached <= faces.saturating_mul(2),
+        "{name}, {u} to {v} at {at:?}: {reached} faces of {faces}"
     );
     let seen = first_route_seen(alloc, &picture.embedded(), tariff, u, v, work)?;
     let is_right = match &seen {
