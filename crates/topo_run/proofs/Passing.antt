@@ -119,28 +119,28 @@ opened_push passes pass opened number receipts i d below = elim (place_cases i (
 
 -- ---- Workers
 
-done_so : (old new : PassState) (list : List Command) (end : WorkerEnd) → end ≡ Done → HasEnded old new list end → HasDone old new list (length list)
-done_so old new list end is ended = subst (λ (e : WorkerEnd). HasEnded old new list e) is ended
+done_so : (price : Pricing) (start : Shown) (old new : PassState) (list : List Command) (end : WorkerEnd) → end ≡ Done → HasEnded price start old new list end → HasDone price start old new list (length list)
+done_so price start old new list end is ended = subst (λ (e : WorkerEnd). HasEnded price start old new list e) is ended
 
-worked_one : (i : ℕ) (old new : PassState) (list : List Command) → old.number ≡ i → old.receipts ≡ [] → HasDone old new list (length list)
+worked_one : (price : Pricing) (start : Shown) (i : ℕ) (old new : PassState) (list : List Command) → old.number ≡ i → old.receipts ≡ [] → HasDone price start old new list (length list)
     → HasWorked i list new
-worked_one i old new list number none done = record {
+worked_one price start i old new list number none done = record {
   is_numbered = done.same_number ∙ number;
   calls = ap (map call_in) (done.receipts ∙ ap (λ (rs : List Receipt). rs ++ done.gained) none) ∙ done.calls
       ∙ ap (map call_of) (take_all (length list) list (omega arith));
 }
 
-pub all_worked : (old new : List PassState) (lists : List (List Command)) (ends : List WorkerEnd) → AreOpened old → length old ≡ length lists
+pub all_worked : (price : Pricing) (start : Shown) (old new : List PassState) (lists : List (List Command)) (ends : List WorkerEnd) → AreOpened old → length old ≡ length lists
     → length new ≡ length lists
     → length ends ≡ length lists → All (λ end. end ≡ Done) ends
-    → ((i : ℕ) (p : PassState) (e : WorkerEnd) → i < length lists → HasEnded (get_or old i p) (get_or new i p) (slice_index_or lists i []) (get_or ends i e))
+    → ((i : ℕ) (p : PassState) (e : WorkerEnd) → i < length lists → HasEnded price start (get_or old i p) (get_or new i p) (slice_index_or lists i []) (get_or ends i e))
     → HaveWorked lists new
-all_worked old new lists ends opened as_many still one_each done ended = record {
+all_worked price start old new lists ends opened as_many still one_each done ended = record {
   count = still;
   each = λ i p below.
       let open_pass = opened i p (omega (arith, as_many)) in
-      worked_one i (get_or old i p) (get_or new i p) (slice_index_or lists i []) open_pass.0 open_pass.1
-      (done_so (get_or old i p) (get_or new i p) (slice_index_or lists i []) (get_or ends i Done) (done i Done (omega (arith, one_each)))
+      worked_one price start i (get_or old i p) (get_or new i p) (slice_index_or lists i []) open_pass.0 open_pass.1
+      (done_so price start (get_or old i p) (get_or new i p) (slice_index_or lists i []) (get_or ends i Done) (done i Done (omega (arith, one_each)))
       (ended i p Done below));
 }
 

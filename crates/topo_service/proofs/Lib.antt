@@ -1,3 +1,4 @@
+pub mod Answering
 pub mod FoundRoutes
 pub mod Matching
 pub mod Missed

@@ -3,22 +3,24 @@ use Rattle.std.proofs.Common.{ℕ, zero, suc, ◌+◌, ◌<◌, ◌∷◌, ◌++
 use Rattle.std.proofs.Common.{Bool, true, false, List, [], length, refl, ap, sym, ◌∙◌, subst, arith, length-append}
 use Rattle.std.proofs.lemmas.Bool.Decides.{nat_tests}
 use Rattle.topo_core.specs.declared.calls.Command.{Command}
+use Rattle.topo_core.specs.Routes.{Pricing}
+use Rattle.topo_rows.specs.Shown.{Shown}
 use Rattle.topo_service.specs.declared.workers.WorkerEnd.{WorkerEnd}
 use Rattle.topo_service.specs.Commands.{HasDone, HasEnded, HasMade, end_by}
 use Rattle.topo_service.specs.Passes.{PassState}
 
 -- how the work ended, by the receipts gained
-pub ended : (old new : PassState) (list : List Command) (e : WorkerEnd) → HasMade old new list
-    → e ≡ end_by (length new.receipts - length old.receipts) (length list) → HasEnded old new list e
-ended old new list e h is =
+pub ended : (price : Pricing) (start : Shown) (old new : PassState) (list : List Command) (e : WorkerEnd) → HasMade price start old new list
+    → e ≡ end_by (length new.receipts - length old.receipts) (length list) → HasEnded price start old new list e
+ended price start old new list e h is =
     let gained : length new.receipts - length old.receipts ≡ h.count =
     omega (arith, ap length h.made.receipts, length-append old.receipts h.made.gained, h.made.count) in
-    subst (HasEnded old new list) (sym (is ∙ ap (λ n. end_by n (length list)) gained)) (by_test (h.count == length list) refl)
+    subst (HasEnded price start old new list) (sym (is ∙ ap (λ n. end_by n (length list)) gained)) (by_test (h.count == length list) refl)
   where
-    by_test : (b : Bool) → (h.count == length list) ≡ b → HasEnded old new list (end_by h.count (length list))
+    by_test : (b : Bool) → (h.count == length list) ≡ b → HasEnded price start old new list (end_by h.count (length list))
     by_test true same =
         let all : h.count ≡ length list = grind (arith, nat_tests, same) in
-        rw same (subst (HasDone old new list) all h.made)
+        rw same (subst (HasDone price start old new list) all h.made)
     by_test false less =
         let apart : h.count ≢ length list = grind (arith, nat_tests, less) in
         rw less (omega (arith, h.within, apart), h.made)

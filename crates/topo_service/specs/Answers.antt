@@ -1,5 +1,5 @@
 -- What a pass knows after a call that was answered.
-use Rattle.std.specs.Prelude.{◌≡◌, ◌≢◌, ◌<◌, true, false, List, [], ◌∷◌, ◌++◌, length, Option, IfSome}
+use Rattle.std.specs.Prelude.{◌≡◌, ◌≢◌, ◌<◌, true, false, List, [], ◌∷◌, ◌++◌, length, Option, IfSome, ℕ}
 use Rattle.topo_core.specs.declared.rows.Rows.{Rows}
 use Rattle.topo_core.specs.declared.calls.Call.{Call}
 use Rattle.topo_core.specs.declared.calls.Entry.{Entry}
@@ -8,8 +8,9 @@ use Rattle.topo_core.specs.Routes.{Pricing}
 use Rattle.topo_core.specs.Steps.{Step}
 use Rattle.topo_core.specs.declared.calls.Refusal.TheVariants.{Memory}
 use Rattle.topo_core.specs.declared.calls.Reply.TheVariants.{Refused}
-use Rattle.topo_core.specs.History.{IsVersion, is_accepted}
+use Rattle.topo_core.specs.History.{IsPrefix, IsVersion, is_accepted}
 use Rattle.topo_rows.specs.Shown.{Shown}
+use Rattle.topo_service.specs.declared.pass.Receipt.{Receipt}
 use Rattle.topo_service.specs.Passes.{PassState, entry_of, receipt_of}
 
 -- the pass has seen more than before, and as the last its own entry of this call
@@ -34,7 +35,28 @@ pub record IsAnswered (price : Pricing) (start : Shown) (old new : PassState) (c
   pub refused : is_accepted reply ≡ false → IsDueAfter price start new.seen call reply
   pub no_memory : reply ≢ Refused Memory
 
--- the pass has one receipt more, of the call
-pub record HasReceiptOf (old new : PassState) (call : Call) : Type 0 where
+-- the entry came after what was known, and is the last of what was seen
+pub record HasEntered (known seen : List Entry) (entry : Entry) : Type 0 where
+  pub before : List Entry
+  pub since : IsPrefix known before
+  pub last : seen ≡ before ++ entry ∷ []
+
+-- What the reply of a receipt says is so. A pass with this number knew some entries before the call, and has seen more after it. The
+-- reply is not out of memory. If it was accepted, its own entry is the last that was seen; else it was due after what was seen.
+pub record IsHonest (price : Pricing) (start : Shown) (number : ℕ) (known seen : List Entry) (receipt : Receipt) : Type 0 where
+  pub no_memory : receipt.reply ≢ Refused Memory
+  pub later : IsPrefix known seen
+  pub accepted : is_accepted receipt.reply ≡ true → HasEntered known seen (entry_of number receipt.call receipt.reply)
+  pub refused : is_accepted receipt.reply ≡ false → IsDueAfter price start seen receipt.call receipt.reply
+
+-- the receipts are of calls that were made one after another, from what was known to what was seen, and each is honest
+abbrev pub AreHonest : Pricing → Shown → ℕ → List Entry → List Receipt → List Entry → Type 0
+AreHonest price start number known [] seen = IsPrefix known seen
+AreHonest price start number known (receipt ∷ receipts) seen = (after : List Entry) × IsHonest price start number known after receipt
+    × AreHonest price start number after receipts seen
+
+-- the pass has one receipt more, of the call, and it is honest
+pub record HasReceiptOf (price : Pricing) (start : Shown) (old new : PassState) (call : Call) : Type 0 where
   pub reply : Reply
   pub receipt : new.receipts ≡ old.receipts ++ receipt_of call reply ∷ []
+  pub honest : IsHonest price start old.number old.seen new.seen (receipt_of call reply)

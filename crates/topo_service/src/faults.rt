@@ -17,7 +17,7 @@ pub enum ServiceFault {
 }
 
 impl ServiceFault {
-    /// The number by which reports name the fault.
+    /// The number that is written before the name of the fault.
     pub fn number(self) -> u32
         ensures { result ≡ 41 }
     {
@@ -55,7 +55,7 @@ pub enum PassFault {
 }
 
 impl PassFault {
-    /// The number by which reports name the fault.
+    /// The number that is written before the name of the fault.
     pub fn number(self) -> u32
         ensures { result ≡ pass_number self }
     {
@@ -100,7 +100,7 @@ pub enum EndFault {
 }
 
 impl EndFault {
-    /// The number by which reports name the fault.
+    /// The number that is written before the name of the fault.
     pub fn number(self) -> u32
         ensures { result ≡ end_number self }
     {

@@ -303,7 +303,8 @@ impl<F: PriceFn, K: ServiceBrand<F>, W: VersionWriter<F, K>> ServiceOver<F, K, W
     ) -> Result<bool, AllocError>
         ensures number { pass.new.number ≡ pass.old.number }
         ensures receipt { IfOk result (λ entered. entered ≡ true
-            → HasReceiptOf pass.old pass.new (Insert found.now.u found.now.v kind)) }
+            → HasReceiptOf (prices_named F.may_return K.closure)
+            K.start pass.old pass.new (Insert found.now.u found.now.v kind)) }
         ensures late { IfOk result
             (λ entered. entered ≡ false → pass.new.receipts ≡ pass.old.receipts) }
         ensures later { IsPrefix pass.old.seen pass.new.seen }

@@ -47,7 +47,8 @@ fn enter<'a, F: PriceFn, K: ServiceBrand<F>, W: VersionWriter<F, K>, R: Wait>(
     source: RouteSource<'a, FoundRoute<F, K>>,
 ) -> Result<(), AllocError>
     ensures number { pass.new.number ≡ pass.old.number }
-    ensures receipt { OnOk result (HasReceiptOf pass.old pass.new call) }
+    ensures receipt { OnOk result (HasReceiptOf (prices_named F.may_return K.closure)
+        K.start pass.old pass.new call) }
     ensures later { IsPrefix pass.old.seen pass.new.seen }
     ensures unchanged { OnErr result (pass.new.receipts ≡ pass.old.receipts) }
 {
@@ -85,6 +86,7 @@ fn find_ahead<F: PriceFn, K: ServiceBrand<F>, W: VersionWriter<F, K>>(
 /// Inserts an edge whose route is looked for first on the pass's own version, without the lock. A
 /// route that comes too late is looked for once more so, unless the one before was late too. If
 /// that finds none, it is an insertion.
+#[tactic(auto, using(crate::proofs::Answering::may_have_later, crate::proofs::Answering::begins_further))]
 fn insert_ahead<F: PriceFn, K: ServiceBrand<F>, W: VersionWriter<F, K>, R: Wait>(
     rt: &R,
     alloc: Global,
@@ -95,7 +97,8 @@ fn insert_ahead<F: PriceFn, K: ServiceBrand<F>, W: VersionWriter<F, K>, R: Wait>
     kind: u32,
 ) -> Result<(), AllocError>
     ensures number { pass.new.number ≡ pass.old.number }
-    ensures receipt { OnOk result (HasReceiptOf pass.old pass.new (Insert u v kind)) }
+    ensures receipt { OnOk result (HasReceiptOf (prices_named F.may_return K.closure)
+        K.start pass.old pass.new (Insert u v kind)) }
     ensures later { IsPrefix pass.old.seen pass.new.seen }
     ensures unchanged { OnErr result (pass.new.receipts ≡ pass.old.receipts) }
 {
@@ -129,7 +132,8 @@ fn carry_out<F: PriceFn, K: ServiceBrand<F>, W: VersionWriter<F, K>, R: Wait>(
     command: Command,
 ) -> Result<(), AllocError>
     ensures number { pass.new.number ≡ pass.old.number }
-    ensures receipt { OnOk result (HasReceiptOf pass.old pass.new (call_of command)) }
+    ensures receipt { OnOk result (HasReceiptOf (prices_named F.may_return K.closure)
+        K.start pass.old pass.new (call_of command)) }
     ensures later { IsPrefix pass.old.seen pass.new.seen }
     ensures unchanged { OnErr result (pass.new.receipts ≡ pass.old.receipts) }
 {
@@ -160,7 +164,7 @@ fn work<F: PriceFn, K: ServiceBrand<F>, W: VersionWriter<F, K>, R: Wait, T: Gate
     list: &[Command],
     gate: &T,
 )
-    ensures { HasMade pass.old pass.new list.now }
+    ensures { HasMade (prices_named F.may_return K.closure) K.start pass.old pass.new list.now }
 {
     for (index, command) in list.iter().enumerate() {
         gate.before(worker, index);
@@ -189,7 +193,8 @@ fn run_each<
 )
     requires { length passes.old ≡ length lists.now }
     ensures made { (i : ℕ) (p : PassState) → i < length lists.now
-        → HasMade (slice_index_or passes.old i p) (slice_index_or passes.new i p)
+        → HasMade (prices_named F.may_return K.closure) K.start
+        (slice_index_or passes.old i p) (slice_index_or passes.new i p)
         (slice_index_or (map commands lists.now) i []) }
     ensures legal { (i : ℕ) (p : PassState) → i < length lists.now
         → AreLegal (prices_named F.may_return K.closure) K.start
@@ -205,7 +210,8 @@ fn run_each<
         threads,
         &|i, pass: &mut Pass<F, K>|
             requires { i < length lists.now }
-            ensures made { HasMade pass.entry.now pass.exit.now
+            ensures made { HasMade (prices_named F.may_return K.closure) K.start
+                pass.entry.now pass.exit.now
                 (slice_index_or (map commands lists.entry.now) i []) }
             ensures legal { AreLegal (prices_named F.may_return K.closure)
                 K.start pass.exit.now.seen }
@@ -275,7 +281,9 @@ fn tell_ends<F: PriceFn, K: ServiceBrand<F>>(
 /// Runs each list with the pass at its place, in a thread of its own, or in its turn where no
 /// thread can be made. A command is carried out between the gate's calls for it. The answer says of
 /// each list whether it was carried out, or where it was out of memory; its room is taken first,
-/// and where that is refused, no pass has changed.
+/// and where that is refused, no pass has changed. The reply of each receipt is one that its call had:
+/// if it was accepted, the pass saw its own entry then; if it was refused, it was due after what the
+/// pass had seen by then; and it is never out of memory.
 pub fn run_workers<
     F: PriceFn + Drop + Send + Sync,
     K: ServiceBrand<F> + Send + Sync,
@@ -294,7 +302,8 @@ pub fn run_workers<
     ensures one_each { IfOk result (λ ends. length ends.items ≡ length lists.now) }
     ensures ended { IfOk result
         (λ ends. (i : ℕ) (p : PassState) (e : WorkerEnd) → i < length lists.now
-        → HasEnded (slice_index_or passes.old i p) (slice_index_or passes.new i p)
+        → HasEnded (prices_named F.may_return K.closure) K.start
+        (slice_index_or passes.old i p) (slice_index_or passes.new i p)
         (slice_index_or (map commands lists.now) i []) (slice_index_or ends.items i e)) }
     ensures legal { IfOk result (λ ends. (i : ℕ) (p : PassState) → i < length lists.now
         → AreLegal (prices_named F.may_return K.closure) K.start

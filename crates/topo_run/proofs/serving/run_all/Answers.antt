@@ -5,6 +5,7 @@ use Rattle.topo_service.specs.declared.workers.WorkerEnd.{WorkerEnd}
 use Rattle.topo_service.specs.declared.workers.WorkerEnd.TheVariants.{Done}
 use Rattle.topo_service.specs.Commands.{commands}
 use Rattle.topo_service.specs.Passes.{PassState}
+use Rattle.topo_versions.specs.Names.{prices_named}
 use Rattle.topo_run.proofs.Passing.{all_worked, take_before}
 use Rattle.topo_run.specs.Working.{AreOpened, HaveWorked}
 use Rattle.topo_run.proofs.serving.run_all.Goals as goal
@@ -24,7 +25,7 @@ returns-then-are_done-clause-worked g c =
     let done : All (λ (end : WorkerEnd). end ≡ Done) ends =
     subst (λ (es : List WorkerEnd). All (λ (end : WorkerEnd). end ≡ Done) es) c.as_slice.ensures.value (c.are_done.ensures c.if-are_done.true) in
     let len : c.in_ok-passes.passes.len ≡ length new = search (rules, arith) in
-    let worked : HaveWorked lists new = all_worked old new lists ends opened as_many (still ∙ as_many) one_each done (λ i p e below.
+    let worked : HaveWorked lists new = all_worked (prices_named g.F.PriceFn.may_return g.K.ServiceBrand.closure) g.K.ServiceBrand.start old new lists ends opened as_many (still ∙ as_many) one_each done (λ i p e below.
     let here : i < length c.args.lists.now = omega (arith, count, below) in
     c.in-Ok.ensures.ended i p e here) in
     subst (λ (ps : List PassState). HaveWorked lists ps)
