@@ -5,11 +5,6 @@ use Rattle.topo_core.specs.declared.darts.Dart.{Dart}
 use Rattle.topo_core.specs.declared.rows.EdgeRow.{EdgeRow}
 use Rattle.topo_core.specs.Items.{IsIn}
 use Rattle.topo_core.specs.Changes.{woven}
-use Rattle.topo_rows.specs.Ids.{IdsRise}
-
--- the ids of the edges rise
-abbrev pub EdgesRise : List EdgeRow → Type 0
-EdgesRise edges = IdsRise (map (λ row. row.id) edges)
 
 -- the darts lie on the paths of their edges, of those that are there
 abbrev pub AreOnPaths : List EdgeRow → List Dart → Type 0

@@ -43,12 +43,14 @@ struct CountedTable<'a> {
 }
 
 impl PriceFn for CountedTable<'_> {
-    ghost use Rattle.std.specs.Prelude.{⊤};
+    ghost use Rattle.std.specs.Prelude.{None, ⊤};
     ghost use Rattle.topo_price.specs.Prices.{table_answers};
 
     ghost is_callable = { λ counted. ⊤ };
 
     ghost may_return = { λ counted. table_answers counted.table };
+
+    ghost of_kind = { λ counted kind. None };
 
     fn price(&self, facts: &Facts) -> Option<u32> {
         let _ = self.asked.fetch_add(1, Ordering::SeqCst);

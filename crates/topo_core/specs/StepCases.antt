@@ -1,4 +1,4 @@
--- One step for each reply that the other evidence lacks, and steps, replays, versions and runs that are none. Each record is
+-- Steps for the replies that the other evidence lacks, and steps, replays, versions and runs that are none. Each record is
 -- proved as the contract of a function without a body.
 use Rattle.std.specs.Prelude.{List, [], ◌∷◌}
 use Rattle.topo_core.specs.declared.calls.Call.TheVariants.{Delete, Grow, Insert}
@@ -16,7 +16,7 @@ use Rattle.topo_core.specs.History.{IsLegal, IsRun, IsVersion, Replays}
 use Rattle.topo_core.specs.Pictures.{back, barrier, bipyramid, joined_apexes, seed}
 use Rattle.topo_core.specs.Steps.{HasRoomFor, Step}
 
--- ---- A step for each reply
+-- ---- Steps
 
 -- the bipyramid with the ids of an edge between the apexes, and of its one crossing, given out
 abbrev pub joined_before : Rows

@@ -6,7 +6,7 @@ ghost use Rattle.topo_core.specs.StepCases.{NoHistoryEvidence, NoStepEvidence, S
 
 use crate::limits::Limits;
 
-/// A deletion, a cut, and each refusal for want of an edge, a route, a vertex, an edge id or a
+/// A deletion, a cut, and each refusal for want of an edge, a route, a vertex id, an edge id or a
 /// crossing id.
 pub fn steps(wide: Limits, narrow: Limits, single: Limits)
     requires edges { wide.edges ≡ 65536 }

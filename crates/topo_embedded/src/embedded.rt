@@ -1,14 +1,14 @@
 //! Rows with their embedding.
 
-ghost use Rattle.std.specs.Prelude.{◌≡◌, ◌↔◌, ◌*◌, ◌<◌, ◌≤◌, ◌^◌, true, ℕ, IfOk, Some};
-ghost use Rattle.std.specs.Prelude.{IsTrue, is_some, length, option_map, sum_by};
+ghost use Rattle.std.specs.Prelude.{◌≡◌, ◌*◌, ◌<◌, ◌≤◌, ◌^◌, true, ℕ, IfOk, Some};
+ghost use Rattle.std.specs.Prelude.{is_some, length, option_map, sum_by};
 ghost use Rattle.topo_changes.specs.Keeping.{viewed_row};
 ghost use Rattle.topo_core.specs.declared.darts.Dart.{Dart};
 ghost use Rattle.topo_core.specs.Lawful.{IsWellFormed};
 ghost use Rattle.topo_core.specs.Picture.{corner, darts, edge_at, edge_row};
 ghost use Rattle.topo_core.specs.Picture.{end_dart, segment_count, system};
 ghost use Rattle.topo_core.specs.Routes.{AreFactsOf};
-ghost use Rattle.topo_core.specs.Systems.{SameFace, face_step, has_dart};
+ghost use Rattle.topo_core.specs.Systems.{face_step, has_dart};
 ghost use Rattle.topo_embedded.specs.Bounds.{at_face, floor_of};
 ghost use Rattle.topo_embedded.specs.Halves.{IsHalf, ShowsRows, half_in, path_of};
 ghost use Rattle.topo_map.specs.Rotation.{face_of};
@@ -235,18 +235,6 @@ impl Embedded {
             → result ≡ half_in self.now (face_step (system self.now.rows) d) }
     {
         self.parts.segments.face_next(half)
-    }
-
-    /// Whether two halves have one face on their left.
-    pub fn same_face(&self, half: Half, other: Half) -> bool
-        requires half_there { IsHalf self.now half }
-        requires other_there { IsHalf self.now other }
-        ensures { (c d : Dart) → has_dart (darts self.now.rows) c ≡ true
-            → has_dart (darts self.now.rows) d ≡ true → half_in self.now c ≡ half
-            → half_in self.now d ≡ other
-            → IsTrue result ↔ SameFace (system self.now.rows) c d }
-    {
-        self.parts.segments.same_face(half, other)
     }
 
     /// A number that those of all halves are below.

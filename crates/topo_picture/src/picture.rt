@@ -179,10 +179,13 @@ impl Picture {
         EmbeddedRows::new(&self.embedded)
     }
 
-    /// Guides searches to their targets from then on, until an edge is taken out or an insertion
-    /// has all faces labelled anew. It measures how far all faces are from four vertices at these
-    /// prices, which takes as long as some searches of the whole picture. The picture stays as it
-    /// is, and a copy of it has none of this.
+    /// Guides searches to their targets from then on, until an edge is taken out, or an insertion
+    /// has all faces labelled anew or finds no place for the numbers of a new face. It measures how
+    /// far all faces are from four vertices at these prices, which takes as long as some searches of
+    /// the whole picture. Of a price that is not known by the kind of its edge, searches know only
+    /// that it is at least 1: if faces on the two sides of such an edge are farther apart than that,
+    /// nothing is kept, and searches are not guided. The picture stays as it is, and a copy of it
+    /// has none of this.
     pub fn guide_searches<F: PriceFn>(
         &mut self,
         alloc: Global,

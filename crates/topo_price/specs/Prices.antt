@@ -1,5 +1,5 @@
 -- What a stored closure promises, and what a table of prices may have.
-use Rattle.std.specs.Prelude.{◌≡◌, ℕ, ◌≤◌, nat_le, not, ◌&&◌, Bool, true, List, Option, Some, None, MatchOption, position, slice_get}
+use Rattle.std.specs.Prelude.{◌≡◌, ℕ, ◌≤◌, min, nat_le, not, ◌&&◌, Bool, true, List, Option, Some, None, MatchOption, position, slice_get}
 use Rattle.topo_core.specs.declared.rows.Facts.{Facts}
 use Rattle.topo_core.specs.Routes.{Pricing}
 use Rattle.topo_core.specs.declared.rows.TheConstants.{MAX_PRICE}
@@ -21,6 +21,12 @@ prices_of answers facts n = answers facts (Some n)
 -- the answer is the price of these facts, and none where they have no price
 abbrev pub IsPriceOf : Pricing → Facts → Option ℕ → Type 0
 IsPriceOf price facts answer = MatchOption answer ((n : ℕ) → price facts n → ⊥) (λ n. price facts n)
+
+-- a number that no price of a kind is below, by what is known of its prices: that price, at most the greatest of sixteen bits
+abbrev pub floor_of : Option (Option ℕ) → ℕ
+floor_of None = 1
+floor_of (Some None) = 65535
+floor_of (Some (Some n)) = min n 65535
 
 -- ---- Tables of prices by kind
 

@@ -17,6 +17,9 @@ pub trait PriceFn {
     /// What it may answer.
     ghost may_return: { Self → Facts → Option ℕ → Type 0 };
 
+    /// What it answers for all edges of a kind, where that is known.
+    ghost of_kind: { Self → ℕ → Option (Option ℕ) };
+
     fn price(&self, facts: &Facts) -> Option<u32>
         requires { is_callable self.now }
         ensures { may_return self.now facts.now result };
@@ -25,16 +28,20 @@ pub trait PriceFn {
     /// the other facts of an edge.
     fn price_of_kind(&self, kind: u8) -> Option<Option<u32>>
         requires { kind < KINDS }
-        ensures { IfSome result
+        ensures known { result ≡ of_kind self.now kind }
+        ensures answer { IfSome result
             (λ answer. (facts : Facts) → facts.kind ≡ kind → may_return self.now facts answer) };
 }
 
 impl<F: Fn(&Facts) -> Option<u32> + Send + Sync> PriceFn for F {
     ghost use Rattle.std.specs.Fn.{FnReturnsAt};
+    ghost use Rattle.std.specs.Prelude.{None};
 
     ghost is_callable = { λ f. F.IsAlwaysCallable f };
 
     ghost may_return = { λ f facts answer. FnReturnsAt F.Fn f facts answer };
+
+    ghost of_kind = { λ f kind. None };
 
     fn price(&self, facts: &Facts) -> Option<u32> {
         self(facts)
@@ -46,12 +53,14 @@ impl<F: Fn(&Facts) -> Option<u32> + Send + Sync> PriceFn for F {
 }
 
 impl PriceFn for PriceTable {
-    ghost use Rattle.std.specs.Prelude.{⊤};
+    ghost use Rattle.std.specs.Prelude.{⊤, slice_get};
     ghost use Rattle.topo_price.specs.Prices.{table_answers};
 
     ghost is_callable = { λ table. ⊤ };
 
     ghost may_return = { λ table. table_answers table };
+
+    ghost of_kind = { λ table kind. slice_get table kind };
 
     fn price(&self, facts: &Facts) -> Option<u32> {
         PriceTable::price(self, facts.kind)
@@ -79,11 +88,11 @@ impl<F: PriceFn> Model for Tariff<F> {
 }
 
 impl<F: PriceFn> Tariff<F> {
-    ghost use Rattle.std.specs.Prelude.{◌≡◌, ◌<◌, ◌≤◌, ℕ, IfSome};
+    ghost use Rattle.std.specs.Prelude.{◌≡◌, ◌<◌, ◌≤◌, ℕ, IfSome, is_some};
     ghost use Rattle.topo_core.specs.declared.rows.Facts.{Facts};
     ghost use Rattle.topo_core.specs.declared.rows.TheConstants.{KINDS};
     ghost use Rattle.topo_core.specs.Routes.{KeepsPromise};
-    ghost use Rattle.topo_price.specs.Prices.{IsPriceOf, IsPromise, prices_of};
+    ghost use Rattle.topo_price.specs.Prices.{IsPriceOf, IsPromise, floor_of, prices_of};
 
     /// Stores the closure. The promise is the caller's: it may be asked for any edge, answers none
     /// or from 1 to `MAX_PRICE`, and answers the same for the same facts.
@@ -95,9 +104,10 @@ impl<F: PriceFn> Tariff<F> {
         Tariff { ask }
     }
 
-    /// Whether it knows its prices by the kind of an edge alone, as those of a table are. No
-    /// contract rests on it.
-    pub fn is_by_kind(&self) -> bool {
+    /// Whether it knows its prices by the kind of an edge alone, as those of a table are.
+    pub fn is_by_kind(&self) -> bool
+        ensures { result ≡ is_some (F.of_kind self.now 0) }
+    {
         self.ask.price_of_kind(0).is_some()
     }
 
@@ -105,6 +115,7 @@ impl<F: PriceFn> Tariff<F> {
     /// not be crossed.
     pub fn price_of_kind(&self, kind: u8) -> Option<Option<u32>>
         requires { kind < KINDS }
+        ensures known { result ≡ F.of_kind self.now kind }
         ensures price { IfSome result (λ answer. (facts : Facts) → facts.kind ≡ kind
             → IsPriceOf (prices_of (F.may_return self.now)) facts answer) }
         ensures promise { KeepsPromise (prices_of (F.may_return self.now)) }
@@ -112,11 +123,12 @@ impl<F: PriceFn> Tariff<F> {
         self.ask.price_of_kind(kind)
     }
 
-    /// A number that no price of this kind is below: its price where that is known, and the
-    /// greatest of sixteen bits where it has none.
+    /// A number that no price of this kind is below: its price where that is known, at most the
+    /// greatest of sixteen bits, which is also that of a kind that must not be crossed; else 1.
     pub fn floor(&self, kind: u8) -> u16
         requires { kind < KINDS }
-        ensures { (facts : Facts) (n : ℕ) → facts.kind ≡ kind
+        ensures known { result ≡ floor_of (F.of_kind self.now kind) }
+        ensures below { (facts : Facts) (n : ℕ) → facts.kind ≡ kind
             → prices_of (F.may_return self.now) facts n → result ≤ n }
     {
         match self.ask.price_of_kind(kind) {

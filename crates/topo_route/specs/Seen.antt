@@ -8,7 +8,7 @@ use Rattle.topo_route.specs.Meeting.{HasMet}
 use Rattle.topo_route.specs.Names.{IsName, Named, dart_named, height_of}
 use Rattle.topo_route.specs.Regions.{IsRegionOf, RegionState, holds_edge}
 
--- what one region holds is in the other
+-- the edges that one region holds are in the other
 pub record HoldsMore (before after : RegionState) : Type 0 where
   pub edges : (e : ℕ) → holds_edge before e ≡ true → holds_edge after e ≡ true
 

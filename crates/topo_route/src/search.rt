@@ -209,9 +209,10 @@ fn find_route<W: FaceGraph, F: PriceFn>(
 /// The first of the least routes from `u` to `v`, two different vertices, with its price; none
 /// where no route crosses only edges that have a price.
 ///
-/// As `search`, for a call that hands out no heights. It searches from both ends until the two
-/// searches meet, so its time follows the faces of two discs, one round each end, which together
-/// reach as far as the route is dear. What it writes on is handed in, and costs nothing for the
+/// As `search`, for a call that hands out no heights. Where the potentials of the graph say
+/// something of these prices, it searches from `v` alone, guided to `u`. Else it searches from both
+/// ends until the two searches meet, so its time follows the faces of two discs, one round each
+/// end, which together reach as far as the route is dear. What it writes on is handed in, and costs nothing for the
 /// rest of the picture. An edge is asked for its price each time that it is needed. A height of
 /// 2,147,483,647 or more would be answered as out of memory. No picture within the limits has one:
 /// it has fewer than 1,200,000 faces, and no price is above 1,000.
@@ -219,10 +220,11 @@ fn find_route<W: FaceGraph, F: PriceFn>(
 /// If a face at one of the first corners of `u` is also at `v`, nothing is crossed and nothing is
 /// searched.
 ///
-/// Shortest paths in the dual graph (Dijkstra 1959) from both ends (Nicholson 1966), by buckets of
-/// equal height (Dial 1969). What is spread from `u` says how high above `v` a dart may be that no
-/// spread from `v` has reached: the heights, cut off there, are a certificate. This is what proves
-/// the route, whatever the order in which faces were taken and wherever the two ends met.
+/// Shortest paths in the dual graph (Dijkstra 1959) from both ends (Nicholson 1966) or guided by
+/// potentials (A*, Hart, Nilsson and Raphael 1968), by buckets of equal height (Dial 1969). What is
+/// spread from `u`, or the potentials, say how high above `v` a dart may be that no spread from `v`
+/// has reached: the heights, cut off there, are a certificate. This is what proves the route,
+/// whatever the order in which faces were taken and wherever the two ends met.
 pub fn first_route<W: FaceGraph, F: PriceFn>(
     alloc: Global,
     graph: &W,

@@ -1,6 +1,6 @@
 //! What searches write on.
 
-ghost use Rattle.std.specs.Prelude.{◌≡◌, [], IfOk};
+ghost use Rattle.std.specs.Prelude.{◌≡◌, ◌+◌, ◌<◌, ◌^◌, [], IfOk, length};
 
 use crate::spread::Labels;
 use std::alloc::{AllocError, Global};
@@ -40,8 +40,11 @@ impl Workspace {
     }
 
     /// How many faces the last search has reached, from both ends together: what it has cost. A
-    /// route that crosses nothing is found without a search.
-    pub fn reached(&self) -> usize {
+    /// route that crosses nothing is found without a search, and then it is of the one before.
+    pub fn reached(&self) -> usize
+        ensures { length self.now.to_end.names.items + length self.now.to_start.names.items < 2 ^ 64
+            → result ≡ length self.now.to_end.names.items + length self.now.to_start.names.items }
+    {
         let from_start = self.to_start.names.len();
         self.to_end.names.len().saturating_add(from_start)
     }

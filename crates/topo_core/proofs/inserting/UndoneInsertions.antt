@@ -196,10 +196,6 @@ module _ (rows : Rows) (u v kind : ℕ) (r : Route) (good : IsWellFormed rows) (
 
   -- ---- All parts together
 
-  abbrev built : List (List ℕ) → List EdgeRow → List CrossRow → Rows
-  built around es xs =
-      record { rotations = around; edges = es; crossings = xs; next_edge = rows.next_edge + 1; next_crossing = rows.next_crossing + length r.crossed }
-
   pub insertion_undone_here : without after rows.next_edge
       ≡ record rows { next_edge = rows.next_edge + 1; next_crossing = rows.next_crossing + length r.crossed }
   insertion_undone_here = grind (arith, rotations_undone, edges_undone, crossings_undone)

@@ -105,9 +105,7 @@ edge_rises e a (suc n) =
         (λ d there. after_all back refl refl d there),
         edge_rises e (a + 1) n,
       ),
-    ) where
-      two_ways : (e a : ℕ) → Precedes (record { edge = e; seg = a; way = Forward }) (record { edge = e; seg = a; way = Back })
-      two_ways e a = grind (arith, nat_cmp_self)
+    )
 
 -- ---- The darts of all edges
 

@@ -251,15 +251,6 @@ pass_step f g n x a v k (lv, w) =
         ]
       ],
     )
-  where
-    onward_free : g (f x) ≢ f x → f (twin x) ≡ g (f x)
-    onward_free free = k.edit.leads_on (λ z. free (ap g (sym (twin-twin (f x))) ∙ z ∙ twin-twin (f x))) ∙ ap g (twin-twin (f x))
-
-    fixed : f (twin x) ≡ twin x → g (f x) ≡ f x
-    fixed alone = grind (arith, cases_eq, twin-within)
-
-    onward : f (twin x) ≢ twin x → g (f x) ≡ f (twin x)
-    onward more = grind (arith, cases_eq, twin-twin)
 
 pub smooth_keeps_faces : SmoothKeepsFaces
 unfolding Passed
