@@ -371,7 +371,8 @@ impl<F: PriceFn> Book<F> {
     }
 
     /// Room for so many more entries, vertices and edges, so that the history and the picture need
-    /// not move as they grow. There is none made in a picture of which somebody has a share.
+    /// not move as they grow. There is none made in a picture of which somebody has a share. Only
+    /// the room for entries is told by the contract.
     pub fn reserve(
         &mut self,
         entries: usize,
@@ -629,7 +630,8 @@ impl<F: PriceFn> Book<F> {
         Ok(())
     }
 
-    /// Carries the call out and enters it. Answers a copy of the reply where it is to be told.
+    /// Carries the call out and enters it. Answers a copy of the reply where it is to be told, and
+    /// at times where it is not.
     fn enter_from(
         &mut self,
         alloc: Global,

@@ -53,8 +53,8 @@ impl Model for Picture {
 }
 
 impl Picture {
-    ghost use Rattle.std.specs.Prelude.{◌≡◌, ◌≢◌, ◌⊎◌, ◌+◌, ◌<◌, ℕ, true, IfOk, IfErr};
-    ghost use Rattle.std.specs.Prelude.{IfSome, OnErr, OnOk, length, is_some, Some, None};
+    ghost use Rattle.std.specs.Prelude.{◌≡◌, ◌≢◌, ◌⊎◌, ◌↔◌, ◌+◌, ◌<◌, ℕ, true, IfOk, IfErr};
+    ghost use Rattle.std.specs.Prelude.{IfSome, IsTrue, OnErr, OnOk, length, is_some, Some, None};
     ghost use Rattle.topo_core.specs.Pictures.{seed};
     ghost use Rattle.topo_core.specs.Routes.{IsSimpleRoute};
     ghost use Rattle.topo_core.specs.Changes.{IsCut, grown, shown, without};
@@ -298,8 +298,8 @@ impl Picture {
     /// no vertex of it, and crosses no edge of it. So does an edge that is not there.
     #[tactic(auto, using(crate::proofs::ApartEdges::is_apart))]
     pub fn is_apart(&self, edge: u32, region: &Region) -> bool
-        ensures { result ≡ true
-            → IfSome (edge_row self.now.rows edge) (IsApart self.now.rows region.now) }
+        ensures { IsTrue result
+            ↔ IfSome (edge_row self.now.rows edge) (IsApart self.now.rows region.now) }
     {
         let rows = self.embedded.rows();
         match self.embedded.find_edge(edge) {

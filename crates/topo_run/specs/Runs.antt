@@ -1,5 +1,5 @@
 -- What a run writes.
-use Rattle.std.specs.Prelude.{◌≡◌, ◌<◌, ℕ, List, [], ◌∷◌, ◌++◌, Option, Ok, length, slice_index_or, ⊤}
+use Rattle.std.specs.Prelude.{◌≡◌, ℕ, List, [], ◌∷◌, ◌++◌, Option, Ok, ⊤}
 use Rattle.std.specs.Io.KnownBytes.{Appends, Keeps}
 use Rattle.topo_core.specs.declared.rows.Rows.{Rows}
 use Rattle.topo_core.specs.declared.limits.Limits.{Limits}
@@ -10,6 +10,7 @@ use Rattle.topo_forms.specs.declared.reports.Report.{Report}
 use Rattle.topo_forms.specs.Reads.{IsFirstFault}
 use Rattle.topo_forms.specs.Scripts.{script_of}
 use Rattle.topo_script.specs.ReportTexts.{report_text}
+use Rattle.topo_run.specs.Working.{IsOfRun}
 use Rattle.topo_settings.specs.declared.fault.RunFault.{RunFault}
 use Rattle.topo_settings.specs.declared.fault.RunFault.TheVariants.{Memory, Script as OfScript, BadLimits, Price, Load, NoSeat}
 use Rattle.topo_settings.specs.declared.fault.RunFault.TheVariants.{Mismatch, WrongReply, WrongPicture, ReadFault, WriteFault}
@@ -50,18 +51,17 @@ pub record IsSoundScript (script : Script) : Type 0 where
   pub limits : Limits
   pub sound : IsSound script.limits script.prices script.start limits
 
--- what is told of a script: the first of its limits, its prices and its start that is at fault; if none is, what the
--- service is at fault of, which only several lists have: it has no place for one of them, or the receipt of a command of
--- theirs differs, which is named by the places of its list and of the command in it
+-- What is told of a script: the first of its limits, its prices and its start that is at fault. If none is, what the run of
+-- its lists is at fault of: several have no place for one of them, or the receipt of a command differs, which is named by the
+-- places of its list and of the command in it. That it does differ is not said.
 abbrev pub FailsRun : Script → RunFault → Type 0
 FailsRun script Memory = ⊤
 FailsRun script (OfScript fault) = ⊥
 FailsRun script BadLimits = IsUnsound script.limits script.prices script.start BadLimits
 FailsRun script (Price fault) = IsUnsound script.limits script.prices script.start (Price fault)
 FailsRun script (Load fault) = IsUnsound script.limits script.prices script.start (Load fault)
-FailsRun script NoSeat = IsSoundScript script × (1 < length script.workers)
-FailsRun script (Mismatch list i) =
-    IsSoundScript script × (1 < length script.workers) × (list < length script.workers) × (i < length (slice_index_or script.workers list []))
+FailsRun script NoSeat = IsSoundScript script × IsOfRun script.workers NoSeat
+FailsRun script (Mismatch list i) = IsSoundScript script × IsOfRun script.workers (Mismatch list i)
 FailsRun script (WrongReply i) = ⊥
 FailsRun script WrongPicture = ⊥
 FailsRun script ReadFault = ⊥

@@ -43,5 +43,5 @@ IsOfService lists _ = ⊥
 abbrev pub IsOfRun : List (List Command) → RunFault → Type 0
 IsOfRun lists Memory = ⊤
 IsOfRun lists NoSeat = 1 < length lists
-IsOfRun lists (Mismatch list i) = (1 < length lists) × (list < length lists) × (i < length (slice_index_or lists list []))
+IsOfRun lists (Mismatch list i) = (1 < length lists) × IsOfService lists (Mismatch list i)
 IsOfRun lists _ = ⊥

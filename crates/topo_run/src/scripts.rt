@@ -31,12 +31,13 @@ use topo_settings::settings::validate;
 ///
 /// Carries out the lists of a script from its start, each list in a thread of its own, or in its
 /// turn where no thread can be made. The tariff answers the script's prices. A command is carried
-/// out between the gate's calls for it. A planned insertion plans on a version of the picture
-/// before it takes the lock. A refused command is entered and changes nothing, and the run goes on.
-/// The fault is the first of the script's limits, its prices and its start; then Memory if any of
-/// it was out of memory, also in one of the threads, NoSeat if there are more than `MAX_PASSES`
-/// lists, and Mismatch if a receipt is not in the history, with the places of its list and of its
-/// command. One list alone is carried out in this thread, and has no fault of the last two.
+/// out between the gate's calls for it. A planned insertion of several lists may look for its route
+/// on a version of the picture before it takes the lock. A refused command is entered and changes
+/// nothing, and the run goes on. The fault is the first of the script's limits, its prices and its
+/// start. If they have none, it is NoSeat if there are more than `MAX_PASSES` lists, Memory if any
+/// of it was out of memory, also in one of the threads, and Mismatch if a receipt is not in the
+/// history, with the places of its list and of its command. One list alone is carried out in this
+/// thread, where a planned insertion is an insertion, and its only such fault is Memory.
 pub fn run_script<F: PriceFn + Drop + Send + Sync, R: Threads + Wait + Sync, T: Gate>(
     rt: &R,
     alloc: Global,

@@ -93,14 +93,19 @@ ahead_fed items shown at n same len below =
     sym is ∙ first_fed rest (omega (arith, len)) ∙ ap (λ (t : List ℕ). (first_line rest ++ 10 ∷ []) ++ t) behind
     ∙ ap (λ (t : List ℕ). (t ++ 10 ∷ []) ++ drop (at + (n + 1)) items) (sym first)
 
+-- nothing is ahead behind all of it
+pub none_ahead : (items shown : List ℕ) (at n : ℕ) → shown ≡ items → length (lent shown at) ≤ n → drop (at + n) items ≡ []
+none_ahead items shown at n same above =
+    let is : lent shown at ≡ drop at items = take_rest shown at ∙ ap (drop at) same in
+    drop_all (at + n) items (omega (arith, above, ap length is, length-drop at items))
+
 pub ahead_all : (items shown : List ℕ) (at n : ℕ) → shown ≡ items → at ≤ length shown → n ≡ length (first_line (lent shown at)) → length (lent shown at) ≤ n
     → drop at items ≡ (take n (lent shown at) ++ []) ++ drop (at + n) items
 ahead_all items shown at n same there len above =
     let rest = lent shown at in
     let is : rest ≡ drop at items = take_rest shown at ∙ ap (drop at) same in
     let all : take n rest ≡ rest = take_all n rest above in
-    let counted : length rest ≡ length items - at = ap length is ∙ length-drop at items in
-    let none : drop (at + n) items ≡ [] = drop_all (at + n) items (omega (arith, counted, ap length same)) in
+    let none : drop (at + n) items ≡ [] = none_ahead items shown at n same above in
     sym is ∙ sym (append-nil rest) ∙ sym (append-nil (rest ++ [])) ∙ ap (λ (t : List ℕ). (rest ++ []) ++ t) (sym none)
     ∙ ap (λ (t : List ℕ). (t ++ []) ++ drop (at + n) items) (sym all)
 

@@ -13,6 +13,7 @@ use Rattle.topo_forms.specs.Sessions.{opening_of}
 use Rattle.topo_settings.specs.declared.fault.RunFault.{RunFault}
 use Rattle.topo_settings.specs.declared.fault.RunFault.TheVariants.{Memory, Script, BadLimits, Price, Load}
 use Rattle.topo_settings.specs.declared.fault.RunFault.TheVariants.{ReadFault, WriteFault}
+use Rattle.topo_settings.specs.Reading.{IsOfReading}
 use Rattle.topo_settings.specs.Settings.{IsSound, IsUnsound, priced, start_of}
 use Rattle.topo_serve.specs.declared.ahead.Part.{Part}
 use Rattle.topo_serve.specs.declared.ahead.Part.TheVariants.{More}
@@ -20,7 +21,7 @@ use Rattle.topo_serve.specs.Answers.{Standing, TellsCounts}
 use Rattle.topo_serve.specs.Lines.{IsPlain, closed, first_line, lines_of}
 use Rattle.topo_serve.specs.Sessions.{AreAnswered, AreRead, IsCutShort, IsFaultOfOpening, IsFirstRead}
 use Rattle.topo_serve.specs.Sessions.{IsPartlyServed, IsServed, IsSession, OpensNone, ServeFailsBy, beginning}
-use Rattle.topo_serve.specs.Taking.{OverUnless, Takes, TakesFirst, feed_if}
+use Rattle.topo_serve.specs.Taking.{OverUnless, ReadsNoFeed, Takes, TakesFirst, feed_if}
 use Rattle.topo_serve.specs.Turns.{BeginFailsBy, BeginsAll, BeginsPart, OpenFailsBy, Opens}
 use Rattle.topo_serve.specs.Turns.{OpensNoneBy, ServesPart, ServesSome, Streams, streams}
 use Rattle.topo_serve.proofs.KeptLines.{json_none, kept_long, opening_kept, value_long, value_none}
@@ -134,6 +135,13 @@ module _ (old_left new_left : Option (List ℕ)) (old ahead kept : List ℕ) (no
     none_so (Script fault) is = line_none old_left new_left ahead line plain (Script fault) has_feed taken few_taken over
         (subst (λ (r : Read Opening). IsFirstFault r fault) (opening_kept line kept is_kept) is)
     none_so _ is = absurd is
+
+-- a first line that could not be read
+pub reading_fails : (fault : RunFault) (old_left new_left : Option (List ℕ)) → IsOfReading fault → (fault ≡ ReadFault → ReadsNoFeed old_left new_left)
+    → OpenFailsBy fault old_left new_left
+reading_fails Memory old_left new_left of none = tt
+reading_fails ReadFault old_left new_left of none = none refl
+reading_fails _ old_left new_left of none = absurd of
 
 -- a first line that spells an opening with this fault
 pub unsound_none : (old_left new_left held : Option (List ℕ)) (ahead : List ℕ) (opening : Opening) (has_feed : Bool) (fault : RunFault)
@@ -317,5 +325,5 @@ pub open_fails : (fault : RunFault) (old_left new_left held : Option (List ℕ))
     → ServeFailsBy fault old_left new_left held held
 open_fails Memory old_left new_left held is = inl (Keeps-refl held)
 open_fails (Script fault) old_left new_left held is = (is, Keeps-refl held)
-open_fails ReadFault old_left new_left held is = inl (Keeps-refl held)
+open_fails ReadFault old_left new_left held is = inl (is, Keeps-refl held)
 open_fails _ old_left new_left held is = absurd is

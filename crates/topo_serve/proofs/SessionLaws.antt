@@ -16,11 +16,11 @@ use Rattle.topo_rows.specs.Shown.{Shown}
 use Rattle.std.proofs.lemmas.Bool.{false≢true}
 use Rattle.topo_serve.specs.Answers.{Answers, Standing, standing_of}
 use Rattle.topo_serve.specs.Lines.{IsPlain, closed, lines_of}
-use Rattle.topo_serve.specs.Sessions.{AreAnswered, AreRead}
+use Rattle.topo_serve.specs.Sessions.{AreAnswered, AreRead, begins_at}
 use Rattle.topo_serve.specs.Taking.{IsOver, OverUnless, Takes, TakesLine, feed_if}
 use Rattle.topo_serve.specs.Turns.{AnswerFailsBy, BeginFailsBy, BeginsAll, BeginsSome, HasServed, IsAnsweredBy, IsCutBy}
 use Rattle.topo_serve.specs.Turns.{IsOpened, IsTurn, LineFailsBy, LinesFailBy, OfLine, OpenedFailsBy, RestServed}
-use Rattle.topo_serve.specs.Turns.{ServesAll, ServesPart, ServesSome, Stays, Stops, Streams, TurnFailsBy, begins_at}
+use Rattle.topo_serve.specs.Turns.{ServesAll, ServesPart, ServesSome, Stays, Stops, Streams, TurnFailsBy}
 use Rattle.topo_serve.proofs.AnswerLaws.{answered_snoc}
 use Rattle.topo_serve.proofs.LineLaws.{closed_snoc, line_alone, lines_closed, plain_snoc}
 use Rattle.topo_serve.proofs.KeptLines.{request_kept}

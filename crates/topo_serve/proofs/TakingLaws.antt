@@ -1,12 +1,12 @@
 -- Laws of what is taken of a reader.
 use Rattle.std.proofs.Common.{◌≡◌, ℕ, List, [], ◌++◌, Option, take, ◌≤◌, ◌+◌, length, length-append, arith, true, false, sym, ap, subst, ◌∙◌, append_assoc, append-nil}
-use Rattle.std.specs.Io.KnownBytes.{Consumes, IsAtEnd}
+use Rattle.std.specs.Io.KnownBytes.{Consumes, IsAtEnd, Keeps}
 use Rattle.std.proofs.lemmas.List.{take_all}
-use Rattle.std.proofs.KnownBytes.{Consumes-nil, Consumes-trans}
+use Rattle.std.proofs.KnownBytes.{Consumes-kept, Consumes-nil, Consumes-trans}
 use Rattle.topo_serve.specs.Lines.{IsPlain}
 use Rattle.topo_serve.specs.declared.ahead.Part.{Part}
 use Rattle.topo_serve.specs.declared.ahead.Part.TheVariants.{End, Feed, More}
-use Rattle.topo_serve.specs.Taking.{Consumed, EndsBy, EndsFirst, IsNoEnd, PartsAhead, Takes, TakesFirst, TakesLine, TakesPart, feed_of}
+use Rattle.topo_serve.specs.Taking.{Consumed, EndsAhead, EndsBy, EndsFirst, PartsAhead, ReadsNoFeed, Takes, TakesFirst, TakesLine, TakesPart, feed_of}
 use Rattle.topo_serve.proofs.LineLaws.{plain_append, take_more}
 
 pub consumed_trans : (a b c : Option (List ℕ)) → Consumed a b → Consumed b c → Consumed a c
@@ -31,6 +31,17 @@ takes_trans a b c old mid new x y p q = record {
       ∙ sym (append_assoc x y new);
 }
 
+-- ---- What has no line feed
+
+-- all that was read was taken, where nothing was ahead before and nothing is ahead now
+pub no_feed : (a b c : Option (List ℕ)) (old ahead taken : List ℕ) → Takes a b old ahead taken → old ≡ [] → ahead ≡ [] → IsPlain taken → Keeps b c
+    → ReadsNoFeed a c
+no_feed a b c old ahead taken t none empty plain kept = record {
+  read = t.read;
+  consumed = Consumes-kept a b c t.read t.consumed kept;
+  plain = subst IsPlain (sym (ap (λ (o : List ℕ). o ++ t.read) (sym none) ∙ t.parted ∙ ap (λ (o : List ℕ). taken ++ o) empty ∙ append-nil taken)) plain;
+}
+
 -- ---- The last part of a line
 
 pub part_over : {most : ℕ} {a b : Option (List ℕ)} {old new line : List ℕ} → length line ≤ most → old ≡ [] → Consumes a b new → IsAtEnd b → new ≡ []
@@ -44,9 +55,9 @@ part_over {most} {new} {line} within none consumed over empty = record {
   few = omega (arith, ap length empty);
 }
 
-ends_by : (part : Part) (left : Option (List ℕ)) (ahead : List ℕ) → IsNoEnd part → EndsBy part left ahead
+ends_by : (part : Part) (left : Option (List ℕ)) (ahead : List ℕ) → EndsAhead part ahead → EndsBy part left ahead
 ends_by Feed left ahead is = tt
-ends_by More left ahead is = tt
+ends_by More left ahead is = is
 ends_by End left ahead is = absurd is
 
 -- a part of what is ahead, where nothing is read
@@ -57,7 +68,7 @@ part_ahead {left} {old} {new} {part} p = record {
   plain = p.plain;
   takes = record { read = []; consumed = Consumes-nil left; parted = append-nil old ∙ p.parted };
   kept = p.kept;
-  ended = ends_by part left new p.no_end;
+  ended = ends_by part left new p.ended;
   few = p.few;
 }
 

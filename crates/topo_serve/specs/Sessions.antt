@@ -3,6 +3,7 @@ use Rattle.std.specs.Prelude.{◌≡◌, ◌⊎◌, ◌<◌, ◌≤◌, ℕ, Lis
 use Rattle.std.specs.Io.KnownBytes.{Appends, Consumes, IsAtEnd, Keeps}
 use Rattle.topo_core.specs.declared.calls.Command.{Command}
 use Rattle.topo_core.specs.declared.limits.Limits.{Limits}
+use Rattle.topo_core.specs.declared.rows.Rows.{Rows}
 use Rattle.topo_core.specs.History.{IsRun}
 use Rattle.topo_core.specs.Routes.{Pricing}
 use Rattle.topo_forms.specs.declared.sessions.Opening.{Opening}
@@ -16,6 +17,7 @@ use Rattle.topo_settings.specs.declared.fault.RunFault.TheVariants.{WrongReply, 
 use Rattle.topo_settings.specs.Settings.{IsSound, IsUnsound, priced, start_of}
 use Rattle.topo_serve.specs.Answers.{Answers, Standing, TellsCounts}
 use Rattle.topo_serve.specs.Lines.{BeginsWith, closed, first_line, lines_of}
+use Rattle.topo_serve.specs.Taking.{ReadsNoFeed}
 
 -- ---- Lines and their answers
 
@@ -40,9 +42,12 @@ abbrev pub commands_of : List (List ℕ) → List Command
 commands_of [] = []
 commands_of (line ∷ lines) = command_before (request_of line) (commands_of lines)
 
--- where a session stands at its beginning
+-- where a session with this opening and this start stands at its beginning
+abbrev pub begins_at : Opening → Rows → Standing
+begins_at opening start = record { numbers = opening.limits; prices = opening.prices; start = start; history = []; picture = start }
+
 abbrev pub beginning : Opening → Standing
-beginning opening = record { numbers = opening.limits; prices = opening.prices; start = start_of opening.start; history = []; picture = start_of opening.start }
+beginning opening = begins_at opening (start_of opening.start)
 
 -- ---- Sessions
 
@@ -145,14 +150,11 @@ pub record IsPartlyServed (old_left new_left old_held new_held : Option (List �
   pub session : IsSession lines texts
   pub written : AppendsAllButLast old_held new_held texts
 
--- nothing is written, or the session is cut short behind an answer
-abbrev pub IsBroken : Option (List ℕ) → Option (List ℕ) → Option (List ℕ) → Option (List ℕ) → Type 0
-IsBroken old_left new_left old_held new_held = Keeps old_held new_held ⊎ IsCutShort old_left new_left old_held new_held
-
--- A fault of the first line is its first one, and then nothing is written. If the reader fails or a call is out of memory, the
--- answers so far are written, and if the writer fails, a part of the last one.
+-- A fault of the first line is its first one, and then nothing is written. If the reader fails, the answers so far are written:
+-- none, if no line feed was read. If a call is out of memory, they are written too, or none is. If the writer fails, of the last
+-- one a part is written.
 abbrev pub ServeFailsBy : RunFault → Option (List ℕ) → Option (List ℕ) → Option (List ℕ) → Option (List ℕ) → Type 0
-ServeFailsBy Memory old_left new_left old_held new_held = IsBroken old_left new_left old_held new_held
+ServeFailsBy Memory old_left new_left old_held new_held = Keeps old_held new_held ⊎ IsCutShort old_left new_left old_held new_held
 ServeFailsBy (Script fault) old_left new_left old_held new_held = OpensNone old_left new_left (Script fault) × Keeps old_held new_held
 ServeFailsBy BadLimits old_left new_left old_held new_held = OpensNone old_left new_left BadLimits × Keeps old_held new_held
 ServeFailsBy (Price fault) old_left new_left old_held new_held = OpensNone old_left new_left (Price fault) × Keeps old_held new_held
@@ -161,5 +163,6 @@ ServeFailsBy NoSeat old_left new_left old_held new_held = ⊥
 ServeFailsBy (Mismatch list i) old_left new_left old_held new_held = ⊥
 ServeFailsBy (WrongReply i) old_left new_left old_held new_held = ⊥
 ServeFailsBy WrongPicture old_left new_left old_held new_held = ⊥
-ServeFailsBy ReadFault old_left new_left old_held new_held = IsBroken old_left new_left old_held new_held
+ServeFailsBy ReadFault old_left new_left old_held new_held =
+    (ReadsNoFeed old_left new_left × Keeps old_held new_held) ⊎ IsCutShort old_left new_left old_held new_held
 ServeFailsBy WriteFault old_left new_left old_held new_held = IsPartlyServed old_left new_left old_held new_held

@@ -10,6 +10,12 @@ pub record Consumed (old_left new_left : Option (List ℕ)) : Type 0 where
   pub read : List ℕ
   pub consumed : Consumes old_left new_left read
 
+-- what is read has no line feed
+pub record ReadsNoFeed (old_left new_left : Option (List ℕ)) : Type 0 where
+  pub read : List ℕ
+  pub consumed : Consumes old_left new_left read
+  pub plain : IsPlain read
+
 -- what is ahead and what is read begins with what is taken; the rest is ahead from now on
 pub record Takes (old_left new_left : Option (List ℕ)) (old_ahead new_ahead taken : List ℕ) : Type 0 where
   pub read : List ℕ
@@ -26,9 +32,10 @@ feed_of Feed = 10 ∷ []
 feed_of More = []
 feed_of End = []
 
+-- where a part ends, by what is left to be read and what is ahead from then on
 abbrev pub EndsBy : Part → Option (List ℕ) → List ℕ → Type 0
 EndsBy Feed left ahead = ⊤
-EndsBy More left ahead = ⊤
+EndsBy More left ahead = ahead ≡ []
 EndsBy End left ahead = IsOver left ahead
 
 -- A part of a line is taken, and its line feed where it ends there. Of the line at most so many bytes are kept. The part and
@@ -58,10 +65,11 @@ pub record TakesLine (most : ℕ) (old_left new_left : Option (List ℕ)) (old_a
   pub is_kept : kept ≡ take most line
   pub over : OverUnless has_feed new_left new_ahead
 
-abbrev pub IsNoEnd : Part → Type 0
-IsNoEnd Feed = ⊤
-IsNoEnd More = ⊤
-IsNoEnd End = ⊥
+-- where a part of what is ahead ends, by what is ahead from then on
+abbrev pub EndsAhead : Part → List ℕ → Type 0
+EndsAhead Feed ahead = ⊤
+EndsAhead More ahead = ahead ≡ []
+EndsAhead End ahead = ⊥
 
 -- a part of what is ahead is taken, with its line feed if it has one
 pub record PartsAhead (most : ℕ) (old_ahead new_ahead old_line new_line : List ℕ) (part : Part) : Type 0 where
@@ -69,7 +77,7 @@ pub record PartsAhead (most : ℕ) (old_ahead new_ahead old_line new_line : List
   pub plain : IsPlain more
   pub parted : old_ahead ≡ (more ++ feed_of part) ++ new_ahead
   pub kept : new_line ≡ take most (old_line ++ more)
-  pub no_end : IsNoEnd part
+  pub ended : EndsAhead part new_ahead
   pub few : length ((more ++ feed_of part) ++ new_ahead) ≤ 8192
 
 abbrev pub EndsFirst : ℕ → Part → List ℕ → Option (List ℕ) → List ℕ → Type 0

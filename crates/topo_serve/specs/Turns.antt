@@ -13,7 +13,7 @@ use Rattle.topo_settings.specs.Writing.{AppendsPart}
 use Rattle.topo_serve.specs.Answers.{Answers, Standing, TellsCounts}
 use Rattle.topo_serve.specs.Lines.{ArePlain, IsPlain, closed, lines_of}
 use Rattle.topo_serve.specs.Sessions.{AppendsAllButLast, AreAnswered, AreRead, OpensNone}
-use Rattle.topo_serve.specs.Taking.{Consumed, OverUnless, Takes, feed_if}
+use Rattle.topo_serve.specs.Taking.{Consumed, OverUnless, ReadsNoFeed, Takes, feed_if}
 
 -- what the reader has left, what was read ahead of it, and what the writer holds
 pub record Streams : Type 0 where
@@ -23,10 +23,6 @@ pub record Streams : Type 0 where
 
 abbrev pub streams : Option (List ℕ) → List ℕ → Option (List ℕ) → Streams
 streams left ahead held = record { left = left; ahead = ahead; held = held }
-
--- where a session with this opening and this start stands at its beginning
-abbrev pub begins_at : Opening → Rows → Standing
-begins_at opening start = record { numbers = opening.limits; prices = opening.prices; start = start; history = []; picture = start }
 
 -- ---- One turn
 
@@ -165,7 +161,7 @@ OpensNoneBy bytes _ = ⊥
 
 abbrev pub OpenFailsBy : RunFault → Option (List ℕ) → Option (List ℕ) → Type 0
 OpenFailsBy Memory old_left new_left = ⊤
-OpenFailsBy ReadFault old_left new_left = ⊤
+OpenFailsBy ReadFault old_left new_left = ReadsNoFeed old_left new_left
 OpenFailsBy (Script fault) old_left new_left = OpensNone old_left new_left (Script fault)
 OpenFailsBy _ old_left new_left = ⊥
 

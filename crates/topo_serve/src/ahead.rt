@@ -2,9 +2,10 @@
 
 ghost use Rattle.std.specs.Prelude.{◌≡◌, ◌≤◌, ◌++◌, IfErr, IfOk, OnErr};
 ghost use Rattle.std.specs.Prelude.{OnOk, IsTrue, [], length, take, vec_len};
-ghost use Rattle.std.specs.Io.KnownBytes.{Consumes, IsAtEnd};
+ghost use Rattle.std.specs.Io.KnownBytes.{Consumes, IsAtEnd, Keeps};
 ghost use Rattle.topo_serve.specs.Lines.{first_line};
-ghost use Rattle.topo_serve.specs.Taking.{Consumed, PartsAhead, TakesFirst, TakesLine, TakesPart};
+ghost use Rattle.topo_serve.specs.Taking.{Consumed, PartsAhead, ReadsNoFeed};
+ghost use Rattle.topo_serve.specs.Taking.{TakesFirst, TakesLine, TakesPart};
 ghost use Rattle.topo_settings.specs.Reading.{IsOfReading};
 
 use std::alloc::Global;
@@ -69,7 +70,7 @@ fn keep(most: usize, more: &[u8], line: &mut Vec<u8>) -> Result<(), RunFault>
     requires { vec_len line.old ≤ most }
     ensures kept { OnOk result (line.new.items ≡ take most (line.old.items ++ more.now)) }
     ensures within { OnOk result (vec_len line.new ≤ most) }
-    ensures err { IfErr result IsOfReading }
+    ensures err { IfErr result (λ fault. fault ≡ RunFault.Memory) }
 {
     let n = more.len().min(most - line.len());
     if line.extend_from_slice(&more[..n]).is_err() {
@@ -96,6 +97,8 @@ impl Ahead {
         ensures end { IfOk result (λ ended. IsTrue ended → IsAtEnd (R.remaining reader.new)) }
         ensures empty { IfOk result (λ ended. IsTrue ended → self.new ≡ []) }
         ensures some { OnErr result (Consumed (R.remaining reader.old) (R.remaining reader.new)) }
+        ensures none { IfErr result (λ fault. fault ≡ RunFault.ReadFault
+            → Keeps (R.remaining reader.old) (R.remaining reader.new)) }
         ensures err { IfErr result IsOfReading }
     {
         self.bytes.clear();
@@ -122,7 +125,7 @@ impl Ahead {
         ensures parts { IfOk result
             (PartsAhead most self.old self.new line.old.items line.new.items) }
         ensures within { OnOk result (vec_len line.new ≤ most) }
-        ensures err { IfErr result IsOfReading }
+        ensures err { IfErr result (λ fault. fault ≡ RunFault.Memory) }
     {
         let rest = &self.bytes[self.at..];
         let n = line_len(rest);
@@ -150,6 +153,8 @@ impl Ahead {
             (R.remaining reader.new) self.old self.new line.old.items line.new.items) }
         ensures within { OnOk result (vec_len line.new ≤ most) }
         ensures some { OnErr result (Consumed (R.remaining reader.old) (R.remaining reader.new)) }
+        ensures none { IfErr result (λ fault. fault ≡ RunFault.ReadFault → (self.old ≡ [])
+            × Keeps (R.remaining reader.old) (R.remaining reader.new)) }
         ensures err { IfErr result IsOfReading }
     {
         if self.at < self.bytes.len() {
@@ -188,7 +193,8 @@ impl Ahead {
     }
 
     /// As `take_line`, but no further than until `line` has as many bytes as it gets at most, which
-    /// is told by `More`. No more bytes than these and those of one call of `read` are read.
+    /// is told by `More`. No more bytes than these and those of one call of `read` are read. If the
+    /// reader fails, no line feed was read.
     pub fn take_first<R: Read>(
         &mut self,
         most: usize,
@@ -197,6 +203,8 @@ impl Ahead {
     ) -> Result<Part, RunFault>
         ensures line { IfOk result (TakesFirst most (R.remaining reader.old)
             (R.remaining reader.new) self.old self.new line.new.items) }
+        ensures no_feed { IfErr result (λ fault. fault ≡ RunFault.ReadFault → self.old ≡ []
+            → ReadsNoFeed (R.remaining reader.old) (R.remaining reader.new)) }
         ensures err { IfErr result IsOfReading }
     {
         line.clear();

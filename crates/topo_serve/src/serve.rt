@@ -10,12 +10,12 @@ ghost use Rattle.topo_settings.specs.Settings.{AnswersPrices, IsSound, IsUnsound
 ghost use Rattle.topo_settings.specs.Settings.{priced, start_of};
 ghost use Rattle.topo_settings.specs.Writing.{AppendsPart};
 ghost use Rattle.topo_serve.specs.Answers.{Answers, standing_of};
-ghost use Rattle.topo_serve.specs.Sessions.{IsServed, ServeFailsBy};
+ghost use Rattle.topo_serve.specs.Sessions.{IsServed, ServeFailsBy, begins_at};
 ghost use Rattle.topo_serve.specs.Taking.{OverUnless};
 ghost use Rattle.topo_serve.specs.Turns.{AnswerFailsBy, BeginFailsBy, BeginsAll, IsAnsweredBy};
 ghost use Rattle.topo_serve.specs.Turns.{IsOpened, IsTurn, LineFailsBy, LinesFailBy, OfLine};
 ghost use Rattle.topo_serve.specs.Turns.{OpenedFailsBy, OpenFailsBy, Opens, OpensNoneBy, ServesAll};
-ghost use Rattle.topo_serve.specs.Turns.{Stays, TurnFailsBy, WriteFailsBy, begins_at, streams};
+ghost use Rattle.topo_serve.specs.Turns.{Stays, TurnFailsBy, WriteFailsBy, streams};
 
 use crate::ahead::{Ahead, Part};
 use crate::answers::{answer_line, counts_answer};

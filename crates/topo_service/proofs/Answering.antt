@@ -1,5 +1,5 @@
 -- Receipts that are honest, as the passes that have them see more.
-use Rattle.std.proofs.Common.{◌≡◌, ◌≤◌, ◌<◌, ◌+◌, ℕ, zero, suc, List, [], ◌∷◌, ◌++◌, Option, length, map, take}
+use Rattle.std.proofs.Common.{◌≡◌, ◌<◌, ◌+◌, ℕ, List, [], ◌∷◌, ◌++◌, length, map, take}
 use Rattle.std.proofs.Common.{refl, ap, sym, subst, ◌∙◌, arith, append_assoc, length-append, add-one, true, false, Result, Ok, Err, OnErr, OnOk}
 use Rattle.std.specs.Prelude.{is_err, slice_index_or}
 use Rattle.std.proofs.Math.Seq.{take-suc}
@@ -7,14 +7,13 @@ use Rattle.std.proofs.lemmas.List.{append-nil, map-append}
 use Rattle.topo_core.specs.declared.calls.Call.{Call}
 use Rattle.topo_core.specs.declared.calls.Command.{Command}
 use Rattle.topo_core.specs.declared.calls.Entry.{Entry}
-use Rattle.topo_core.specs.declared.calls.Reply.{Reply}
-use Rattle.topo_core.specs.History.{IsPrefix, call_of, is_accepted}
+use Rattle.topo_core.specs.History.{IsPrefix, call_of}
 use Rattle.topo_core.specs.Routes.{Pricing}
 use Rattle.topo_rows.specs.Shown.{Shown}
 use Rattle.topo_service.specs.declared.pass.Receipt.{Receipt}
-use Rattle.topo_service.specs.Answers.{AreHonest, HasEntered, HasReceiptOf, HasSeenOwn, IsAnswered, IsHonest}
-use Rattle.topo_service.specs.Commands.{HasDone, HasMade}
-use Rattle.topo_service.specs.Passes.{PassState, entry_of, receipt_of}
+use Rattle.topo_service.specs.Answers.{AreHonest, HasReceiptOf, IsHonest}
+use Rattle.topo_service.specs.Commands.{HasDone}
+use Rattle.topo_service.specs.Passes.{PassState, receipt_of}
 use Rattle.topo_service.proofs.Missed.{begins_itself}
 
 -- ---- Entries that were seen
@@ -23,40 +22,7 @@ pub begins_further : (less known seen : List Entry) → IsPrefix less known → 
 begins_further less known seen (more, is) (rest, then) =
     (more ++ rest, then ∙ ap (λ (es : List Entry). es ++ rest) is ∙ append_assoc less more rest)
 
--- what begins a list and is shorter begins it without its last
-begins_before : (known before more : List Entry) (entry : Entry) → before ++ entry ∷ [] ≡ known ++ more → length known ≤ length before
-    → IsPrefix known before
-begins_before [] before more entry is less = (before, refl)
-begins_before (x ∷ known) [] more entry is less = absurd (omega (arith, less))
-begins_before (x ∷ known) (y ∷ before) more entry is less =
-    let (rest, then) = begins_before known before more entry (cc) (omega (arith, less)) in
-    let same : y ≡ x = cc in
-    (rest, cc)
-
-entered_since : (old new : PassState) (call : Call) (reply : Reply) → HasSeenOwn old new call reply → IsPrefix old.seen new.seen
-    → HasEntered old.seen new.seen (entry_of old.number call reply)
-entered_since old new call reply own (more, is) = record {
-  before = own.before;
-  since = begins_before old.seen own.before more (entry_of old.number call reply) (sym own.last ∙ is)
-      (omega (arith, own.more, ap length own.last, length-append own.before (entry_of old.number call reply ∷ [])));
-  last = own.last;
-}
-
 -- ---- One receipt
-
--- the receipt of a call that was answered is honest
-pub has_receipt : (price : Pricing) (start : Shown) (old new : PassState) (call : Call) (answer : Option Reply)
-    → IsAnswered price start old new call answer → IsPrefix old.seen new.seen → HasReceiptOf price start old new call
-has_receipt price start old new call answer is later = record {
-  reply = is.reply;
-  receipt = is.receipt;
-  honest = record {
-    no_memory = is.no_memory;
-    later = later;
-    accepted = λ on. entered_since old new call is.reply (is.accepted on) later;
-    refused = is.refused;
-  };
-}
 
 honest_since : (price : Pricing) (start : Shown) (number : ℕ) (less known seen : List Entry) (receipt : Receipt) → IsPrefix less known
     → IsHonest price start number known seen receipt → IsHonest price start number less seen receipt

@@ -1,5 +1,5 @@
 -- What a pass knows after a call that was answered.
-use Rattle.std.specs.Prelude.{◌≡◌, ◌≢◌, ◌<◌, true, false, List, [], ◌∷◌, ◌++◌, length, Option, IfSome, ℕ}
+use Rattle.std.specs.Prelude.{◌≡◌, ◌≢◌, true, false, List, [], ◌∷◌, ◌++◌, Option, IfSome, ℕ}
 use Rattle.topo_core.specs.declared.rows.Rows.{Rows}
 use Rattle.topo_core.specs.declared.calls.Call.{Call}
 use Rattle.topo_core.specs.declared.calls.Entry.{Entry}
@@ -13,33 +13,17 @@ use Rattle.topo_rows.specs.Shown.{Shown}
 use Rattle.topo_service.specs.declared.pass.Receipt.{Receipt}
 use Rattle.topo_service.specs.Passes.{PassState, entry_of, receipt_of}
 
--- the pass has seen more than before, and as the last its own entry of this call
-pub record HasSeenOwn (old new : PassState) (call : Call) (reply : Reply) : Type 0 where
-  pub more : length old.seen < length new.seen
+-- the entry came after what was known, and is the last of what was seen
+pub record HasEntered (known seen : List Entry) (entry : Entry) : Type 0 where
   pub before : List Entry
-  pub last : new.seen ≡ before ++ entry_of old.number call reply ∷ []
+  pub since : IsPrefix known before
+  pub last : seen ≡ before ++ entry ∷ []
 
 -- the reply is the one due in the picture after what was seen, and leaves that picture
 pub record IsDueAfter (price : Pricing) (start : Shown) (seen : List Entry) (call : Call) (reply : Reply) : Type 0 where
   pub picture : Rows
   pub replayed : IsVersion price start.limits start.rows seen picture
   pub step : Step price start.limits picture call reply picture
-
--- The pass has a receipt of the call, with a reply. That reply is the answer, if there is one. It is never out of memory. If it was
--- accepted, the pass has seen its own entry as the last; else it was due after what the pass has seen.
-pub record IsAnswered (price : Pricing) (start : Shown) (old new : PassState) (call : Call) (answer : Option Reply) : Type 0 where
-  pub reply : Reply
-  pub told : IfSome answer (λ r. r ≡ reply)
-  pub receipt : new.receipts ≡ old.receipts ++ receipt_of call reply ∷ []
-  pub accepted : is_accepted reply ≡ true → HasSeenOwn old new call reply
-  pub refused : is_accepted reply ≡ false → IsDueAfter price start new.seen call reply
-  pub no_memory : reply ≢ Refused Memory
-
--- the entry came after what was known, and is the last of what was seen
-pub record HasEntered (known seen : List Entry) (entry : Entry) : Type 0 where
-  pub before : List Entry
-  pub since : IsPrefix known before
-  pub last : seen ≡ before ++ entry ∷ []
 
 -- What the reply of a receipt says is so. A pass with this number knew some entries before the call, and has seen more after it. The
 -- reply is not out of memory. If it was accepted, its own entry is the last that was seen; else it was due after what was seen.
@@ -60,3 +44,8 @@ pub record HasReceiptOf (price : Pricing) (start : Shown) (old new : PassState) 
   pub reply : Reply
   pub receipt : new.receipts ≡ old.receipts ++ receipt_of call reply ∷ []
   pub honest : IsHonest price start old.number old.seen new.seen (receipt_of call reply)
+
+-- so it has, and the reply there is the answer, if there is one
+pub record IsAnswered (price : Pricing) (start : Shown) (old new : PassState) (call : Call) (answer : Option Reply) : Type 0 where
+  pub kept : HasReceiptOf price start old new call
+  pub told : IfSome answer (λ r. r ≡ kept.reply)

@@ -8,8 +8,8 @@ ghost use Rattle.topo_core.specs.declared.calls.Refusal.TheVariants.{Memory};
 ghost use Rattle.topo_core.specs.declared.calls.Reply.TheVariants.{Refused};
 ghost use Rattle.topo_versions.specs.Names.{prices_named};
 ghost use Rattle.topo_versions.specs.Versions.{AreLegal};
-ghost use Rattle.topo_service.specs.Answers.{HasReceiptOf, HasSeenOwn, IsAnswered, IsDueAfter};
-ghost use Rattle.topo_service.specs.Passes.{receipt_of};
+ghost use Rattle.topo_service.specs.Answers.{HasEntered, HasReceiptOf, IsAnswered, IsDueAfter};
+ghost use Rattle.topo_service.specs.Passes.{entry_of, receipt_of};
 ghost use Rattle.topo_core.specs.declared.limits.TheConstants.{MAX_PASSES};
 
 use crate::faults::ServiceFault;
@@ -124,8 +124,8 @@ impl<F: PriceFn, K: ServiceBrand<F>, W: VersionWriter<F, K>> ServiceOver<F, K, W
             ++ receipt_of (Insert u v kind) reply ∷ []) }
         ensures later { IsPrefix pass.old.seen pass.new.seen }
         ensures accepted { IfOk result
-            (λ reply. is_accepted reply ≡ true
-            → HasSeenOwn pass.old pass.new (Insert u v kind) reply) }
+            (λ reply. is_accepted reply ≡ true → HasEntered pass.old.seen pass.new.seen
+            (entry_of pass.old.number (Insert u v kind) reply)) }
         ensures refused { IfOk result (λ reply. is_accepted reply ≡ false
             → IsDueAfter (prices_named F.may_return K.closure) K.start pass.new.seen
             (Insert u v kind) reply) }
@@ -152,8 +152,8 @@ impl<F: PriceFn, K: ServiceBrand<F>, W: VersionWriter<F, K>> ServiceOver<F, K, W
             ++ receipt_of (Insert u v kind) reply ∷ []) }
         ensures later { IsPrefix pass.old.seen pass.new.seen }
         ensures accepted { IfOk result
-            (λ reply. is_accepted reply ≡ true
-            → HasSeenOwn pass.old pass.new (Insert u v kind) reply) }
+            (λ reply. is_accepted reply ≡ true → HasEntered pass.old.seen pass.new.seen
+            (entry_of pass.old.number (Insert u v kind) reply)) }
         ensures refused { IfOk result (λ reply. is_accepted reply ≡ false
             → IsDueAfter (prices_named F.may_return K.closure) K.start pass.new.seen
             (Insert u v kind) reply) }
@@ -179,8 +179,9 @@ impl<F: PriceFn, K: ServiceBrand<F>, W: VersionWriter<F, K>> ServiceOver<F, K, W
         ensures receipt { IfOk result (λ reply. pass.new.receipts ≡ pass.old.receipts
             ++ receipt_of (Insert found.now.u found.now.v kind) reply ∷ []) }
         ensures later { IsPrefix pass.old.seen pass.new.seen }
-        ensures accepted { IfOk result (λ reply. is_accepted reply ≡ true
-            → HasSeenOwn pass.old pass.new (Insert found.now.u found.now.v kind) reply) }
+        ensures accepted { IfOk result
+            (λ reply. is_accepted reply ≡ true → HasEntered pass.old.seen pass.new.seen
+            (entry_of pass.old.number (Insert found.now.u found.now.v kind) reply)) }
         ensures refused { IfOk result (λ reply. is_accepted reply ≡ false
             → IsDueAfter (prices_named F.may_return K.closure) K.start pass.new.seen
             (Insert found.now.u found.now.v kind) reply) }
@@ -206,7 +207,8 @@ impl<F: PriceFn, K: ServiceBrand<F>, W: VersionWriter<F, K>> ServiceOver<F, K, W
             ++ receipt_of (Delete edge) reply ∷ []) }
         ensures later { IsPrefix pass.old.seen pass.new.seen }
         ensures accepted { IfOk result
-            (λ reply. is_accepted reply ≡ true → HasSeenOwn pass.old pass.new (Delete edge) reply) }
+            (λ reply. is_accepted reply ≡ true → HasEntered pass.old.seen pass.new.seen
+            (entry_of pass.old.number (Delete edge) reply)) }
         ensures refused { IfOk result (λ reply. is_accepted reply ≡ false
             → IsDueAfter (prices_named F.may_return K.closure) K.start pass.new.seen
             (Delete edge) reply) }
@@ -231,8 +233,9 @@ impl<F: PriceFn, K: ServiceBrand<F>, W: VersionWriter<F, K>> ServiceOver<F, K, W
         ensures receipt { IfOk result (λ reply. pass.new.receipts ≡ pass.old.receipts
             ++ receipt_of (Grow u position kind) reply ∷ []) }
         ensures later { IsPrefix pass.old.seen pass.new.seen }
-        ensures accepted { IfOk result (λ reply. is_accepted reply ≡ true
-            → HasSeenOwn pass.old pass.new (Grow u position kind) reply) }
+        ensures accepted { IfOk result
+            (λ reply. is_accepted reply ≡ true → HasEntered pass.old.seen pass.new.seen
+            (entry_of pass.old.number (Grow u position kind) reply)) }
         ensures refused { IfOk result (λ reply. is_accepted reply ≡ false
             → IsDueAfter (prices_named F.may_return K.closure) K.start pass.new.seen
             (Grow u position kind) reply) }
@@ -257,7 +260,8 @@ impl<F: PriceFn, K: ServiceBrand<F>, W: VersionWriter<F, K>> ServiceOver<F, K, W
             (λ reply. pass.new.receipts ≡ pass.old.receipts ++ receipt_of call reply ∷ []) }
         ensures later { IsPrefix pass.old.seen pass.new.seen }
         ensures accepted { IfOk result
-            (λ reply. is_accepted reply ≡ true → HasSeenOwn pass.old pass.new call reply) }
+            (λ reply. is_accepted reply ≡ true → HasEntered pass.old.seen pass.new.seen
+            (entry_of pass.old.number call reply)) }
         ensures refused { IfOk result (λ reply. is_accepted reply ≡ false
             → IsDueAfter (prices_named F.may_return K.closure) K.start pass.new.seen call reply) }
         ensures legal { AreLegal (prices_named F.may_return K.closure) K.start pass.new.seen }

@@ -1,8 +1,12 @@
 use Rattle.std.proofs.Common.{◌∙◌, true, false}
 use Rattle.topo_settings.proofs.Pricing.{err_so}
 use Rattle.topo_serve.specs.declared.ahead.Part.TheVariants.{End, Feed}
-use Rattle.topo_serve.proofs.OpeningLaws.{both_so, first_long, first_so, none_so, opens_so}
+use Rattle.topo_serve.proofs.OpeningLaws.{both_so, first_long, first_so, none_so, opens_so, reading_fails}
 use Rattle.topo_serve.proofs.serve.open.Goals as goal
+
+pub returns-in_err-take_first-clause-fault : goal.returns-in_err-take_first-clause-fault
+returns-in_err-take_first-clause-fault g c =
+    reading_fails _ _ _ c.in_err-take_first.ensures.err (λ failed. c.in_err-take_first.ensures.no_feed failed c.requires)
 
 pub returns-in-Feed-clause-opens : goal.returns-in-Feed-clause-opens
 returns-in-Feed-clause-opens g c =

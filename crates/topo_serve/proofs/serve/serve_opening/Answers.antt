@@ -2,8 +2,8 @@ use Rattle.std.proofs.Common.{ℕ, List, Option, rules, subst}
 use Rattle.topo_core.specs.declared.rows.Rows.{Rows}
 use Rattle.topo_settings.proofs.Pricing.{err_so, ok_so}
 use Rattle.topo_settings.specs.Settings.{priced}
-use Rattle.topo_serve.specs.Sessions.{ServeFailsBy}
-use Rattle.topo_serve.specs.Turns.{BeginFailsBy, BeginsAll, Opens, begins_at, streams}
+use Rattle.topo_serve.specs.Sessions.{ServeFailsBy, begins_at}
+use Rattle.topo_serve.specs.Turns.{BeginFailsBy, BeginsAll, Opens, streams}
 use Rattle.topo_serve.proofs.OpeningLaws.{fails, served, unsound_none}
 use Rattle.topo_serve.proofs.serve.serve_opening.Goals as goal
 

@@ -1,9 +1,9 @@
-use Rattle.std.proofs.Common.{◌≡◌, ◌++◌, ◌∷◌, [], length, ap, sym, subst, ◌∙◌, arith, length-append, List}
+use Rattle.std.proofs.Common.{◌≡◌, ◌++◌, ◌∷◌, [], ap, sym, subst, ◌∙◌, List}
 use Rattle.topo_core.specs.declared.calls.Entry.{Entry}
 use Rattle.topo_core.specs.History.{IsPrefix, IsVersion, versions}
 use Rattle.topo_versions.specs.Names.{prices_named}
 use Rattle.topo_service.specs.Passes.{entry_of, receipt_of}
-use Rattle.topo_service.proofs.Versions.{begins_length, begins_on, refused_due, versions_on}
+use Rattle.topo_service.proofs.Versions.{begins_on, refused_due, versions_on}
 use Rattle.topo_service.proofs.service.enter_in.Goals as goal
 
 pub returns-clause-later : goal.returns-clause-later
@@ -29,28 +29,28 @@ returns-clause-answered g c =
     let after = c.share.ensures.same ∙ c.prefix-2.ensures.now ∙ ap versions c.in_ok-receipt.ensures.entered in
     let receipts = c.push_reserved.ensures.items
     ∙ ap (λ rs. rs ++ receipt_of c.args.call told ∷ []) (c.reserve.ensures.items ∙ ap (λ p. p.receipts) c.pass.view_is) in
+    let later = subst (λ (l : List Entry). IsPrefix c.args.pass.now.seen l) (sym after)
+    (begins_on c.args.pass.now.seen old (entry_of n c.args.call told) before) in
     record {
-      reply = told;
-      told = c.in_ok-receipt.ensures.told;
-      receipt = receipts;
-      accepted = λ on.
-          let list = after ∙ versions_on old (entry_of n c.args.call told) on ∙ ap (λ (x : Entry). versions old ++ x ∷ []) own in
-          record {
-            more = omega (
-              arith,
-              begins_length c.args.pass.now.seen (versions old) before,
-              ap length list,
-              length-append (versions old) (entry_of c.args.pass.now.number c.args.call told ∷ []),
-            );
+      kept = record {
+        reply = told;
+        receipt = receipts;
+        honest = record {
+          no_memory = c.in_ok-receipt.ensures.no_memory;
+          later = later;
+          accepted = λ on. record {
             before = versions old;
-            last = list;
+            since = before;
+            last = after ∙ versions_on old (entry_of n c.args.call told) on ∙ ap (λ (x : Entry). versions old ++ x ∷ []) own;
           };
-      refused = λ off. record {
-        picture = c.call-made.new.self.picture.rows;
-        replayed = subst (λ (es : List Entry). IsVersion price start.limits start.rows es c.call-made.new.self.picture.rows) (sym c.share.ensures.same)
-            c.prefix-2.ensures.replayed;
-        step = refused_due price start.limits c.args.state.now.picture.rows c.call-made.new.self.picture.rows c.args.call told off
-            c.in_ok-receipt.ensures.step;
+          refused = λ off. record {
+            picture = c.call-made.new.self.picture.rows;
+            replayed = subst (λ (es : List Entry). IsVersion price start.limits start.rows es c.call-made.new.self.picture.rows)
+                (sym c.share.ensures.same) c.prefix-2.ensures.replayed;
+            step = refused_due price start.limits c.args.state.now.picture.rows c.call-made.new.self.picture.rows c.args.call told off
+                c.in_ok-receipt.ensures.step;
+          };
+        };
       };
-      no_memory = c.in_ok-receipt.ensures.no_memory;
+      told = c.in_ok-receipt.ensures.told;
     }

@@ -1,5 +1,5 @@
 use Rattle.std.proofs.Common.{◌∙◌, ◌≤◌, ap, arith, length, sym, take}
-use Rattle.topo_serve.proofs.LineLaws.{ahead_all, ahead_fed, few_ahead, lent, part_plain}
+use Rattle.topo_serve.proofs.LineLaws.{ahead_all, ahead_fed, few_ahead, lent, none_ahead, part_plain}
 use Rattle.topo_serve.proofs.ahead.Ahead.take_ahead.Goals as goal
 
 pub returns-then-has_feed-clause-parts : goal.returns-then-has_feed-clause-parts
@@ -14,7 +14,7 @@ returns-then-has_feed-clause-parts c =
       plain = part_plain (lent shown at) n c.line_len-n.ensures.len;
       parted = parted;
       kept = c.in_ok-keep.ensures.kept;
-      no_end = tt;
+      ended = tt;
       few = few_ahead _ at c.self.inside.bytes.items _ c.self.view_is parted few;
     }
 
@@ -31,6 +31,6 @@ returns-else-has_feed-clause-parts c =
       plain = part_plain (lent shown at) n c.line_len-n.ensures.len;
       parted = parted;
       kept = c.in_ok-keep.ensures.kept;
-      no_end = tt;
+      ended = none_ahead c.self.inside.bytes.items shown at n c.deref.ensures.value c.if-has_feed.false;
       few = few_ahead _ at c.self.inside.bytes.items _ c.self.view_is parted few;
     }

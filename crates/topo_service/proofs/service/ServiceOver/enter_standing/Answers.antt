@@ -3,7 +3,6 @@ use Rattle.topo_core.specs.declared.calls.Call.{Call}
 use Rattle.topo_core.specs.declared.calls.Call.TheVariants.{Insert}
 use Rattle.topo_service.specs.Answers.{HasReceiptOf}
 use Rattle.topo_versions.specs.Names.{prices_named}
-use Rattle.topo_service.proofs.Answering.{has_receipt}
 use Rattle.topo_service.proofs.service.ServiceOver.enter_standing.Goals as goal
 
 pub returns-clause-receipt : goal.returns-clause-receipt
@@ -12,5 +11,4 @@ returns-clause-receipt g c entered =
     let call : Call = Insert c.ends-u.result.0 c.ends-u.result.1 c.args.kind in
     let same : call ≡ Insert c.args.found.now.u c.args.found.now.v c.args.kind = cc (c.ends-u.ensures.u, c.ends-u.ensures.v) in
     subst (λ (made : Call). HasReceiptOf price g.K.ServiceBrand.start c.args.pass.now c.enter_in.new.pass made) same
-    (has_receipt price g.K.ServiceBrand.start c.args.pass.now c.enter_in.new.pass call c.in_ok-enter_in.field-0 c.in_ok-enter_in.ensures.answered
-    c.in_ok-enter_in.ensures.later)
+    c.in_ok-enter_in.ensures.answered.kept
