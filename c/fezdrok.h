@@ -8,11 +8,14 @@
  *     FEZDROK_FAULT      it is not: the text is the line of the first fault
  *     FEZDROK_NO_MEMORY  out of memory
  *
- * Else the output stays as it was, and the result is FEZDROK_TOO_SMALL; a call with `*size` bytes of room has the text.
- * 128 bytes are enough for any text that is not a fault at a deep path of a large input.
+ * Else the output stays as it was, and the result is FEZDROK_TOO_SMALL; a call with `*size` bytes of room has the text,
+ * unless this or that call is out of memory. Its text then has 17 bytes, so with less room it is FEZDROK_TOO_SMALL too, and
+ * the next call may have a longer text. 128 bytes are enough for any text that is not a fault at a deep path of a large
+ * input.
  *
- * Input, output and size do not overlap. Both functions allocate by malloc and free what they allocate. They may be
- * called from several threads at once, on memory of their own each, but from no signal handler.
+ * Input, output and size do not overlap, and none is NULL, even where a length is 0. Both functions allocate by malloc and
+ * free what they allocate. They may be called from several threads at once, on memory of their own each, but from no signal
+ * handler.
  */
 #ifndef FEZDROK_H
 #define FEZDROK_H

@@ -43,21 +43,20 @@ int main(int count, char **words) {
         free(input);
         return tell("55 ReadFault", FEZDROK_FAULT);
     }
-    uint8_t few[16], *text = few;
+    uint8_t few[16], *text = few, *more = NULL, status;
+    size_t room = sizeof few;
     int is_check = !strcmp(words[1], "check");
-    uint8_t status = is_check ? fezdrok_check(input, length, few, sizeof few, &size) : fezdrok_replay(input, length, few, sizeof few, &size);
-    if (status == FEZDROK_TOO_SMALL) { /* now the size is known */
-        text = malloc(size);
+    while ((status = is_check ? fezdrok_check(input, length, text, room, &size) : fezdrok_replay(input, length, text, room, &size)) == FEZDROK_TOO_SMALL) {
+        free(more);
+        text = more = malloc(room = size); /* the size is that of this call's text, and the next may have a longer one */
         if (!text) {
             free(input);
             return tell("8 Memory", FEZDROK_NO_MEMORY);
         }
-        status = is_check ? fezdrok_check(input, length, text, size, &size) : fezdrok_replay(input, length, text, size, &size);
     }
     FILE *stream = status == FEZDROK_DONE ? stdout : stderr;
     int is_written = fwrite(text, 1, size, stream) == size && !fflush(stream);
-    if (text != few)
-        free(text);
+    free(more);
     free(input);
     return is_written || status != FEZDROK_DONE ? status : tell("56 WriteFault", FEZDROK_FAULT);
 }
