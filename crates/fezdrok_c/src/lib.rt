@@ -18,8 +18,9 @@ use topo_check::{check_bytes, replay_bytes};
 /// Judges the picture that the input spells. The text is the line that says how large it is, or the
 /// line of the first fault, as the program prints them. Its length goes to `size`, and where it
 /// fits, it goes to the front of the output. The result is 0 for a lawful picture, 1 for a fault, 3
-/// for out of memory, and 4 where the text does not fit: then the output is as it was, and a call
-/// with `size` bytes of room has the text.
+/// for out of memory, and 4 where the text does not fit: then the output is as it was. A call with
+/// `size` bytes of room has the text, unless this or that call is out of memory, whose text has 17
+/// bytes.
 #[unsafe(no_mangle)]
 pub extern "C" fn fezdrok_check(
     alloc: Global,
