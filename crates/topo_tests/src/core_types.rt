@@ -7,6 +7,7 @@ use topo_core::limits::{Limits, LimitsFault};
 use topo_core::listed::Listed;
 use topo_core::rows::{Facts, Rows};
 use topo_price::table::PriceFault;
+use topo_price::tariff::Tariff;
 use topo_test_support::pictures::{Named, rows_of};
 use topo_test_support::prices::table_of;
 
@@ -50,6 +51,20 @@ const ENTRIES: &[(u32, Option<PriceFault>)] = &[
     (1, None),
     (1000, None),
 ];
+
+/// Of a table, prices are known before an edge is asked for. A kind without a price has the greatest
+/// floor.
+#[test]
+fn prices_of_a_table_are_known_by_kind(rt: HostRuntime) -> Result<(), Fail> {
+    let table = table_of(Some(1), &[(1, Some(1000)), (2, None)])?;
+    table.laws();
+    let tariff = Tariff::new(table);
+    assert!(rt; tariff.is_by_kind());
+    assert!(rt; tariff.price_of_kind(1) == Some(Some(1000)));
+    assert!(rt; tariff.price_of_kind(2) == Some(None));
+    assert!(rt; (tariff.floor(0), tariff.floor(1), tariff.floor(2)) == (1, 1000, 65_535));
+    Ok(())
+}
 
 #[test]
 fn tables_with_bad_entries_are_refused(rt: HostRuntime) {

@@ -96,6 +96,7 @@ fn is_measured_in_vain<F: PriceFn + Drop>(
     requires promise { IsPromise (F.may_return ask) }
 {
     let tariff = Tariff::new(ask);
+    assert!(rt; !tariff.is_by_kind() && tariff.floor(0) == 1);
     let mut picture = GRID.picture(alloc)?;
     let measured = picture.guide_searches(alloc, &tariff);
     let is_guided = picture.has_guided_searches();
