@@ -35,7 +35,7 @@ def answer(program: Program, script: bytes) -> Tuple[str, bool]:
 def main(words: Optional[List[str]] = None, source: Optional[BinaryIO] = None, target: Optional[TextIO] = None) -> int:
     """Answer all lines of `source`, without it those of standard input, on `target`; the status."""
     parser = argparse.ArgumentParser(prog="python3 -m fezdrok", description="Run scripts, one a line; one line of answer for each.")
-    parser.add_argument("--program", help="the path of planar; without it FEZDROK_PLANAR, the repository's script, or PATH")
+    parser.add_argument("--program", help="the path of planar; without it what FEZDROK_PLANAR names, the repository's out/planar, or planar in PATH")
     program = Program(parser.parse_args(words).program)
     try:
         program.path

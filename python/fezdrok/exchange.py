@@ -29,7 +29,8 @@ class Segment(NamedTuple):
 
 
 def segments(result: "Planarization", u: Node, v: Node, *key: Any) -> Tuple[Segment, ...]:
-    """The segments of an edge of the graph in order, from u to v; KeyError where there is no such edge."""
+    """The segments of an edge of the graph in order, from u to v. In a multigraph the edge's key must be given. KeyError
+    where there is no such edge."""
     picture = result.picture
     row = picture.edge(result.edge_id(u, v, *key))
     darts = [Dart(row.id, place) for place in range(row.segments)]

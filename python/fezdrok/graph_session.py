@@ -7,7 +7,7 @@ from types import TracebackType
 from typing import TYPE_CHECKING, Any, Callable, Dict, List, Optional, Sequence, Tuple, Type
 
 from .faults import NotPlanarized
-from .graphs import KINDS, GraphEdge, Node, Price, judge_kinds
+from .graphs import KINDS, GraphEdge, Node, Price, judge_kinds, name_among
 from .pictures import Counts
 from .program import PathLike
 from .reports import Deleted, Grown, Inserted, Limits, Refused, Reply, Report
@@ -65,23 +65,26 @@ class GraphSession:
     def grow_edge(self, u: Node, v: Node, price: Price = 1, position: int = 0) -> Grown:
         """A new node `v` on a new edge from the node `u`, which begins in the corner at this position of it.
 
-        ValueError where `u` is no node, `v` is one already, or the price is none of `prices`; NotPlanarized where the
-        program refuses the edge, as 7 Full.
+        ValueError where `u` is no node, `v` is one already or is None, which networkx takes for no node, or the price is
+        none of `prices`; TypeError where `v` has no hash; NotPlanarized where the program refuses the edge, as 7 Full.
         """
         self._settle()
         start, kind = self._vertex(u), self._kind(price)
+        if v is None:
+            raise ValueError("None cannot be a node of a graph")
         if v in self._vertex_of:
             raise ValueError(f"{v!r} is a node of the graph already")
         name = (u, v, 0) if self.graph.is_multigraph() else (u, v)
         return self._made(name, lambda: self._session.grow(start, position, kind))
 
     def delete_edge(self, u: Node, v: Node, *key: Any) -> Deleted:
-        """An edge taken out, which an undirected graph may name either way round.
+        """An edge taken out, which an undirected graph may name either way round. In a multigraph its key must be given:
+        `delete_edge(u, v, key)`.
 
         KeyError where there is none; NotPlanarized where the program refuses it, as 6 Cut: the graph would fall apart.
         """
         self._settle()
-        name = (u, v, *key) if (u, v, *key) in self._id_of or self.graph.is_directed() else (v, u, *key)
+        name = name_among(self._id_of, self.graph, (u, v, *key))
         edge_id = self._id_of[name]
         return self._made(name, lambda: self._session.delete(edge_id))
 

@@ -9,7 +9,7 @@ import math
 from dataclasses import dataclass
 from numbers import Real
 from operator import index
-from typing import Any, Callable, Dict, Hashable, Iterable, Iterator, List, Mapping, Optional, Sequence, Set, Tuple, Union
+from typing import Any, Callable, Container, Dict, Hashable, Iterable, Iterator, List, Mapping, Optional, Sequence, Set, Tuple, Union
 
 Node = Hashable
 #: An edge of a graph as its `edges` gives it: two nodes, and in a multigraph a key.
@@ -114,6 +114,18 @@ def _part(source: PricedGraph, nodes: Sequence[Node], places: Sequence[int]) -> 
     """The part of a graph with these nodes and with the edges at these places."""
     edges, kinds = (tuple(rows[place] for place in places) for rows in (source.edges, source.kinds))
     return PricedGraph(source.graph.subgraph(nodes), tuple(nodes), edges, kinds, source.prices)
+
+
+def name_among(names: Container[GraphEdge], graph: Any, edge: GraphEdge) -> GraphEdge:
+    """The one of these names that an edge has, which an undirected graph may name either way round; KeyError where it has
+    none."""
+    u, v, *key = edge
+    for name in (edge,) if graph.is_directed() else (edge, (v, u, *key)):
+        if name in names:
+            return name
+    if graph.is_multigraph() and not key:
+        raise KeyError(f"{edge!r} names no edge: the graph is a multigraph, where the key is required")
+    raise KeyError(f"the graph has no edge {edge!r}")
 
 
 def incidence(edges: Sequence[GraphEdge], places: Iterable[int]) -> Dict[Node, List[Tuple[int, Node]]]:

@@ -71,9 +71,11 @@ class Edge:
 
     @staticmethod
     def from_json(value: Dict[str, Any]) -> "Edge":
+        """The edge of a row of a picture, an object with `id`, `a`, `b`, `kind` and `crossings`."""
         return Edge(value["id"], value["a"], value["b"], value["kind"], tuple(value["crossings"]))
 
     def to_json(self) -> Dict[str, Any]:
+        """The edge as that object."""
         return {"id": self.id, "a": self.a, "b": self.b, "kind": self.kind, "crossings": list(self.crossings)}
 
 
@@ -91,9 +93,11 @@ class Crossing:
 
     @staticmethod
     def from_json(value: Dict[str, Any]) -> "Crossing":
+        """The crossing of a row of a picture, an object with `id`, `crossed`, `newcomer` and `sign`."""
         return Crossing(value["id"], value["crossed"], value["newcomer"], value["sign"])
 
     def to_json(self) -> Dict[str, Any]:
+        """The crossing as that object."""
         return {"id": self.id, "crossed": self.crossed, "newcomer": self.newcomer, "sign": self.sign}
 
 

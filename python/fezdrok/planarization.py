@@ -62,7 +62,7 @@ class Prepared:
         return replace(result, tries=(result.crossings,))
 
     def run(self) -> Planarization:
-        """Run the script here."""
+        """Run the script here. Exceptions are those of `result`, and those of `Planarizer.run`, as ProgramNotFound."""
         return self.result(self.planarizer.run())
 
 
@@ -109,6 +109,12 @@ def planarize(
 
     `order` is the order of the edges: `given`, `random`, or a list of edges that come first and in this order,
     whatever they cost.
+
+    `limits` say how large the picture may grow (see Limits; unless given, they are the greatest that there are). They count for
+    each connected part by itself. Where ids run out, they begin anew from 0, if that makes room. Where an order needs more than
+    the limits, the program refuses an edge (NotPlanarized with 7 Full), or the picture that the order begins with (Fault 20
+    TooMany). Limits out of their ranges are Fault 11 BadLimits. `program` is the path of `planar` (see `find_program`;
+    ProgramNotFound where there is none).
 
     When `seconds` are over, the best picture so far is the result; the first picture is made in any case. `progress` is
     True for a line on the terminal, or a function that is called with a Progress now and then. What it raises ends the
@@ -214,7 +220,13 @@ def prepare(
     program: Optional[PathLike] = None,
 ) -> Prepared:
     """The one run that `planarize` with the same words and `quick=True` makes, to write its script and to read its report
-    elsewhere. ValueError where the graph is not connected: then prepare each part."""
+    elsewhere. ValueError where the graph is not connected: then prepare each part.
+
+    `limits` say how large the picture may grow (see Limits), and go into the script. They are judged when it is run: Fault 11
+    BadLimits where they are out of their ranges, Fault 20 TooMany where the picture that it begins with is larger. An edge for
+    which they do not suffice is refused in the report as 7 Full, which `Prepared.result` raises as NotPlanarized. `program` is
+    the path of `planar` that `Prepared.run` calls (see `find_program`); here no program is called or looked for.
+    """
     source = read_graph(graph, price, forbidden, round_prices)
     judge_connected(source)
     start = beginning(source, begin, order, f"{seed}/0")
@@ -244,9 +256,11 @@ def reinsert(
     In a round each crossed edge that has a price is taken out and inserted again, the most crossed first. At most
     this many rounds are made (None: no limit), and none after one that saves nothing. Then come shakes, as those of
     `planarize`, until so many in a row have saved nothing (None: as many as there). The other words are those of `planarize`.
+    `limits` and `program` too: those that the result was made with count for nothing here.
 
-    What was found is never lost: where the program fails, where the limits do not suffice, and at Ctrl-C
-    (KeyboardInterrupt), the best picture so far is given, with a PlanarWarning that says what happened.
+    What was found is never lost: where the program fails or is not found, where the limits do not suffice or are out of their
+    ranges, and at Ctrl-C (KeyboardInterrupt), the best picture so far is given, at least the one that was given, with a
+    PlanarWarning that says what happened.
     """
     effort = Effort(1, _most("rounds", rounds), _most("shakes", shakes))
     clock, tell = Clock(_judged(seconds)), teller(progress)

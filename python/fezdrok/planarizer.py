@@ -18,7 +18,7 @@ _LAWFUL = re.compile(r"lawful vertices=(\d+) crossings=(\d+) edges=(\d+) segment
 class Planarizer:
     """A list of commands over a start picture.
 
-    `start` is the picture to begin with (without it two vertices and one edge), `limits` the largest counters,
+    `start` is the picture to begin with (without it two vertices and one edge), `limits` how large it may grow (see Limits),
     `prices` the price of crossing an edge of kind 0, 1, .. (1 to 1000, or None where such edges must not be
     crossed; kinds past the end cost 1), and `program` the path of `planar` (see `find_program`).
 

@@ -13,7 +13,15 @@ Prices = Tuple[Optional[int], ...]
 
 @dataclass(frozen=True)
 class Limits:
-    """The largest counters that a picture may have."""
+    """How large a picture may grow.
+
+    `vertices` bounds the vertices (2 to 65,536). `edges` bounds the edge ids that are ever given (1 to 65,536), and
+    `crossings` the crossing ids that are ever given (0 to 1,048,576): those that are no longer there count too.
+
+    Nothing is tested here. Where the program is called, a number outside its range is the Fault 11 BadLimits, a negative one
+    or one of 2**32 or more the Fault 54 BadNumber, and a start picture that is larger the Fault 20 TooMany. A call that would
+    go beyond is refused as 7 Full.
+    """
 
     vertices: int = 65536
     edges: int = 65536
@@ -21,9 +29,11 @@ class Limits:
 
     @staticmethod
     def from_json(value: Dict[str, int]) -> "Limits":
+        """The limits of an object as `{"crossings":9,"edges":9,"vertices":9}`; KeyError where one is missing."""
         return Limits(value["vertices"], value["edges"], value["crossings"])
 
     def to_json(self) -> Dict[str, int]:
+        """The limits as that object."""
         return {"vertices": self.vertices, "edges": self.edges, "crossings": self.crossings}
 
 
@@ -39,6 +49,7 @@ class Grow:
     kind: int
 
     def to_json(self) -> List[Any]:
+        """The command as it stands in a script: `["grow",U,POSITION,KIND]`."""
         return ["grow", self.u, self.position, self.kind]
 
 
@@ -51,6 +62,7 @@ class Insert:
     kind: int
 
     def to_json(self) -> List[Any]:
+        """The command as it stands in a script: `["insert",U,V,KIND]`."""
         return ["insert", self.u, self.v, self.kind]
 
 
@@ -59,6 +71,7 @@ class Planned(Insert):
     """An insertion whose route is looked for on a version of the picture, outside the lock."""
 
     def to_json(self) -> List[Any]:
+        """The command as it stands in a script: `["planned",U,V,KIND]`."""
         return ["planned", self.u, self.v, self.kind]
 
 
@@ -69,6 +82,7 @@ class Delete:
     edge: int
 
     def to_json(self) -> List[Any]:
+        """The command as it stands in a script: `["delete",EDGE]`."""
         return ["delete", self.edge]
 
 
@@ -93,6 +107,7 @@ class Grown:
     edge: int
 
     def to_json(self) -> Dict[str, Any]:
+        """The reply as it stands in a report: `{"edge":E,"vertex":V}`."""
         return {"vertex": self.vertex, "edge": self.edge}
 
 
@@ -108,6 +123,7 @@ class Inserted:
     price: int
 
     def to_json(self) -> Dict[str, Any]:
+        """The reply as it stands in a report: an object with `crossed`, `edge`, `end`, `price` and `start`."""
         crossed = [dart.to_json() for dart in self.crossed]
         return {"edge": self.edge, "crossed": crossed, "start": self.start, "end": self.end, "price": self.price}
 
@@ -119,6 +135,7 @@ class Deleted:
     edge: int
 
     def to_json(self) -> Dict[str, Any]:
+        """The reply as it stands in a report: `{"deleted":EDGE}`."""
         return {"deleted": self.edge}
 
 
@@ -131,6 +148,7 @@ class Refused:
     segment: Optional[int] = None
 
     def to_json(self) -> Dict[str, Any]:
+        """The reply as it stands in a report: `{"refused":[NUMBER,NAME]}`, for 6 `Cut` with the segment as a third word."""
         words: List[Any] = [self.number, self.name]
         return {"refused": words if self.segment is None else [*words, self.segment]}
 
@@ -163,9 +181,11 @@ class Entry:
 
     @staticmethod
     def from_json(value: Dict[str, Any]) -> "Entry":
+        """The entry of an object with `call`, `caller` and `reply`, as it stands in a history."""
         return Entry(call_from_json(value["call"]), value["caller"], reply_from_json(value["reply"]))
 
     def to_json(self) -> Dict[str, Any]:
+        """The entry as that object."""
         return {"call": self.call.to_json(), "caller": self.caller, "reply": self.reply.to_json()}
 
 
@@ -197,6 +217,8 @@ class Report:
 
     @staticmethod
     def from_json(value: Dict[str, Any]) -> "Report":
+        """The report of a JSON object in the form of docs/FORMATS.md. Where it is of another form, that is KeyError or another
+        exception of Python's; `from_text` has NoReport."""
         return Report(
             tuple(Entry.from_json(entry) for entry in value["history"]),
             Limits.from_json(value["limits"]),
@@ -207,6 +229,7 @@ class Report:
         )
 
     def to_json(self) -> Dict[str, Any]:
+        """The report as a JSON object in the form of docs/FORMATS.md."""
         return {
             "history": [entry.to_json() for entry in self.history],
             "limits": self.limits.to_json(),

@@ -9,7 +9,7 @@ from typing import Any, Dict, List, Optional, Sequence, Tuple
 from .embeddings import Dummy
 from .exchange import Segment, segments, to_json
 from .graph_session import GraphSession
-from .graphs import GraphEdge, Node, Price, PricedGraph
+from .graphs import GraphEdge, Node, Price, PricedGraph, name_among
 from .pictures import Crossing, Dart, Edge, Picture, Point
 from .program import PathLike
 from .reports import Limits, Report, Reports
@@ -50,10 +50,9 @@ class Planarization:
         return {edge: edge_id for edge_id, edge in self.edge_of.items()}
 
     def edge_id(self, u: Node, v: Node, *key: Any) -> int:
-        """The id of an edge, which an undirected graph may name either way round; KeyError where there is none."""
-        if self.graph.is_directed() or (u, v, *key) in self.id_of:
-            return self.id_of[(u, v, *key)]
-        return self.id_of[(v, u, *key)]
+        """The id of an edge, which an undirected graph may name either way round. In a multigraph its key must be given:
+        `edge_id(u, v, key)`. KeyError where there is none."""
+        return self.id_of[name_among(self.id_of, self.graph, (u, v, *key))]
 
     @property
     def offsets(self) -> List[Tuple[int, int, int]]:
@@ -91,8 +90,8 @@ class Planarization:
         return max((node.layer + 1 for node in self.node_of if isinstance(node, Dummy)), default=0)
 
     def segments(self, u: Node, v: Node, *key: Any) -> Tuple[Segment, ...]:
-        """The segments of an edge in order, from u to v, with their ends and the faces on either side; KeyError where
-        the graph has no such edge."""
+        """The segments of an edge in order, from u to v, with their ends and the faces on either side. The edge is named as
+        for `edge_id`, in a multigraph with its key; KeyError where there is none."""
         return segments(self, u, v, *key)
 
     def to_json(self) -> Dict[str, Any]:
@@ -102,7 +101,8 @@ class Planarization:
     def session(self, prices: Sequence[Price] = (), limits: Optional[Limits] = None, program: Optional[PathLike] = None) -> GraphSession:
         """A session that goes on from here, in which edges are inserted and taken out by the names of their nodes.
 
-        An edge that it inserts has one of the prices of this planarization, one of `prices`, or 1. ValueError where the graph
+        An edge that it inserts has one of the prices of this planarization, one of `prices`, or 1. `limits` and `program` are
+        those of Session; the limits that this planarization was made with count for nothing. ValueError where the graph
         is not connected (then take one of `parts`) or has no edge, and where there are more than 64 prices in all. The
         program's exceptions are those of Session.
         """

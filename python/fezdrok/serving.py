@@ -20,8 +20,8 @@ _AT_ONCE = 512
 #: How many bytes an empty pipe takes at once, whatever the process does.
 TOGETHER = 32768
 
-#: A line that is always refused, and its answer, which no other line of a session has.
-_MARK = '["delete",""]'
+#: Two lines that are always refused and change nothing, and the answer to the second, which differs from that to the first.
+_FILLER, _MARK = "[]", '["delete",""]'
 _MARKED = b'{"fault":[52,"BadShape","$/1"]}'
 
 
@@ -36,7 +36,7 @@ class Lines:
     def __init__(self, path: str):
         self.path = path
         self._ahead = bytearray()
-        self._is_asking = False
+        self._owed = 0  # how many answers may still come to lines of a call that was interrupted, at most
         self._ended: Optional[Tuple[int, str]] = None
         try:
             self._errors = tempfile.TemporaryFile()
@@ -92,19 +92,27 @@ class Lines:
         may have TOGETHER bytes: of more, the process could wait for its answers to be read, and this for the lines to be."""
         if not lines:
             return []
-        if self._is_asking:
+        if self._owed:
             self._catch_up()
-        self._is_asking = True
+        self._owed = len(lines)
         self._write("\n".join(lines))
         answers = [self._read() for _ in lines]
-        self._is_asking = False
+        self._owed = 0
         return answers
 
     def _catch_up(self) -> None:
-        """Passes over the answer that may still come, up to that to the mark. Where this is interrupted too, the process is
-        ended: with two marks on their way, nobody could tell their answers apart."""
+        """Passes over the answers that may still come to a call that was interrupted.
+
+        How many come is not known: its lines may have been sent or not, and some answers may have been read and lost. They
+        are no more than its lines, and any of them may read as the answer to the mark. So as many fillers are sent, one by
+        one, and an answer is read for each. Then all answers to the call are among those that were read, and only those to
+        fillers stand before that to the mark. Where this is interrupted too, the process is ended.
+        """
         self._ahead.clear()
         try:
+            for _ in range(self._owed):
+                self._write(_FILLER)
+                self._read()
             self._write(_MARK)
             while self._read() != _MARKED:
                 pass

@@ -37,9 +37,9 @@ def renumbered(picture: Picture) -> Tuple[Picture, Renumbered]:
 class Session:
     """A picture in one process of the program, changed by calls that are answered at once.
 
-    `start` is the picture to begin with (without it two vertices and one edge), `limits` the largest counters, `prices`
-    the price of crossing an edge of kind 0, 1, .. (1 to 1000, or None where such edges must not be crossed; kinds past the
-    end cost 1), and `program` the path of `planar` (see `find_program`).
+    `start` is the picture to begin with (without it two vertices and one edge), `limits` how large it may grow (see Limits),
+    `prices` the price of crossing an edge of kind 0, 1, .. (1 to 1000, or None where such edges must not be crossed; kinds past
+    the end cost 1), and `program` the path of `planar` (see `find_program`).
 
     The process begins with the session, and ends with the `with` block or by `close`. A fault of the start, of the limits
     or of the prices is a Fault here, as by `Planarizer.run`.
@@ -68,7 +68,7 @@ class Session:
 
     @property
     def limits(self) -> Limits:
-        """The largest counters."""
+        """How large the picture may grow."""
         return self._given.limits or Limits()
 
     @property

@@ -32,12 +32,26 @@ class Exchange(unittest.TestCase):
         with self.assertRaises(KeyError):
             result.segments(0, 9)
 
+    def test_keys_of_a_multigraph(self):
+        result = planarize(nx.MultiGraph(["ab", "bc", "ca", "ab"]))
+        for key in (0, 1):
+            self.assertEqual(result.edge_of[result.edge_id("b", "a", key)], ("a", "b", key))
+            self.assertEqual([(it.start, it.end) for it in result.segments("b", "a", key)], [("b", "a")])
+        for call in (result.edge_id, result.segments):
+            for words, due in ((("a", "b"), "the key is required"), (("a", "b", 2), "no edge"), (("a", "x", 0), "no edge")):
+                with self.assertRaisesRegex(KeyError, due):
+                    call(*words)
+        with self.assertRaisesRegex(KeyError, "no edge"):
+            planarize(nx.path_graph(3)).edge_id(0, 1, 0)
+
     def test_directions_of_a_digraph(self):
         graph = nx.DiGraph([(0, 1), (2, 1), (2, 0), (1, 3), (3, 0)])
         result = planarize(graph)
         for u, v in graph.edges:
             chain = result.segments(u, v)
             self.assertEqual((chain[0].start, chain[-1].end), (u, v))
+            with self.assertRaisesRegex(KeyError, "no edge"):
+                result.segments(v, u)
 
     def test_one_object(self):
         graph = nx.MultiGraph([("a", (1, 2)), ((1, 2), "c"), ("c", "a"), ("a", "c")])

@@ -76,10 +76,16 @@ class Names(unittest.TestCase):
                 (lambda: session.insert_edge("b", "d", price=3), "price 3"),
                 (lambda: session.grow_edge("x", "y"), "'x' is no node"),
                 (lambda: session.grow_edge("a", "b"), "'b' is a node"),
+                (lambda: session.grow_edge("a", None), "None cannot be a node"),
+                (lambda: session.grow_edge(None, "x"), "None is no node"),
             ):
                 with self.assertRaisesRegex(ValueError, words):
                     call()
-            with self.assertRaises(KeyError):
+            for call in (lambda: session.grow_edge("a", ["x"]), lambda: session.insert_edge("a", ["x"])):
+                with self.assertRaises(TypeError):
+                    call()
+            self.assertEqual(session.counts(), self.result.picture.counts)
+            with self.assertRaisesRegex(KeyError, "no edge .'b', 'd'."):
                 session.delete_edge("b", "d")
             with self.assertRaises(Fault):
                 session.grow_edge("a", "x", position=-1)
@@ -128,6 +134,8 @@ class Names(unittest.TestCase):
                 edges = [session.edge_of[session.insert_edge("b", "a").edge], session.edge_of[session.grow_edge("c", "d").edge]]
                 if kind is nx.MultiGraph:
                     edges.append(session.edge_of[session.insert_edge("a", "b").edge])
+                    with self.assertRaisesRegex(KeyError, "the key is required"):
+                        session.delete_edge("b", "a")
                     session.delete_edge("b", "a", 1)
                 self.judge(session.result())
             due = {nx.MultiGraph: [("a", "b", 1), ("c", "d", 0), ("a", "b", 2)], nx.DiGraph: [("b", "a"), ("c", "d")]}

@@ -4,7 +4,9 @@ import io
 import os
 import signal
 import unittest
+import warnings
 from concurrent.futures.process import BrokenProcessPool
+from contextlib import nullcontext
 from unittest import mock
 
 from fezdrok import Bar, MemoryFault, Planarization, ProgramNotFound, planarize, planarize_many
@@ -71,6 +73,29 @@ class Many(unittest.TestCase):
             planarize_many([nx.path_graph(3)] * 5, processes=2, progress=True)
             self.assertIn("5/5", stream.getvalue())
 
+    def test_the_bar_ends_its_line(self):
+        """However the work ends: also of graphs without a length, at Ctrl-C, and where the iterable fails. What is written
+        next, as a warning, begins a line."""
+
+        def graphs(count, raised=None):
+            yield from [nx.path_graph(3)] * count
+            if raised is not None:
+                raise raised
+
+        def told(graphs, raised=None):
+            stream = io.StringIO()
+            with mock.patch("sys.stderr", stream), warnings.catch_warnings(), self.assertRaises(raised) if raised else nullcontext():
+                warnings.simplefilter("always")
+                planarize_many(graphs, processes=1, progress=True, quick=True)
+            return stream.getvalue()
+
+        self.assertRegex(told(list(graphs(2))), r"2/2[^\n]*\n\Z")
+        self.assertRegex(told([]), r"\A\r0 graphs[^\n]*\n\Z")
+        self.assertRegex(told(graphs(2)), r"\r2 graphs[^\n]*\n\Z")
+        self.assertRegex(told(graphs(9, KeyboardInterrupt)), r"\r[1-9] graphs[^\n]*\n[^\r\n]*PlanarWarning: interrupted")
+        for raised in (KeyboardInterrupt, LookupError):
+            self.assertRegex(told(graphs(0, raised), raised), r"\A\r0 graphs[^\n]*\n\Z")
+
     def test_none(self):
         self.assertEqual(planarize_many([]), [])
 
@@ -105,6 +130,17 @@ class Bars(unittest.TestCase):
         self.assertEqual(bar.line(8, None).rstrip(), "8 graphs, 2.0 a second")
         bar(4, 4)
         self.assertEqual(stream.getvalue(), "\r[##########] 4/4, 1.0 a second, 0 s left   \n")
+
+    def test_a_line_is_ended_once(self):
+        stream = io.StringIO()
+        bar = Bar(stream)
+        bar.close()
+        self.assertEqual(stream.getvalue(), "")
+        for done, total in ((1, None), (2, None), (2, 2), (1, 2)):
+            bar(done, total)
+        bar.close()
+        bar.close()
+        self.assertEqual([line.count("\r") for line in stream.getvalue().split("\n")], [3, 1, 0])
 
 
 if __name__ == "__main__":

@@ -5,7 +5,7 @@ import unittest
 from collections import Counter
 from fractions import Fraction
 
-from fezdrok import Counts, Limits, NotPlanarized, Planarizer, Report, planarize, prepare, reinsert, to_networkx_embedding
+from fezdrok import Counts, Fault, Limits, NotPlanarized, Planarizer, Report, planarize, prepare, reinsert, to_networkx_embedding
 from fezdrok.graphs import bridges, read_graph
 
 from .support import crossings_of, euler, graph_pairs, needs_networkx, needs_program, pairs_of, traced
@@ -327,6 +327,11 @@ class Planarizations(Judged):
         with self.assertRaises(NotPlanarized) as caught:
             planarize(nx.complete_graph(5), limits=Limits(5, 10, 0))
         self.assertEqual(caught.exception.reply.name, "Full")
+        twice = nx.disjoint_union(nx.complete_graph(5), nx.complete_graph(5))
+        self.assertEqual(planarize(twice, quick=True, limits=Limits(5, 10, 1)).crossings, 2)
+        for limits, due in ((Limits(4, 10, 1), "20 TooMany"), (Limits(65537, 10, 1), "11 BadLimits")):
+            with self.assertRaisesRegex(Fault, due):
+                planarize(twice, limits=limits)
 
     def test_a_script_that_is_run_elsewhere(self):
         graph = nx.petersen_graph()

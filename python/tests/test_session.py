@@ -268,6 +268,73 @@ class Ends(unittest.TestCase):
                         session.grow(0)
                     self.assertEqual(session.is_closed, is_closed)
 
+    @needs_program
+    def test_lines_that_are_answered_as_others_are_interrupted(self):
+        """Before or after they are written, before or after their answers are read: the next answers are those of the next
+        lines, whatever the lines were, also where they are answered as those with which a session finds its place again."""
+        refused = ['["delete","x"]', '["grow","x",0,0]', '["insert","x",1,0]', '["delete",""]', "[]", ""]
+        with Session() as session:
+            for name in ("write", "read"):
+                for is_done in (False, True):
+                    for lines in (*([line] for line in refused), refused, refused[:4] * 7, ['"picture"', *refused], refused[:4] * 200):
+                        done = getattr(os, name)
+
+                        def interrupted(*words, done=done, is_done=is_done):
+                            _ = done(*words) if is_done else None
+                            raise KeyboardInterrupt
+
+                        if name == "write" and sum(len(line) + 1 for line in lines) > serving._AT_ONCE:
+                            continue  # which ends the session
+                        with mock.patch.object(serving.os, name, interrupted), self.assertRaises(KeyboardInterrupt):
+                            session.answers(lines)
+                        self.assertEqual(session.answers(['"counts"', "["]), [COUNTS, '{"fault":[50,"NotJson"]}'])
+                        self.assertEqual(session.counts(), Counts(2, 0, 1, 1, 1))
+            self.assertEqual(session.report().history, ())
+
+    @needs_program
+    def test_answers_that_are_interrupted_in_their_middle(self):
+        """Some of the answers were read, and perhaps the beginning of the next; or they were read and are lost."""
+        lines = ['["delete","x"]', '"counts"', '["delete","x"]', '["delete","x"]']
+        done = os.read
+
+        def read_wholly(source, count):
+            text = b""
+            while len(text) < count:
+                text += done(source, count - len(text))
+            return text
+
+        with Session() as session:
+            for count in range(1, sum(len(answer) + 1 for answer in session.answers(lines)) + 1):
+                for is_lost in (False, True):
+                    counts = iter((count,))
+
+                    def cut_short(source, room, counts=counts, is_lost=is_lost):
+                        text = read_wholly(source, next(counts, 0))
+                        if is_lost or not text:
+                            raise KeyboardInterrupt
+                        return text
+
+                    with mock.patch.object(serving.os, "read", cut_short):
+                        try:
+                            session.answers(lines)
+                        except KeyboardInterrupt:
+                            pass  # which does not come where all answers are read
+                    self.assertEqual(session.counts(), Counts(2, 0, 1, 1, 1))
+                    self.assertEqual(session.delete(7), Refused(4, "NoEdge"))
+
+    def test_a_line_that_was_sent_in_part(self):
+        """Where a line is too long to be sent wholly or not at all, an interrupt as it is sent ends the session."""
+        with Session(program=fake(self, f"read line; echo '{COUNTS}'; exec cat > /dev/null")) as session:
+            done = os.write
+
+            def in_part(target, data):
+                done(target, bytes(data[:100]))
+                raise KeyboardInterrupt
+
+            with mock.patch.object(serving.os, "write", in_part), self.assertRaises(KeyboardInterrupt):
+                session.answers(['["delete","x"]' * 40])
+            self.assertTrue(session.is_closed)
+
     def other(self, body: str) -> "subprocess.Popen[str]":
         """Another Python in a group of its own, which has a session, prints the number of its process, and goes on so. At
         Ctrl-C it prints what it is answered then."""
