@@ -1,12 +1,18 @@
-use Rattle.std.proofs.Common.{◌∙◌, true, false}
+use Rattle.std.proofs.Common.{◌∙◌, rules, true, false}
 use Rattle.topo_settings.proofs.Pricing.{err_so}
 use Rattle.topo_serve.specs.declared.ahead.Part.TheVariants.{End, Feed}
+use Rattle.topo_serve.specs.Turns.{OpenFailsBy}
 use Rattle.topo_serve.proofs.OpeningLaws.{both_so, first_long, first_so, none_so, opens_so, reading_fails}
 use Rattle.topo_serve.proofs.serve.open.Goals as goal
 
 pub returns-in_err-take_first-clause-fault : goal.returns-in_err-take_first-clause-fault
 returns-in_err-take_first-clause-fault g c =
-    reading_fails _ _ _ c.in_err-take_first.ensures.err (λ failed. c.in_err-take_first.ensures.no_feed failed c.requires)
+    let fault = c.in_err-take_first.field-0.0 in
+    let old = g.I.Read.remaining c.args.reader.now in
+    let new = g.I.Read.remaining c.take_first.new.reader in
+    let told : OpenFailsBy fault old new =
+    reading_fails fault old new c.in_err-take_first.ensures.err (λ failed. c.in_err-take_first.ensures.no_feed failed c.requires) in
+    search (rules, told)
 
 pub returns-in-Feed-clause-opens : goal.returns-in-Feed-clause-opens
 returns-in-Feed-clause-opens g c =

@@ -1,8 +1,10 @@
-use Rattle.std.proofs.Common.{◌++◌, ◌≡◌, ◌≢◌, ◌≤◌, ap, arith, length, rules, subst}
+use Rattle.std.proofs.Common.{◌++◌, ◌≡◌, ◌≢◌, ◌≤◌, [], ap, arith, length, rules, subst, sym, Result, Err, IfErr}
 use Rattle.std.proofs.KnownBytes.{Keeps-refl}
 use Rattle.std.proofs.lemmas.List.{length-take}
 use Rattle.topo_serve.specs.declared.ahead.Part.{Part}
-use Rattle.topo_serve.specs.Taking.{EndsBy}
+use Rattle.topo_settings.specs.declared.fault.RunFault.{RunFault}
+use Rattle.topo_settings.specs.declared.fault.RunFault.TheVariants.{ReadFault}
+use Rattle.topo_serve.specs.Taking.{EndsBy, ReadsNoFeed}
 use Rattle.topo_serve.proofs.TakingLaws.{first_fed, first_long, first_over, line_on, no_feed}
 use Rattle.topo_serve.proofs.ahead.Ahead.take_first.Goals as goal
 
@@ -23,10 +25,14 @@ returns-in-End-clause-line g c =
     first_over _ _ _ _ _ _ _ _ _ so_far (record { plain = plain; takes = takes; kept = kept }) _ c.in_ok-take_part.ensures.part c.in-End.is short
 
 pub returns-in_err-take_part-clause-no_feed : goal.returns-in_err-take_part-clause-no_feed
-returns-in_err-take_part-clause-no_feed g c = λ failed first.
+returns-in_err-take_part-clause-no_feed g c =
     let (so_far, plain, takes, kept, within, short, none) = c.loop.invariant in
-    let (nothing, stays) = c.in_err-take_part.ensures.none failed in
-    no_feed _ _ _ _ _ _ takes first nothing plain stays
+    let Told = λ (fault : RunFault). fault ≡ ReadFault → c.args.self.now ≡ [] → ReadsNoFeed (g.R.Read.remaining c.args.reader.now)
+    (g.R.Read.remaining c.take_part.new.reader) in
+    let told : Told c.in_err-take_part.field-0.0 =
+    λ failed first. let (nothing, stays) = c.in_err-take_part.ensures.none failed in no_feed _ _ _ _ _ _ takes first nothing plain stays in
+    let is : c.from_residual.result ≡ Err c.in_err-take_part.field-0.0 = search rules in
+    subst (λ (r : Result Part RunFault). IfErr r Told) (sym is) told
 
 pub returns-clause-no_feed : goal.returns-clause-no_feed
 returns-clause-no_feed g c = λ failed first.
