@@ -16,7 +16,7 @@ from .improvement import Effort, Found, Search
 from .pictures import Picture
 from .planarizer import Planarizer
 from .program import PathLike
-from .progress import Clock, Telling, teller
+from .progress import Clock, Telling, ended, teller
 from .reports import Limits, Refused, Report, Reports, difference
 from .results import Planarization, joined_like, joined_parts, single
 from .sheet import Kept
@@ -139,16 +139,17 @@ def planarize(
     results: List[Planarization] = []
     failures: List[str] = []
     sources = components(source)
-    for part in sources:
-        if not part.edges:
-            results.append(single(part))
-            continue
-        search = Search(part, effort, limits, program, clock, tell)
-        search.run(begin, _order_in(part, order, len(sources)), seed)
-        results.append(_result(search))
-        failures += search.failures
-        if search.is_ended:
-            effort = Effort(1, 0, 0)
+    with ended(tell):
+        for part in sources:
+            if not part.edges:
+                results.append(single(part))
+                continue
+            search = Search(part, effort, limits, program, clock, tell)
+            search.run(begin, _order_in(part, order, len(sources)), seed)
+            results.append(_result(search))
+            failures += search.failures
+            if search.is_ended:
+                effort = Effort(1, 0, 0)
     _warn(failures)
     return results[0] if len(results) == 1 else joined_parts(source, results)
 
@@ -266,14 +267,15 @@ def reinsert(
     clock, tell = Clock(_judged(seconds)), teller(progress)
     failures: List[str] = []
     parts = list(result.parts or (result,))
-    for place, part in enumerate(parts):
-        if part.picture.edges:
-            search = Search(_source_of(part), effort, limits, program, clock, tell)
-            search.go_on(_found(part), seed)
-            parts[place] = _better(part, search)
-            failures += search.failures
-            if search.is_ended:
-                break
+    with ended(tell):
+        for place, part in enumerate(parts):
+            if part.picture.edges:
+                search = Search(_source_of(part), effort, limits, program, clock, tell)
+                search.go_on(_found(part), seed)
+                parts[place] = _better(part, search)
+                failures += search.failures
+                if search.is_ended:
+                    break
     _warn(failures)
     if not result.parts:
         return parts[0]

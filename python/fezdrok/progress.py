@@ -4,7 +4,8 @@ from __future__ import annotations
 
 import sys
 import time
-from typing import Any, Callable, NamedTuple, Optional, TextIO, Union
+from contextlib import closing, nullcontext
+from typing import Any, Callable, ContextManager, NamedTuple, Optional, TextIO, Union
 
 
 class Progress(NamedTuple):
@@ -36,14 +37,20 @@ def teller(progress: Telling) -> Callable[[Progress], Any]:
     return Line(sys.stderr) if progress else lambda told: None
 
 
+def ended(tell: Callable[[Progress], Any]) -> ContextManager[Any]:
+    """Ends the line that this writes, if it writes one, however what is done meanwhile ends."""
+    return closing(tell) if isinstance(tell, Line) else nullcontext()
+
+
 class Line:
-    """A line that is written over again, at most ten times a second."""
+    """A line that is written over again, at most ten times a second. It ends when a part of the graph is done, or by `close`."""
 
     def __init__(self, stream: TextIO, clock: Callable[[], float] = time.monotonic):
         self._stream = stream
         self._clock = clock
         self._next = clock()
         self._length = 0
+        self._is_open = False
 
     def __call__(self, told: Progress) -> None:
         if self._clock() < self._next and told.step != "done":
@@ -51,9 +58,19 @@ class Line:
         self._next = self._clock() + 0.1
         best = "none yet" if told.best is None else str(told.best)
         text = f"order {told.order} of {told.tries}, {told.step}: {told.crossings} crossings, best {best}, {told.seconds:.1f} s"
-        self._stream.write("\r" + text.ljust(self._length) + ("\n" if told.step == "done" else ""))
+        self._is_open = True
+        self._stream.write("\r" + text.ljust(self._length))
+        if told.step == "done":
+            self.close()
         self._stream.flush()
         self._length = len(text)
+
+    def close(self) -> None:
+        """Ends the line, unless it is ended or was not begun."""
+        if self._is_open:
+            self._is_open = False
+            self._stream.write("\n")
+            self._stream.flush()
 
 
 class Clock:

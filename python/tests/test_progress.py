@@ -4,7 +4,7 @@ import io
 import unittest
 
 from fezdrok import Progress
-from fezdrok.progress import Clock, Line, teller
+from fezdrok.progress import Clock, Line, ended, teller
 
 
 class Lines(unittest.TestCase):
@@ -22,6 +22,18 @@ class Lines(unittest.TestCase):
         self.assertEqual(written[2].rstrip(), "order 4 of 4, shakes: 7 crossings, best 8, 0.7 s")
         self.assertEqual(len(written), 4)
         self.assertTrue(written[3].endswith("\n"))
+
+    def test_a_line_ends_once(self):
+        stream = io.StringIO()
+        line = Line(stream, clock=lambda: 0.0)
+        with self.assertRaises(KeyboardInterrupt), ended(line):
+            line(Progress("round 12", 1, 4, 123, None, 0.5))
+            raise KeyboardInterrupt
+        self.assertEqual(stream.getvalue().count("\n"), 1)
+        line(Progress("done", 4, 4, 7, 7, 0.8))
+        with ended(line), ended(print):
+            pass
+        self.assertEqual(stream.getvalue().count("\n"), 2)
 
     def test_what_is_told(self):
         self.assertIs(teller(print), print)
