@@ -11,7 +11,7 @@ use Rattle.topo_run.specs.Working.{IsOfOpening, IsOfRun, IsOfService}
 pub run_fails : (script : Script) (fault : RunFault) → IsSoundScript script → IsOfRun script.workers fault → FailsRun script fault
 run_fails script Memory sound is = is
 run_fails script NoSeat sound is = (sound, is)
-run_fails script (Mismatch list i) sound is = (sound, is.0, is.1, is.2)
+run_fails script (Mismatch list i) sound is = (sound, is)
 run_fails script _ sound is = absurd is
 
 -- a fault when passes are opened for lists is one of a service for them
