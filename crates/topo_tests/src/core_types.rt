@@ -1,5 +1,7 @@
 //! The plain types: each call once, with values worked out by hand.
 
+ghost use Rattle.topo_price.specs.Prices.{IsPromise};
+
 use std::process::Abort;
 use std::test::Fail;
 use topo_core::ids::{CrossId, EdgeId, VertexId};
@@ -7,7 +9,7 @@ use topo_core::limits::{Limits, LimitsFault};
 use topo_core::listed::Listed;
 use topo_core::rows::{Facts, Rows};
 use topo_price::table::PriceFault;
-use topo_price::tariff::Tariff;
+use topo_price::tariff::{PriceFn, Tariff};
 use topo_test_support::pictures::{Named, rows_of};
 use topo_test_support::prices::table_of;
 
@@ -52,17 +54,24 @@ const ENTRIES: &[(u32, Option<PriceFault>)] = &[
     (1000, None),
 ];
 
-/// Of a table, prices are known before an edge is asked for. A kind without a price has the greatest
-/// floor.
-#[test]
-fn prices_of_a_table_are_known_by_kind(rt: HostRuntime) -> Result<(), Fail> {
-    let table = table_of(Some(1), &[(1, Some(1000)), (2, None)])?;
-    table.laws();
-    let tariff = Tariff::new(table);
+/// Kind 0 costs 1, kind 1 costs 1000, and kind 2 has no price: so its floor is the greatest. All is
+/// known before an edge is asked for its price.
+fn is_known_by_kind<F: PriceFn + Drop>(rt: &impl Abort, ask: F)
+    requires callable { F.is_callable ask }
+    requires promise { IsPromise (F.may_return ask) }
+{
+    let tariff = Tariff::new(ask);
     assert!(rt; tariff.is_by_kind());
     assert!(rt; tariff.price_of_kind(1) == Some(Some(1000)));
     assert!(rt; tariff.price_of_kind(2) == Some(None));
     assert!(rt; (tariff.floor(0), tariff.floor(1), tariff.floor(2)) == (1, 1000, 65_535));
+}
+
+#[test]
+fn prices_of_a_table_are_known_by_kind(rt: HostRuntime) -> Result<(), Fail> {
+    let table = table_of(Some(1), &[(1, Some(1000)), (2, None)])?;
+    table.laws();
+    is_known_by_kind(&rt, table);
     Ok(())
 }
 
