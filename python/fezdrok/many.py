@@ -10,7 +10,7 @@ import time
 import warnings
 from concurrent.futures import FIRST_COMPLETED, Future, ProcessPoolExecutor, wait
 from concurrent.futures.process import BrokenProcessPool
-from contextlib import closing, nullcontext
+from contextlib import closing
 from typing import Any, Callable, Dict, Iterable, Iterator, List, Optional, Sized, TextIO, Tuple, Union
 
 from .faults import PlanarWarning, Unfinished
@@ -18,6 +18,7 @@ from .pictures import Picture
 from .planarization import Planarization, planarize
 from .planarizer import Planarizer
 from .processes import kill_when_closed
+from .progress import Rewritten, ended
 
 #: A planarization, or the exception that came in its place.
 Outcome = Union[Planarization, Exception]
@@ -51,7 +52,7 @@ def planarize_many(graphs: Iterable[Any], processes: Optional[int] = None, progr
     total = len(graphs) if isinstance(graphs, Sized) else None
     outcomes: Dict[int, Outcome] = {}
     try:
-        with closing(tell) if isinstance(tell, Bar) else nullcontext(), closing(_each(graphs, workers, options)) as each:
+        with ended(tell), closing(_each(graphs, workers, options)) as each:
             tell(0, total)
             for place, outcome in each:
                 outcomes[place] = outcome
@@ -165,34 +166,22 @@ def _teller(progress: Counting) -> Callable[[int, Optional[int]], None]:
     return lambda done, total: None
 
 
-class Bar:
-    """A line that is written over again: how many graphs are done, how fast, and how long it will take.
+class Bar(Rewritten):
+    """A line that says how many graphs are done, how fast, and how long it will take.
 
     It ends with a line feed when all are done. `close` ends it sooner, as where the work was interrupted or their number is
     not known; `planarize_many` calls it in any case.
     """
 
     def __init__(self, stream: TextIO, width: int = 30, clock: Callable[[], float] = time.monotonic):
-        self.stream = stream
+        super().__init__(stream)
         self.width = width
         self.clock = clock
         self.begun = clock()
-        self._is_open = False
 
     def __call__(self, done: int, total: Optional[int]) -> None:
         """Writes the line anew for so many graphs that are done of so many, or of a number that is not known (None)."""
-        self._is_open = True
-        self.stream.write("\r" + self.line(done, total))
-        if done == total:
-            self.close()
-        self.stream.flush()
-
-    def close(self) -> None:
-        """Ends the line, unless it is ended or was not begun."""
-        if self._is_open:
-            self._is_open = False
-            self.stream.write("\n")
-            self.stream.flush()
+        self.write(self.line(done, total), done == total)
 
     def line(self, done: int, total: Optional[int]) -> str:
         """The line as it stands now."""

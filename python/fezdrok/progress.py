@@ -37,33 +37,20 @@ def teller(progress: Telling) -> Callable[[Progress], Any]:
     return Line(sys.stderr) if progress else lambda told: None
 
 
-def ended(tell: Callable[[Progress], Any]) -> ContextManager[Any]:
-    """Ends the line that this writes, if it writes one, however what is done meanwhile ends."""
-    return closing(tell) if isinstance(tell, Line) else nullcontext()
+class Rewritten:
+    """A line that is written over again."""
 
-
-class Line:
-    """A line that is written over again, at most ten times a second. It ends when a part of the graph is done, or by `close`."""
-
-    def __init__(self, stream: TextIO, clock: Callable[[], float] = time.monotonic):
+    def __init__(self, stream: TextIO):
         self._stream = stream
-        self._clock = clock
-        self._next = clock()
-        self._length = 0
         self._is_open = False
 
-    def __call__(self, told: Progress) -> None:
-        if self._clock() < self._next and told.step != "done":
-            return
-        self._next = self._clock() + 0.1
-        best = "none yet" if told.best is None else str(told.best)
-        text = f"order {told.order} of {told.tries}, {told.step}: {told.crossings} crossings, best {best}, {told.seconds:.1f} s"
+    def write(self, text: str, is_last: bool) -> None:
+        """Writes this over the line, and ends it with the last text."""
         self._is_open = True
-        self._stream.write("\r" + text.ljust(self._length))
-        if told.step == "done":
+        self._stream.write("\r" + text)
+        if is_last:
             self.close()
         self._stream.flush()
-        self._length = len(text)
 
     def close(self) -> None:
         """Ends the line, unless it is ended or was not begun."""
@@ -71,6 +58,31 @@ class Line:
             self._is_open = False
             self._stream.write("\n")
             self._stream.flush()
+
+
+def ended(tell: Any) -> ContextManager[Any]:
+    """Ends the line that this writes, if it writes one, however what is done meanwhile ends."""
+    return closing(tell) if isinstance(tell, Rewritten) else nullcontext()
+
+
+class Line(Rewritten):
+    """How far a planarization is, written at most ten times a second. The line ends when a part of the graph is done, or by
+    `close`."""
+
+    def __init__(self, stream: TextIO, clock: Callable[[], float] = time.monotonic):
+        super().__init__(stream)
+        self._clock = clock
+        self._next = clock()
+        self._length = 0
+
+    def __call__(self, told: Progress) -> None:
+        if self._clock() < self._next and told.step != "done":
+            return
+        self._next = self._clock() + 0.1
+        best = "none yet" if told.best is None else str(told.best)
+        text = f"order {told.order} of {told.tries}, {told.step}: {told.crossings} crossings, best {best}, {told.seconds:.1f} s"
+        self.write(text.ljust(self._length), told.step == "done")
+        self._length = len(text)
 
 
 class Clock:
