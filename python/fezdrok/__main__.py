@@ -14,9 +14,9 @@ import os
 import sys
 from typing import BinaryIO, List, Optional, TextIO, Tuple
 
-from .faults import Fault, PlanarError, ProgramNotFound
-from .pictures import json_text
-from .program import Program
+from .engine.faults import Fault, PlanarError, ProgramNotFound
+from .engine.pictures import json_text
+from .engine.program import Program
 
 
 CLOSED = 141

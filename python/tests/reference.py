@@ -10,7 +10,7 @@ from dataclasses import replace
 from typing import Dict, Iterable, List, Optional, Sequence, Set, Tuple
 
 from fezdrok import Crossing, Dart, Delete, Deleted, Edge, Entry, Grow, Grown, Insert, Inserted, Limits, Picture, Point, Refused, Report
-from fezdrok.reports import Call, Prices, Reply
+from fezdrok.engine.reports import Call, Prices, Reply
 
 Heights = Dict[int, int]
 

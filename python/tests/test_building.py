@@ -13,7 +13,7 @@ from pathlib import Path
 from unittest import mock
 
 from fezdrok import PlanarWarning, Program, ProgramNotFound, find_program
-from fezdrok import program as program_module
+from fezdrok.engine import program as program_module
 
 from .support import ROOT
 

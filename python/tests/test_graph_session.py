@@ -4,7 +4,7 @@ import unittest
 from unittest import mock
 
 from fezdrok import Deleted, Fault, Grown, Inserted, NotPlanarized, Planarizer, SessionClosed, planarize, reinsert, to_networkx_embedding, to_svg
-from fezdrok import serving
+from fezdrok.engine import line_process
 
 from .support import graph_pairs, needs_networkx, needs_program, pairs_of, traced
 
@@ -172,7 +172,7 @@ class Names(unittest.TestCase):
         for name in ("read", "write"):
             with self.result.session() as session:
                 for call in (lambda: session.insert_edge("b", "d"), lambda: session.grow_edge("c", "e"), lambda: session.delete_edge("a", "b")):
-                    with mock.patch.object(serving.os, name, side_effect=KeyboardInterrupt):
+                    with mock.patch.object(line_process.os, name, side_effect=KeyboardInterrupt):
                         with self.assertRaises(KeyboardInterrupt):
                             call()
                     edges = len(session.result().graph.edges)

@@ -14,7 +14,8 @@ import unittest
 from pathlib import Path
 from typing import List
 
-from fezdrok import find_program, processes
+from fezdrok import find_program
+from fezdrok.engine import processes
 
 from .support import ROOT, fake, needs_networkx, needs_program
 

@@ -4,7 +4,7 @@ import io
 import unittest
 
 from fezdrok import Progress
-from fezdrok.progress import Clock, Line, ended, teller
+from fezdrok.search.progress import Clock, Line, ended, teller
 
 
 class Lines(unittest.TestCase):

@@ -5,7 +5,7 @@ import random
 import unittest
 
 from fezdrok import Delete, Grow, Insert, Limits, Picture, Planarizer
-from fezdrok.reports import call_from_json
+from fezdrok.engine.reports import call_from_json
 
 from . import reference
 from .support import EXAMPLES, example_scripts, needs_program

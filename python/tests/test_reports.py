@@ -4,7 +4,7 @@ import json
 import unittest
 
 from fezdrok import Dart, Deleted, Grow, Grown, Inserted, Limits, NoReport, Picture, Refused, Report
-from fezdrok.reports import Reports as Sequences
+from fezdrok.engine.reports import Reports as Sequences
 
 from .support import EXAMPLES, example_reports, report_files
 

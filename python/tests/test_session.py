@@ -11,7 +11,7 @@ from unittest import mock
 
 from fezdrok import Counts, Deleted, Fault, Grown, Inserted, Limits, MemoryFault, Picture, PlanarError, Planarizer, ProgramFailed, ProgramNotFound
 from fezdrok import ProgramNotStarted, Refused, Renumbered, Session, SessionClosed, UsageRefused
-from fezdrok import serving
+from fezdrok.engine import line_process
 
 from .support import fake, needs_program
 
@@ -233,11 +233,11 @@ class Ends(unittest.TestCase):
     @needs_program
     def test_a_call_that_is_interrupted(self):
         with Session() as session:
-            with mock.patch.object(serving.os, "read", side_effect=KeyboardInterrupt):
+            with mock.patch.object(line_process.os, "read", side_effect=KeyboardInterrupt):
                 with self.assertRaises(KeyboardInterrupt):
                     session.grow(0)
             self.assertEqual(session.grow(0), Grown(3, 2))
-            with mock.patch.object(serving.os, "write", side_effect=KeyboardInterrupt):
+            with mock.patch.object(line_process.os, "write", side_effect=KeyboardInterrupt):
                 with self.assertRaises(KeyboardInterrupt):
                     session.grow(0)
             self.assertEqual(session.counts().vertices, 4)
@@ -256,13 +256,13 @@ class Ends(unittest.TestCase):
                         raise KeyboardInterrupt
 
                     for _ in range(5):
-                        with mock.patch.object(serving.os, name, interrupted):
+                        with mock.patch.object(line_process.os, name, interrupted):
                             with self.assertRaises(KeyboardInterrupt):
                                 session.insert(0, 0)
                         self.assertEqual(session.counts(), Counts(2, 0, 1, 1, 1))
                         self.assertEqual(session.delete(7), Refused(4, "NoEdge"))
             self.assertEqual(session.report().replies.count(Refused(4, "NoEdge")), 20)
-            with mock.patch.object(serving.os, "read", side_effect=KeyboardInterrupt):
+            with mock.patch.object(line_process.os, "read", side_effect=KeyboardInterrupt):
                 for is_closed in (False, True):
                     with self.assertRaises(KeyboardInterrupt):
                         session.grow(0)
@@ -285,7 +285,7 @@ class Ends(unittest.TestCase):
 
                         if name == "write" and sum(len(line) + 1 for line in lines) > serving._AT_ONCE:
                             continue  # which ends the session
-                        with mock.patch.object(serving.os, name, interrupted), self.assertRaises(KeyboardInterrupt):
+                        with mock.patch.object(line_process.os, name, interrupted), self.assertRaises(KeyboardInterrupt):
                             session.answers(lines)
                         self.assertEqual(session.answers(['"counts"', "["]), [COUNTS, '{"fault":[50,"NotJson"]}'])
                         self.assertEqual(session.counts(), Counts(2, 0, 1, 1, 1))
@@ -314,7 +314,7 @@ class Ends(unittest.TestCase):
                             raise KeyboardInterrupt
                         return text
 
-                    with mock.patch.object(serving.os, "read", cut_short):
+                    with mock.patch.object(line_process.os, "read", cut_short):
                         try:
                             session.answers(lines)
                         except KeyboardInterrupt:
@@ -331,7 +331,7 @@ class Ends(unittest.TestCase):
                 done(target, bytes(data[:100]))
                 raise KeyboardInterrupt
 
-            with mock.patch.object(serving.os, "write", in_part), self.assertRaises(KeyboardInterrupt):
+            with mock.patch.object(line_process.os, "write", in_part), self.assertRaises(KeyboardInterrupt):
                 session.answers(['["delete","x"]' * 40])
             self.assertTrue(session.is_closed)
 
@@ -415,7 +415,7 @@ class Ends(unittest.TestCase):
             begun.append(process)
             raise OSError("no such thing")
 
-        with mock.patch.object(serving, "kill_when_closed", refused), self.assertRaisesRegex(ProgramNotStarted, "no such thing"):
+        with mock.patch.object(line_process, "kill_when_closed", refused), self.assertRaisesRegex(ProgramNotStarted, "no such thing"):
             Session(program=fake(self, "exec sleep 30"))
         self.assertEqual([ended(process) for process in begun], [True])
         self.assertEqual(os.listdir("/dev/fd"), before)
@@ -425,7 +425,7 @@ class Ends(unittest.TestCase):
             self.assertEqual(session.counts(), Counts(2, 0, 1, 1, 1))
 
     def test_a_program_that_does_not_end(self):
-        with mock.patch.object(serving, "PATIENCE", 0.1):
+        with mock.patch.object(line_process, "PATIENCE", 0.1):
             with Session(program=fake(self, f"read line; echo '{COUNTS}'; exec sleep 30")) as session:
                 process = session.process_id
         self.assertTrue(ended(process))
