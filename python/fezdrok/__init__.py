@@ -12,6 +12,7 @@ from .engine.faults import (
     Fault, MemoryFault, ModuleMissing, NoReport, NotPlanarized, OtherReport, PlanarError, PlanarWarning, ProgramFailed,
     ProgramNotFound, ProgramNotStarted, SessionClosed, Unfinished, UsageRefused,
 )
+from .engine.graph_pictures import Dummy, Segment
 from .engine.graph_session import GraphSession
 from .engine.pictures import Counts, Crossing, Dart, Edge, Picture, Point
 from .engine.planarizer import Planarizer
@@ -19,8 +20,8 @@ from .engine.program import Program, find_program
 from .engine.reports import Delete, Deleted, Entry, Grow, Grown, Insert, Inserted, Limits, Planned, Refused, Report
 from .engine.results import Planarization
 from .engine.session import Renumbered, Session
-from .files.embeddings import Dummy, from_networkx_embedding, to_networkx_embedding
-from .files.multigraphs import Segment, to_networkx_graph
+from .files.embeddings import from_networkx_embedding, to_networkx_embedding
+from .files.multigraphs import to_networkx_graph
 from .search.batches import Bar, planarize_many
 from .search.planarization import Prepared, planarize, prepare, reinsert
 from .search.progress import Progress

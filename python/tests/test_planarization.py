@@ -6,7 +6,8 @@ from collections import Counter
 from fractions import Fraction
 
 from fezdrok import Counts, Fault, Limits, NotPlanarized, Planarizer, Report, planarize, prepare, reinsert, to_networkx_embedding
-from fezdrok.files.graphs import bridges, read_graph
+from fezdrok.files.graphs import read_graph
+from fezdrok.search.connectivity import bridges
 
 from .support import crossings_of, euler, graph_pairs, needs_networkx, needs_program, pairs_of, traced
 

@@ -7,7 +7,6 @@ import sys
 import tempfile
 import unittest
 from dataclasses import replace
-from pathlib import Path
 
 from fezdrok import Delete, Insert, Limits, NotPlanarized, OtherReport, Planned, PlanarError, Refused, prepare
 

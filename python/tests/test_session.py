@@ -283,7 +283,7 @@ class Ends(unittest.TestCase):
                             _ = done(*words) if is_done else None
                             raise KeyboardInterrupt
 
-                        if name == "write" and sum(len(line) + 1 for line in lines) > serving._AT_ONCE:
+                        if name == "write" and sum(len(line) + 1 for line in lines) > line_process._AT_ONCE:
                             continue  # which ends the session
                         with mock.patch.object(line_process.os, name, interrupted), self.assertRaises(KeyboardInterrupt):
                             session.answers(lines)

@@ -11,8 +11,10 @@ from math import sqrt
 from typing import TYPE_CHECKING, Any, Dict, Iterable, List, Mapping, Optional, Sequence
 
 from ..engine.faults import wanted
-from ..files.embeddings import Dummy, to_networkx_embedding
-from ..files.graphs import GraphEdge
+from ..engine.graph_edges import GraphEdge
+from ..engine.graph_pictures import Dummy
+from ..engine.results import Planarization
+from ..files.embeddings import to_networkx_embedding
 from .orthogonal_layout import orthogonal_drawing
 from .relaxation import between, spread
 from .scenes import (
@@ -25,13 +27,11 @@ if TYPE_CHECKING:
     import networkx
     from matplotlib.axes import Axes
 
-    from ..engine.results import Planarization
-
 STYLES = ("straight", "orthogonal")
 MANY = 600
 
 
-def positions(result: "Planarization", embedding: Optional["networkx.PlanarEmbedding"] = None) -> Dict[Any, Position]:
+def positions(result: Planarization, embedding: Optional["networkx.PlanarEmbedding"] = None) -> Dict[Any, Position]:
     """A point for each node of the embedding, such that straight lines between neighbours do not cross.
 
     The points lie in the unit disk, spread so that faces are of like size and edges pass their crossings as straight as
@@ -56,7 +56,7 @@ def positions(result: "Planarization", embedding: Optional["networkx.PlanarEmbed
     return found
 
 
-def _side_by_side(result: "Planarization", places: Sequence[Mapping[Any, Position]]) -> Dict[Any, Position]:
+def _side_by_side(result: Planarization, places: Sequence[Mapping[Any, Position]]) -> Dict[Any, Position]:
     """The points of all parts, by the names that they have in the whole."""
     scales = [sqrt(len(part)) for part in places]
     least = [tuple(min(place[axis] for place in part.values()) for axis in (0, 1)) for part in places]
@@ -69,7 +69,7 @@ def _side_by_side(result: "Planarization", places: Sequence[Mapping[Any, Positio
     return found
 
 
-def _name_in_whole(result: "Planarization", name: Any, edge: int, crossing: int) -> Any:
+def _name_in_whole(result: Planarization, name: Any, edge: int, crossing: int) -> Any:
     """The name that a node of a part's embedding has in that of the whole, where edge and crossing ids are so much larger."""
     if name in result.vertex_of:
         return name
@@ -94,7 +94,7 @@ def places_between(embedding: "networkx.PlanarEmbedding", pos: Mapping[Any, Posi
     return places
 
 
-def chain(result: "Planarization", embedding: "networkx.PlanarEmbedding", edge_id: int) -> List[Any]:
+def chain(result: Planarization, embedding: "networkx.PlanarEmbedding", edge_id: int) -> List[Any]:
     """The nodes of the embedding along an edge, from the node of its end `a` to that of its end `b`."""
     edge = result.edge_of[edge_id]
     names = [result.name_of(point) for point in result.picture.path(edge_id)]
@@ -116,7 +116,7 @@ def _bend_between(embedding: "networkx.PlanarEmbedding", start: Any, end: Any, e
 
 
 def scene_of(
-    result: "Planarization", style: str = "straight", pos: Optional[Mapping[Any, Position]] = None, labels: bool = True, color: str = PLAIN
+    result: Planarization, style: str = "straight", pos: Optional[Mapping[Any, Position]] = None, labels: bool = True, color: str = PLAIN
 ) -> Scene:
     """What a drawing of a planarization shows; see `draw` for the words. ValueError for a style that is not known, and
     for `pos` with the style `orthogonal`, which has points of its own."""
@@ -132,7 +132,7 @@ def scene_of(
     return straight_scene(result, chains, places, _unit(result, places, labels), labels, color)
 
 
-def _unit(result: "Planarization", places: Mapping[Any, Position], labels: bool) -> float:
+def _unit(result: Planarization, places: Mapping[Any, Position], labels: bool) -> float:
     """How many pixels a step of the points is: so many that the drawing has room for its points, and up to twice as
     many where labels would lie on others, which is not looked at for more than MANY nodes."""
     xs, ys = [x for x, _ in places.values()], [y for _, y in places.values()]
@@ -148,7 +148,7 @@ def _unit(result: "Planarization", places: Mapping[Any, Position], labels: bool)
 
 
 def to_svg(
-    result: "Planarization",
+    result: Planarization,
     *,
     style: str = "straight",
     pos: Optional[Mapping[Any, Position]] = None,
@@ -165,7 +165,7 @@ def to_svg(
 
 
 def draw(
-    result: "Planarization",
+    result: Planarization,
     ax: Optional["Axes"] = None,
     *,
     style: str = "straight",

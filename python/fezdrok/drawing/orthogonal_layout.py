@@ -7,17 +7,15 @@ the right angles and the bends (see `bends`). `compact_mesh` makes coordinates o
 from __future__ import annotations
 
 from dataclasses import dataclass
-from typing import TYPE_CHECKING, Dict, List, Mapping, NamedTuple, Optional, Sequence, Tuple
+from typing import Dict, List, Mapping, NamedTuple, Optional, Sequence, Tuple
 
+from ..engine.graph_edges import Node
 from ..engine.pictures import Picture, Point
-from ..files.graphs import Node
+from ..engine.results import Planarization
 from .bends import Shape, least_bends
 from .compaction import Places, compact_mesh
 from .meshes import Expansion, expand
 from .shelf_packing import shelves
-
-if TYPE_CHECKING:
-    from ..engine.results import Planarization
 
 GridPoint = Tuple[int, int]
 
@@ -74,7 +72,7 @@ class OrthogonalDrawing:
 
 
 def orthogonal_drawing(
-    result: "Planarization", sizes: Optional[Mapping[Node, Tuple[int, int]]] = None, *, outer: Optional[int] = None, by_flow: bool = True
+    result: Planarization, sizes: Optional[Mapping[Node, Tuple[int, int]]] = None, *, outer: Optional[int] = None, by_flow: bool = True
 ) -> OrthogonalDrawing:
     """An orthogonal drawing of a planarization: edges along the grid, with the fewest bends that its picture allows
     where the face at the place `outer` lies outside, and without it `result.outer_face`. The parts of a graph that is
@@ -99,12 +97,12 @@ def orthogonal_drawing(
     return _drawing(result, shape, expansion, places)
 
 
-def _sizes_in(part: "Planarization", sizes: Optional[Mapping[Node, Tuple[int, int]]]) -> Dict[Node, Tuple[int, int]]:
+def _sizes_in(part: Planarization, sizes: Optional[Mapping[Node, Tuple[int, int]]]) -> Dict[Node, Tuple[int, int]]:
     """The sizes that are given for nodes of a part."""
     return {node: size for node, size in (sizes or {}).items() if node in part.vertex_of}
 
 
-def _side_by_side(result: "Planarization", drawings: Sequence[OrthogonalDrawing]) -> OrthogonalDrawing:
+def _side_by_side(result: Planarization, drawings: Sequence[OrthogonalDrawing]) -> OrthogonalDrawing:
     """One drawing from those of the parts."""
     boxes: Dict[Node, Box] = {}
     crossings: Dict[int, GridPoint] = {}
@@ -127,7 +125,7 @@ def _room(expansion: Expansion, wide: Mapping[Point, Tuple[int, int]]) -> Tuple[
     )
 
 
-def _drawing(result: "Planarization", shape: Shape, expansion: Expansion, places: Places) -> OrthogonalDrawing:
+def _drawing(result: Planarization, shape: Shape, expansion: Expansion, places: Places) -> OrthogonalDrawing:
     """The drawing whose mesh has these places."""
     picture = shape.picture
     boxes = {node: _box(picture, expansion, places, Point(False, vertex)) for vertex, node in enumerate(result.node_of)}

@@ -8,14 +8,12 @@ from __future__ import annotations
 
 from dataclasses import dataclass, replace
 from math import hypot
-from typing import TYPE_CHECKING, Any, Dict, List, Mapping, NamedTuple, Optional, Sequence, Tuple
+from typing import Any, Dict, List, Mapping, NamedTuple, Optional, Sequence, Tuple
 
+from ..engine.graph_edges import Node, Price
 from ..engine.pictures import Point
-from ..files.graphs import Node, Price
+from ..engine.results import Planarization
 from .orthogonal_layout import OrthogonalDrawing
-
-if TYPE_CHECKING:
-    from ..engine.results import Planarization
 
 Position = Tuple[float, float]
 
@@ -88,7 +86,7 @@ class Scene:
 # ---- How edges look
 
 
-def looks(result: "Planarization", color: str = PLAIN) -> Tuple[List[Look], Tuple[Tuple[str, Look], ...]]:
+def looks(result: Planarization, color: str = PLAIN) -> Tuple[List[Look], Tuple[Tuple[str, Look], ...]]:
     """The look of each kind, and the legend, which is empty where all edges have one price.
 
     Edges that must not be crossed are dark and broad. Up to six prices have colours of their own; more share a range
@@ -132,7 +130,7 @@ def _point_width(label: str) -> float:
     return max(LEAST_NODE, LETTER * len(label) + 4.0)
 
 
-def orthogonal_scene(result: "Planarization", drawing: OrthogonalDrawing, labels: bool = True, color: str = PLAIN) -> Scene:
+def orthogonal_scene(result: Planarization, drawing: OrthogonalDrawing, labels: bool = True, color: str = PLAIN) -> Scene:
     """The scene of an orthogonal drawing. Crossings have no mark: two lines cross at right angles."""
     kinds, legend = looks(result, color)
     widest = max((_point_width(str(node) if labels else "") for node, box in drawing.boxes.items() if box.is_point), default=LEAST_NODE)
@@ -153,7 +151,7 @@ def orthogonal_scene(result: "Planarization", drawing: OrthogonalDrawing, labels
 
 
 def straight_scene(
-    result: "Planarization", chains: Mapping[int, Sequence[Any]], places: Mapping[Any, Position], unit: float, labels: bool = True, color: str = PLAIN
+    result: Planarization, chains: Mapping[int, Sequence[Any]], places: Mapping[Any, Position], unit: float, labels: bool = True, color: str = PLAIN
 ) -> Scene:
     """The scene of a drawing whose edges lead over these chains of nodes, each of which has a place; they pass them
     without a corner."""
@@ -172,7 +170,7 @@ def straight_scene(
     return with_arrows(result, scene) if result.graph.is_directed() else scene
 
 
-def crossing_ways(result: "Planarization", chains: Mapping[int, Sequence[Any]], places: Mapping[Any, Position]) -> Dict[Tuple[int, Any], Position]:
+def crossing_ways(result: Planarization, chains: Mapping[int, Sequence[Any]], places: Mapping[Any, Position]) -> Dict[Tuple[int, Any], Position]:
     """For an edge and a crossing on it, as a node of its chain, the direction in which the edge would pass if both
     edges met at right angles, turned as little as they can be."""
     found: Dict[Tuple[int, Any], Position] = {}
@@ -244,7 +242,7 @@ def _cross(first: Position, second: Position) -> float:
 # ---- Arrows
 
 
-def with_arrows(result: "Planarization", scene: Scene) -> Scene:
+def with_arrows(result: Planarization, scene: Scene) -> Scene:
     """The scene of a directed graph: each edge with an arrow at the node that it leads to."""
     spot_of = {spot.node: spot for spot in scene.spots}
     strokes = []

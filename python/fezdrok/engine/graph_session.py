@@ -4,20 +4,21 @@ from __future__ import annotations
 
 from dataclasses import replace
 from types import TracebackType
-from typing import TYPE_CHECKING, Any, Callable, Dict, List, Optional, Sequence, Tuple, Type
+from typing import Any, Callable, Dict, Generic, List, Optional, Sequence, Tuple, Type, TypeVar
 
-from ..files.graphs import KINDS, GraphEdge, Node, Price, judge_kinds, name_among
 from .faults import NotPlanarized
+from .graph_edges import KINDS, GraphEdge, Node, Price, judge_kinds, name_among
+from .graph_pictures import GraphPicture
 from .pictures import Counts
 from .program import PathLike
 from .reports import Deleted, Grown, Inserted, Limits, Refused, Reply, Report
 from .session import Renumbered, Session
 
-if TYPE_CHECKING:
-    from .results import Planarization
+#: What a session goes on from and gives: a Planarization.
+Result = TypeVar("Result", bound=GraphPicture)
 
 
-class GraphSession:
+class GraphSession(Generic[Result]):
     """A planarization that is changed edge by edge, in one process of the program. See `Planarization.session`.
 
     `graph` is the graph of now, a copy of the planarization's own. `edge_of[e]` is its edge that has the id e in the picture,
@@ -28,7 +29,13 @@ class GraphSession:
     out which.
     """
 
-    def __init__(self, result: "Planarization", prices: Sequence[Price] = (), limits: Optional[Limits] = None, program: Optional[PathLike] = None):
+    def __init__(
+        self,
+        result: Result,
+        prices: Sequence[Price] = (),
+        limits: Optional[Limits] = None,
+        program: Optional[PathLike] = None,
+    ):
         if result.parts:
             raise ValueError("the graph is not connected: begin a session for each of the planarization's parts")
         if not result.picture.edges:
@@ -147,7 +154,7 @@ class GraphSession:
         """How large the picture is, as the program counts it."""
         return self._session.counts()
 
-    def result(self) -> "Planarization":
+    def result(self) -> Result:
         """The planarization of the graph of now. The session goes on, and the result stays as it is."""
         self._settle()
         report = self._session.report()
@@ -178,7 +185,7 @@ class GraphSession:
         """Whether the session is over."""
         return self._session.is_closed
 
-    def __enter__(self) -> "GraphSession":
+    def __enter__(self) -> GraphSession[Result]:
         return self
 
     def __exit__(self, kind: Optional[Type[BaseException]], raised: Optional[BaseException], trace: Optional[TracebackType]) -> None:

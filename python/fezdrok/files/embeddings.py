@@ -5,43 +5,23 @@ networkx is imported where it is used, so the rest of the package does not want 
 
 from __future__ import annotations
 
-from dataclasses import dataclass
 from typing import TYPE_CHECKING, Any, Callable, Dict, FrozenSet, List, Mapping, Sequence, Tuple
 
 from ..engine.faults import wanted
+from ..engine.graph_edges import Node
+from ..engine.graph_pictures import Dummy
 from ..engine.pictures import Dart, Edge, Picture, Point
-from .graphs import Node, reach
+from ..engine.results import Planarization
+from .graphs import reach
 
 if TYPE_CHECKING:
     import networkx
-
-    from ..engine.results import Planarization
-
-
-@dataclass(frozen=True)
-class Dummy:
-    """A node of an embedding that is no node of the graph.
-
-    `kind` is `crossing`, with the id of the crossing as `of`, or `bend`, with the dart in whose segment the point
-    lies: networkx allows one edge between two nodes, so segments side by side each get such a point but one.
-
-    `layer` is 0, or where the graph itself has such nodes, as it does where a planarization is planarized again, one
-    more than theirs, so that no two are equal.
-    """
-
-    kind: str
-    of: Any
-    layer: int = 0
-
-    def __repr__(self) -> str:
-        mark = "'" * self.layer
-        return f"x{self.of}{mark}" if self.kind == "crossing" else f"bend({self.of.edge},{self.of.segment}){mark}"
 
 
 # ---- From a picture to an embedding
 
 
-def to_networkx_embedding(result: "Planarization") -> "networkx.PlanarEmbedding":
+def to_networkx_embedding(result: Planarization) -> "networkx.PlanarEmbedding":
     """The planarization as a networkx PlanarEmbedding, which passes `check_structure`.
 
     Its nodes are the nodes of the graph and a Dummy for each crossing. Each node has the attribute `dummy`; a
@@ -67,7 +47,7 @@ def to_networkx_embedding(result: "Planarization") -> "networkx.PlanarEmbedding"
     return embedding
 
 
-def _names(result: "Planarization") -> Dict[Point, Any]:
+def _names(result: Planarization) -> Dict[Point, Any]:
     """The node of the embedding for each point of the picture."""
     return {point: result.name_of(point) for point in result.picture.points}
 
@@ -97,7 +77,7 @@ def _neighbours(picture: Picture, names: Mapping[Point, Any], bends: Mapping[Dar
     return data
 
 
-def _point_data(result: "Planarization", point: Point) -> Dict[str, Any]:
+def _point_data(result: Planarization, point: Point) -> Dict[str, Any]:
     """The attributes of a node of the embedding."""
     if not point.is_crossing:
         return {"dummy": False, "vertex": point.id}

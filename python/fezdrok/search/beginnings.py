@@ -7,9 +7,11 @@ from dataclasses import dataclass
 from typing import Dict, FrozenSet, Iterable, List, Optional, Sequence, Tuple, Union
 
 from ..engine.faults import wanted
+from ..engine.graph_edges import GraphEdge, Node
 from ..engine.pictures import Edge, Picture
 from ..files.embeddings import picture_of
-from ..files.graphs import GraphEdge, Joined, Node, PricedGraph, incidence, places_of, rank
+from ..files.graphs import PricedGraph, places_of, rank
+from .connectivity import UnionFind, incidence
 from .planar_subgraph import planar_part, short_cycles_first
 from .progress import Clock
 
@@ -131,7 +133,7 @@ def _embedded(source: PricedGraph, places: Sequence[int], seed: Optional[str]) -
 def _joined(source: PricedGraph, places: Sequence[int]) -> Dict[FrozenSet[Node], int]:
     """One edge for each pair of nodes that an edge without a price joins, and edges that connect what they leave
     apart, in this order: for each pair the place of its edge."""
-    parts = Joined(source.nodes)
+    parts = UnionFind(source.nodes)
     chosen: Dict[FrozenSet[Node], int] = {}
     for place in sorted(places, key=lambda place: source.price(place) is not None):
         u, v = source.edges[place][:2]

@@ -13,11 +13,13 @@ from dataclasses import dataclass
 from typing import Any, Callable, Dict, List, NamedTuple, Optional, Set, Tuple
 
 from ..engine.faults import Fault, NotPlanarized, PlanarError
+from ..engine.graph_edges import Node
 from ..engine.pictures import Picture
 from ..engine.program import PathLike
 from ..engine.reports import Limits
-from ..files.graphs import Node, PricedGraph, bridges, incidence
+from ..files.graphs import PricedGraph
 from .beginnings import Order, beginning
+from .connectivity import bridges, incidence
 from .progress import Clock, Progress
 from .search_picture import Kept, Sheet
 

@@ -4,7 +4,7 @@ from __future__ import annotations
 
 from typing import Dict, FrozenSet, Iterable, List, Optional, Sequence, Set, Tuple
 
-from ..files.graphs import Joined
+from .connectivity import UnionFind
 from .planarity import is_planar
 from .progress import Clock
 
@@ -66,7 +66,7 @@ class _Part:
 
 def _connecting(count: int, ends: Sequence[Tuple[int, int]], taken: Sequence[int], places: Sequence[int]) -> List[int]:
     """Edges that connect what those that were taken leave apart. They can be drawn with them without crossings."""
-    parts, known = Joined(range(count)), set(taken)
+    parts, known = UnionFind(range(count)), set(taken)
     found = [place for place in (*taken, *places) if parts.join(*ends[place])]
     return [place for place in found if place not in known]
 

@@ -10,13 +10,15 @@ from operator import index
 from typing import Any, Dict, Iterable, List, Optional, Sequence, Tuple
 
 from ..engine.faults import NotPlanarized, OtherReport, PlanarWarning
+from ..engine.graph_edges import GraphEdge, Node
 from ..engine.pictures import Picture
 from ..engine.planarizer import Planarizer
 from ..engine.program import PathLike
 from ..engine.reports import Limits, Refused, Report, Reports, difference
-from ..engine.results import Planarization, joined_like, joined_parts, single
-from ..files.graphs import GraphEdge, Node, PricedGraph, Pricing, components, judge_connected, places_of, read_graph
+from ..engine.results import Planarization, joined_parts, single
+from ..files.graphs import PricedGraph, Pricing, places_of, read_graph
 from .beginnings import Order, beginning
+from .connectivity import components, judge_connected
 from .local_search import Effort, Found, Search
 from .progress import Clock, Telling, ended, teller
 from .search_picture import Kept
@@ -142,7 +144,7 @@ def planarize(
     with ended(tell):
         for part in sources:
             if not part.edges:
-                results.append(single(part))
+                results.append(single(part.graph, part.nodes[0], part.prices))
                 continue
             search = Search(part, effort, limits, program, clock, tell)
             search.run(begin, _order_in(part, order, len(sources)), seed)
@@ -151,7 +153,7 @@ def planarize(
             if search.is_ended:
                 effort = Effort(1, 0, 0)
     _warn(failures)
-    return results[0] if len(results) == 1 else joined_parts(source, results)
+    return results[0] if len(results) == 1 else joined_parts(graph, source.prices, results)
 
 
 def _whole(name: str, otherwise: int, value: Any, least: int) -> int:
@@ -279,7 +281,7 @@ def reinsert(
     _warn(failures)
     if not result.parts:
         return parts[0]
-    return replace(joined_like(result, parts), tries=result.tries)
+    return replace(joined_parts(result.graph, result.prices, parts), tries=result.tries)
 
 
 def _source_of(result: Planarization) -> PricedGraph:

@@ -8,11 +8,12 @@ from dataclasses import dataclass, field
 from typing import Any, Callable, Dict, Iterable, List, Mapping, Optional, Sequence, Set, Tuple
 
 from ..engine.faults import NotPlanarized
+from ..engine.graph_edges import Node
 from ..engine.pictures import Picture, json_text
 from ..engine.program import PathLike
 from ..engine.reports import Limits, Refused, version_of, without_last_ones
 from ..engine.session import Session
-from ..files.graphs import Node, PricedGraph
+from ..files.graphs import PricedGraph
 
 #: How many edges are handed to the program in one turn: at first, at least and at most. 256 pairs of commands are short
 #: enough for a pipe.
