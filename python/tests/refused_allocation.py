@@ -17,7 +17,7 @@ REFUSED = b"an allocation was refused\n"
 
 @needs_program
 @unittest.skipUnless(shutil.which("cc"), "left out: there is no C compiler")
-class RefusingTest(unittest.TestCase):
+class RefusedAllocationTest(unittest.TestCase):
     """A test with such runs. What refuses the allocation is a library that is loaded before that of C."""
 
     @classmethod

@@ -8,7 +8,7 @@ from typing import Any, Dict
 
 from fezdrok import find_program
 
-from .refused_allocation import RefusingTest
+from .refused_allocation import RefusedAllocationTest
 
 # So many vertices a picture has, and so many growths a script or a report.
 COUNT = 4_000
@@ -68,7 +68,7 @@ def escaped_layout(form: Dict[str, Any]) -> bytes:
     return own_layout(form).replace(f'"{key}":'.encode(), f'"\\u{ord(key[0]):04x}{key[1:]}":'.encode())
 
 
-class Allocations(RefusingTest):
+class Allocations(RefusedAllocationTest):
     def makes_more_than(self, verb: str, text: bytes, allocations: int) -> bool:
         """Whether a command makes more allocations than so many: whether the next one is there to be refused."""
         status, _, told, is_refused = self.run_refusing(verb, text, allocations + 1)

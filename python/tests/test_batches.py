@@ -1,4 +1,4 @@
-"""Many graphs at once: every graph has an outcome, in its place."""
+"""Batches graphs at once: every graph has an outcome, in its place."""
 
 import io
 import os
@@ -21,7 +21,7 @@ except ImportError:
 PARENT = os.getpid()
 
 
-class Deadly:
+class KillingGraph:
     """No graph: whoever reads it in a worker is killed."""
 
     def is_multigraph(self):
@@ -34,7 +34,7 @@ class Deadly:
         return ()
 
 
-class Sealed:
+class UnpicklableGraph:
     """No graph: pickle refuses it."""
 
     def __reduce__(self):
@@ -43,21 +43,21 @@ class Sealed:
 
 @needs_networkx
 @needs_program
-class Many(unittest.TestCase):
+class Batches(unittest.TestCase):
     def test_as_one_by_one(self):
         graphs = [nx.complete_graph(size) for size in range(2, 8)] + [nx.petersen_graph()]
         results = planarize_many(graphs, processes=2, quick=True, tries=2, seed=5)
         self.assertEqual([result.picture for result in results], [planarize(graph, quick=True, tries=2, seed=5).picture for graph in graphs])
 
     def test_a_failure_stands_in_its_place(self):
-        graphs = [nx.complete_graph(3), nx.empty_graph(2), nx.Graph([(0, 0)]), None, nx.complete_graph(5), Sealed()]
+        graphs = [nx.complete_graph(3), nx.empty_graph(2), nx.Graph([(0, 0)]), None, nx.complete_graph(5), UnpicklableGraph()]
         outcomes = planarize_many(iter(graphs), processes=2)
         self.assertEqual([type(outcome) for outcome in outcomes], [Planarization, ValueError, ValueError, ValueError, Planarization, TypeError])
         self.assertEqual(outcomes[4].crossings, 1)
 
     def test_a_worker_that_is_killed_takes_no_other_graph_with_it(self):
         graphs = [nx.cycle_graph(3 + place % 5) for place in range(40)]
-        graphs[7] = graphs[21] = Deadly()
+        graphs[7] = graphs[21] = KillingGraph()
         outcomes = planarize_many(graphs, processes=2)
         self.assertEqual(len(outcomes), 40)
         self.assertEqual([place for place, outcome in enumerate(outcomes) if isinstance(outcome, BrokenProcessPool)], [7, 21])
@@ -82,7 +82,7 @@ class Many(unittest.TestCase):
             if raised is not None:
                 raise raised
 
-        def told(graphs, raised=None):
+        def printed(graphs, raised=None):
             stream = io.StringIO()
             with mock.patch("sys.stderr", stream), warnings.catch_warnings(), self.assertRaises(raised) if raised else nullcontext():
                 warnings.simplefilter("always")

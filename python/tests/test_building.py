@@ -56,7 +56,7 @@ class Folder(unittest.TestCase):
         (self.root / "scratch").mkdir()
         self.environment = {"PATH": f"{self.root / 'bin'}{os.pathsep}{os.environ['PATH']}", "TMPDIR": os.fspath(self.root / "scratch")}
         self.start(mock.patch.dict(os.environ, self.environment))
-        self.start(mock.patch.object(program_module, "_told", set()))
+        self.start(mock.patch.object(program_module, "_warned", set()))
         self.allow()
 
     def start(self, patch):

@@ -18,7 +18,7 @@ from .support import EXAMPLES, fake, needs_program
 ENVIRONMENT = {**os.environ, "PYTHONPATH": str(Path(__file__).resolve().parent.parent)}
 
 
-class Lines(unittest.TestCase):
+class CommandLine(unittest.TestCase):
     def answers(self, text, *words):
         target = io.StringIO()
         status = main(list(words), io.BytesIO(text if isinstance(text, bytes) else text.encode()), target)

@@ -16,7 +16,7 @@ except ImportError:
 
 @needs_networkx
 @needs_program
-class Parts(unittest.TestCase):
+class Components(unittest.TestCase):
     def graph(self):
         return nx.disjoint_union_all([nx.petersen_graph(), nx.complete_graph(6), nx.path_graph(2), nx.empty_graph(2), nx.cycle_graph(4)])
 
@@ -81,7 +81,7 @@ class Parts(unittest.TestCase):
 
 @needs_networkx
 @needs_program
-class Again(unittest.TestCase):
+class PlanarizedTwice(unittest.TestCase):
     def test_dummies_do_not_clash(self):
         first = to_networkx_embedding(planarize(nx.complete_graph(6)))
         extended = nx.Graph(first.edges)

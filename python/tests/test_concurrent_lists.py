@@ -55,7 +55,7 @@ class Names:
 
 
 @needs_program
-class Lists(unittest.TestCase):
+class ConcurrentLists(unittest.TestCase):
     def run_lists(self, start: Dict[str, Any], lists: List[List[Any]]) -> Dict[str, Any]:
         text = Program().run(json.dumps({"version": 1, "workers": lists, "start": start}))
         self.assertEqual(Program().replay(text).strip(), f"replayed {LISTS * COMMANDS} calls")

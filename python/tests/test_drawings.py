@@ -29,7 +29,7 @@ def area(points) -> float:
     return sum(x * v - u * y for (x, y), (u, v) in zip(points, points[1:] + points[:1]))
 
 
-class Lines(unittest.TestCase):
+class DrawingTest(unittest.TestCase):
     """What the tests of points share."""
 
     def check_apart(self, place, embedding):
@@ -42,7 +42,7 @@ class Lines(unittest.TestCase):
 
 
 @needs_networkx
-class Plane(Lines):
+class Plane(DrawingTest):
     def test_spread_without_crossings(self):
         graphs = [nx.path_graph(2), nx.path_graph(9), nx.star_graph(9), nx.balanced_tree(2, 4), nx.cycle_graph(3), nx.cycle_graph(12)]
         graphs += [nx.grid_2d_graph(7, 7), nx.lollipop_graph(4, 9), nx.wheel_graph(15), nx.barabasi_albert_graph(40, 1, seed=3)]
@@ -64,7 +64,7 @@ class Plane(Lines):
 
 @needs_networkx
 @needs_program
-class Positions(Lines):
+class Positions(DrawingTest):
     def test_lines_meet_at_their_common_ends_alone(self):
         for graph in (nx.complete_graph(6), nx.petersen_graph(), nx.complete_bipartite_graph(3, 4), nx.MultiGraph([(0, 1), (0, 1), (1, 2)])):
             result = planarize(graph)
@@ -120,7 +120,7 @@ class Scenes(unittest.TestCase):
 
     def test_no_node_lies_on_another(self):
         for result, style in itertools.product(pictured().values(), ("straight", "orthogonal")):
-            for first, second in itertools.combinations(scene_of(result, style).spots, 2):
+            for first, second in itertools.combinations(scene_of(result, style).nodes, 2):
                 across, up = abs(first.middle[0] - second.middle[0]), abs(first.middle[1] - second.middle[1])
                 self.assertTrue(across > (first.width + second.width) / 2 or up > (first.height + second.height) / 2, (first, second))
 
@@ -129,8 +129,8 @@ class Scenes(unittest.TestCase):
         result = planarize(nx.relabel_nodes(nx.complete_graph(5), dict(enumerate(names))))
         for style in ("straight", "orthogonal"):
             scene = scene_of(result, style)
-            for spot in scene.spots:
-                self.assertGreater(spot.width * scene.unit, 5 * len(spot.label), (style, spot.label))
+            for node in scene.nodes:
+                self.assertGreater(node.width * scene.unit, 5 * len(node.label), (style, node.label))
 
     def test_looks_and_legend(self):
         graph = nx.complete_graph(6)
@@ -147,7 +147,7 @@ class Scenes(unittest.TestCase):
         for style in ("straight", "orthogonal"):
             result = planarize(graph)
             scene = scene_of(result, style)
-            middle = {spot.node: spot.middle for spot in scene.spots}
+            middle = {node.node: node.middle for node in scene.nodes}
             for stroke in scene.strokes:
                 source, target = (middle[node] for node in result.edge_of[stroke.edge_id])
                 (x, y), *_ = stroke.head
@@ -159,7 +159,7 @@ class Scenes(unittest.TestCase):
         result = planarize(nx.complete_graph(5))
         place = {0: (0, 0), 1: (4, 0), 2: (5, 4), 3: (2, 6), 4: (-1, 4)}
         scene = scene_of(result, pos=place)
-        self.assertEqual({spot.node: spot.middle for spot in scene.spots}, place)
+        self.assertEqual({node.node: node.middle for node in scene.nodes}, place)
         self.assertEqual(len(scene.dots), 1)
         with self.assertRaises(KeyError):
             scene_of(result, pos={0: (0, 0)})

@@ -26,7 +26,7 @@ def twice_crossed() -> Picture:
 
 
 @needs_networkx
-class There(unittest.TestCase):
+class ToNetworkx(unittest.TestCase):
     def test_a_crossing_is_marked(self):
         edges = (Edge(0, 0, 1, 0, (0,)), Edge(1, 2, 3, 0, (0,)))
         picture = Picture(((0,), (0,), (1,), (1,)), edges, (Crossing(0, 0, 1, "ltr"),), 2, 1)
@@ -70,7 +70,7 @@ class There(unittest.TestCase):
 
 
 @needs_networkx
-class Back(unittest.TestCase):
+class FromNetworkx(unittest.TestCase):
     def embedding(self, graph):
         return nx.check_planarity(graph)[1]
 

@@ -21,7 +21,7 @@ def named(graph):
 
 @needs_networkx
 @needs_program
-class Names(unittest.TestCase):
+class GraphSessions(unittest.TestCase):
     def setUp(self):
         self.graph = nx.Graph(["ab", "bc", "cd", "da", "ac"])
         self.result = planarize(self.graph, quick=True)

@@ -42,14 +42,14 @@ def verb_for(form: Any) -> str:
     return "run" if "workers" in form else "replay" if "history" in form else "check"
 
 
-def told(verb: str, text: bytes) -> Tuple[int, bytes, bytes]:
+def answer(verb: str, text: bytes) -> Tuple[int, bytes, bytes]:
     """What a command answers to a text."""
     done = subprocess.run([find_program(), verb], input=text, capture_output=True, timeout=60)
     return done.returncode, done.stdout, done.stderr
 
 
 @needs_program
-class Keys(unittest.TestCase):
+class KeyOrder(unittest.TestCase):
     def test_the_examples(self):
         chance = random.Random(7)
         seen = set()
@@ -58,20 +58,20 @@ class Keys(unittest.TestCase):
             if form is None:
                 continue
             verb = verb_for(form)
-            due = told(verb, path.read_bytes())
+            due = answer(verb, path.read_bytes())
             seen.add((verb, due[0]))
             for _ in range(3):
-                self.assertEqual(told(verb, json.dumps(shuffled(form, chance)).encode()), due, path.name)
+                self.assertEqual(answer(verb, json.dumps(shuffled(form, chance)).encode()), due, path.name)
         self.assertLessEqual({("run", 0), ("replay", 0), ("replay", 1), ("check", 0)}, seen)
 
     def test_the_opening_of_a_session(self):
         opening = {"limits": {"crossings": 5, "edges": 9, "vertices": 7}, "prices": [2, None], "start": "seed", "version": 2}
         lines = b'\n["grow",1,0,1]\n"report"\n'
-        due = told("serve", json.dumps(opening).encode() + lines)
+        due = answer("serve", json.dumps(opening).encode() + lines)
         self.assertEqual(due[0], 0)
         chance = random.Random(7)
         for _ in range(3):
-            self.assertEqual(told("serve", json.dumps(shuffled(opening, chance)).encode() + lines), due)
+            self.assertEqual(answer("serve", json.dumps(shuffled(opening, chance)).encode() + lines), due)
 
 
 if __name__ == "__main__":

@@ -1,4 +1,4 @@
-"""Large calls, and all kinds: what depends on a size or a kind would show here. The answers are counted by hand."""
+"""LargePictures calls, and all kinds: what depends on a size or a kind would show here. The answers are counted by hand."""
 
 import json
 import subprocess
@@ -24,7 +24,7 @@ def report_of(calls, **more):
 
 
 @needs_program
-class Large(unittest.TestCase):
+class LargePictures(unittest.TestCase):
     def test_routes_over_a_thousand_crossings(self):
         calls = [["insert", 0, 1, 0] for _ in range(EDGES - 1)]
         # vertex 2 in the face at the first corner of vertex 0, vertex 3 in one half way round

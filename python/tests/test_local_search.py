@@ -1,4 +1,4 @@
-"""The search for good pictures: all kinds of graphs, few crossings where the crossing number is known, sheets that know what
+"""The search for good pictures: all kinds of graphs, few crossings where the crossing number is known, pictures that know what
 crosses what, and the same result each time."""
 
 import unittest
@@ -7,10 +7,10 @@ from collections import Counter
 from fezdrok import Picture, Planarizer, planarize, reinsert
 from fezdrok.files.graphs import read_graph
 from fezdrok.search.beginnings import beginning
-from fezdrok.search.search_picture import Sheet
+from fezdrok.search.search_picture import SearchPicture
 
 from .support import needs_networkx, needs_program
-from .test_planarization import Judged
+from .test_planarization import PlanarizationTest
 
 try:
     import networkx as nx
@@ -20,7 +20,7 @@ except ImportError:
 
 @needs_networkx
 @needs_program
-class Defaults(Judged):
+class Defaults(PlanarizationTest):
     def test_known_crossing_numbers(self):
         graphs = {
             "K6": (nx.complete_graph(6), 3),
@@ -76,27 +76,27 @@ class Defaults(Judged):
 
 @needs_networkx
 @needs_program
-class Sheets(unittest.TestCase):
+class SearchPictures(unittest.TestCase):
     def test_what_crosses_what(self):
-        """After many changes the sheet says of its picture what the picture says."""
+        """After many changes it says of its crossings what the picture itself says."""
         source = read_graph(nx.complete_graph(7), lambda u, v, data: 1 + (u + v) % 3)
         start = beginning(source, "planar", "given", "0")
-        with Sheet(source, start.picture, start.node_of, dict(enumerate(start.drawn))) as sheet:
-            sheet.insert(start.inserted)
-            sheet.reinsert(list(range(0, 21, 2)))
-            sheet.shuffle([1, 3, 8, 9], lambda places: places.reverse())
-            kept = sheet.kept()
-        self.assertEqual(set(kept.place_of.values()), set(range(21)))
-        picture = Picture.from_text(kept.picture)
-        pairs = Counter((kept.place_of[row.newcomer], kept.place_of[row.crossed]) for row in picture.crossings)
-        self.assertEqual(pairs, Counter((place, other) for place in range(21) for other in sheet.over[place]))
-        self.assertEqual(pairs, Counter((other, place) for place in range(21) for other in sheet.under[place]))
-        cost = sum(source.price(kept.place_of[row.crossed]) for row in picture.crossings)
-        self.assertEqual((kept.score, sheet.score), ((len(picture.crossings), cost),) * 2)
-        for edge_id, place in kept.place_of.items():
+        with SearchPicture(source, start.picture, start.node_of, dict(enumerate(start.drawn))) as search_picture:
+            search_picture.insert(start.inserted)
+            search_picture.reinsert(list(range(0, 21, 2)))
+            search_picture.shuffle([1, 3, 8, 9], lambda places: places.reverse())
+            saved = search_picture.saved()
+        self.assertEqual(set(saved.place_of.values()), set(range(21)))
+        picture = Picture.from_text(saved.text)
+        pairs = Counter((saved.place_of[row.newcomer], saved.place_of[row.crossed]) for row in picture.crossings)
+        self.assertEqual(pairs, Counter((place, other) for place in range(21) for other in search_picture.over[place]))
+        self.assertEqual(pairs, Counter((other, place) for place in range(21) for other in search_picture.under[place]))
+        cost = sum(source.price(saved.place_of[row.crossed]) for row in picture.crossings)
+        self.assertEqual((saved.score, search_picture.score), ((len(picture.crossings), cost),) * 2)
+        for edge_id, place in saved.place_of.items():
             row = picture.edge(edge_id)
             self.assertEqual({start.node_of[row.a], start.node_of[row.b]}, set(source.edges[place]))
-            self.assertEqual((sheet.id_of(place), sheet.load(place)), (edge_id, len(row.crossings)))
+            self.assertEqual((search_picture.id_of(place), search_picture.load(place)), (edge_id, len(row.crossings)))
 
 
 if __name__ == "__main__":

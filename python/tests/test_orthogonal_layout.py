@@ -30,7 +30,7 @@ def covered(box):
     return set(itertools.product(range(box.left, box.right + 1), range(box.bottom, box.top + 1)))
 
 
-class Checks(unittest.TestCase):
+class OrthogonalTest(unittest.TestCase):
     def check(self, result, **options):
         drawing = orthogonal_drawing(result, **options)
         self.check_lines(result, drawing)
@@ -106,7 +106,7 @@ class Checks(unittest.TestCase):
 
 
 @needs_networkx
-class Planar(Checks):
+class Planar(OrthogonalTest):
     def test_fewest_bends(self):
         """The numbers are the least that any orthogonal drawing without crossings has."""
         known = {nx.complete_graph(4): 4, nx.octahedral_graph(): 12, nx.hypercube_graph(3): 4, nx.cycle_graph(3): 1, nx.cycle_graph(4): 0}
@@ -176,7 +176,7 @@ def nx_free_triple():
 
 @needs_networkx
 @needs_program
-class Crossed(Checks):
+class Crossed(OrthogonalTest):
     def test_the_four_graphs(self):
         for result in pictured().values():
             self.check(result)

@@ -107,7 +107,7 @@ def pattern_of(printed: str) -> str:
 
 
 @needs_program
-class Examples(unittest.TestCase):
+class Pages(unittest.TestCase):
     def setUp(self):
         folder = tempfile.TemporaryDirectory()
         self.addCleanup(folder.cleanup)

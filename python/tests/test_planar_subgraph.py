@@ -4,7 +4,7 @@ import random
 import unittest
 
 from fezdrok import prepare
-from fezdrok.search.planar_subgraph import planar_part, short_cycles_first
+from fezdrok.search.planar_subgraph import planar_subgraph, short_cycles_first
 from fezdrok.search.planarity import is_planar
 from fezdrok.search.progress import Clock
 
@@ -62,11 +62,11 @@ class Planarity(unittest.TestCase):
 
 
 @needs_networkx
-class Parts(unittest.TestCase):
+class PlanarSubgraphs(unittest.TestCase):
     def test_no_edge_can_be_added(self):
         for graph in (nx.complete_graph(8), nx.random_regular_graph(4, 30, seed=1), nx.barabasi_albert_graph(40, 2, seed=1)):
             count, ends = numbered(graph)
-            taken = planar_part(count, ends, short_cycles_first(count, ends, range(len(ends))))
+            taken = planar_subgraph(count, ends, short_cycles_first(count, ends, range(len(ends))))
             self.assertTrue(is_planar(count, [ends[place] for place in taken]))
             for place in set(range(len(ends))) - set(taken):
                 self.assertFalse(is_planar(count, [ends[place] for place in (*taken, place)]))
@@ -77,7 +77,7 @@ class Parts(unittest.TestCase):
         for place in range(len(ends)):
             if is_planar(count, [ends[other] for other in (*taken, place)]):
                 taken.append(place)
-        self.assertEqual(planar_part(count, ends, range(len(ends))), taken)
+        self.assertEqual(planar_subgraph(count, ends, range(len(ends))), taken)
 
     def test_edges_that_hinder_many_come_last(self):
         graph = grid_with_chords(12, 10, 1)
@@ -85,18 +85,18 @@ class Parts(unittest.TestCase):
         for seed in range(3):
             places = list(range(len(ends)))
             random.Random(seed).shuffle(places)
-            taken = planar_part(count, ends, short_cycles_first(count, ends, places))
+            taken = planar_subgraph(count, ends, short_cycles_first(count, ends, places))
             self.assertGreater(len(taken), 2 * 12 * 11 - 10)
 
     def test_where_there_is_no_time_all_is_connected_still(self):
         count, ends = numbered(grid_with_chords(8, 5, 2))
-        taken = planar_part(count, ends, range(len(ends)), Clock(0))
+        taken = planar_subgraph(count, ends, range(len(ends)), Clock(0))
         self.assertEqual(len(taken), count - 1)
         self.assertTrue(nx.is_connected(nx.Graph(ends[place] for place in taken)))
 
     def test_parallel_edges(self):
         ends = [(0, 1), (1, 0), (0, 1), (1, 2)]
-        self.assertEqual(planar_part(3, ends, [2, 0, 1, 3]), [2, 3])
+        self.assertEqual(planar_subgraph(3, ends, [2, 0, 1, 3]), [2, 3])
 
     def test_cycles(self):
         """Beside a graph that makes the whole not planar, since else the order would stay as it is."""

@@ -40,7 +40,7 @@ def named_graphs():
     }
 
 
-class Judged(unittest.TestCase):
+class PlanarizationTest(unittest.TestCase):
     """What holds of every result, told from the embedding that networkx has and from the graph."""
 
     def judge(self, result):
@@ -70,7 +70,7 @@ class Judged(unittest.TestCase):
             self.assertEqual(result.edge_id(*edge), edge_id)
 
 
-class Number:
+class WholeNumber:
     """A whole number as numpy's are: it is none of Python's integers, and gives one."""
 
     def __index__(self) -> int:
@@ -98,7 +98,7 @@ class Refusals(unittest.TestCase):
                 planarize(graph, price=lambda u, v, data, price=price: price)
 
     def test_prices_that_are_whole(self):
-        for price in (3, 3.0, Fraction(3), Number()):
+        for price in (3, 3.0, Fraction(3), WholeNumber()):
             self.assertEqual(read_graph(nx.path_graph(3), lambda u, v, data, price=price: price).prices, (3,))
 
     def test_an_attribute_that_no_edge_has(self):
@@ -163,7 +163,7 @@ class Refusals(unittest.TestCase):
 
 
 @needs_networkx
-class Kinds(unittest.TestCase):
+class PriceKinds(unittest.TestCase):
     """Prices become kinds, without the program."""
 
     def test_equal_prices_share_a_kind_and_the_dearest_come_first(self):
@@ -215,7 +215,7 @@ class Kinds(unittest.TestCase):
 
 @needs_networkx
 @needs_program
-class Planarizations(Judged):
+class Planarizations(PlanarizationTest):
     def test_known_crossing_numbers_are_lower_bounds(self):
         for name, (graph, number) in named_graphs().items():
             with self.subTest(name):

@@ -21,8 +21,8 @@ except ImportError:
 
 @needs_networkx
 @needs_program
-class Processes(unittest.TestCase):
-    def told(self, folder: str, seed: int) -> bytes:
+class OtherProcesses(unittest.TestCase):
+    def printed(self, folder: str, seed: int) -> bytes:
         """What a process with this seed of hashes prints."""
         words = {"PYTHONHASHSEED": str(seed), "PYTHONPATH": os.fspath(ROOT / "python")}
         done = subprocess.run([sys.executable, "-m", "tests.prepared_runs", folder], cwd=ROOT / "python", env={**os.environ, **words}, stdout=subprocess.PIPE, check=True)
@@ -30,15 +30,15 @@ class Processes(unittest.TestCase):
 
     def test_scripts_and_results_are_the_same_in_each(self):
         with tempfile.TemporaryDirectory() as folder:
-            first = self.told(folder, 1)
+            first = self.printed(folder, 1)
             self.assertGreater(len(os.listdir(folder)), 20)
             for seed in (2, 3, 4):
-                self.assertEqual(self.told(folder, seed), first)
+                self.assertEqual(self.printed(folder, seed), first)
         self.assertNotIn(b"ends: False", first)
 
 
 @needs_networkx
-class Reports(unittest.TestCase):
+class ReportsOfScripts(unittest.TestCase):
     """Reports that are made by the second planarizer, so that no program is called."""
 
     def setUp(self):

@@ -2,13 +2,13 @@
 
 import unittest
 
-from .refused_allocation import RefusingTest
+from .refused_allocation import RefusedAllocationTest
 from .support import EXAMPLES
 
 MOST = 20_000
 
 
-class RefusedAllocations(RefusingTest):
+class RefusedAllocations(RefusedAllocationTest):
     def refuse_each(self, verb: str, text: bytes) -> int:
         """Refuses each allocation of a command in turn, and returns after how many of them it was out of memory."""
         status, answer, told, _ = self.run_refusing(verb, text, 0)

@@ -16,7 +16,7 @@ except ImportError:
 
 @needs_networkx
 @needs_program
-class Exchange(unittest.TestCase):
+class Results(unittest.TestCase):
     def test_segments_lead_from_the_first_node_to_the_other(self):
         result = planarize(nx.complete_graph(6))
         for u, v in [*result.graph.edges, *((v, u) for u, v in result.graph.edges)]:

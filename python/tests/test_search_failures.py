@@ -1,4 +1,4 @@
-"""What was found is kept: at the limits of the program, where it fails, when time is over, and at Ctrl-C. Most programs here
+"""Searches that fail, where what was found is given: at the limits of the program, where it fails, when time is over, and at Ctrl-C. Most programs here
 are shell scripts, which hand on to the program itself until a process at which they fail."""
 
 import os
@@ -23,7 +23,7 @@ KILLED = "kill -9 $$"
 
 @needs_networkx
 @needs_program
-class Kept(unittest.TestCase):
+class SearchFailures(unittest.TestCase):
     def setUp(self):
         self.graph = nx.complete_graph(8)
         self.once = planarize(self.graph, quick=True)
@@ -143,7 +143,7 @@ class Interrupted(Exception):
 
 @needs_networkx
 @needs_program
-class Told(unittest.TestCase):
+class ProgressCalls(unittest.TestCase):
     def test_progress(self):
         told = []
         result = planarize(nx.complete_graph(8), progress=told.append)

@@ -20,7 +20,7 @@ from .relaxation import between, spread
 from .scenes import (
     LETTER_HEIGHT, PLAIN, Position, Scene, flat, grid_sizes, label_size, orthogonal_scene, straight_scene,
 )
-from .shelf_packing import shelves
+from .shelf_packing import shelf_packing
 from .svg import svg_of
 
 if TYPE_CHECKING:
@@ -63,7 +63,7 @@ def _side_by_side(result: Planarization, places: Sequence[Mapping[Any, Position]
     most = [tuple(max(place[axis] for place in part.values()) for axis in (0, 1)) for part in places]
     sizes = [(scale * (far[0] - near[0]), scale * (far[1] - near[1])) for scale, near, far in zip(scales, least, most)]
     found: Dict[Any, Position] = {}
-    for part, scale, (left, bottom), (x, y), (_, edge, crossing) in zip(places, scales, least, shelves(sizes, 1.0), result.offsets):
+    for part, scale, (left, bottom), (x, y), (_, edge, crossing) in zip(places, scales, least, shelf_packing(sizes, 1.0), result.offsets):
         for name, (u, v) in part.items():
             found[_name_in_whole(result, name, edge, crossing)] = (x + scale * (u - left), y + scale * (v - bottom))
     return found
@@ -194,13 +194,13 @@ def draw(
             ax.add_patch(patches.Polygon(stroke.head, closed=True, color=stroke.look.color, linewidth=0, zorder=2))
     if scene.dots:
         ax.scatter(*zip(*scene.dots), s=6.0, color=crossing_color, edgecolors="none", zorder=2)
-    for spot in scene.spots:
-        (x, y), rounding = spot.middle, 0.0 if spot.box else 0.499 * spot.height
+    for node in scene.nodes:
+        (x, y), rounding = node.middle, 0.0 if node.box else 0.499 * node.height
         style_of = f"round,pad=0,rounding_size={rounding}" if rounding else "square,pad=0"
-        corner = (x - spot.width / 2, y - spot.height / 2)
-        ax.add_patch(patches.FancyBboxPatch(corner, spot.width, spot.height, boxstyle=style_of, facecolor=node_color, edgecolor="#333333", linewidth=0.8, zorder=3))
-        if spot.label:
-            ax.annotate(spot.label, spot.middle, ha="center", va="center", fontsize=0.9 * LETTER_HEIGHT, zorder=4)
+        corner = (x - node.width / 2, y - node.height / 2)
+        ax.add_patch(patches.FancyBboxPatch(corner, node.width, node.height, boxstyle=style_of, facecolor=node_color, edgecolor="#333333", linewidth=0.8, zorder=3))
+        if node.label:
+            ax.annotate(node.label, node.middle, ha="center", va="center", fontsize=0.9 * LETTER_HEIGHT, zorder=4)
     _finish(ax, scene)
     return ax
 

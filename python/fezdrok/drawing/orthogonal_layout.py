@@ -15,7 +15,7 @@ from ..engine.results import Planarization
 from .bends import Shape, least_bends
 from .compaction import Places, compact_mesh
 from .meshes import Expansion, expand
-from .shelf_packing import shelves
+from .shelf_packing import shelf_packing
 
 GridPoint = Tuple[int, int]
 
@@ -107,7 +107,7 @@ def _side_by_side(result: Planarization, drawings: Sequence[OrthogonalDrawing]) 
     boxes: Dict[Node, Box] = {}
     crossings: Dict[int, GridPoint] = {}
     lines: Dict[int, Tuple[GridPoint, ...]] = {}
-    corners = shelves([drawing.size for drawing in drawings], 2)
+    corners = shelf_packing([drawing.size for drawing in drawings], 2)
     for drawing, (left, bottom), (_, edge, crossing) in zip(drawings, corners, result.offsets):
         x, y = int(left), int(bottom)
         boxes.update((node, box.moved(x, y)) for node, box in drawing.boxes.items())

@@ -45,7 +45,7 @@ RING = 12
 
 
 @dataclass
-class _Filled:
+class _FilledGraph:
     """A plane graph with its faces filled: the links of each node with their weights, the triangles counterclockwise,
     the nodes of the ring, and each crossing with its four neighbours, clockwise."""
 
@@ -86,9 +86,9 @@ def spread(rotations: Mapping[Any, Sequence[Any]], crossings: FrozenSet[Any], ou
 # ---- Faces filled with triangles
 
 
-def _fill(around: List[List[int]], crossings: Set[int], outer: Tuple[int, int]) -> _Filled:
+def _fill(around: List[List[int]], crossings: Set[int], outer: Tuple[int, int]) -> _FilledGraph:
     """The graph with its faces filled, and with the ring."""
-    filled = _Filled([[] for _ in around])
+    filled = _FilledGraph([[] for _ in around])
     for node, others in enumerate(around):
         for other in others:
             if node < other:
@@ -122,7 +122,7 @@ def _faces(around: List[List[int]]) -> List[List[int]]:
     return faces
 
 
-def _add_middle(filled: _Filled, face: List[int]) -> None:
+def _add_middle(filled: _FilledGraph, face: List[int]) -> None:
     """A node within a face, linked with each node round it."""
     middle = filled.add()
     for node, other in zip(face, face[1:] + face[:1]):
@@ -130,7 +130,7 @@ def _add_middle(filled: _Filled, face: List[int]) -> None:
         filled.triangles.append((node, other, middle))
 
 
-def _add_hoop(filled: _Filled, face: List[int], least: int = 0) -> List[int]:
+def _add_hoop(filled: _FilledGraph, face: List[int], least: int = 0) -> List[int]:
     """A hoop of nodes within a face, some for each of its corners, so that no two links of a node lead to the same
     one, also where the face passes a node more than once; the nodes of the hoop."""
     share = max(1, -(-least // len(face)))
@@ -147,7 +147,7 @@ def _add_hoop(filled: _Filled, face: List[int], least: int = 0) -> List[int]:
     return [one for own in hoop for one in own]
 
 
-def _add_ring(filled: _Filled, face: List[int]) -> None:
+def _add_ring(filled: _FilledGraph, face: List[int]) -> None:
     """The ring round the graph."""
     filled.ring = _add_hoop(filled, face, RING)
 
@@ -155,7 +155,7 @@ def _add_ring(filled: _Filled, face: List[int]) -> None:
 # ---- Points put at means
 
 
-def _begin(filled: _Filled) -> List[Position]:
+def _begin(filled: _FilledGraph) -> List[Position]:
     """The ring on the unit circle, clockwise as the face outside is walked, and all others in its middle."""
     points = [(0.0, 0.0)] * len(filled.links)
     for place, node in enumerate(filled.ring):
@@ -164,7 +164,7 @@ def _begin(filled: _Filled) -> List[Position]:
     return points
 
 
-def _to_means(filled: _Filled, points: List[Position], is_weighed: bool) -> None:
+def _to_means(filled: _FilledGraph, points: List[Position], is_weighed: bool) -> None:
     """Put each node that is not of the ring at the mean of its neighbours, where a link weighs by its length if
     `is_weighed`; else half as far again, which comes to rest sooner."""
     ring = set(filled.ring)
@@ -192,7 +192,7 @@ class _Forces:
     `shape`, which says how much more thin ones do; the lines through crossings that it is a part of, as the two other
     nodes and whether it is the crossing itself; and where right angles at crossings would put it."""
 
-    def __init__(self, filled: _Filled):
+    def __init__(self, filled: _FilledGraph):
         self.links = filled.links
         self.shape = SHAPE / len(filled.triangles)
         self.triangles: List[List[Tuple[int, int, float]]] = [[] for _ in filled.links]
@@ -267,7 +267,7 @@ class _Forces:
         return energy
 
 
-def _settle(filled: _Filled, points: List[Position]) -> None:
+def _settle(filled: _FilledGraph, points: List[Position]) -> None:
     """Move the nodes that are not of the ring until they hardly move, or have been moved often; in large graphs that is
     less often."""
     forces, ring = _Forces(filled), set(filled.ring)
@@ -294,7 +294,7 @@ def _move(forces: _Forces, node: int, points: List[Position]) -> float:
     return 0.0
 
 
-def _is_plane(filled: _Filled, points: Sequence[Position]) -> bool:
+def _is_plane(filled: _FilledGraph, points: Sequence[Position]) -> bool:
     """Whether each triangle goes counterclockwise, so that none lies on another."""
     for first, second, third in filled.triangles:
         (x, y), (u, v), (r, s) = points[first], points[second], points[third]

@@ -50,7 +50,7 @@ class Stroke:
     head: Tuple[Position, ...] = ()
 
 
-class Spot(NamedTuple):
+class NodeShape(NamedTuple):
     """A node: its label, its middle, and its width and height. It is drawn with round ends, unless it is a box."""
 
     node: Node
@@ -68,7 +68,7 @@ class Scene:
 
     unit: float
     strokes: Tuple[Stroke, ...]
-    spots: Tuple[Spot, ...]
+    nodes: Tuple[NodeShape, ...]
     dots: Tuple[Position, ...]
     legend: Tuple[Tuple[str, Look], ...]
 
@@ -76,8 +76,8 @@ class Scene:
     def bounds(self) -> Tuple[float, float, float, float]:
         """The least and the greatest x and y of what is drawn: left, bottom, right, top."""
         points = [point for stroke in self.strokes for point in stroke.points]
-        for spot in self.spots:
-            (x, y), width, height = spot.middle, spot.width / 2, spot.height / 2
+        for node in self.nodes:
+            (x, y), width, height = node.middle, node.width / 2, node.height / 2
             points += [(x - width, y - height), (x + width, y + height)]
         xs, ys = [x for x, _ in points], [y for _, y in points]
         return min(xs), min(ys), max(xs), max(ys)
@@ -135,15 +135,15 @@ def orthogonal_scene(result: Planarization, drawing: OrthogonalDrawing, labels: 
     kinds, legend = looks(result, color)
     widest = max((_point_width(str(node) if labels else "") for node, box in drawing.boxes.items() if box.is_point), default=LEAST_NODE)
     unit = (ARROW_UNIT if result.graph.is_directed() else GRID_UNIT) + widest - LEAST_NODE
-    spots = []
+    nodes = []
     for node, box in drawing.boxes.items():
         label = str(node) if labels else ""
         width, height = box.right - box.left, box.top - box.bottom
         if box.is_point:
             width, height = _point_width(label) / unit, LEAST_NODE / unit
-        spots.append(Spot(node, label, box.middle, width, height, not box.is_point))
+        nodes.append(NodeShape(node, label, box.middle, width, height, not box.is_point))
     strokes = [Stroke(edge_id, line, False, kinds[result.picture.edge(edge_id).kind]) for edge_id, line in drawing.lines.items()]
-    scene = Scene(unit, tuple(strokes), tuple(spots), (), legend)
+    scene = Scene(unit, tuple(strokes), tuple(nodes), (), legend)
     return with_arrows(result, scene) if result.graph.is_directed() else scene
 
 
@@ -156,17 +156,17 @@ def straight_scene(
     """The scene of a drawing whose edges lead over these chains of nodes, each of which has a place; they pass them
     without a corner."""
     kinds, legend = looks(result, color)
-    spots = []
+    nodes = []
     for node in result.node_of:
         width, height = label_size(str(node) if labels else "")
-        spots.append(Spot(node, str(node) if labels else "", places[node], width / unit, height / unit, False))
+        nodes.append(NodeShape(node, str(node) if labels else "", places[node], width / unit, height / unit, False))
     ways = crossing_ways(result, chains, places)
     strokes = []
     for edge_id, chain in chains.items():
         curve = smooth([places[node] for node in chain], [ways.get((edge_id, node)) for node in chain])
         strokes.append(Stroke(edge_id, curve or (places[chain[0]], places[chain[-1]]), bool(curve), kinds[result.picture.edge(edge_id).kind]))
     dots = tuple(places[result.name_of(point)] for point in result.picture.points if point.is_crossing)
-    scene = Scene(unit, tuple(strokes), tuple(spots), dots, legend)
+    scene = Scene(unit, tuple(strokes), tuple(nodes), dots, legend)
     return with_arrows(result, scene) if result.graph.is_directed() else scene
 
 
@@ -244,35 +244,35 @@ def _cross(first: Position, second: Position) -> float:
 
 def with_arrows(result: Planarization, scene: Scene) -> Scene:
     """The scene of a directed graph: each edge with an arrow at the node that it leads to."""
-    spot_of = {spot.node: spot for spot in scene.spots}
+    shape_of = {shape.node: shape for shape in scene.nodes}
     strokes = []
     for stroke in scene.strokes:
         source, target = result.edge_of[stroke.edge_id][:2]
         line = flat(stroke)
         if result.node_of[result.picture.edge(stroke.edge_id).a] != source:
             line.reverse()
-        strokes.append(replace(stroke, head=_head(line, spot_of[target], scene.unit)))
+        strokes.append(replace(stroke, head=_head(line, shape_of[target], scene.unit)))
     return replace(scene, strokes=tuple(strokes))
 
 
-def _head(line: Sequence[Position], spot: Spot, unit: float) -> Tuple[Position, ...]:
+def _head(line: Sequence[Position], node: NodeShape, unit: float) -> Tuple[Position, ...]:
     """The triangle of an arrow whose tip is where a line comes to the rim of the node at its end."""
     place = len(line) - 1
-    while place > 1 and _is_in(spot, line[place - 1]):
+    while place > 1 and _is_in(node, line[place - 1]):
         place -= 1
     outside, inside = line[place - 1], line[place]
     for _ in range(30):
         middle = ((outside[0] + inside[0]) / 2, (outside[1] + inside[1]) / 2)
-        outside, inside = (outside, middle) if _is_in(spot, middle) else (middle, inside)
+        outside, inside = (outside, middle) if _is_in(node, middle) else (middle, inside)
     x, y = _toward(line[place - 1], line[place])
     length, half = 7.0 / unit, 2.6 / unit
     back = (outside[0] - length * x, outside[1] - length * y)
     return outside, (back[0] - half * y, back[1] + half * x), (back[0] + half * y, back[1] - half * x)
 
 
-def _is_in(spot: Spot, point: Position) -> bool:
+def _is_in(node: NodeShape, point: Position) -> bool:
     """Whether a point lies in a node: a box, or a bar with round ends."""
-    x, y = abs(point[0] - spot.middle[0]), abs(point[1] - spot.middle[1])
-    if spot.box:
-        return x <= spot.width / 2 and y <= spot.height / 2
-    return hypot(max(0.0, x - (spot.width - spot.height) / 2), y) <= spot.height / 2
+    x, y = abs(point[0] - node.middle[0]), abs(point[1] - node.middle[1])
+    if node.box:
+        return x <= node.width / 2 and y <= node.height / 2
+    return hypot(max(0.0, x - (node.width - node.height) / 2), y) <= node.height / 2

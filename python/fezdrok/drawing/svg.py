@@ -5,7 +5,7 @@ from __future__ import annotations
 from html import escape
 from typing import Dict, Iterable, List
 
-from .scenes import LETTER_HEIGHT, Position, Scene, Spot, Stroke
+from .scenes import LETTER_HEIGHT, NodeShape, Position, Scene, Stroke
 
 MARGIN = 10.0
 LEGEND_ROW = 16.0
@@ -27,9 +27,9 @@ def svg_of(scene: Scene, node_color: str = "#d9e8f6", crossing_color: str = "#77
         lines.extend(write.head(stroke) for stroke in scene.strokes if stroke.look == (color, thick) and stroke.head)
     lines += [f'<g fill="{escape(crossing_color)}">', *(write.dot(dot) for dot in scene.dots), "</g>"] if scene.dots else []
     lines.append(f'<g fill="{escape(node_color)}" stroke="#333" stroke-width=".8">')
-    lines += [*write.shapes(scene.spots), "</g>"]
+    lines += [*write.shapes(scene.nodes), "</g>"]
     lines.append(f'<g font-family="sans-serif" font-size="{number(LETTER_HEIGHT)}" text-anchor="middle" fill="#111">')
-    lines += [*(write.label(spot) for spot in scene.spots if spot.label), "</g>", *legend, "</svg>"]
+    lines += [*(write.label(node) for node in scene.nodes if node.label), "</g>", *legend, "</svg>"]
     return "\n".join(lines) + "\n"
 
 
@@ -70,27 +70,27 @@ class _Writer:
         x, y = map(number, self.at(dot))
         return f'<circle cx="{x}" cy="{y}" r="1.6"/>'
 
-    def shapes(self, spots: Iterable[Spot]) -> List[str]:
+    def shapes(self, nodes: Iterable[NodeShape]) -> List[str]:
         """The nodes: each shape once, and where it is used."""
         names: Dict[str, str] = {}
         lines: List[str] = []
-        for spot in spots:
-            name = names.setdefault(self.shape(spot), f"n{len(names)}")
-            x, y = map(number, self.at(spot.middle))
+        for node in nodes:
+            name = names.setdefault(self.shape(node), f"n{len(names)}")
+            x, y = map(number, self.at(node.middle))
             lines.append(f'<use href="#{name}" x="{x}" y="{y}"/>')
         return ["<defs>", *(shape.replace("/>", f' id="{name}"/>') for shape, name in names.items()), "</defs>", *lines]
 
-    def shape(self, spot: Spot) -> str:
+    def shape(self, node: NodeShape) -> str:
         """A node as it would be drawn at the upper left corner."""
-        width, height = spot.width * self.unit, spot.height * self.unit
-        if not spot.box and abs(width - height) < 0.1:
+        width, height = node.width * self.unit, node.height * self.unit
+        if not node.box and abs(width - height) < 0.1:
             return f'<circle r="{number(width / 2)}"/>'
         size = f'x="{number(-width / 2)}" y="{number(-height / 2)}" width="{number(width)}" height="{number(height)}"'
-        return f'<rect {size} rx="{number(3 if spot.box else height / 2)}"/>'
+        return f'<rect {size} rx="{number(3 if node.box else height / 2)}"/>'
 
-    def label(self, spot: Spot) -> str:
-        x, y = self.at(spot.middle)
-        return f'<text x="{number(x)}" y="{number(y + LETTER_HEIGHT / 3)}">{escape(spot.label)}</text>'
+    def label(self, node: NodeShape) -> str:
+        x, y = self.at(node.middle)
+        return f'<text x="{number(x)}" y="{number(y + LETTER_HEIGHT / 3)}">{escape(node.label)}</text>'
 
 
 def _legend(scene: Scene, top: float) -> List[str]:

@@ -25,7 +25,7 @@ _FILLER, _MARK = "[]", '["delete",""]'
 _MARKED = b'{"fault":[52,"BadShape","$/1"]}'
 
 
-class Lines:
+class LineProcess:
     """A process of `planar serve`, which answers each line by a line.
 
     Its standard error is a file, so that it never waits for somebody who reads it. It is in a session of its own, so that

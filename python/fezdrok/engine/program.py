@@ -63,7 +63,7 @@ def find_program(program: Optional[PathLike] = None) -> str:
         elif built is None:
             return path
         elif os.access(built, os.X_OK):
-            _tell_if_old(path, built)
+            _warn_if_old(path, built)
             return os.fspath(built)
         else:
             looked.append(f"{place} ({built} is not built: run {path}, which builds it)")
@@ -77,17 +77,17 @@ def _built_by(path: str) -> Optional[Path]:
     return script.parent / "out" / "planar" if is_script else None
 
 
-_told: Set[Path] = set()
+_warned: Set[Path] = set()
 
 
-def _tell_if_old(script: str, built: Path) -> None:
+def _warn_if_old(script: str, built: Path) -> None:
     """A warning where the repository's sources are not those that its program was built from, once for each program.
 
     Where that cannot be found out, nothing is said.
     """
-    if built in _told:
+    if built in _warned:
         return
-    _told.add(built)
+    _warned.add(built)
     sources = built.parent.parent / ".ci" / "sources"
     try:
         now = subprocess.run([sources, "planar"], stdin=subprocess.DEVNULL, stdout=subprocess.PIPE, stderr=subprocess.DEVNULL, check=True).stdout

@@ -8,7 +8,7 @@ from types import TracebackType
 from typing import Any, Callable, Dict, List, NamedTuple, Optional, Sequence, Tuple, Type, TypeVar, Union
 
 from .faults import Fault, ProgramFailed, SessionClosed
-from .line_process import HASTE, TOGETHER, Lines
+from .line_process import HASTE, TOGETHER, LineProcess
 from .pictures import Counts, Crossing, Edge, Picture, json_text
 from .planarizer import Planarizer
 from .program import PathLike, Program
@@ -65,8 +65,8 @@ class Session:
     ):
         self._program = Program(program)
         self._given = Planarizer(start, limits, prices)
-        self._lines: Optional[Lines] = None
-        self._lines = self._begun(start)
+        self._process: Optional[LineProcess] = None
+        self._process = self._begun(start)
 
     @property
     def limits(self) -> Limits:
@@ -81,24 +81,24 @@ class Session:
     @property
     def is_closed(self) -> bool:
         """Whether the session is over."""
-        return self._lines is None
+        return self._process is None
 
     @property
     def process_id(self) -> Optional[int]:
         """The number of the program's process, or None where the session is over."""
-        return None if self._lines is None else self._lines.process_id
+        return None if self._process is None else self._process.process_id
 
-    def _begun(self, start: Optional[Picture]) -> Lines:
+    def _begun(self, start: Optional[Picture]) -> LineProcess:
         """A process that has begun with this picture."""
         opening = Planarizer(start, self._given.limits, self._given.prices).script()
         del opening["workers"]
-        lines = Lines(self._program.path)
+        process = LineProcess(self._program.path)
         try:
-            _understood(lines, lines.ask(json_text(opening)), _counts)
+            _understood(process, process.ask(json_text(opening)), _counts)
         except BaseException:
-            lines.end()
+            process.end()
             raise
-        return lines
+        return process
 
     # ---- Calls
 
@@ -139,14 +139,14 @@ class Session:
         Full; then this makes room. Vertices keep their numbers. The report begins anew too: take it before, if it is wanted.
         """
         picture, new = renumbered(self.picture())
-        lines = self._begun(picture)
+        process = self._begun(picture)
         self.close()
-        self._lines = lines
+        self._process = process
         return new
 
     def picture_text(self) -> str:
         """The picture now, as the program writes it."""
-        return self._asked(['"picture"'], lambda lines, answers: answers[0].decode())
+        return self._asked(['"picture"'], lambda process, answers: answers[0].decode())
 
     def answers(self, requests: Sequence[str]) -> List[str]:
         """The answers to several lines of docs/FORMATS.md in order, as the program writes them, also where they are faults.
@@ -159,22 +159,22 @@ class Session:
             raise ValueError("a line has a line feed in it")
         if sum(len(request.encode()) for request in requests) + len(requests) > TOGETHER:
             raise ValueError(f"the lines have more than {TOGETHER} bytes together")
-        return self._asked(requests, lambda lines, answers: [answer.decode() for answer in answers])
+        return self._asked(requests, lambda process, answers: [answer.decode() for answer in answers])
 
     def _ask(self, request: Any, read: Callable[[Any], Value]) -> Value:
         """The answer to a request, read by this function; Fault where the program refuses the line."""
-        return self._asked([json_text(request)], lambda lines, answers: _understood(lines, answers[0], read))
+        return self._asked([json_text(request)], lambda process, answers: _understood(process, answers[0], read))
 
-    def _asked(self, requests: Sequence[str], read: Callable[[Lines, List[bytes]], Value]) -> Value:
+    def _asked(self, requests: Sequence[str], read: Callable[[LineProcess, List[bytes]], Value]) -> Value:
         """The answers to some lines, read by this function."""
-        lines = self._lines
-        if lines is None:
+        process = self._process
+        if process is None:
             raise SessionClosed("the session is closed")
         try:
-            return read(lines, lines.ask_all(requests))
+            return read(process, process.ask_all(requests))
         finally:
-            if lines.is_over:
-                self._lines = None
+            if process.is_over:
+                self._process = None
 
     # ---- Its end
 
@@ -187,12 +187,12 @@ class Session:
     def close(self) -> None:
         """Ends the process: its input is closed, and if it has not ended half a second later, it is killed. What is closed
         already stays so."""
-        lines, self._lines = self._lines, None
-        if lines is not None:
-            lines.end(HASTE)
+        process, self._process = self._process, None
+        if process is not None:
+            process.end(HASTE)
 
 
-def _understood(lines: Lines, answer: bytes, read: Callable[[Any], Value]) -> Value:
+def _understood(process: LineProcess, answer: bytes, read: Callable[[Any], Value]) -> Value:
     """An answer, read by this function; Fault where it is one. Where it is in no form that is known, the process is ended,
     and that is ProgramFailed."""
     try:
@@ -201,8 +201,8 @@ def _understood(lines: Lines, answer: bytes, read: Callable[[Any], Value]) -> Va
         if fault is None:
             return read(value)
     except (KeyError, TypeError, ValueError, IndexError, AttributeError) as other:
-        status, told = lines.end()
-        raise ProgramFailed(status, f"{lines.path} gave no answer in its form, but {answer[:200]!r} {told}") from other
+        status, told = process.end()
+        raise ProgramFailed(status, f"{process.path} gave no answer in its form, but {answer[:200]!r} {told}") from other
     raise Fault(*fault)
 
 

@@ -19,17 +19,17 @@ from ..engine.planarizer import Planarizer
 from ..engine.processes import kill_when_closed
 from ..engine.results import Planarization
 from .planarization import planarize
-from .progress import Rewritten, ended
+from .progress import StatusLine, line_ended
 
 #: A planarization, or the exception that came in its place.
 Outcome = Union[Planarization, Exception]
 #: A graph with its place in the list.
 Job = Tuple[int, Any]
 #: True for a bar, False for none, None for a bar on a terminal, or a function of the graphs done and their number.
-Counting = Union[None, bool, Callable[[int, Optional[int]], None]]
+BatchProgress = Union[None, bool, Callable[[int, Optional[int]], None]]
 
 
-def planarize_many(graphs: Iterable[Any], processes: Optional[int] = None, progress: Counting = None, **options: Any) -> List[Outcome]:
+def planarize_many(graphs: Iterable[Any], processes: Optional[int] = None, progress: BatchProgress = None, **options: Any) -> List[Outcome]:
     """Planarize many graphs; the outcomes stand in the order of the graphs.
 
     A graph that fails has its exception in its place, and the others go on. Graphs whose worker was killed are tried
@@ -46,14 +46,14 @@ def planarize_many(graphs: Iterable[Any], processes: Optional[int] = None, progr
     workers = (os.cpu_count() or 1) if processes is None else processes
     if workers < 1:
         raise ValueError(f"processes is {processes!r}: it must be at least 1, or None for one a processor")
-    tell = _teller(progress)
+    tell = _progress_function(progress)
     program = Planarizer(program=options.get("program"))
     program.check(Picture.seed())
     options["program"] = program.program.path
     total = len(graphs) if isinstance(graphs, Sized) else None
     outcomes: Dict[int, Outcome] = {}
     try:
-        with ended(tell), closing(_each(graphs, workers, options)) as each:
+        with line_ended(tell), closing(_each(graphs, workers, options)) as each:
             tell(0, total)
             for place, outcome in each:
                 outcomes[place] = outcome
@@ -156,7 +156,7 @@ def _outcome(done: "Future[Outcome]") -> Outcome:
 # ---- Progress
 
 
-def _teller(progress: Counting) -> Callable[[int, Optional[int]], None]:
+def _progress_function(progress: BatchProgress) -> Callable[[int, Optional[int]], None]:
     """What is told after each graph; ValueError if it is neither a function nor True, False or None."""
     if callable(progress):
         return progress
@@ -167,7 +167,7 @@ def _teller(progress: Counting) -> Callable[[int, Optional[int]], None]:
     return lambda done, total: None
 
 
-class Bar(Rewritten):
+class Bar(StatusLine):
     """A line that says how many graphs are done, how fast, and how long it will take.
 
     It ends with a line feed when all are done. `close` ends it sooner, as where the work was interrupted or their number is

@@ -12,7 +12,7 @@ from ..engine.pictures import Edge, Picture
 from ..files.embeddings import picture_of
 from ..files.graphs import PricedGraph, places_of, rank
 from .connectivity import UnionFind, incidence
-from .planar_subgraph import planar_part, short_cycles_first
+from .planar_subgraph import planar_subgraph, short_cycles_first
 from .progress import Clock
 
 #: `given` (the order of the graph's edges), `random`, or edges in the order in which they are to come.
@@ -108,7 +108,7 @@ def _largest(source: PricedGraph, named: Sequence[int], rest: Sequence[int], clo
     ends = [(number[edge[0]], number[edge[1]]) for edge in source.edges]
     places = [*named, *_dearest_first(source, short_cycles_first(len(number), ends, rest))]
     places.sort(key=lambda place: source.price(place) is not None)
-    return planar_part(len(number), ends, places, clock)
+    return planar_subgraph(len(number), ends, places, clock)
 
 
 def _embedded(source: PricedGraph, places: Sequence[int], seed: Optional[str]) -> _Start:

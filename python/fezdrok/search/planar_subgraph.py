@@ -18,7 +18,7 @@ _TOGETHER = 600
 _WORK = 2_000_000
 
 
-def planar_part(count: int, ends: Sequence[Tuple[int, int]], places: Sequence[int], clock: Optional[Clock] = None) -> List[int]:
+def planar_subgraph(count: int, ends: Sequence[Tuple[int, int]], places: Sequence[int], clock: Optional[Clock] = None) -> List[int]:
     """Of the edges at these places, as many as can be drawn together without crossings: those that are taken when each is
     taken that can be drawn with those before it. Of parallel edges the first alone is taken.
 
@@ -29,12 +29,12 @@ def planar_part(count: int, ends: Sequence[Tuple[int, int]], places: Sequence[in
     first: Dict[FrozenSet[int], int] = {}
     for place in places:
         first.setdefault(frozenset(ends[place]), place)
-    found = _Part(count, ends, clock or Clock())
+    found = _PlanarSubgraph(count, ends, clock or Clock())
     found.add(list(first.values()))
     return found.taken + _connecting(count, ends, found.taken, places)
 
 
-class _Part:
+class _PlanarSubgraph:
     """A part that grows: `taken` are the places of its edges."""
 
     def __init__(self, count: int, ends: Sequence[Tuple[int, int]], clock: Clock):

@@ -14,12 +14,12 @@ def is_planar(count: int, ends: Sequence[Tuple[int, int]]) -> bool:
     """Whether a graph with this many vertices and these edges, without loops, can be drawn without crossings."""
     if count > 2 and len(ends) > 3 * count - 6:
         return False
-    graph = _Oriented(count, ends)
+    graph = _OrientedGraph(count, ends)
     sides = _Sides(graph)
     return all(sides.can_be_chosen(root) for root in graph.roots)
 
 
-class _Oriented:
+class _OrientedGraph:
     """The walk in depth over a graph.
 
     `below[v]` has the edges out of v by their nesting depth, and `lowest[e]` the height of the lowest vertex that is reached
@@ -100,7 +100,7 @@ class _Sides:
     next lower back edge of an interval.
     """
 
-    def __init__(self, graph: _Oriented):
+    def __init__(self, graph: _OrientedGraph):
         self._graph = graph
         self._next = [-1] * len(graph.source)
         self._bottom = [0] * len(graph.source)

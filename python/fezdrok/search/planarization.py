@@ -19,9 +19,9 @@ from ..engine.results import Planarization, joined_parts, single
 from ..files.graphs import PricedGraph, Pricing, places_of, read_graph
 from .beginnings import Order, beginning
 from .connectivity import components, judge_connected
-from .local_search import Effort, Found, Search
-from .progress import Clock, Telling, ended, teller
-from .search_picture import Kept
+from .local_search import Effort, Search
+from .progress import Clock, ProgressOption, line_ended, progress_function
+from .search_picture import SavedPicture
 
 #: How many orders are tried, unless it is said.
 TRIES = 2
@@ -81,7 +81,7 @@ def planarize(
     shakes: Optional[int] = None,
     seed: int = 0,
     seconds: Optional[float] = None,
-    progress: Telling = None,
+    progress: ProgressOption = None,
     round_prices: bool = False,
     limits: Optional[Limits] = None,
     program: Optional[PathLike] = None,
@@ -134,14 +134,14 @@ def planarize(
         0 if quick and rounds is None else _most("rounds", rounds),
         0 if quick and shakes is None else _most("shakes", shakes),
     )
-    clock, tell = Clock(_judged(seconds)), teller(progress)
+    clock, tell = Clock(_judged(seconds)), progress_function(progress)
     source = read_graph(graph, price, forbidden, round_prices)
     if not isinstance(order, (str, set, frozenset)):
         order = [source.edges[place] for place in places_of(source.edges, order, graph.is_directed())]
     results: List[Planarization] = []
     failures: List[str] = []
     sources = components(source)
-    with ended(tell):
+    with line_ended(tell):
         for part in sources:
             if not part.edges:
                 results.append(single(part.graph, part.nodes[0], part.prices))
@@ -194,14 +194,14 @@ def _result(search: Search) -> Planarization:
     if search.best is None:
         assert search.first is not None
         raise search.first
-    source, kept = search.source, search.best.kept
-    picture, reports = Picture.from_text(kept.picture), Reports(kept.report_texts())
-    return Planarization(source.graph, picture, search.best.node_of, _edge_of(source, kept), source.prices, reports, tuple(search.tries.values()))
+    source, best = search.source, search.best
+    picture, reports, tries = Picture.from_text(best.text), Reports(best.report_texts()), tuple(search.tries.values())
+    return Planarization(source.graph, picture, best.node_of, _edge_of(source, best), source.prices, reports, tries)
 
 
-def _edge_of(source: PricedGraph, kept: Kept) -> Dict[int, GraphEdge]:
-    """The edge of each id in a picture that was kept."""
-    return {edge_id: source.edges[place] for edge_id, place in sorted(kept.place_of.items())}
+def _edge_of(source: PricedGraph, saved: SavedPicture) -> Dict[int, GraphEdge]:
+    """The edge of each id in a picture that was saved."""
+    return {edge_id: source.edges[place] for edge_id, place in sorted(saved.place_of.items())}
 
 
 def _warn(failures: Sequence[str]) -> None:
@@ -252,7 +252,7 @@ def reinsert(
     shakes: Optional[int] = 0,
     seed: int = 0,
     seconds: Optional[float] = None,
-    progress: Telling = None,
+    progress: ProgressOption = None,
 ) -> Planarization:
     """A picture of the same graph with as many crossings or fewer.
 
@@ -266,14 +266,14 @@ def reinsert(
     PlanarWarning that says what happened.
     """
     effort = Effort(1, _most("rounds", rounds), _most("shakes", shakes))
-    clock, tell = Clock(_judged(seconds)), teller(progress)
+    clock, tell = Clock(_judged(seconds)), progress_function(progress)
     failures: List[str] = []
     parts = list(result.parts or (result,))
-    with ended(tell):
+    with line_ended(tell):
         for place, part in enumerate(parts):
             if part.picture.edges:
                 search = Search(_source_of(part), effort, limits, program, clock, tell)
-                search.go_on(_found(part), seed)
+                search.go_on(_saved(part), seed)
                 parts[place] = _better(part, search)
                 failures += search.failures
                 if search.is_ended:
@@ -291,17 +291,17 @@ def _source_of(result: Planarization) -> PricedGraph:
     return PricedGraph(result.graph, result.node_of, edges, tuple(row.kind for row in rows), result.prices)
 
 
-def _found(result: Planarization) -> Found:
-    """The picture of a planarization as one that a search has found, by no call yet."""
+def _saved(result: Planarization) -> SavedPicture:
+    """The picture of a planarization as one that a search has saved, by no call yet."""
     place_of = {row.id: place for place, row in enumerate(result.picture.edges)}
-    return Found(Kept(result.picture.to_text(), place_of, result.score, result.picture, [], 0, None, None), result.node_of)
+    return SavedPicture(result.picture.to_text(), result.node_of, place_of, result.score, result.picture)
 
 
 def _better(result: Planarization, search: Search) -> Planarization:
     """The planarization to which a search has come that went on from this one; itself where that is no better."""
-    assert search.best is not None
-    kept = search.best.kept
-    if kept.before is None:
+    best = search.best
+    assert best is not None
+    if best.before is None:
         return result
-    reports = Reports.joined([result.reports, Reports(kept.report_texts())])
-    return replace(result, picture=Picture.from_text(kept.picture), edge_of=_edge_of(search.source, kept), reports=reports)
+    reports = Reports.joined([result.reports, Reports(best.report_texts())])
+    return replace(result, picture=Picture.from_text(best.text), edge_of=_edge_of(search.source, best), reports=reports)

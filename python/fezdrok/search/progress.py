@@ -25,19 +25,19 @@ class Progress(NamedTuple):
 
 
 #: True for a line on the terminal, None or False for nothing, or a function that is called with each Progress.
-Telling = Union[None, bool, Callable[[Progress], Any]]
+ProgressOption = Union[None, bool, Callable[[Progress], Any]]
 
 
-def teller(progress: Telling) -> Callable[[Progress], Any]:
+def progress_function(progress: ProgressOption) -> Callable[[Progress], Any]:
     """What is called with each Progress; ValueError where it is neither a function nor True, False or None."""
     if callable(progress):
         return progress
     if progress is not None and not isinstance(progress, bool):
         raise ValueError(f"progress is {progress!r}: it must be True, False, None, or a function that takes a Progress")
-    return Line(sys.stderr) if progress else lambda told: None
+    return ProgressLine(sys.stderr) if progress else lambda told: None
 
 
-class Rewritten:
+class StatusLine:
     """A line that is written over again."""
 
     def __init__(self, stream: TextIO):
@@ -60,12 +60,12 @@ class Rewritten:
             self._stream.flush()
 
 
-def ended(tell: Any) -> ContextManager[Any]:
+def line_ended(tell: Any) -> ContextManager[Any]:
     """Ends the line that this writes, if it writes one, however what is done meanwhile ends."""
-    return closing(tell) if isinstance(tell, Rewritten) else nullcontext()
+    return closing(tell) if isinstance(tell, StatusLine) else nullcontext()
 
 
-class Line(Rewritten):
+class ProgressLine(StatusLine):
     """How far a planarization is, written at most ten times a second. The line ends when a part of the graph is done, or by
     `close`."""
 
@@ -75,13 +75,13 @@ class Line(Rewritten):
         self._next = clock()
         self._length = 0
 
-    def __call__(self, told: Progress) -> None:
-        if self._clock() < self._next and told.step != "done":
+    def __call__(self, progress: Progress) -> None:
+        if self._clock() < self._next and progress.step != "done":
             return
         self._next = self._clock() + 0.1
-        best = "none yet" if told.best is None else str(told.best)
-        text = f"order {told.order} of {told.tries}, {told.step}: {told.crossings} crossings, best {best}, {told.seconds:.1f} s"
-        self.write(text.ljust(self._length), told.step == "done")
+        best = "none yet" if progress.best is None else str(progress.best)
+        text = f"order {progress.order} of {progress.tries}, {progress.step}: {progress.crossings} crossings, best {best}, {progress.seconds:.1f} s"
+        self.write(text.ljust(self._length), progress.step == "done")
         self._length = len(text)
 
 

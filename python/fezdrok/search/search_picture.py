@@ -25,48 +25,53 @@ _PACE = 0.05
 
 
 @dataclass(frozen=True)
-class Kept:
-    """A picture of a sheet that was kept.
+class SavedPicture:
+    """A picture that a search saved, to give it as the result or to go on from it.
 
-    `picture` is its text, `place_of` has the places of its edges by their ids, and `score` is that of the sheet. The process
-    had begun with `start`, which came from `before`, and had answered the first `calls` lines of `history`; `settings` are
-    those of its report, or None where the picture comes from elsewhere.
+    `text` is the picture as the program writes it, `node_of` has the nodes of its vertices, `place_of` the places of its
+    edges by their ids, and `score` is what SearchPicture has. The process had begun with `start`, which came from
+    `before`, and had answered the first `calls` lines of `history`; `settings` are those of its report, or None where the
+    picture comes from elsewhere.
     """
 
-    picture: str
+    text: str
+    node_of: Tuple[Node, ...]
     place_of: Dict[int, int]
     score: Tuple[int, int]
     start: Picture
-    history: List[Tuple[str, str]] = field(repr=False)
-    calls: int
-    settings: Optional[Dict[str, Any]]
-    before: Optional["Kept"] = field(repr=False)
+    history: List[Tuple[str, str]] = field(default_factory=list, repr=False)
+    calls: int = 0
+    settings: Optional[Dict[str, Any]] = None
+    before: Optional[SavedPicture] = field(default=None, repr=False)
 
     def report_texts(self) -> List[str]:
         """The reports that lead to this picture, as the program would write them. They are made of its answers, so that they
         are there also where it failed later."""
         texts: List[str] = []
-        kept: Optional[Kept] = self
-        while kept is not None and kept.settings is not None:
-            texts.append(kept._report_text(kept.settings))
-            kept = kept.before
+        saved: Optional[SavedPicture] = self
+        while saved is not None and saved.settings is not None:
+            texts.append(saved._report_text(saved.settings))
+            saved = saved.before
         return texts[::-1]
 
     def _report_text(self, settings: Dict[str, Any]) -> str:
-        told = ",".join(f'{{"call":{call},"caller":0,"reply":{reply}}}' for call, reply in self.history[: self.calls])
-        limits, prices, start = (json_text(value) for value in (settings["limits"], settings["prices"], self.start.to_json()))
-        return f'{{"history":[{told}],"limits":{limits},"picture":{self.picture},"prices":{prices},"start":{start},"version":{settings["version"]}}}'
+        entries = [
+            f'{{"call":{call},"caller":0,"reply":{reply}}}' for call, reply in self.history[: self.calls]
+        ]
+        parts = {key: json_text(value) for key, value in settings.items()}
+        parts.update(history=f"[{','.join(entries)}]", picture=self.text, start=self.start.to_text())
+        return "{" + ",".join(f'"{key}":{parts[key]}' for key in sorted(parts)) + "}"
 
 
-class Sheet:
+class SearchPicture:
     """The picture of a connected graph in one process of the program, which begins with a picture of some of its edges.
 
     Edges are named by their places among the graph's `edges`; `place_of` has those of the ids in the start picture, and
     `node_of` the nodes of the vertices. `crossings` and `cost` are those of the picture now. `over[p]` are the
     edges that the edge p crossed when it was inserted, and `under[p]` those that crossed it since, once for each crossing.
 
-    Where an edge is refused, NotPlanarized is raised, and the sheet is of no more use. The program's exceptions are those
-    of Session.
+    Where an edge is refused, NotPlanarized is raised, and this is of no more use. The program's exceptions are those of
+    Session.
     """
 
     def __init__(
@@ -77,7 +82,7 @@ class Sheet:
         place_of: Mapping[int, int],
         limits: Optional[Limits] = None,
         program: Optional[PathLike] = None,
-        before: Optional[Kept] = None,
+        before: Optional[SavedPicture] = None,
     ):
         self.source = source
         self.node_of = node_of
@@ -88,7 +93,7 @@ class Sheet:
         self._session = Session(start, limits, source.prices, program)
         self._begin(start, place_of, before)
 
-    def _begin(self, start: Picture, place_of: Mapping[int, int], before: Optional[Kept]) -> None:
+    def _begin(self, start: Picture, place_of: Mapping[int, int], before: Optional[SavedPicture]) -> None:
         """Notes what the start picture has, with which the process has begun."""
         self.over: List[List[int]] = [[] for _ in self.source.edges]
         self.under: List[List[int]] = [[] for _ in self.source.edges]
@@ -221,9 +226,10 @@ class Sheet:
         crossings = sum(map(self.load, places))
         is_full = self._next_edge + len(places) > limits.edges or self._next_crossing + crossings > limits.crossings
         if is_full and len(places) <= limits.edges - len(self._place_of) and self.crossings + crossings <= limits.crossings:
-            kept = self.kept()
+            saved = self.saved()
             new = self._session.compact()
-            self._begin(self._session.picture(), {new.edges[edge_id]: place for edge_id, place in kept.place_of.items()}, kept)
+            place_of = {new.edges[edge_id]: place for edge_id, place in saved.place_of.items()}
+            self._begin(self._session.picture(), place_of, saved)
 
     def _most_at_once(self) -> int:
         """How many edges can be taken out and inserted again in one turn, for which there is room when ids begin anew. Where
@@ -233,15 +239,24 @@ class Sheet:
 
     # ---- What there is now
 
-    def kept(self) -> Kept:
-        """The picture of now, to be kept."""
-        prices = self.source.prices
-        settings = {"limits": self._session.limits.to_json(), "prices": list(without_last_ones(prices)), "version": version_of(prices)}
-        return Kept(self._session.picture_text(), dict(self._place_of), self.score, self._start, self._history, len(self._history), settings, self._before)
+    def saved(self) -> SavedPicture:
+        """The picture of now, to be saved."""
+        prices, limits = self.source.prices, self._session.limits.to_json()
+        return SavedPicture(
+            self._session.picture_text(),
+            self.node_of,
+            dict(self._place_of),
+            self.score,
+            self._start,
+            self._history,
+            len(self._history),
+            {"limits": limits, "prices": list(without_last_ones(prices)), "version": version_of(prices)},
+            self._before,
+        )
 
     # ---- Its end
 
-    def __enter__(self) -> "Sheet":
+    def __enter__(self) -> SearchPicture:
         return self
 
     def __exit__(self, *raised: Any) -> None:
