@@ -89,12 +89,12 @@ class Batches(unittest.TestCase):
                 planarize_many(graphs, processes=1, progress=True, quick=True)
             return stream.getvalue()
 
-        self.assertRegex(told(list(graphs(2))), r"2/2[^\n]*\n\Z")
-        self.assertRegex(told([]), r"\A\r0 graphs[^\n]*\n\Z")
-        self.assertRegex(told(graphs(2)), r"\r2 graphs[^\n]*\n\Z")
-        self.assertRegex(told(graphs(9, KeyboardInterrupt)), r"\r[1-9] graphs[^\n]*\n[^\r\n]*PlanarWarning: interrupted")
+        self.assertRegex(printed(list(graphs(2))), r"2/2[^\n]*\n\Z")
+        self.assertRegex(printed([]), r"\A\r0 graphs[^\n]*\n\Z")
+        self.assertRegex(printed(graphs(2)), r"\r2 graphs[^\n]*\n\Z")
+        self.assertRegex(printed(graphs(9, KeyboardInterrupt)), r"\r[1-9] graphs[^\n]*\n[^\r\n]*PlanarWarning: interrupted")
         for raised in (KeyboardInterrupt, LookupError):
-            self.assertRegex(told(graphs(0, raised), raised), r"\A\r0 graphs[^\n]*\n\Z")
+            self.assertRegex(printed(graphs(0, raised), raised), r"\A\r0 graphs[^\n]*\n\Z")
 
     def test_none(self):
         self.assertEqual(planarize_many([]), [])

@@ -1,4 +1,4 @@
-"""The examples of README.md and docs/USING.md, run as they are written there."""
+"""The examples of README.md, docs/USING.md and python/README.md, run as they are written there."""
 
 import ast
 import builtins
@@ -117,7 +117,7 @@ class Pages(unittest.TestCase):
         os.environ.setdefault("MPLBACKEND", "Agg")
         self.addCleanup(os.chdir, os.getcwd())
         os.chdir(self.folder)
-        for page in PAGES:
+        for page in (*PAGES, "python/README.md"):
             told = []
             examples = python_examples(page)
             self.assertTrue(examples.examples or (page == "README.md" and not find_spec("networkx")), page)
