@@ -1,4 +1,5 @@
-"""What the tests of drawings share: the graphs that are drawn, planar results without the program, and lines that touch."""
+"""What the tests of drawings share: the graphs that are drawn, planar results without the program, and lines that
+touch."""
 
 from __future__ import annotations
 
@@ -23,7 +24,12 @@ def grid_with_chords() -> Any:
 @lru_cache(maxsize=None)
 def pictured() -> Dict[str, Any]:
     """The four graphs whose pictures are shown, planarized."""
-    graphs = {"petersen": nx.petersen_graph(), "k6": nx.complete_graph(6), "grid": grid_with_chords(), "scale_free": nx.barabasi_albert_graph(60, 2, seed=1)}
+    graphs = {
+        "petersen": nx.petersen_graph(),
+        "k6": nx.complete_graph(6),
+        "grid": grid_with_chords(),
+        "scale_free": nx.barabasi_albert_graph(60, 2, seed=1),
+    }
     return {name: planarize(graph, begin="planar", rounds=10) for name, graph in graphs.items()}
 
 
@@ -31,7 +37,9 @@ def planar_result(graph: Any) -> Planarization:
     """A planar graph as networkx embeds it, without the program."""
     embedding = nx.check_planarity(graph)[1]
     picture, nodes = from_networkx_embedding(embedding), list(embedding)
-    return Planarization(graph, picture, tuple(nodes), {row.id: (nodes[row.a], nodes[row.b]) for row in picture.edges}, (1,), ())
+    return Planarization(
+        graph, picture, tuple(nodes), {row.id: (nodes[row.a], nodes[row.b]) for row in picture.edges}, (1,), ()
+    )
 
 
 def side(p: Any, q: Any, r: Any) -> int:
@@ -48,7 +56,10 @@ def is_between(p: Any, q: Any, r: Any) -> bool:
 def touch(first: Tuple[Any, Any], second: Tuple[Any, Any]) -> bool:
     """Whether two straight lines have a point in common."""
     (p, q), (r, s) = first, second
-    if any(max(p[axis], q[axis]) < min(r[axis], s[axis]) or max(r[axis], s[axis]) < min(p[axis], q[axis]) for axis in (0, 1)):
+    if any(
+        max(p[axis], q[axis]) < min(r[axis], s[axis]) or max(r[axis], s[axis]) < min(p[axis], q[axis])
+        for axis in (0, 1)
+    ):
         return False
     if side(p, q, r) != side(p, q, s) and side(r, s, p) != side(r, s, q):
         return True

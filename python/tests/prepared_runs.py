@@ -23,7 +23,12 @@ def worded(graph: Any) -> Any:
 def cases() -> Iterator[Tuple[str, Any, Dict[str, Any]]]:
     """Graphs and options, with a name for each."""
     parallel = nx.MultiGraph(list(nx.complete_graph(6).edges) * 2)
-    graphs = {"K7": nx.complete_graph(7), "Petersen": nx.petersen_graph(), "torus": nx.grid_2d_graph(3, 4, periodic=True), "parallel": parallel}
+    graphs = {
+        "K7": nx.complete_graph(7),
+        "Petersen": nx.petersen_graph(),
+        "torus": nx.grid_2d_graph(3, 4, periodic=True),
+        "parallel": parallel,
+    }
     for name, graph in graphs.items():
         graph = worded(graph)
         edges = list(graph.edges)

@@ -25,7 +25,9 @@ class RefusedAllocationTest(unittest.TestCase):
         folder = tempfile.TemporaryDirectory()
         cls.addClassCleanup(folder.cleanup)
         cls.library = os.fspath(Path(folder.name) / "refuse_allocation.so")
-        subprocess.run(["cc", "-shared", "-fPIC", "-O2", "-o", cls.library, ROOT / ".ci" / "refuse_allocation.c"], check=True)
+        subprocess.run(
+            ["cc", "-shared", "-fPIC", "-O2", "-o", cls.library, ROOT / ".ci" / "refuse_allocation.c"], check=True
+        )
 
     def run_refusing(self, verb: str, text: bytes, number: int) -> Tuple[int, bytes, bytes, bool]:
         """Runs a command that is refused its allocation of this number, or none where that is 0. Returns its status and

@@ -1,5 +1,5 @@
-"""How many allocations the program makes for a large text: one with no escape is read from its tokens, without a tree of
-values, whatever the order of its keys and the gaps between its tokens."""
+"""How many allocations the program makes for a large text: one with no escape is read from its tokens, without a tree
+of values, whatever the order of its keys and the gaps between its tokens."""
 
 import json
 import subprocess
@@ -31,12 +31,21 @@ def crossed_picture() -> Dict[str, Any]:
     edges += [{"a": 2 * i, "b": 2 * i + 1, "crossings": [i - 1], "id": i, "kind": 0} for i in others]
     crossings = [{"crossed": 0, "id": i - 1, "newcomer": i, "sign": "ltr" if i % 2 else "rtl"} for i in others]
     rotations = [[i // 2] for i in range(2 * COUNT + 2)]
-    return {"crossings": crossings, "edges": edges, "next_crossing": COUNT, "next_edge": COUNT + 1, "rotations": rotations}
+    return {
+        "crossings": crossings, "edges": edges, "next_crossing": COUNT, "next_edge": COUNT + 1, "rotations": rotations
+    }
 
 
 def growths() -> Dict[str, Any]:
     """A script that grows a star, and then has a command for each other kind of reply."""
-    others = [["insert", 1, 3, 0], ["planned", 2, 5, 1], ["delete", 1], ["delete", 0], ["delete", COUNT + 2], ["delete", COUNT + 9]]
+    others = [
+        ["insert", 1, 3, 0],
+        ["planned", 2, 5, 1],
+        ["delete", 1],
+        ["delete", 0],
+        ["delete", COUNT + 2],
+        ["delete", COUNT + 9],
+    ]
     return {"prices": [1, 2, None], "version": 2, "workers": [[["grow", 0, 0, 0]] * COUNT + others]}
 
 
@@ -76,8 +85,8 @@ class Allocations(RefusedAllocationTest):
         return is_refused
 
     def check(self, verb: str, form: Dict[str, Any], for_each: int) -> None:
-        """A text takes at most so many allocations for each vertex or call, also with gaps between its tokens, and with its
-        keys in another order. With an escape it takes more, so the bound tells the two ways to read apart."""
+        """A text takes at most so many allocations for each vertex or call, also with gaps between its tokens, and with
+        its keys in another order. With an escape it takes more, so the bound tells the two ways to read apart."""
         most = for_each * COUNT + SOME
         self.assertFalse(self.makes_more_than(verb, own_layout(form), most))
         self.assertFalse(self.makes_more_than(verb, spaced_layout(form), most))

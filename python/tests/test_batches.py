@@ -47,12 +47,20 @@ class Batches(unittest.TestCase):
     def test_as_one_by_one(self):
         graphs = [nx.complete_graph(size) for size in range(2, 8)] + [nx.petersen_graph()]
         results = planarize_many(graphs, processes=2, quick=True, tries=2, seed=5)
-        self.assertEqual([result.picture for result in results], [planarize(graph, quick=True, tries=2, seed=5).picture for graph in graphs])
+        self.assertEqual(
+            [result.picture for result in results],
+            [planarize(graph, quick=True, tries=2, seed=5).picture for graph in graphs],
+        )
 
     def test_a_failure_stands_in_its_place(self):
-        graphs = [nx.complete_graph(3), nx.empty_graph(2), nx.Graph([(0, 0)]), None, nx.complete_graph(5), UnpicklableGraph()]
+        graphs = [
+            nx.complete_graph(3), nx.empty_graph(2), nx.Graph([(0, 0)]), None, nx.complete_graph(5), UnpicklableGraph()
+        ]
         outcomes = planarize_many(iter(graphs), processes=2)
-        self.assertEqual([type(outcome) for outcome in outcomes], [Planarization, ValueError, ValueError, ValueError, Planarization, TypeError])
+        self.assertEqual(
+            [type(outcome) for outcome in outcomes],
+            [Planarization, ValueError, ValueError, ValueError, Planarization, TypeError],
+        )
         self.assertEqual(outcomes[4].crossings, 1)
 
     def test_a_worker_that_is_killed_takes_no_other_graph_with_it(self):
@@ -60,8 +68,13 @@ class Batches(unittest.TestCase):
         graphs[7] = graphs[21] = KillingGraph()
         outcomes = planarize_many(graphs, processes=2)
         self.assertEqual(len(outcomes), 40)
-        self.assertEqual([place for place, outcome in enumerate(outcomes) if isinstance(outcome, BrokenProcessPool)], [7, 21])
-        self.assertEqual([outcome.picture.counts.edges for outcome in outcomes if isinstance(outcome, Planarization)], [3 + place % 5 for place in range(40) if place not in (7, 21)])
+        self.assertEqual(
+            [place for place, outcome in enumerate(outcomes) if isinstance(outcome, BrokenProcessPool)], [7, 21]
+        )
+        self.assertEqual(
+            [outcome.picture.counts.edges for outcome in outcomes if isinstance(outcome, Planarization)],
+            [3 + place % 5 for place in range(40) if place not in (7, 21)],
+        )
 
     def test_progress_is_told(self):
         told = []
@@ -74,8 +87,8 @@ class Batches(unittest.TestCase):
             self.assertIn("5/5", stream.getvalue())
 
     def test_the_bar_ends_its_line(self):
-        """However the work ends: also of graphs without a length, at Ctrl-C, and where the iterable fails. What is written
-        next, as a warning, begins a line."""
+        """However the work ends: also of graphs without a length, at Ctrl-C, and where the iterable fails. What is
+        written next, as a warning, begins a line."""
 
         def graphs(count, raised=None):
             yield from [nx.path_graph(3)] * count
@@ -92,7 +105,9 @@ class Batches(unittest.TestCase):
         self.assertRegex(printed(list(graphs(2))), r"2/2[^\n]*\n\Z")
         self.assertRegex(printed([]), r"\A\r0 graphs[^\n]*\n\Z")
         self.assertRegex(printed(graphs(2)), r"\r2 graphs[^\n]*\n\Z")
-        self.assertRegex(printed(graphs(9, KeyboardInterrupt)), r"\r[1-9] graphs[^\n]*\n[^\r\n]*PlanarWarning: interrupted")
+        self.assertRegex(
+            printed(graphs(9, KeyboardInterrupt)), r"\r[1-9] graphs[^\n]*\n[^\r\n]*PlanarWarning: interrupted"
+        )
         for raised in (KeyboardInterrupt, LookupError):
             self.assertRegex(printed(graphs(0, raised), raised), r"\A\r0 graphs[^\n]*\n\Z")
 
@@ -109,7 +124,12 @@ class Programs(unittest.TestCase):
             planarize_many([nx.path_graph(2)], program="/nowhere/planar")
 
     def test_wrong_arguments(self):
-        for words, due in (({"processes": 0}, "processes is 0"), ({"processes": -1}, "processes is -1"), ({"progress": "yes"}, "progress is 'yes'"), ({"progress": 1}, "progress is 1")):
+        for words, due in (
+            ({"processes": 0}, "processes is 0"),
+            ({"processes": -1}, "processes is -1"),
+            ({"progress": "yes"}, "progress is 'yes'"),
+            ({"progress": 1}, "progress is 1"),
+        ):
             with self.assertRaisesRegex(ValueError, due):
                 planarize_many([nx.path_graph(2)], program="/nowhere/planar", **words)
 

@@ -25,7 +25,9 @@ class CommandLine(unittest.TestCase):
         return status, target.getvalue().splitlines()
 
     def test_failures_have_a_line_too(self):
-        status, lines = self.answers("{}\n{}\n", "--program", fake(self, "echo 'planar: 52 BadShape $/version' >&2; exit 1"))
+        status, lines = self.answers(
+            "{}\n{}\n", "--program", fake(self, "echo 'planar: 52 BadShape $/version' >&2; exit 1")
+        )
         self.assertEqual((status, lines), (1, ['{"fault":[52,"BadShape","$/version"]}'] * 2))
         _, lines = self.answers("{}\n", "--program", fake(self, "echo 'planar: 40 Mismatch 2 15' >&2; exit 1"))
         self.assertEqual(lines, ['{"fault":[40,"Mismatch",2,15]}'])
@@ -62,7 +64,9 @@ class CommandLine(unittest.TestCase):
     @needs_program
     def test_as_a_program(self):
         text = Planarizer().script_text() + "\n"
-        done = subprocess.run([sys.executable, "-m", "fezdrok"], input=text * 2, capture_output=True, text=True, env=ENVIRONMENT)
+        done = subprocess.run(
+            [sys.executable, "-m", "fezdrok"], input=text * 2, capture_output=True, text=True, env=ENVIRONMENT
+        )
         self.assertEqual((done.returncode, done.stdout), (0, (Planarizer().run().to_text() + "\n") * 2))
 
     def test_a_closed_pipe_ends_it_quietly(self):

@@ -3,7 +3,10 @@
 import unittest
 from unittest import mock
 
-from fezdrok import Dummy, NoReport, Picture, PlanarError, Planarizer, ProgramFailed, ProgramNotStarted, Report, from_networkx_embedding, orthogonal_drawing, planarize, reinsert, to_networkx_embedding, to_svg
+from fezdrok import (
+    Dummy, NoReport, Picture, PlanarError, Planarizer, ProgramFailed, ProgramNotStarted, Report,
+    from_networkx_embedding, orthogonal_drawing, planarize, reinsert, to_networkx_embedding, to_svg,
+)
 from fezdrok.drawing.drawings import positions
 
 from .support import crossings_of, fake, graph_pairs, needs_networkx, needs_program, pairs_of, traced
@@ -18,7 +21,9 @@ except ImportError:
 @needs_program
 class Components(unittest.TestCase):
     def graph(self):
-        return nx.disjoint_union_all([nx.petersen_graph(), nx.complete_graph(6), nx.path_graph(2), nx.empty_graph(2), nx.cycle_graph(4)])
+        return nx.disjoint_union_all(
+            [nx.petersen_graph(), nx.complete_graph(6), nx.path_graph(2), nx.empty_graph(2), nx.cycle_graph(4)]
+        )
 
     def test_one_result(self):
         graph = self.graph()
@@ -73,7 +78,10 @@ class Components(unittest.TestCase):
         graph = self.graph()
         result = planarize(graph)
         drawing = orthogonal_drawing(result)
-        self.assertEqual((set(drawing.boxes), set(drawing.lines), len(drawing.crossings)), (set(graph), set(result.edge_of), result.crossings))
+        self.assertEqual(
+            (set(drawing.boxes), set(drawing.lines), len(drawing.crossings)),
+            (set(graph), set(result.edge_of), result.crossings),
+        )
         self.assertEqual(len(set(drawing.boxes.values())), len(graph))
         for style in ("straight", "orthogonal"):
             self.assertEqual(to_svg(result, style=style).count("<use"), len(graph))
@@ -98,10 +106,20 @@ class PlanarizedTwice(unittest.TestCase):
 
 class Failures(unittest.TestCase):
     def test_a_text_that_is_no_report(self):
-        for text, words in (("", "no JSON"), ("{", "no JSON"), ("[]", "no report"), ("{}", "no report: KeyError 'history'"), ('{"history":3}', "no report")):
+        for text, words in (
+            ("", "no JSON"),
+            ("{", "no JSON"),
+            ("[]", "no report"),
+            ("{}", "no report: KeyError 'history'"),
+            ('{"history":3}', "no report"),
+        ):
             with self.assertRaisesRegex(NoReport, words):
                 Report.from_text(text)
-        for text, words in (("x", "no picture: it is no JSON"), ("{}", "no picture: KeyError"), ("[" * 100000, "no picture: RecursionError")):
+        for text, words in (
+            ("x", "no picture: it is no JSON"),
+            ("{}", "no picture: KeyError"),
+            ("[" * 100000, "no picture: RecursionError"),
+        ):
             with self.assertRaisesRegex(NoReport, words):
                 Picture.from_text(text)
         self.assertTrue(issubclass(NoReport, ValueError) and issubclass(NoReport, PlanarError))
@@ -121,7 +139,9 @@ class Failures(unittest.TestCase):
     @needs_networkx
     def test_networkx_is_named(self):
         with mock.patch.dict("sys.modules", {"networkx": None}):
-            with self.assertRaisesRegex(PlanarError, "edges that must not be crossed and planar beginnings want the package networkx"):
+            with self.assertRaisesRegex(
+                PlanarError, "edges that must not be crossed and planar beginnings want the package networkx"
+            ):
                 planarize(nx.complete_graph(4), begin="planar")
 
 

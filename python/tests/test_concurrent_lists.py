@@ -27,12 +27,19 @@ def start_rows() -> Dict[str, Any]:
 def commands_of(i: int) -> List[List[Any]]:
     """Growths at the vertices of list i, and edges between them, some with a plan; and some that are refused."""
     first, second = 2 * i + 1, 2 * i + 2
-    kinds = [["grow", first, 0, i], ["insert", first, second, i], ["planned", second, first, i], ["grow", second, 1, i], ["insert", first, first, i]]
+    kinds = [
+        ["grow", first, 0, i],
+        ["insert", first, second, i],
+        ["planned", second, first, i],
+        ["grow", second, 1, i],
+        ["insert", first, first, i],
+    ]
     return [kinds[place % len(kinds)] for place in range(COMMANDS)]
 
 
 class Names:
-    """Names for the ids of one run that do not depend on the order of calls: the list, and how many it had made before."""
+    """Names for the ids of one run that do not depend on the order of calls: the list, and how many it had made
+    before."""
 
     def __init__(self, start: Dict[str, Any]):
         self.edges = {row["id"]: ("start", row["id"]) for row in start["edges"]}
@@ -50,7 +57,10 @@ class Names:
     def picture(self, rows: Dict[str, Any]) -> Any:
         """The rotations and the edges of a picture, by names."""
         rotations = {self.vertices[place]: [self.edges[edge] for edge in around] for place, around in enumerate(rows["rotations"])}
-        edges = {self.edges[row["id"]]: (self.vertices[row["a"]], self.vertices[row["b"]], row["kind"], row["crossings"]) for row in rows["edges"]}
+        edges = {
+            self.edges[row["id"]]: (self.vertices[row["a"]], self.vertices[row["b"]], row["kind"], row["crossings"])
+            for row in rows["edges"]
+        }
         return rotations, edges
 
 
@@ -66,7 +76,9 @@ class ConcurrentLists(unittest.TestCase):
         alone = self.run_lists(start, [[command for i in range(LISTS) for command in commands_of(i)]])
         together = self.run_lists(start, [commands_of(i) for i in range(LISTS)])
         wanted_names, names = Names(start), Names(start)
-        wanted = [wanted_names.reply(divmod(place, COMMANDS), entry["reply"]) for place, entry in enumerate(alone["history"])]
+        wanted = [
+            wanted_names.reply(divmod(place, COMMANDS), entry["reply"]) for place, entry in enumerate(alone["history"])
+        ]
         given: List[List[Any]] = [[] for _ in range(LISTS)]
         for entry in together["history"]:
             i = entry["caller"]

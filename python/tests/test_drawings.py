@@ -37,15 +37,26 @@ class DrawingTest(unittest.TestCase):
         for first, second in itertools.combinations(pairs, 2):
             if not first & second:
                 self.assertFalse(touch([place[node] for node in first], [place[node] for node in second]))
-        nearest = min((hypot(a[0] - b[0], a[1] - b[1]) for a, b in itertools.combinations(place.values(), 2)), default=1)
+        nearest = min(
+            (hypot(a[0] - b[0], a[1] - b[1]) for a, b in itertools.combinations(place.values(), 2)), default=1
+        )
         self.assertGreater(nearest, 0.005)
 
 
 @needs_networkx
 class Plane(DrawingTest):
     def test_spread_without_crossings(self):
-        graphs = [nx.path_graph(2), nx.path_graph(9), nx.star_graph(9), nx.balanced_tree(2, 4), nx.cycle_graph(3), nx.cycle_graph(12)]
-        graphs += [nx.grid_2d_graph(7, 7), nx.lollipop_graph(4, 9), nx.wheel_graph(15), nx.barabasi_albert_graph(40, 1, seed=3)]
+        graphs = [
+            nx.path_graph(2),
+            nx.path_graph(9),
+            nx.star_graph(9),
+            nx.balanced_tree(2, 4),
+            nx.cycle_graph(3),
+            nx.cycle_graph(12),
+        ]
+        graphs += [
+            nx.grid_2d_graph(7, 7), nx.lollipop_graph(4, 9), nx.wheel_graph(15), nx.barabasi_albert_graph(40, 1, seed=3)
+        ]
         for graph in graphs:
             result = planar_result(graph)
             embedding = to_networkx_embedding(result)
@@ -56,9 +67,13 @@ class Plane(DrawingTest):
 
     def test_where_networkx_or_matplotlib_is_missing(self):
         result = planar_result(nx.path_graph(3))
-        with mock.patch.dict("sys.modules", {"networkx": None}), self.assertRaisesRegex(ModuleMissing, "want the package networkx"):
+        with mock.patch.dict("sys.modules", {"networkx": None}), self.assertRaisesRegex(
+            ModuleMissing, "want the package networkx"
+        ):
             to_svg(result)
-        with mock.patch.dict("sys.modules", {"matplotlib": None, "matplotlib.patches": None}), self.assertRaisesRegex(ModuleMissing, "drawings by draw want the package matplotlib"):
+        with mock.patch.dict("sys.modules", {"matplotlib": None, "matplotlib.patches": None}), self.assertRaisesRegex(
+            ModuleMissing, "drawings by draw want the package matplotlib"
+        ):
             draw(result)
 
 
@@ -66,7 +81,12 @@ class Plane(DrawingTest):
 @needs_program
 class Positions(DrawingTest):
     def test_lines_meet_at_their_common_ends_alone(self):
-        for graph in (nx.complete_graph(6), nx.petersen_graph(), nx.complete_bipartite_graph(3, 4), nx.MultiGraph([(0, 1), (0, 1), (1, 2)])):
+        for graph in (
+            nx.complete_graph(6),
+            nx.petersen_graph(),
+            nx.complete_bipartite_graph(3, 4),
+            nx.MultiGraph([(0, 1), (0, 1), (1, 2)]),
+        ):
             result = planarize(graph)
             embedding = to_networkx_embedding(result)
             place = positions(result, embedding)
@@ -79,7 +99,9 @@ class Positions(DrawingTest):
             embedding = to_networkx_embedding(result)
             place = positions(result, embedding)
             self.check_apart(place, embedding)
-            faces = [[place[result.name_of(result.picture.start(dart))] for dart in face] for face in result.picture.faces]
+            faces = [
+                [place[result.name_of(result.picture.start(dart))] for dart in face] for face in result.picture.faces
+            ]
             areas = [area(face) for number, face in enumerate(faces) if number != result.outer_face]
             self.assertGreater(min(areas), sum(areas) / len(areas) / 25)
 
@@ -122,7 +144,10 @@ class Scenes(unittest.TestCase):
         for result, style in itertools.product(pictured().values(), ("straight", "orthogonal")):
             for first, second in itertools.combinations(scene_of(result, style).nodes, 2):
                 across, up = abs(first.middle[0] - second.middle[0]), abs(first.middle[1] - second.middle[1])
-                self.assertTrue(across > (first.width + second.width) / 2 or up > (first.height + second.height) / 2, (first, second))
+                self.assertTrue(
+                    across > (first.width + second.width) / 2 or up > (first.height + second.height) / 2,
+                    (first, second),
+                )
 
     def test_labels_fit(self):
         names = ["A", "Amsterdam", "Rio de Janeiro", "B", "100"]
@@ -136,7 +161,10 @@ class Scenes(unittest.TestCase):
         graph = nx.complete_graph(6)
         self.assertEqual(scene_of(planarize(graph)).legend, ())
         scene = scene_of(planarize(graph, price=lambda u, v, data: 1 + u, forbidden=[(0, 1)]))
-        self.assertEqual([words for words, _ in scene.legend], ["not to be crossed", "price 5", "price 4", "price 3", "price 2", "price 1"])
+        self.assertEqual(
+            [words for words, _ in scene.legend],
+            ["not to be crossed", "price 5", "price 4", "price 3", "price 2", "price 1"],
+        )
         self.assertEqual(len({look for _, look in scene.legend}), 6)
         many = scene_of(planarize(graph, price=lambda u, v, data: 1 + 6 * u + v))
         self.assertEqual([many.legend[0][0], many.legend[-1][0], len(many.legend)], ["price 30", "price 2", 5])

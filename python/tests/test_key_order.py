@@ -65,7 +65,9 @@ class KeyOrder(unittest.TestCase):
         self.assertLessEqual({("run", 0), ("replay", 0), ("replay", 1), ("check", 0)}, seen)
 
     def test_the_opening_of_a_session(self):
-        opening = {"limits": {"crossings": 5, "edges": 9, "vertices": 7}, "prices": [2, None], "start": "seed", "version": 2}
+        opening = {
+            "limits": {"crossings": 5, "edges": 9, "vertices": 7}, "prices": [2, None], "start": "seed", "version": 2
+        }
         lines = b'\n["grow",1,0,1]\n"report"\n'
         due = answer("serve", json.dumps(opening).encode() + lines)
         self.assertEqual(due[0], 0)

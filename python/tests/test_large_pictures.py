@@ -1,4 +1,5 @@
-"""LargePictures calls, and all kinds: what depends on a size or a kind would show here. The answers are counted by hand."""
+"""LargePictures calls, and all kinds: what depends on a size or a kind would show here. The answers are counted by
+hand."""
 
 import json
 import subprocess
@@ -70,7 +71,10 @@ class LargePictures(unittest.TestCase):
 
     def test_up_to_each_limit(self):
         limits = {"vertices": 3, "edges": 4, "crossings": 1}
-        report = report_of([["grow", 0, 0, 0], ["grow", 0, 0, 0], ["insert", 0, 1, 0], ["insert", 0, 1, 0], ["insert", 0, 1, 0]], limits=limits)
+        report = report_of(
+            [["grow", 0, 0, 0], ["grow", 0, 0, 0], ["insert", 0, 1, 0], ["insert", 0, 1, 0], ["insert", 0, 1, 0]],
+            limits=limits,
+        )
         replies = [entry["reply"] for entry in report["history"]]
         full = {"refused": [7, "Full"]}
         self.assertEqual([reply == full for reply in replies], [False, True, False, False, True])

@@ -1,5 +1,5 @@
-"""The search for good pictures: all kinds of graphs, few crossings where the crossing number is known, pictures that know what
-crosses what, and the same result each time."""
+"""The search for good pictures: all kinds of graphs, few crossings where the crossing number is known, pictures that
+know what crosses what, and the same result each time."""
 
 import unittest
 from collections import Counter
@@ -40,7 +40,13 @@ class Defaults(PlanarizationTest):
     def test_all_kinds_of_graphs(self):
         parallel = nx.MultiGraph(list(nx.complete_graph(6).edges) * 2)
         priced = {"price": lambda u, v, data: 1 + (u + 2 * v) % 4, "forbidden": [(0, 1), (1, 2)]}
-        for graph, options in ((parallel, {}), (parallel, {"forbidden": [(0, 1)]}), (nx.complete_graph(8), priced), (nx.DiGraph(nx.complete_graph(5)), {}), (nx.barbell_graph(5, 3), {})):
+        for graph, options in (
+            (parallel, {}),
+            (parallel, {"forbidden": [(0, 1)]}),
+            (nx.complete_graph(8), priced),
+            (nx.DiGraph(nx.complete_graph(5)), {}),
+            (nx.barbell_graph(5, 3), {}),
+        ):
             result = planarize(graph, tries=2, shakes=20, **options)
             self.judge(result)
             for u, v in options.get("forbidden", ()):

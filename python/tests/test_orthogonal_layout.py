@@ -49,7 +49,8 @@ class OrthogonalTest(unittest.TestCase):
         self.assertEqual(least_bends(result.picture, result.outer_face).bend_count, drawing.bends)
 
     def check_ends(self, result, drawing):
-        """Each edge leads from its one box to its other one, over its crossings in their order, and leaves a box at right angles."""
+        """Each edge leads from its one box to its other one, over its crossings in their order, and leaves a box at
+        right angles."""
         for edge_id, line in drawing.lines.items():
             row = result.picture.edge(edge_id)
             points = steps(line)
@@ -76,7 +77,11 @@ class OrthogonalTest(unittest.TestCase):
             for before, point, after in zip(points, points[1:], points[2:]):
                 self.assertNotIn(point, owner)
                 met.setdefault(point, []).append((edge_id, before[0] == point[0], after[0] == point[0]))
-        crossings = {point: {row.crossed, row.newcomer} for row in result.picture.crossings for point in [drawing.crossings[row.id]]}
+        crossings = {
+            point: {row.crossed, row.newcomer}
+            for row in result.picture.crossings
+            for point in [drawing.crossings[row.id]]
+        }
         for point, passing in met.items():
             if point in crossings:
                 self.assertEqual({edge_id for edge_id, _, _ in passing}, crossings[point])
@@ -109,13 +114,26 @@ class OrthogonalTest(unittest.TestCase):
 class Planar(OrthogonalTest):
     def test_fewest_bends(self):
         """The numbers are the least that any orthogonal drawing without crossings has."""
-        known = {nx.complete_graph(4): 4, nx.octahedral_graph(): 12, nx.hypercube_graph(3): 4, nx.cycle_graph(3): 1, nx.cycle_graph(4): 0}
+        known = {
+            nx.complete_graph(4): 4,
+            nx.octahedral_graph(): 12,
+            nx.hypercube_graph(3): 4,
+            nx.cycle_graph(3): 1,
+            nx.cycle_graph(4): 0,
+        }
         for graph, bends in known.items():
             self.assertEqual(self.check(planar_result(graph)).bends, bends)
             self.check_pairs(planar_result(graph))
 
     def test_trees_and_grids_have_no_bend(self):
-        graphs = [nx.path_graph(2), nx.path_graph(7), nx.star_graph(4), nx.star_graph(9), nx.balanced_tree(3, 3), nx.grid_2d_graph(6, 6)]
+        graphs = [
+            nx.path_graph(2),
+            nx.path_graph(7),
+            nx.star_graph(4),
+            nx.star_graph(9),
+            nx.balanced_tree(3, 3),
+            nx.grid_2d_graph(6, 6),
+        ]
         for graph in [*graphs, nx.barabasi_albert_graph(40, 1, seed=2)]:
             self.assertEqual(self.check(planar_result(graph)).bends, 0)
         self.assertEqual(orthogonal_drawing(planar_result(nx.path_graph(2))).size, (1, 0))
@@ -164,7 +182,9 @@ class Planar(OrthogonalTest):
 
     def test_without_networkx(self):
         result = planar_result(nx.path_graph(3))
-        with mock.patch.dict("sys.modules", {"networkx": None}), self.assertRaisesRegex(ModuleMissing, "orthogonal drawings want the package networkx"):
+        with mock.patch.dict("sys.modules", {"networkx": None}), self.assertRaisesRegex(
+            ModuleMissing, "orthogonal drawings want the package networkx"
+        ):
             orthogonal_drawing(result)
 
 
@@ -183,7 +203,12 @@ class Crossed(OrthogonalTest):
             self.check(result, by_flow=False)
 
     def test_all_pairs(self):
-        for graph in (nx.petersen_graph(), nx.complete_graph(6), nx.complete_bipartite_graph(3, 4), nx.MultiGraph([(0, 1), (0, 1), (1, 2)])):
+        for graph in (
+            nx.petersen_graph(),
+            nx.complete_graph(6),
+            nx.complete_bipartite_graph(3, 4),
+            nx.MultiGraph([(0, 1), (0, 1), (1, 2)]),
+        ):
             self.check_pairs(planarize(graph))
 
     def test_small_random_graphs(self):

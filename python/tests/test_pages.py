@@ -25,7 +25,8 @@ MARK = "-- the next command --"
 #: From this heading on the commands of the page need networkx.
 FARM = "\n## A folder of scripts"
 
-#: What stands for GNU parallel where it is not there: it does what the two lines of the page want of it, one after another.
+#: What stands for GNU parallel where it is not there: it does what the two lines of the page want of it, one after
+#: another.
 STAND_IN = r"""
 parallel() {
     if [ "$1" = --pipepart ]; then
@@ -52,7 +53,8 @@ parallel() {
 
 
 def python_examples(page: str) -> doctest.DocTest:
-    """The examples in Python; without matplotlib those that draw are left out, and without networkx those that need it."""
+    """The examples in Python; without matplotlib those that draw are left out, and without networkx those that need
+    it."""
     found = doctest.DocTestParser().get_doctest((ROOT / page).read_text(), {}, page, page, 0)
     if find_spec("matplotlib") is None:
         found.examples = [example for example in found.examples if not re.search(r"\bdraw\b", example.source)]
@@ -79,8 +81,8 @@ def without_networkx(examples: List[doctest.Example]) -> List[doctest.Example]:
 
 
 def commands(page: str) -> List[Tuple[str, str]]:
-    """The commands of a page, which begin with `$`, each with what it prints; `./test` itself is left out, without a C compiler
-    what is compiled, and without networkx all from the heading on below which scripts are made by it.
+    """The commands of a page, which begin with `$`, each with what it prints; `./test` itself is left out, without a C
+    compiler what is compiled, and without networkx all from the heading on below which scripts are made by it.
 
     Lines that begin with `>` go on with a command. The lines below it, up to an empty one, are what it prints; where
     there are none, nothing is said of what it prints.
@@ -130,12 +132,17 @@ class Pages(unittest.TestCase):
         """The pictures that are shown are small, and are those that the examples wrote: with as many lines, nodes and
         marks, and the same names. Points may differ a little from machine to machine."""
         shown = re.findall(r"!\[[^]]+\]\((pictures/\S+\.svg)\)", (ROOT / "docs" / "USING.md").read_text())
-        self.assertEqual(sorted(shown), sorted(f"pictures/{file.name}" for file in (ROOT / "docs" / "pictures").iterdir()))
+        self.assertEqual(
+            sorted(shown), sorted(f"pictures/{file.name}" for file in (ROOT / "docs" / "pictures").iterdir())
+        )
         self.assertEqual(len(shown), 8)
         for name in shown:
             kept, written = ROOT / "docs" / name, folder / Path(name).name
             self.assertLess(kept.stat().st_size, 20000)
-            shown_there, written_now = ([(it.tag, it.text) for it in ElementTree.parse(file).iter() if it.get("id") is None] for file in (kept, written))
+            shown_there, written_now = (
+                [(it.tag, it.text) for it in ElementTree.parse(file).iter() if it.get("id") is None]
+                for file in (kept, written)
+            )
             self.assertEqual(shown_there, written_now)
 
     def checkout(self) -> Path:
@@ -157,7 +164,13 @@ class Pages(unittest.TestCase):
         script = "" if shutil.which("parallel") else STAND_IN
         script += "\n".join(f"{{ {command}\n}} 2>&1\necho '{MARK}'" for command, _ in todo)
         words = {"HOME": self.folder, "PATH": os.path.dirname(sys.executable) + os.pathsep + os.environ["PATH"]}
-        ran = subprocess.run(["bash", "-c", script], cwd=self.checkout(), env={**os.environ, **words}, stdout=subprocess.PIPE, universal_newlines=True)
+        ran = subprocess.run(
+            ["bash", "-c", script],
+            cwd=self.checkout(),
+            env={**os.environ, **words},
+            stdout=subprocess.PIPE,
+            universal_newlines=True,
+        )
         told = ran.stdout.split(MARK + "\n")
         self.assertEqual(len(told), len(todo) + 1, ran.stdout)
         for (command, printed), text in zip(todo, told):
@@ -165,7 +178,8 @@ class Pages(unittest.TestCase):
                 self.assertRegex(text.rstrip("\n"), re.compile(rf"\A{pattern_of(printed)}\Z", re.DOTALL), command)
 
     def test_what_needs_no_networkx(self):
-        """Without networkx the sections of sessions and single commands are run all the same, and the lines before the farm."""
+        """Without networkx the sections of sessions and single commands are run all the same, and the lines before the
+        farm."""
         with mock.patch.object(sys.modules[__name__], "find_spec", return_value=None):
             left = "".join(example.source for example in python_examples("docs/USING.md").examples)
             shorter = commands("docs/USING.md")
@@ -184,7 +198,10 @@ class Pages(unittest.TestCase):
 
     def test_shown_code(self):
         """The code that is shown is that of the program or the tests it is from, which the gate proves and runs."""
-        folders = [ROOT / "crates" / name / "src" for name in ("planar_book", "planar_editors", "topo_test_support", "topo_tests")]
+        folders = [
+            ROOT / "crates" / name / "src"
+            for name in ("planar_book", "planar_editors", "topo_test_support", "topo_tests")
+        ]
         sources = "".join(file.read_text() for folder in folders for file in sorted(folder.glob("*.rt")))
         for page in PAGES:
             shown = re.findall(r"```rust\n(.*?)```", (ROOT / page).read_text(), re.DOTALL)
@@ -193,7 +210,9 @@ class Pages(unittest.TestCase):
                 self.assertTrue(text in sources, text)
         for name in ("planar_book", "planar_editors"):
             stdout = (ROOT / "crates" / name / "stdout").read_text()
-            self.assertIn("".join(f"    {line}\n" for line in stdout.splitlines()), (ROOT / "docs" / "USING.md").read_text())
+            self.assertIn(
+                "".join(f"    {line}\n" for line in stdout.splitlines()), (ROOT / "docs" / "USING.md").read_text()
+            )
 
     def test_readme_script(self):
         """The script that is shown with words beside it is the example file that the commands below it name."""

@@ -57,14 +57,24 @@ class Planarity(unittest.TestCase):
                     kept.remove_edge(u, v)
 
     def test_named_graphs(self):
-        for graph, due in ((nx.complete_graph(4), True), (nx.complete_graph(5), False), (nx.complete_bipartite_graph(3, 3), False), (nx.grid_2d_graph(40, 40), True), (nx.icosahedral_graph(), True), (nx.petersen_graph(), False), (nx.path_graph(3000), True)):
+        for graph, due in (
+            (nx.complete_graph(4), True),
+            (nx.complete_graph(5), False),
+            (nx.complete_bipartite_graph(3, 3), False),
+            (nx.grid_2d_graph(40, 40), True),
+            (nx.icosahedral_graph(), True),
+            (nx.petersen_graph(), False),
+            (nx.path_graph(3000), True),
+        ):
             self.assertEqual(is_planar(*numbered(graph)), due)
 
 
 @needs_networkx
 class PlanarSubgraphs(unittest.TestCase):
     def test_no_edge_can_be_added(self):
-        for graph in (nx.complete_graph(8), nx.random_regular_graph(4, 30, seed=1), nx.barabasi_albert_graph(40, 2, seed=1)):
+        for graph in (
+            nx.complete_graph(8), nx.random_regular_graph(4, 30, seed=1), nx.barabasi_albert_graph(40, 2, seed=1)
+        ):
             count, ends = numbered(graph)
             taken = planar_subgraph(count, ends, short_cycles_first(count, ends, range(len(ends))))
             self.assertTrue(is_planar(count, [ends[place] for place in taken]))
@@ -105,7 +115,9 @@ class PlanarSubgraphs(unittest.TestCase):
         self.assertEqual(short_cycles_first(7, ends, range(9)), list(range(9)))
         self.assertEqual(short_cycles_first(25, [*ends, *five], range(19)), [0, 1, 2, *range(4, 19), 3])
         ring = [(place, (place + 1) % 9) for place in range(9)]
-        self.assertEqual(short_cycles_first(25, [*ring, (0, 3), *five], range(20)), [*range(10, 20), 0, 1, 2, 9, 3, 4, 5, 6, 7, 8])
+        self.assertEqual(
+            short_cycles_first(25, [*ring, (0, 3), *five], range(20)), [*range(10, 20), 0, 1, 2, 9, 3, 4, 5, 6, 7, 8]
+        )
 
     def test_a_planar_graph_is_drawn_whole(self):
         graph = nx.grid_2d_graph(20, 20)

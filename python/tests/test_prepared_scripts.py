@@ -25,7 +25,13 @@ class OtherProcesses(unittest.TestCase):
     def printed(self, folder: str, seed: int) -> bytes:
         """What a process with this seed of hashes prints."""
         words = {"PYTHONHASHSEED": str(seed), "PYTHONPATH": os.fspath(ROOT / "python")}
-        done = subprocess.run([sys.executable, "-m", "tests.prepared_runs", folder], cwd=ROOT / "python", env={**os.environ, **words}, stdout=subprocess.PIPE, check=True)
+        done = subprocess.run(
+            [sys.executable, "-m", "tests.prepared_runs", folder],
+            cwd=ROOT / "python",
+            env={**os.environ, **words},
+            stdout=subprocess.PIPE,
+            check=True,
+        )
         return done.stdout
 
     def test_scripts_and_results_are_the_same_in_each(self):
@@ -69,7 +75,10 @@ class ReportsOfScripts(unittest.TestCase):
 
     def test_start(self):
         start = self.report.start
-        self.refused(r"another picture: its edges\[0\] is .*, and not ", start=replace(start, edges=(replace(start.edges[0], kind=1),)))
+        self.refused(
+            r"another picture: its edges\[0\] is .*, and not ",
+            start=replace(start, edges=(replace(start.edges[0], kind=1),)),
+        )
         self.refused("another picture: it has 3 rotations, and not 2", start=replace(start, rotations=((0,), (0,), ())))
         self.refused("another picture: its next_edge is 9, and not 1", start=replace(start, next_edge=9))
 
@@ -77,11 +86,20 @@ class ReportsOfScripts(unittest.TestCase):
         history = self.report.history
         self.refused("it has 8 calls, and not 9", history=history[:-1])
         self.refused("it has 10 calls, and not 9", history=(*history, history[0]))
-        self.refused(r'its call 2 is \["delete",1\] of list 0, and not ', history=(*history[:2], replace(history[2], call=Delete(1)), *history[3:]))
-        self.refused("its call 4 is .* of list 1, and not ", history=(*history[:4], replace(history[4], caller=1), *history[5:]))
+        self.refused(
+            r'its call 2 is \["delete",1\] of list 0, and not ',
+            history=(*history[:2], replace(history[2], call=Delete(1)), *history[3:]),
+        )
+        self.refused(
+            "its call 4 is .* of list 1, and not ", history=(*history[:4], replace(history[4], caller=1), *history[5:])
+        )
 
     def test_other_options_and_other_graphs(self):
-        for other in (prepare(nx.complete_graph(5)), prepare(nx.complete_graph(6)), prepare(nx.complete_graph(5), price={(0, 1): 4})):
+        for other in (
+            prepare(nx.complete_graph(5)),
+            prepare(nx.complete_graph(6)),
+            prepare(nx.complete_graph(5), price={(0, 1): 4}),
+        ):
             with self.assertRaises(OtherReport):
                 other.result(self.report)
         plain = prepare(nx.complete_graph(5)).planarizer

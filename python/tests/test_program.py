@@ -114,7 +114,12 @@ class Statuses(unittest.TestCase):
             Program(fake(self, "echo 'planar: 51 TooLong' >&2; exit 1")).run(" " * 10_000_000)
 
     def test_exceptions_pass_between_processes(self):
-        for fault in (Fault(52, "BadShape", "$"), Fault(40, "Mismatch", (2, 15)), MemoryFault(8, "Memory"), ProgramFailed(-9, "oh")):
+        for fault in (
+            Fault(52, "BadShape", "$"),
+            Fault(40, "Mismatch", (2, 15)),
+            MemoryFault(8, "Memory"),
+            ProgramFailed(-9, "oh"),
+        ):
             again = pickle.loads(pickle.dumps(fault))
             self.assertEqual((type(again), str(again), vars(again)), (type(fault), str(fault), vars(fault)))
 

@@ -61,7 +61,10 @@ class RandomScripts(unittest.TestCase):
             with self.subTest(seed):
                 report = self.compare(random_calls(chance, 60), prices, limits)
                 kinds.update(getattr(reply, "name", type(reply).__name__) for reply in report.replies)
-        self.assertLessEqual({"Grown", "Inserted", "Deleted", "SameEnds", "NoPosition", "NoEdge", "BadKind", "Cut", "Full", "NoRoute"}, kinds)
+        self.assertLessEqual(
+            {"Grown", "Inserted", "Deleted", "SameEnds", "NoPosition", "NoEdge", "BadKind", "Cut", "Full", "NoRoute"},
+            kinds,
+        )
 
     def test_starts(self):
         start = Picture.from_json(json.loads((EXAMPLES / "bipyramid.json").read_text()))

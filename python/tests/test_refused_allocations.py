@@ -35,7 +35,9 @@ class RefusedAllocations(RefusedAllocationTest):
             self.assertGreater(self.refuse_each("run", b'{"version":1,"workers":[[%s]]}' % command.encode()), 20)
 
     def test_replay(self):
-        self.assertGreater(self.refuse_each("replay", (EXAMPLES / "across_the_cheap_side.report.json").read_bytes()), 50)
+        self.assertGreater(
+            self.refuse_each("replay", (EXAMPLES / "across_the_cheap_side.report.json").read_bytes()), 50
+        )
 
     def test_check(self):
         self.assertGreater(self.refuse_each("check", (EXAMPLES / "bipyramid.json").read_bytes()), 20)

@@ -38,7 +38,9 @@ class Results(unittest.TestCase):
             self.assertEqual(result.edge_of[result.edge_id("b", "a", key)], ("a", "b", key))
             self.assertEqual([(it.start, it.end) for it in result.segments("b", "a", key)], [("b", "a")])
         for call in (result.edge_id, result.segments):
-            for words, due in ((("a", "b"), "the key is required"), (("a", "b", 2), "no edge"), (("a", "x", 0), "no edge")):
+            for words, due in (
+                (("a", "b"), "the key is required"), (("a", "b", 2), "no edge"), (("a", "x", 0), "no edge")
+            ):
                 with self.assertRaisesRegex(KeyError, due):
                     call(*words)
         with self.assertRaisesRegex(KeyError, "no edge"):
@@ -62,10 +64,14 @@ class Results(unittest.TestCase):
         self.assertEqual((len(value["faces"]), value["outer_faces"]), (3, [0]))
 
     def test_outer_faces_of_parts(self):
-        result = planarize(nx.disjoint_union_all([nx.cycle_graph(3), nx.empty_graph(1), nx.cycle_graph(4), nx.path_graph(3)]))
+        result = planarize(
+            nx.disjoint_union_all([nx.cycle_graph(3), nx.empty_graph(1), nx.cycle_graph(4), nx.path_graph(3)])
+        )
         faces = [result.picture.faces[place] for place in result.to_json()["outer_faces"]]
         self.assertEqual([len(face) for face in faces], [3, 4, 4])
-        self.assertEqual([{result.picture.start(dart).id for dart in face} for face in faces], [{0, 1, 2}, {4, 5, 6, 7}, {8, 9, 10}])
+        self.assertEqual(
+            [{result.picture.start(dart).id for dart in face} for face in faces], [{0, 1, 2}, {4, 5, 6, 7}, {8, 9, 10}]
+        )
 
     def test_gml_and_graphml(self):
         result = planarize(nx.complete_graph(5), price=lambda u, v, data: 1 + u, forbidden=[(0, 1)])
@@ -74,17 +80,25 @@ class Results(unittest.TestCase):
         written = [io.BytesIO(), io.BytesIO()]
         nx.write_gml(graph, written[0])
         nx.write_graphml(graph, written[1])
-        read = [nx.parse_gml(written[0].getvalue().decode(), label="id"), nx.parse_graphml(written[1].getvalue().decode(), force_multigraph=True)]
+        read = [
+            nx.parse_gml(written[0].getvalue().decode(), label="id"),
+            nx.parse_graphml(written[1].getvalue().decode(), force_multigraph=True),
+        ]
         for again in read:
             self.assertEqual(sorted(data["crossing"] for _, data in again.nodes(data=True)), [0] * 5 + [1])
             for value in ("edge", "segment", "price"):
-                self.assertEqual(sorted(row[value] for _, _, row in again.edges(data=True)), sorted(row[value] for _, _, row in graph.edges(data=True)))
+                self.assertEqual(
+                    sorted(row[value] for _, _, row in again.edges(data=True)),
+                    sorted(row[value] for _, _, row in graph.edges(data=True)),
+                )
 
     def test_the_object_is_whole(self):
         result = planarize(nx.petersen_graph(), quick=True)
         value = result.to_json()
         darts = sorted(map(tuple, (dart for face in value["faces"] for dart in face)))
-        self.assertEqual(darts, sorted(tuple(dart) for point in value["nodes"] + value["crossings"] for dart in point["darts"]))
+        self.assertEqual(
+            darts, sorted(tuple(dart) for point in value["nodes"] + value["crossings"] for dart in point["darts"])
+        )
         faces = {tuple(dart): place for place, face in enumerate(value["faces"]) for dart in face}
         for row in value["edges"]:
             for segment in row["segments"]:

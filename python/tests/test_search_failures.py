@@ -1,5 +1,6 @@
-"""Searches that fail, where what was found is given: at the limits of the program, where it fails, when time is over, and at Ctrl-C. Most programs here
-are shell scripts, which hand on to the program itself until a process at which they fail."""
+"""Searches that fail, where what was found is given: at the limits of the program, where it fails, when time is over,
+and at Ctrl-C. Most programs here are shell scripts, which hand on to the program itself until a process at which they
+fail."""
 
 import os
 import tempfile
@@ -8,7 +9,10 @@ import warnings
 from pathlib import Path
 from unittest import mock
 
-from fezdrok import Fault, Limits, NotPlanarized, PlanarWarning, Planarizer, ProgramFailed, find_program, planarize, reinsert
+from fezdrok import (
+    Fault, Limits, NotPlanarized, PlanarWarning, Planarizer, ProgramFailed, find_program, planarize, reinsert,
+)
+from fezdrok.search import local_search, search_picture
 
 from .support import fake, needs_networkx, needs_program
 
@@ -34,7 +38,9 @@ class SearchFailures(unittest.TestCase):
         self.addCleanup(folder.cleanup)
         count = Path(folder.name) / "count"
         count.write_text("0")
-        return fake(self, f"n=$(($(cat {count}) + 1)); echo $n > {count}\ncase $n in {calls}) {how};; esac\nexec {os.path.abspath(find_program())} \"$@\"")
+        program = os.path.abspath(find_program())
+        counted = f"n=$(($(cat {count}) + 1)); echo $n > {count}"
+        return fake(self, f"{counted}\ncase $n in {calls}) {how};; esac\nexec {program} \"$@\"")
 
     def short(self, lines: int) -> str:
         """A program that ends when it has read so many lines."""
@@ -100,7 +106,7 @@ class SearchFailures(unittest.TestCase):
         """With few ids the process begins anew again and again, and comes to the same as with many."""
         many = planarize(self.graph, quick=True, rounds=5)
         for limits, turn in ((Limits(8, 31, 1000), 64), (Limits(8, 40, 1000), 64), (Limits(8, 1000, 45), 2)):
-            with mock.patch("fezdrok.search.search_picture._FIRST", turn), mock.patch("fezdrok.search.search_picture._MOST", turn), mock.patch("fezdrok.search.search_picture._LEAST", turn):
+            with mock.patch.multiple(search_picture, _FIRST=turn, _MOST=turn, _LEAST=turn):
                 few = planarize(self.graph, quick=True, rounds=5, limits=limits)
             self.assertEqual((few.crossings, few.tries), (many.crossings, many.tries))
             self.assertGreater(len(few.reports), 1)
@@ -169,7 +175,9 @@ class ProgressCalls(unittest.TestCase):
                 if told.step == step and told.order == 2 or told.step == step == "shakes":
                     raise KeyboardInterrupt
 
-            with self.subTest(step), self.assertWarnsRegex(PlanarWarning, "best picture so far is given, .*KeyboardInterrupt"):
+            with self.subTest(step), self.assertWarnsRegex(
+                PlanarWarning, "best picture so far is given, .*KeyboardInterrupt"
+            ):
                 result = planarize(graph, progress=interrupt)
             self.assertEqual(result.tries[0], planarize(graph, tries=1, shakes=0).crossings)
             self.assertEqual(len(result.tries), 2)
@@ -189,8 +197,8 @@ class ProgressCalls(unittest.TestCase):
                 raise KeyboardInterrupt
 
         first = planarize(graph, quick=True)
-        with mock.patch("fezdrok.search.local_search._SPARE_SECONDS", 0.0), mock.patch("fezdrok.search.local_search._SPARE_TIMES", 0):
-            with mock.patch("fezdrok.search.search_picture._FIRST", 8), mock.patch("fezdrok.search.search_picture._MOST", 8), self.assertWarns(PlanarWarning):
+        with mock.patch.multiple(local_search, _SPARE_SECONDS=0.0, _SPARE_TIMES=0):
+            with mock.patch.multiple(search_picture, _FIRST=8, _MOST=8), self.assertWarns(PlanarWarning):
                 result = planarize(graph, begin="tree", tries=1, progress=interrupt)
         self.assertLess(result.crossings, first.crossings)
         self.assertEqual(set(result.id_of), set(graph.edges))

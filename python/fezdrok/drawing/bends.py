@@ -57,8 +57,8 @@ def least_bends(picture: Picture, outer: int) -> Shape:
     """The orthogonal representation of a connected picture with the fewest bends.
 
     `outer` is the place in `picture.faces` of the face that lies outside. Of all that have the fewest bends it is one
-    in which few corners of a vertex take many of its right angles. ModuleMissing where networkx is not there; ValueError
-    where there is no such face.
+    in which few corners of a vertex take many of its right angles. ModuleMissing where networkx is not there;
+    ValueError where there is no such face.
     """
     if not 0 <= outer < len(picture.faces):
         raise ValueError(f"there is no face {outer}: the picture has {len(picture.faces)}")

@@ -28,13 +28,15 @@ ROUNDS = 4
 SIDE = 3
 
 
-def compact_mesh(mesh: Mesh, sides: Container[Tuple[int, int]] = (), room: Tuple[Room, Room] = ({}, {}), by_flow: bool = True) -> Places:
+def compact_mesh(
+    mesh: Mesh, sides: Container[Tuple[int, int]] = (), room: Tuple[Room, Room] = ({}, {}), by_flow: bool = True
+) -> Places:
     """A point of the grid for each node of a connected mesh, so that links meet in nodes alone and run as they should.
 
-    `sides` are the links, as start and end to the east or north, that are sides of boxes: they count SIDE times, so that
-    boxes are small. `room[axis]` says of two nodes, of which the second lies further along the axis, how far apart they have to be; what
-    is not named is at least 1 apart. With `by_flow` False the links have the lengths that longest paths give them.
-    The least coordinates are 0. ModuleMissing where networkx is not there and `by_flow` asks for it.
+    `sides` are the links, as start and end to the east or north, that are sides of boxes: they count SIDE times, so
+    that boxes are small. `room[axis]` says of two nodes, of which the second lies further along the axis, how far apart
+    they have to be; what is not named is at least 1 apart. With `by_flow` False the links have the lengths that longest
+    paths give them. The least coordinates are 0. ModuleMissing where networkx is not there and `by_flow` asks for it.
     """
     cut = rectangles(mesh)
     axes = [_first_axis(cut, axis)[: len(mesh.links)] for axis in (0, 1)]
@@ -64,7 +66,9 @@ def _bars(mesh: Mesh, axis: int) -> List[int]:
             node = waiting.pop()
             bar[node] = count
             around = mesh.links[node]
-            waiting.extend(around[heading] for heading in (1 - axis, 3 - axis) if heading in around and bar[around[heading]] < 0)
+            waiting.extend(
+                around[heading] for heading in (1 - axis, 3 - axis) if heading in around and bar[around[heading]] < 0
+            )
         count += 1
     return bar
 

@@ -36,8 +36,8 @@ def positions(result: Planarization, embedding: Optional["networkx.PlanarEmbeddi
 
     The points lie in the unit disk, spread so that faces are of like size and edges pass their crossings as straight as
     they can (see `relaxation`). Where that comes to no drawing without crossings, they are those of
-    `networkx.combinatorial_embedding_to_pos`, on a grid. The parts of a graph that is not connected lie side by side, each
-    in a disk whose area grows with its number of points. ModuleMissing where networkx is not there.
+    `networkx.combinatorial_embedding_to_pos`, on a grid. The parts of a graph that is not connected lie side by side,
+    each in a disk whose area grows with its number of points. ModuleMissing where networkx is not there.
     """
     if result.parts:
         return _side_by_side(result, [positions(part) for part in result.parts])
@@ -52,7 +52,9 @@ def positions(result: Planarization, embedding: Optional["networkx.PlanarEmbeddi
     place = nodes.index(result.name_of(result.picture.start(first)))
     found = spread(rotations, crossings, (nodes[place], nodes[place - 1 if first.back else place + 1]))
     if found is None:
-        found = {node: (float(x), float(y)) for node, (x, y) in networkx.combinatorial_embedding_to_pos(embedding).items()}
+        found = {
+            node: (float(x), float(y)) for node, (x, y) in networkx.combinatorial_embedding_to_pos(embedding).items()
+        }
     return found
 
 
@@ -63,14 +65,17 @@ def _side_by_side(result: Planarization, places: Sequence[Mapping[Any, Position]
     most = [tuple(max(place[axis] for place in part.values()) for axis in (0, 1)) for part in places]
     sizes = [(scale * (far[0] - near[0]), scale * (far[1] - near[1])) for scale, near, far in zip(scales, least, most)]
     found: Dict[Any, Position] = {}
-    for part, scale, (left, bottom), (x, y), (_, edge, crossing) in zip(places, scales, least, shelf_packing(sizes, 1.0), result.offsets):
+    for part, scale, (left, bottom), (x, y), (_, edge, crossing) in zip(
+        places, scales, least, shelf_packing(sizes, 1.0), result.offsets
+    ):
         for name, (u, v) in part.items():
             found[_name_in_whole(result, name, edge, crossing)] = (x + scale * (u - left), y + scale * (v - bottom))
     return found
 
 
 def _name_in_whole(result: Planarization, name: Any, edge: int, crossing: int) -> Any:
-    """The name that a node of a part's embedding has in that of the whole, where edge and crossing ids are so much larger."""
+    """The name that a node of a part's embedding has in that of the whole, where edge and crossing ids are so much
+    larger."""
     if name in result.vertex_of:
         return name
     of = name.of + crossing if name.kind == "crossing" else name.of._replace(edge=name.of.edge + edge)
@@ -116,7 +121,11 @@ def _bend_between(embedding: "networkx.PlanarEmbedding", start: Any, end: Any, e
 
 
 def scene_of(
-    result: Planarization, style: str = "straight", pos: Optional[Mapping[Any, Position]] = None, labels: bool = True, color: str = PLAIN
+    result: Planarization,
+    style: str = "straight",
+    pos: Optional[Mapping[Any, Position]] = None,
+    labels: bool = True,
+    color: str = PLAIN,
 ) -> Scene:
     """What a drawing of a planarization shows; see `draw` for the words. ValueError for a style that is not known, and
     for `pos` with the style `orthogonal`, which has points of its own."""
@@ -125,7 +134,9 @@ def scene_of(
     if style == "orthogonal":
         if pos is not None:
             raise ValueError("an orthogonal drawing has points of its own: leave pos out")
-        return orthogonal_scene(result, orthogonal_drawing(result, grid_sizes(result.node_of) if labels else None), labels, color)
+        return orthogonal_scene(
+            result, orthogonal_drawing(result, grid_sizes(result.node_of) if labels else None), labels, color
+        )
     embedding = to_networkx_embedding(result)
     places = positions(result, embedding) if pos is None else places_between(embedding, pos)
     chains = {edge_id: chain(result, embedding, edge_id) for edge_id in result.edge_of}
@@ -143,7 +154,9 @@ def _unit(result: Planarization, places: Mapping[Any, Position], labels: bool) -
     for place, (x, y, (width, height)) in enumerate(sizes if len(sizes) <= MANY else ()):
         for u, v, (other_width, other_height) in sizes[:place]:
             across, up = abs(x - u) or 1e-9, abs(y - v) or 1e-9
-            wanted_unit = max(wanted_unit, min((width + other_width + 4) / 2 / across, (height + other_height + 4) / 2 / up))
+            wanted_unit = max(
+                wanted_unit, min((width + other_width + 4) / 2 / across, (height + other_height + 4) / 2 / up)
+            )
     return min(wanted_unit, 2 * least)
 
 
@@ -189,7 +202,9 @@ def draw(
     ax = _fresh_axes(scene) if ax is None else ax
     for stroke in scene.strokes:
         xs, ys = zip(*flat(stroke))
-        ax.plot(xs, ys, "-", color=stroke.look.color, linewidth=stroke.look.width, zorder=1, gid=f"edge {stroke.edge_id}")
+        ax.plot(
+            xs, ys, "-", color=stroke.look.color, linewidth=stroke.look.width, zorder=1, gid=f"edge {stroke.edge_id}"
+        )
         if stroke.head:
             ax.add_patch(patches.Polygon(stroke.head, closed=True, color=stroke.look.color, linewidth=0, zorder=2))
     if scene.dots:
@@ -198,7 +213,8 @@ def draw(
         (x, y), rounding = node.middle, 0.0 if node.box else 0.499 * node.height
         style_of = f"round,pad=0,rounding_size={rounding}" if rounding else "square,pad=0"
         corner = (x - node.width / 2, y - node.height / 2)
-        ax.add_patch(patches.FancyBboxPatch(corner, node.width, node.height, boxstyle=style_of, facecolor=node_color, edgecolor="#333333", linewidth=0.8, zorder=3))
+        looks = {"facecolor": node_color, "edgecolor": "#333333", "linewidth": 0.8, "zorder": 3}
+        ax.add_patch(patches.FancyBboxPatch(corner, node.width, node.height, boxstyle=style_of, **looks))
         if node.label:
             ax.annotate(node.label, node.middle, ha="center", va="center", fontsize=0.9 * LETTER_HEIGHT, zorder=4)
     _finish(ax, scene)
@@ -209,7 +225,9 @@ def _finish(ax: "Axes", scene: Scene) -> None:
     """The legend, and axes of one scale that are not shown."""
     lines = wanted("matplotlib.lines", "drawings by draw")
     if scene.legend:
-        handles = [lines.Line2D([], [], color=look.color, linewidth=look.width, label=words) for words, look in scene.legend]
+        handles = [
+            lines.Line2D([], [], color=look.color, linewidth=look.width, label=words) for words, look in scene.legend
+        ]
         ax.legend(handles=handles, fontsize=8, frameon=False, loc="upper left", bbox_to_anchor=(1.0, 1.0))
     ax.set_axis_off()
     ax.set_aspect("equal")

@@ -84,7 +84,10 @@ def expand(shape: Shape, wide: Container[Point] = ()) -> Expansion:
         else:
             port.update(dict.fromkeys(picture.around(point), mesh.add()))
     sides = {(start, end) for start, around in enumerate(mesh.links) for end in around.values()}
-    chains = {row.id: _add_edge(shape, mesh, [Dart(row.id, segment) for segment in range(row.segments)], port) for row in picture.edges}
+    chains = {
+        row.id: _add_edge(shape, mesh, [Dart(row.id, segment) for segment in range(row.segments)], port)
+        for row in picture.edges
+    }
     return Expansion(mesh, port, chains, corners, sides)
 
 

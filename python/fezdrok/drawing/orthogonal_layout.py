@@ -72,21 +72,27 @@ class OrthogonalDrawing:
 
 
 def orthogonal_drawing(
-    result: Planarization, sizes: Optional[Mapping[Node, Tuple[int, int]]] = None, *, outer: Optional[int] = None, by_flow: bool = True
+    result: Planarization,
+    sizes: Optional[Mapping[Node, Tuple[int, int]]] = None,
+    *,
+    outer: Optional[int] = None,
+    by_flow: bool = True,
 ) -> OrthogonalDrawing:
     """An orthogonal drawing of a planarization: edges along the grid, with the fewest bends that its picture allows
     where the face at the place `outer` lies outside, and without it `result.outer_face`. The parts of a graph that is
     not connected lie side by side, each with its own outer face (ValueError where `outer` is given).
 
-    `sizes` gives the least width and height of nodes, in steps of the grid, as for their labels; such nodes are boxes. With
-    `by_flow` False the lines are as long as longest paths make them, which takes less time. ModuleMissing where networkx
-    is not there.
+    `sizes` gives the least width and height of nodes, in steps of the grid, as for their labels; such nodes are boxes.
+    With `by_flow` False the lines are as long as longest paths make them, which takes less time. ModuleMissing where
+    networkx is not there.
     """
     picture = result.picture
     if result.parts:
         if outer is not None:
             raise ValueError("the graph is not connected, and each part has an outer face of its own: leave outer out")
-        return _side_by_side(result, [orthogonal_drawing(part, _sizes_in(part, sizes), by_flow=by_flow) for part in result.parts])
+        return _side_by_side(
+            result, [orthogonal_drawing(part, _sizes_in(part, sizes), by_flow=by_flow) for part in result.parts]
+        )
     if not picture.edges:
         width, height = (sizes or {}).get(result.node_of[0], (0, 0))
         return OrthogonalDrawing({result.node_of[0]: Box(0, 0, width, height)}, {}, {}, 0)
@@ -116,7 +122,9 @@ def _side_by_side(result: Planarization, drawings: Sequence[OrthogonalDrawing]) 
     return OrthogonalDrawing(boxes, crossings, lines, sum(drawing.bends for drawing in drawings))
 
 
-def _room(expansion: Expansion, wide: Mapping[Point, Tuple[int, int]]) -> Tuple[Dict[Tuple[int, int], int], Dict[Tuple[int, int], int]]:
+def _room(
+    expansion: Expansion, wide: Mapping[Point, Tuple[int, int]]
+) -> Tuple[Dict[Tuple[int, int], int], Dict[Tuple[int, int], int]]:
     """How far apart the corners of the boxes have to be that were given a size, along either axis."""
     corners = {point: expansion.corners[point] for point in wide}
     return (

@@ -5,10 +5,10 @@ The faces are filled with further nodes, so that all of them are triangles, and 
 on a circle. First each other node is put, again and again, at the mean of its neighbours; at rest that drawing has no
 crossings (Tutte, How to Draw a Graph, 1963). Then the nodes are moved one by one so that an energy gets less, as meshes
 are smoothed (Freitag and Plassmann, Local Optimization-Based Simplicial Mesh Untangling and Improvement, 2000): links
-pull their ends together, triangles push the more the smaller and the thinner they are, the two halves of an edge at a crossing pull
-each other into one line, and two edges that cross into a right angle, which is easier to read (Huang, Eades and Hong,
-Larger Crossing Angles Make Graphs Easier to Read, 2014). A node goes only where each triangle round it still goes
-counterclockwise, so no step makes a crossing.
+pull their ends together, triangles push the more the smaller and the thinner they are, the two halves of an edge at a
+crossing pull each other into one line, and two edges that cross into a right angle, which is easier to read (Huang,
+Eades and Hong, Larger Crossing Angles Make Graphs Easier to Read, 2014). A node goes only where each triangle round it
+still goes counterclockwise, so no step makes a crossing.
 """
 
 from __future__ import annotations
@@ -19,8 +19,8 @@ from typing import Any, Dict, FrozenSet, List, Mapping, Optional, Sequence, Set,
 
 Position = Tuple[float, float]
 
-#: How often, at least and at most, all nodes are put at the mean of their neighbours until no two triangles overlap: by equal
-#: weights, each node half as far again, and then by weights that grow with the lengths of the links.
+#: How often, at least and at most, all nodes are put at the mean of their neighbours until no two triangles overlap: by
+#: equal weights, each node half as far again, and then by weights that grow with the lengths of the links.
 LEAST_SWEEPS = 100
 FIRST_SWEEPS = 150
 MORE_SWEEPS = 400
@@ -29,9 +29,9 @@ MORE_SWEEPS = 400
 SWEEPS = 140
 MOVES = 400_000
 STILL = 2e-3
-#: What a link that fills a face weighs beside an edge; how much triangles push, those at the ring beside others, and how
-#: much more where they are thin; how much the halves of an edge pull each other into one line, and the two edges of a
-#: crossing into a right angle.
+#: What a link that fills a face weighs beside an edge; how much triangles push, those at the ring beside others, and
+#: how much more where they are thin; how much the halves of an edge pull each other into one line, and the two edges of
+#: a crossing into a right angle.
 FILL = 0.5
 PUSH = 20.0
 PUSH_AT_RING = 0.5
@@ -63,7 +63,9 @@ class _FilledGraph:
         self.links[second].append((first, weight))
 
 
-def spread(rotations: Mapping[Any, Sequence[Any]], crossings: FrozenSet[Any], outer: Tuple[Any, Any]) -> Optional[Dict[Any, Position]]:
+def spread(
+    rotations: Mapping[Any, Sequence[Any]], crossings: FrozenSet[Any], outer: Tuple[Any, Any]
+) -> Optional[Dict[Any, Position]]:
     """A point in the unit disk for each node of a connected plane graph without parallel edges, which is given by the
     neighbours of each node, clockwise; at least one edge is wanted. Straight lines between neighbours do not cross.
 
@@ -107,7 +109,11 @@ def _fill(around: List[List[int]], crossings: Set[int], outer: Tuple[int, int]) 
 
 def _faces(around: List[List[int]]) -> List[List[int]]:
     """The nodes along each face, which lies on the left."""
-    following = {(other, node): (node, others[(place + 1) % len(others)]) for node, others in enumerate(around) for place, other in enumerate(others)}
+    following = {
+        (other, node): (node, others[(place + 1) % len(others)])
+        for node, others in enumerate(around)
+        for place, other in enumerate(others)
+    }
     faces: List[List[int]] = []
     seen: Set[Tuple[int, int]] = set()
     for first in following:
@@ -199,7 +205,8 @@ class _Forces:
         self.lines: List[List[Tuple[int, int, bool]]] = [[] for _ in filled.links]
         ring = set(filled.ring)
         for first, second, third in filled.triangles:
-            push = PUSH / len(filled.triangles) ** 2 * (1.0 if ring.isdisjoint((first, second, third)) else PUSH_AT_RING)
+            weight = 1.0 if ring.isdisjoint((first, second, third)) else PUSH_AT_RING
+            push = PUSH / len(filled.triangles) ** 2 * weight
             self.triangles[first].append((second, third, push))
             self.triangles[second].append((third, first, push))
             self.triangles[third].append((first, second, push))
@@ -226,10 +233,13 @@ class _Forces:
         found = [(*points[other], weight) for other, weight in self.links[node]] + self.squared[node]
         for first, second, is_crossing in self.lines[node]:
             (x, y), (u, v) = points[first], points[second]
-            found.append(((x + u) / 2, (y + v) / 2, 2 * STRAIGHTEN) if is_crossing else (2 * x - u, 2 * y - v, STRAIGHTEN))
+            mean, beyond = ((x + u) / 2, (y + v) / 2, 2 * STRAIGHTEN), (2 * x - u, 2 * y - v, STRAIGHTEN)
+            found.append(mean if is_crossing else beyond)
         return found
 
-    def way(self, node: int, points: Sequence[Position], pulls: Sequence[Tuple[float, float, float]]) -> Tuple[float, float, float]:
+    def way(
+        self, node: int, points: Sequence[Position], pulls: Sequence[Tuple[float, float, float]]
+    ) -> Tuple[float, float, float]:
         """The step to where the energy of a node would be least, by its slope and an estimate of its curvature; and the
         energy that it has now."""
         x, y = points[node]
@@ -252,7 +262,9 @@ class _Forces:
             energy += (push + shape) / area
         return -slope_x / curvature, -slope_y / curvature, energy
 
-    def energy(self, node: int, x: float, y: float, points: Sequence[Position], pulls: Sequence[Tuple[float, float, float]]) -> float:
+    def energy(
+        self, node: int, x: float, y: float, points: Sequence[Position], pulls: Sequence[Tuple[float, float, float]]
+    ) -> float:
         """The energy of a node at a place; more than any other where a triangle would turn over."""
         energy = 0.0
         for first, second, push in self.triangles[node]:
@@ -260,7 +272,9 @@ class _Forces:
             area = (u - x) * (s - y) - (v - y) * (r - x)
             if area <= LEAST_AREA:
                 return float("inf")
-            shape = self.shape * ((x - u) ** 2 + (y - v) ** 2 + (x - r) ** 2 + (y - s) ** 2 + (u - r) ** 2 + (v - s) ** 2)
+            shape = self.shape * (
+                (x - u) ** 2 + (y - v) ** 2 + (x - r) ** 2 + (y - s) ** 2 + (u - r) ** 2 + (v - s) ** 2
+            )
             energy += (push + shape) / area
         for u, v, weight in pulls:
             energy += weight * ((x - u) * (x - u) + (y - v) * (y - v)) / 2
@@ -306,7 +320,9 @@ def _is_plane(filled: _FilledGraph, points: Sequence[Position]) -> bool:
 # ---- Crossings between nodes that have their places
 
 
-def between(neighbours: Mapping[Any, Sequence[Any]], places: Mapping[Any, Position], sweeps: int = 200) -> Dict[Any, Position]:
+def between(
+    neighbours: Mapping[Any, Sequence[Any]], places: Mapping[Any, Position], sweeps: int = 200
+) -> Dict[Any, Position]:
     """Points for the nodes that have none yet, each at the mean of its neighbours; crossings where the lines between
     their opposite neighbours meet. `neighbours` has the neighbours of these nodes, clockwise."""
     points: List[Position] = list(places.values())
@@ -316,8 +332,13 @@ def between(neighbours: Mapping[Any, Sequence[Any]], places: Mapping[Any, Positi
     todo = [(number[node], [number[other] for other in others]) for node, others in neighbours.items()]
     for _ in range(sweeps):
         for node, others in todo:
-            mean = (sum(points[other][0] for other in others) / len(others), sum(points[other][1] for other in others) / len(others))
-            points[node] = _straight(points, (others[0], others[1], others[2], others[3]), mean) if len(others) == 4 else mean
+            mean = (
+                sum(points[other][0] for other in others) / len(others),
+                sum(points[other][1] for other in others) / len(others),
+            )
+            if len(others) == 4:
+                mean = _straight(points, (others[0], others[1], others[2], others[3]), mean)
+            points[node] = mean
     return {node: points[number[node]] for node in neighbours}
 
 

@@ -97,9 +97,10 @@ def looks(result: Planarization, color: str = PLAIN) -> Tuple[List[Look], Tuple[
     if len(prices) == 1 and numbers:
         return [Look(color, 1.4)], ()
     of_price: Dict[Price, Look] = {None: Look(FORBIDDEN, 3.0)}
+    are_few, last = len(numbers) <= len(COLOURS), len(numbers) - 1
     for place, price in enumerate(numbers):
-        of_price[price] = Look(COLOURS[place] if len(numbers) <= len(COLOURS) else _between(place / (len(numbers) - 1)), 1.6)
-    shown = numbers if len(numbers) <= len(COLOURS) else [numbers[round(step * (len(numbers) - 1) / 4)] for step in range(5)]
+        of_price[price] = Look(COLOURS[place] if are_few else _between(place / last), 1.6)
+    shown = numbers if are_few else [numbers[round(step * last / 4)] for step in range(5)]
     legend = [("not to be crossed", of_price[None])] if None in prices else []
     legend += [(f"price {price}", of_price[price]) for price in shown]
     return [of_price[price] for price in prices], tuple(legend)
@@ -130,10 +131,15 @@ def _point_width(label: str) -> float:
     return max(LEAST_NODE, LETTER * len(label) + 4.0)
 
 
-def orthogonal_scene(result: Planarization, drawing: OrthogonalDrawing, labels: bool = True, color: str = PLAIN) -> Scene:
+def orthogonal_scene(
+    result: Planarization, drawing: OrthogonalDrawing, labels: bool = True, color: str = PLAIN
+) -> Scene:
     """The scene of an orthogonal drawing. Crossings have no mark: two lines cross at right angles."""
     kinds, legend = looks(result, color)
-    widest = max((_point_width(str(node) if labels else "") for node, box in drawing.boxes.items() if box.is_point), default=LEAST_NODE)
+    widest = max(
+        (_point_width(str(node) if labels else "") for node, box in drawing.boxes.items() if box.is_point),
+        default=LEAST_NODE,
+    )
     unit = (ARROW_UNIT if result.graph.is_directed() else GRID_UNIT) + widest - LEAST_NODE
     nodes = []
     for node, box in drawing.boxes.items():
@@ -142,7 +148,10 @@ def orthogonal_scene(result: Planarization, drawing: OrthogonalDrawing, labels: 
         if box.is_point:
             width, height = _point_width(label) / unit, LEAST_NODE / unit
         nodes.append(NodeShape(node, label, box.middle, width, height, not box.is_point))
-    strokes = [Stroke(edge_id, line, False, kinds[result.picture.edge(edge_id).kind]) for edge_id, line in drawing.lines.items()]
+    strokes = [
+        Stroke(edge_id, line, False, kinds[result.picture.edge(edge_id).kind])
+        for edge_id, line in drawing.lines.items()
+    ]
     scene = Scene(unit, tuple(strokes), tuple(nodes), (), legend)
     return with_arrows(result, scene) if result.graph.is_directed() else scene
 
@@ -151,7 +160,12 @@ def orthogonal_scene(result: Planarization, drawing: OrthogonalDrawing, labels: 
 
 
 def straight_scene(
-    result: Planarization, chains: Mapping[int, Sequence[Any]], places: Mapping[Any, Position], unit: float, labels: bool = True, color: str = PLAIN
+    result: Planarization,
+    chains: Mapping[int, Sequence[Any]],
+    places: Mapping[Any, Position],
+    unit: float,
+    labels: bool = True,
+    color: str = PLAIN,
 ) -> Scene:
     """The scene of a drawing whose edges lead over these chains of nodes, each of which has a place; they pass them
     without a corner."""
@@ -164,13 +178,16 @@ def straight_scene(
     strokes = []
     for edge_id, chain in chains.items():
         curve = smooth([places[node] for node in chain], [ways.get((edge_id, node)) for node in chain])
-        strokes.append(Stroke(edge_id, curve or (places[chain[0]], places[chain[-1]]), bool(curve), kinds[result.picture.edge(edge_id).kind]))
+        line, look = curve or (places[chain[0]], places[chain[-1]]), kinds[result.picture.edge(edge_id).kind]
+        strokes.append(Stroke(edge_id, line, bool(curve), look))
     dots = tuple(places[result.name_of(point)] for point in result.picture.points if point.is_crossing)
     scene = Scene(unit, tuple(strokes), tuple(nodes), dots, legend)
     return with_arrows(result, scene) if result.graph.is_directed() else scene
 
 
-def crossing_ways(result: Planarization, chains: Mapping[int, Sequence[Any]], places: Mapping[Any, Position]) -> Dict[Tuple[int, Any], Position]:
+def crossing_ways(
+    result: Planarization, chains: Mapping[int, Sequence[Any]], places: Mapping[Any, Position]
+) -> Dict[Tuple[int, Any], Position]:
     """For an edge and a crossing on it, as a node of its chain, the direction in which the edge would pass if both
     edges met at right angles, turned as little as they can be."""
     found: Dict[Tuple[int, Any], Position] = {}
@@ -211,7 +228,11 @@ def smooth(chain: Sequence[Position], ways: Sequence[Optional[Position]] = ()) -
     curve: List[Position] = [chain[0]]
     for start, end, leaving, coming in zip(chain, chain[1:], passing, passing[1:]):
         reach = 0.36 * hypot(end[0] - start[0], end[1] - start[1])
-        curve += [(start[0] + reach * leaving[0], start[1] + reach * leaving[1]), (end[0] - reach * coming[0], end[1] - reach * coming[1]), end]
+        curve += [
+            (start[0] + reach * leaving[0], start[1] + reach * leaving[1]),
+            (end[0] - reach * coming[0], end[1] - reach * coming[1]),
+            end,
+        ]
     return tuple(curve)
 
 
@@ -225,7 +246,9 @@ def flat(stroke: Stroke, steps: int = 16) -> List[Position]:
         for step in range(1, steps + 1):
             part = step / steps
             weights = ((1 - part) ** 3, 3 * part * (1 - part) ** 2, 3 * part**2 * (1 - part), part**3)
-            points.append((sum(w * x for w, (x, _) in zip(weights, piece)), sum(w * y for w, (_, y) in zip(weights, piece))))
+            points.append(
+                (sum(w * x for w, (x, _) in zip(weights, piece)), sum(w * y for w, (_, y) in zip(weights, piece)))
+            )
     return points
 
 

@@ -18,14 +18,16 @@ def svg_of(scene: Scene, node_color: str = "#d9e8f6", crossing_color: str = "#77
     legend = _legend(scene, (top - bottom) * scene.unit + 2 * MARGIN)
     width = max((right - left) * scene.unit + 2 * MARGIN, 150.0 if legend else 0.0)
     height = (top - bottom) * scene.unit + 2 * MARGIN + LEGEND_ROW * len(scene.legend)
-    lines = [f'<svg xmlns="http://www.w3.org/2000/svg" width="{number(width)}" height="{number(height)}" viewBox="0 0 {number(width)} {number(height)}">']
+    size = f'width="{number(width)}" height="{number(height)}" viewBox="0 0 {number(width)} {number(height)}"'
+    lines = [f'<svg xmlns="http://www.w3.org/2000/svg" {size}>']
     lines.append('<rect width="100%" height="100%" fill="#fff"/>')
     for color, thick in dict.fromkeys(stroke.look for stroke in scene.strokes):
         lines.append(f'<g fill="none" stroke="{escape(color)}" stroke-width="{number(thick)}" stroke-linejoin="round">')
         lines.extend(write.stroke(stroke) for stroke in scene.strokes if stroke.look == (color, thick))
         lines.append("</g>")
         lines.extend(write.head(stroke) for stroke in scene.strokes if stroke.look == (color, thick) and stroke.head)
-    lines += [f'<g fill="{escape(crossing_color)}">', *(write.dot(dot) for dot in scene.dots), "</g>"] if scene.dots else []
+    if scene.dots:
+        lines += [f'<g fill="{escape(crossing_color)}">', *(write.dot(dot) for dot in scene.dots), "</g>"]
     lines.append(f'<g fill="{escape(node_color)}" stroke="#333" stroke-width=".8">')
     lines += [*write.shapes(scene.nodes), "</g>"]
     lines.append(f'<g font-family="sans-serif" font-size="{number(LETTER_HEIGHT)}" text-anchor="middle" fill="#111">')
@@ -36,7 +38,10 @@ def svg_of(scene: Scene, node_color: str = "#d9e8f6", crossing_color: str = "#77
 def number(value: float) -> str:
     """A number with one decimal, which is left out where it is 0."""
     text = f"{value:.1f}"
-    text = text[:-2] if text.endswith(".0") else text.replace("0.", ".", 1) if text.lstrip("-").startswith("0.") else text
+    if text.endswith(".0"):
+        text = text[:-2]
+    elif text.lstrip("-").startswith("0."):
+        text = text.replace("0.", ".", 1)
     return "0" if text in ("-0", "") else text
 
 
@@ -61,7 +66,8 @@ class _Writer:
             u, v = points[place - place % step]
             words += [number(x - u), number(y - v)]
         path = "".join(word if word.startswith("-") else " " + word for word in words)
-        return f'<path d="M{number(points[0][0])} {number(points[0][1])}{"c" if stroke.curved else "l"}{path.strip()}"/>'
+        letter = "c" if stroke.curved else "l"
+        return f'<path d="M{number(points[0][0])} {number(points[0][1])}{letter}{path.strip()}"/>'
 
     def head(self, stroke: Stroke) -> str:
         return f'<path fill="{escape(stroke.look.color)}" d="M{"L".join(self.points(stroke.head))}Z"/>'
@@ -98,6 +104,9 @@ def _legend(scene: Scene, top: float) -> List[str]:
     rows = []
     for place, (words, look) in enumerate(scene.legend):
         y = number(top + LEGEND_ROW * place)
-        rows.append(f'<path stroke="{escape(look.color)}" stroke-width="{number(look.width)}" d="M{number(MARGIN)},{y}h24"/>')
-        rows.append(f'<text x="{number(MARGIN + 30)}" y="{number(top + LEGEND_ROW * place + 3)}" font-family="sans-serif" font-size="10">{escape(words)}</text>')
+        rows.append(
+            f'<path stroke="{escape(look.color)}" stroke-width="{number(look.width)}" d="M{number(MARGIN)},{y}h24"/>'
+        )
+        corner = f'x="{number(MARGIN + 30)}" y="{number(top + LEGEND_ROW * place + 3)}"'
+        rows.append(f'<text {corner} font-family="sans-serif" font-size="10">{escape(words)}</text>')
     return rows

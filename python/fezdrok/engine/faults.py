@@ -50,8 +50,8 @@ class NoReport(PlanarError, ValueError):
 
 
 def read_as(name: str, text: str, read: Callable[[Any], Any]) -> Any:
-    """What a text says that is to be a thing of this name, as this function reads it. NoReport where the text is no JSON, or
-    is of another form."""
+    """What a text says that is to be a thing of this name, as this function reads it. NoReport where the text is no
+    JSON, or is of another form."""
     try:
         return read(json.loads(text))
     except json.JSONDecodeError as fault:
@@ -131,11 +131,14 @@ def wanted(module: str, purpose: str) -> Any:
         package = module.split(".")[0]
         if missing.name is None or missing.name.split(".")[0] != package:
             raise
-        raise ModuleMissing(f"{purpose} want the package {package}, which is not there: pip install {package}") from missing
+        raise ModuleMissing(
+            f"{purpose} want the package {package}, which is not there: pip install {package}"
+        ) from missing
 
 
 def read_value(text: Optional[str]) -> Value:
-    """The value of a fault line: a number if it is written in digits, a tuple if these are several, else the text itself."""
+    """The value of a fault line: a number if it is written in digits, a tuple if these are several, else the text
+    itself."""
     if text is None or not text.replace(" ", "").isdecimal():
         return text
     numbers = tuple(map(int, text.split()))

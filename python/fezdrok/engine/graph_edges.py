@@ -15,8 +15,8 @@ KINDS = 64
 
 
 def name_among(names: Container[GraphEdge], graph: Any, edge: GraphEdge) -> GraphEdge:
-    """The one of these names that an edge has, which an undirected graph may name either way round; KeyError where it has
-    none."""
+    """The one of these names that an edge has, which an undirected graph may name either way round; KeyError where it
+    has none."""
     u, v, *key = edge
     for name in (edge,) if graph.is_directed() else (edge, (v, u, *key)):
         if name in names:
@@ -29,4 +29,6 @@ def name_among(names: Container[GraphEdge], graph: Any, edge: GraphEdge) -> Grap
 def judge_kinds(count: int, advice: str = "") -> None:
     """ValueError if so many different prices are more than kinds."""
     if count > KINDS:
-        raise ValueError(f"there are {count} different prices: the program knows {KINDS} kinds of edges, one for each price{advice}")
+        raise ValueError(
+            f"there are {count} different prices: the program knows {KINDS} kinds of edges, one for each price{advice}"
+        )

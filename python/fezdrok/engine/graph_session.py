@@ -21,12 +21,12 @@ Result = TypeVar("Result", bound=GraphPicture)
 class GraphSession(Generic[Result]):
     """A planarization that is changed edge by edge, in one process of the program. See `Planarization.session`.
 
-    `graph` is the graph of now, a copy of the planarization's own. `edge_of[e]` is its edge that has the id e in the picture,
-    as the graph's `edges` gives it, and `prices` are those that an edge may have. They are to be read only.
+    `graph` is the graph of now, a copy of the planarization's own. `edge_of[e]` is its edge that has the id e in the
+    picture, as the graph's `edges` gives it, and `prices` are those that an edge may have. They are to be read only.
 
-    An edge that the program refuses is NotPlanarized, which changes nothing, and the session goes on. What ends it is as
-    said of Session. A call that was interrupted, as by Ctrl-C, was carried out wholly or not at all; the next call finds
-    out which.
+    An edge that the program refuses is NotPlanarized, which changes nothing, and the session goes on. What ends it is
+    as said of Session. A call that was interrupted, as by Ctrl-C, was carried out wholly or not at all; the next call
+    finds out which.
     """
 
     def __init__(
@@ -56,8 +56,8 @@ class GraphSession(Generic[Result]):
     # ---- Edges
 
     def insert_edge(self, u: Node, v: Node, price: Price = 1) -> Inserted:
-        """A new edge between two nodes along the first of the cheapest routes. To cross it costs `price`, or it must not be
-        crossed (None).
+        """A new edge between two nodes along the first of the cheapest routes. To cross it costs `price`, or it must
+        not be crossed (None).
 
         ValueError where one of them is no node, where they are joined already and the graph is no multigraph, or where
         the price is none of `prices`; NotPlanarized where the program refuses the edge, as 9 NoRoute.
@@ -72,8 +72,9 @@ class GraphSession(Generic[Result]):
     def grow_edge(self, u: Node, v: Node, price: Price = 1, position: int = 0) -> Grown:
         """A new node `v` on a new edge from the node `u`, which begins in the corner at this position of it.
 
-        ValueError where `u` is no node, `v` is one already or is None, which networkx takes for no node, or the price is
-        none of `prices`; TypeError where `v` has no hash; NotPlanarized where the program refuses the edge, as 7 Full.
+        ValueError where `u` is no node, `v` is one already or is None, which networkx takes for no node, or the price
+        is none of `prices`; TypeError where `v` has no hash; NotPlanarized where the program refuses the edge, as 7
+        Full.
         """
         self._settle()
         start, kind = self._vertex(u), self._kind(price)
@@ -85,8 +86,8 @@ class GraphSession(Generic[Result]):
         return self._made(name, lambda: self._session.grow(start, position, kind))
 
     def delete_edge(self, u: Node, v: Node, *key: Any) -> Deleted:
-        """An edge taken out, which an undirected graph may name either way round. In a multigraph its key must be given:
-        `delete_edge(u, v, key)`.
+        """An edge taken out, which an undirected graph may name either way round. In a multigraph its key must be
+        given: `delete_edge(u, v, key)`.
 
         KeyError where there is none; NotPlanarized where the program refuses it, as 6 Cut: the graph would fall apart.
         """
@@ -102,7 +103,10 @@ class GraphSession(Generic[Result]):
 
     def _kind(self, price: Price) -> int:
         if price not in self.prices:
-            raise ValueError(f"the price {price!r} is none of the session's, which are {', '.join(map(str, self.prices))}: give it when the session begins")
+            known = ", ".join(map(str, self.prices))
+            raise ValueError(
+                f"the price {price!r} is none of the session's, which are {known}: give it when the session begins"
+            )
         return self.prices.index(price)
 
     def _name(self, u: Node, v: Node, *key: Any) -> GraphEdge:
@@ -159,13 +163,18 @@ class GraphSession(Generic[Result]):
         self._settle()
         report = self._session.report()
         kinds = max(len(self._source.prices), *(row.kind + 1 for row in report.picture.edges))
-        now = {"graph": self.graph.copy(), "picture": report.picture, "node_of": tuple(self._node_of), "edge_of": dict(self.edge_of)}
+        now = {
+            "graph": self.graph.copy(),
+            "picture": report.picture,
+            "node_of": tuple(self._node_of),
+            "edge_of": dict(self.edge_of),
+        }
         return replace(self._source, **now, prices=self.prices[:kinds], reports=(*self._reports, report))
 
     def compact(self) -> Renumbered:
-        """Begins anew with the ids of edges and crossings from 0 on, as `Session.compact`, and gives the new id of each old
-        one. The names stay. In the result the next report begins from the picture with the new ids. Where this is interrupted,
-        the session is over."""
+        """Begins anew with the ids of edges and crossings from 0 on, as `Session.compact`, and gives the new id of each
+        old one. The names stay. In the result the next report begins from the picture with the new ids. Where this is
+        interrupted, the session is over."""
         self._settle()
         reports = (*self._reports, self._session.report())
         try:
@@ -188,7 +197,9 @@ class GraphSession(Generic[Result]):
     def __enter__(self) -> GraphSession[Result]:
         return self
 
-    def __exit__(self, kind: Optional[Type[BaseException]], raised: Optional[BaseException], trace: Optional[TracebackType]) -> None:
+    def __exit__(
+        self, kind: Optional[Type[BaseException]], raised: Optional[BaseException], trace: Optional[TracebackType]
+    ) -> None:
         self.close()
 
     def close(self) -> None:

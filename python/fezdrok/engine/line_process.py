@@ -11,8 +11,8 @@ from .faults import ProgramNotStarted
 from .processes import kill_when_closed
 from .program import failure
 
-#: How many seconds a process has to end when its input was closed, before it is killed: one that ends by itself, whose status
-#: is wanted, and one that is to end.
+#: How many seconds a process has to end when its input was closed, before it is killed: one that ends by itself, whose
+#: status is wanted, and one that is to end.
 PATIENCE, HASTE = 3.0, 0.5
 #: How many bytes are read in one call, and how many every pipe takes wholly or not at all.
 _ROOM = 65536
@@ -20,7 +20,8 @@ _AT_ONCE = 512
 #: How many bytes an empty pipe takes at once, whatever the process does.
 TOGETHER = 32768
 
-#: Two lines that are always refused and change nothing, and the answer to the second, which differs from that to the first.
+#: Two lines that are always refused and change nothing, and the answer to the second, which differs from that to the
+#: first.
 _FILLER, _MARK = "[]", '["delete",""]'
 _MARKED = b'{"fault":[52,"BadShape","$/1"]}'
 
@@ -28,9 +29,9 @@ _MARKED = b'{"fault":[52,"BadShape","$/1"]}'
 class LineProcess:
     """A process of `planar serve`, which answers each line by a line.
 
-    Its standard error is a file, so that it never waits for somebody who reads it. It is in a session of its own, so that
-    Ctrl-C does not reach it. Where the process that began it ends, however that comes, it is killed, or where the system
-    has no such thing, it ends with its input.
+    Its standard error is a file, so that it never waits for somebody who reads it. It is in a session of its own, so
+    that Ctrl-C does not reach it. Where the process that began it ends, however that comes, it is killed, or where the
+    system has no such thing, it ends with its input.
     """
 
     def __init__(self, path: str):
@@ -47,13 +48,20 @@ class LineProcess:
         self._input, self._output = self._process.stdin, self._process.stdout
 
     def _begun(self, path: str) -> "subprocess.Popen[bytes]":
-        """The process. It is killed when the writing end of a pipe is closed, which is open as long as this is there."""
+        """The process. It is killed when the writing end of a pipe is closed, which is open as long as this is
+        there."""
         reading, writing = os.pipe()
         self._life = open(writing, "wb", buffering=0)
         try:
             pipe = subprocess.PIPE
             process = subprocess.Popen(
-                [path, "serve"], stdin=pipe, stdout=pipe, stderr=self._errors, bufsize=0, start_new_session=True, pass_fds=[reading]
+                [path, "serve"],
+                stdin=pipe,
+                stdout=pipe,
+                stderr=self._errors,
+                bufsize=0,
+                start_new_session=True,
+                pass_fds=[reading],
             )
             try:
                 kill_when_closed(reading, process.pid)
@@ -82,14 +90,15 @@ class LineProcess:
     def ask(self, line: str) -> bytes:
         """The answer to a line, without its line feed.
 
-        Where the process ends without an answer, the exception of its status is raised. Where asking is interrupted, as by
-        Ctrl-C, the line may have come to the process or not; its answer is passed over when the next line is asked.
+        Where the process ends without an answer, the exception of its status is raised. Where asking is interrupted, as
+        by Ctrl-C, the line may have come to the process or not; its answer is passed over when the next line is asked.
         """
         return self.ask_all([line])[0]
 
     def ask_all(self, lines: Sequence[str]) -> List[bytes]:
-        """The answers to several lines, as `ask`. All lines are written before the first answer is read, so together they
-        may have TOGETHER bytes: of more, the process could wait for its answers to be read, and this for the lines to be."""
+        """The answers to several lines, as `ask`. All lines are written before the first answer is read, so together
+        they may have TOGETHER bytes: of more, the process could wait for its answers to be read, and this for the lines
+        to be."""
         if not lines:
             return []
         if self._owed:
@@ -103,10 +112,10 @@ class LineProcess:
     def _catch_up(self) -> None:
         """Passes over the answers that may still come to a call that was interrupted.
 
-        How many come is not known: its lines may have been sent or not, and some answers may have been read and lost. They
-        are no more than its lines, and any of them may read as the answer to the mark. So as many fillers are sent, one by
-        one, and an answer is read for each. Then all answers to the call are among those that were read, and only those to
-        fillers stand before that to the mark. Where this is interrupted too, the process is ended.
+        How many come is not known: its lines may have been sent or not, and some answers may have been read and lost.
+        They are no more than its lines, and any of them may read as the answer to the mark. So as many fillers are
+        sent, one by one, and an answer is read for each. Then all answers to the call are among those that were read,
+        and only those to fillers stand before that to the mark. Where this is interrupted too, the process is ended.
         """
         self._ahead.clear()
         try:
@@ -121,7 +130,8 @@ class LineProcess:
             raise
 
     def _write(self, line: str) -> None:
-        """Writes a line wholly or not at all; where it was too long for this and is interrupted, the process is ended."""
+        """Writes a line wholly or not at all; where it was too long for this and is interrupted, the process is
+        ended."""
         left = memoryview(f"{line}\n".encode())
         is_at_once = len(left) <= _AT_ONCE
         try:

@@ -182,7 +182,10 @@ class Picture:
 
     @cached_property
     def _paths(self) -> Dict[int, Tuple[Point, ...]]:
-        return {row.id: (Point(False, row.a), *(Point(True, i) for i in row.crossings), Point(False, row.b)) for row in self.edges}
+        return {
+            row.id: (Point(False, row.a), *(Point(True, i) for i in row.crossings), Point(False, row.b))
+            for row in self.edges
+        }
 
     def path(self, edge_id: int) -> Tuple[Point, ...]:
         """The points on an edge from its end `a` to its end `b`, both among them."""
@@ -204,7 +207,12 @@ class Picture:
     @property
     def darts(self) -> Iterator[Dart]:
         """All darts in canonical order: by edge, by segment, forward before back."""
-        return (Dart(row.id, segment, back) for row in self.edges for segment in range(row.segments) for back in (False, True))
+        return (
+            Dart(row.id, segment, back)
+            for row in self.edges
+            for segment in range(row.segments)
+            for back in (False, True)
+        )
 
     def start(self, dart: Dart) -> Point:
         """The point where a dart starts."""
@@ -287,7 +295,12 @@ class Picture:
         edge, and so no face."""
         if not self.faces:
             raise ValueError("the picture has no edge, and so no face")
-        return max(range(len(self.faces)), key=lambda place: (sum(not self.start(dart).is_crossing for dart in self.faces[place]), len(self.faces[place])))
+
+        def size(place: int) -> Tuple[int, int]:
+            face = self.faces[place]
+            return sum(not self.start(dart).is_crossing for dart in face), len(face)
+
+        return max(range(len(self.faces)), key=size)
 
     @property
     def counts(self) -> Counts:

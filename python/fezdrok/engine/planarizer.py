@@ -18,8 +18,8 @@ _LAWFUL = re.compile(r"lawful vertices=(\d+) crossings=(\d+) edges=(\d+) segment
 class Planarizer:
     """A list of commands over a start picture.
 
-    `start` is the picture to begin with (without it two vertices and one edge), `limits` how large it may grow (see Limits),
-    `prices` the price of crossing an edge of kind 0, 1, .. (1 to 1000, or None where such edges must not be
+    `start` is the picture to begin with (without it two vertices and one edge), `limits` how large it may grow (see
+    Limits), `prices` the price of crossing an edge of kind 0, 1, .. (1 to 1000, or None where such edges must not be
     crossed; kinds past the end cost 1), and `program` the path of `planar` (see `find_program`).
 
     A command is not judged when it is collected. `run` carries all of them out; one that is refused changes
@@ -65,7 +65,9 @@ class Planarizer:
 
     def script(self) -> Dict[str, Any]:
         """The script of all commands so far, in the form of docs/FORMATS.md."""
-        script: Dict[str, Any] = {"version": version_of(self.prices or ()), "workers": [[command.to_json() for command in self.commands]]}
+        script: Dict[str, Any] = {
+            "version": version_of(self.prices or ()), "workers": [[command.to_json() for command in self.commands]]
+        }
         if self.limits is not None:
             script["limits"] = self.limits.to_json()
         if self.prices is not None:

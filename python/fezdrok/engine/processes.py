@@ -18,8 +18,8 @@ if sys.platform == "linux":
 def kill_when_closed(reading: int, process: int) -> None:
     """Has the kernel kill a process as soon as no writing end of a pipe is open, of which it has the reading end.
 
-    The writing ends of a process are closed when it ends, in whatever way. A pipe on which something is written yet does
-    not serve, for that is told by the same signal.
+    The writing ends of a process are closed when it ends, in whatever way. A pipe on which something is written yet
+    does not serve, for that is told by the same signal.
     """
     if sys.platform == "linux":
         fcntl.fcntl(reading, fcntl.F_SETOWN, process)
@@ -30,8 +30,8 @@ def kill_when_closed(reading: int, process: int) -> None:
 def run(command: Sequence[str], text: bytes) -> Tuple[int, bytes, bytes]:
     """The status of a command that is given this text, and what it wrote on standard output and on standard error.
 
-    It is killed where an exception comes before its end, as KeyboardInterrupt does, and where this process ends. OSError
-    where it cannot be started.
+    It is killed where an exception comes before its end, as KeyboardInterrupt does, and where this process ends.
+    OSError where it cannot be started.
     """
     reading, writing = os.pipe()
     try:

@@ -90,12 +90,18 @@ def _warn_if_old(script: str, built: Path) -> None:
     _warned.add(built)
     sources = built.parent.parent / ".ci" / "sources"
     try:
-        now = subprocess.run([sources, "planar"], stdin=subprocess.DEVNULL, stdout=subprocess.PIPE, stderr=subprocess.DEVNULL, check=True).stdout
+        now = subprocess.run(
+            [sources, "planar"], stdin=subprocess.DEVNULL, stdout=subprocess.PIPE, stderr=subprocess.DEVNULL, check=True
+        ).stdout
     except (OSError, subprocess.CalledProcessError):
         return
     noted = Path(f"{built}.sources")
     if not noted.is_file() or noted.read_bytes() != now:
-        warnings.warn(f"{built} was built from other sources than those that are there now: run {script}, which builds it anew", PlanarWarning, stacklevel=2)
+        warnings.warn(
+            f"{built} was built from other sources than those that are there now: run {script}, which builds it anew",
+            PlanarWarning,
+            stacklevel=2,
+        )
 
 
 class Program:

@@ -18,9 +18,9 @@ class Limits:
     `vertices` bounds the vertices (2 to 65,536). `edges` bounds the edge ids that are ever given (1 to 65,536), and
     `crossings` the crossing ids that are ever given (0 to 1,048,576): those that are no longer there count too.
 
-    Nothing is tested here. Where the program is called, a number outside its range is the Fault 11 BadLimits, a negative one
-    or one of 2**32 or more the Fault 54 BadNumber, and a start picture that is larger the Fault 20 TooMany. A call that would
-    go beyond is refused as 7 Full.
+    Nothing is tested here. Where the program is called, a number outside its range is the Fault 11 BadLimits, a
+    negative one or one of 2**32 or more the Fault 54 BadNumber, and a start picture that is larger the Fault 20
+    TooMany. A call that would go beyond is refused as 7 Full.
     """
 
     vertices: int = 65536
@@ -148,7 +148,8 @@ class Refused:
     segment: Optional[int] = None
 
     def to_json(self) -> Dict[str, Any]:
-        """The reply as it stands in a report: `{"refused":[NUMBER,NAME]}`, for 6 `Cut` with the segment as a third word."""
+        """The reply as it stands in a report: `{"refused":[NUMBER,NAME]}`, for 6 `Cut` with the segment as a third
+        word."""
         words: List[Any] = [self.number, self.name]
         return {"refused": words if self.segment is None else [*words, self.segment]}
 
@@ -212,13 +213,14 @@ class Report:
 
     @staticmethod
     def from_text(text: str) -> "Report":
-        """The report of the line that `planar run` prints. NoReport where the text is no JSON, or is of another form."""
+        """The report of the line that `planar run` prints. NoReport where the text is no JSON, or is of another
+        form."""
         return read_as("report", text, Report.from_json)
 
     @staticmethod
     def from_json(value: Dict[str, Any]) -> "Report":
-        """The report of a JSON object in the form of docs/FORMATS.md. Where it is of another form, that is KeyError or another
-        exception of Python's; `from_text` has NoReport."""
+        """The report of a JSON object in the form of docs/FORMATS.md. Where it is of another form, that is KeyError or
+        another exception of Python's; `from_text` has NoReport."""
         return Report(
             tuple(Entry.from_json(entry) for entry in value["history"]),
             Limits.from_json(value["limits"]),
@@ -253,7 +255,9 @@ class Reports(Sequence[Report]):
     @staticmethod
     def joined(several: Iterable[Sequence[Report]]) -> "Reports":
         """The reports of several sequences, one after another. None is read."""
-        return Reports(report for reports in several for report in (reports._given if isinstance(reports, Reports) else reports))
+        return Reports(
+            report for reports in several for report in (reports._given if isinstance(reports, Reports) else reports)
+        )
 
     def __len__(self) -> int:
         return len(self._given)
@@ -277,9 +281,14 @@ class Reports(Sequence[Report]):
 
 
 def difference(
-    report: Report, start: Optional[Picture], limits: Optional[Limits], prices: Optional[Sequence[Optional[int]]], calls: Sequence[Call]
+    report: Report,
+    start: Optional[Picture],
+    limits: Optional[Limits],
+    prices: Optional[Sequence[Optional[int]]],
+    calls: Sequence[Call],
 ) -> Optional[str]:
-    """How a report differs from that of a script with one list of calls, in words, or None where it may be the script's.
+    """How a report differs from that of a script with one list of calls, in words, or None where it may be the
+    script's.
 
     What is None has its value as in a script that leaves it out. Whether the replies are true is not looked at.
     """
@@ -293,8 +302,10 @@ def difference(
     if len(report.history) != len(calls):
         return f"it has {len(report.history)} calls, and not {len(calls)}"
     for place, (entry, call) in enumerate(zip(report.history, calls)):
-        if entry.caller != 0 or entry.call != as_entered(call):
-            return f"its call {place} is {json_text(entry.call.to_json())} of list {entry.caller}, and not {json_text(as_entered(call).to_json())} of list 0"
+        due = as_entered(call)
+        if entry.caller != 0 or entry.call != due:
+            found, wanted = json_text(entry.call.to_json()), json_text(due.to_json())
+            return f"its call {place} is {found} of list {entry.caller}, and not {wanted} of list 0"
     return None
 
 

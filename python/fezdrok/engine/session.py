@@ -28,32 +28,42 @@ class Renumbered(NamedTuple):
 
 
 def renumbered(picture: Picture) -> Tuple[Picture, Renumbered]:
-    """The same picture with the ids of edges and crossings from 0 on, in the order in which they were, and how they map."""
-    new = Renumbered({row.id: place for place, row in enumerate(picture.edges)}, {row.id: place for place, row in enumerate(picture.crossings)})
+    """The same picture with the ids of edges and crossings from 0 on, in the order in which they were, and how they
+    map."""
+    new = Renumbered(
+        {row.id: place for place, row in enumerate(picture.edges)},
+        {row.id: place for place, row in enumerate(picture.crossings)},
+    )
     rotations = tuple(tuple(new.edges[edge] for edge in around) for around in picture.rotations)
-    edges = tuple(Edge(new.edges[row.id], row.a, row.b, row.kind, tuple(new.crossings[it] for it in row.crossings)) for row in picture.edges)
-    crossings = tuple(Crossing(new.crossings[row.id], new.edges[row.crossed], new.edges[row.newcomer], row.sign) for row in picture.crossings)
+    edges = tuple(
+        Edge(new.edges[row.id], row.a, row.b, row.kind, tuple(new.crossings[it] for it in row.crossings))
+        for row in picture.edges
+    )
+    crossings = tuple(
+        Crossing(new.crossings[row.id], new.edges[row.crossed], new.edges[row.newcomer], row.sign)
+        for row in picture.crossings
+    )
     return Picture(rotations, edges, crossings, len(edges), len(crossings)), new
 
 
 class Session:
     """A picture in one process of the program, changed by calls that are answered at once.
 
-    `start` is the picture to begin with (without it two vertices and one edge), `limits` how large it may grow (see Limits),
-    `prices` the price of crossing an edge of kind 0, 1, .. (1 to 1000, or None where such edges must not be crossed; kinds past
-    the end cost 1), and `program` the path of `planar` (see `find_program`).
+    `start` is the picture to begin with (without it two vertices and one edge), `limits` how large it may grow (see
+    Limits), `prices` the price of crossing an edge of kind 0, 1, .. (1 to 1000, or None where such edges must not be
+    crossed; kinds past the end cost 1), and `program` the path of `planar` (see `find_program`).
 
-    The process begins with the session, and ends with the `with` block or by `close`. A fault of the start, of the limits
-    or of the prices is a Fault here, as by `Planarizer.run`.
+    The process begins with the session, and ends with the `with` block or by `close`. A fault of the start, of the
+    limits or of the prices is a Fault here, as by `Planarizer.run`.
 
     A call that the program refuses changes nothing, and its reply is a Refused. Numbers that are none of the form's, as
     negative ones, are a Fault (54 BadNumber), which changes nothing either. Where the program ends before its time, the
     exception of its status is raised, with what it wrote on standard error: ProgramFailed, as for a signal, or another
     PlanarError. The session is then closed, and every further call is SessionClosed.
 
-    A call that was interrupted, as by Ctrl-C, may have been carried out; `report` says whether it was. The session goes on,
-    but where the next call is interrupted while it waits for the end of that one; and it may be over where `compact` is
-    interrupted, or `answers` to more than 512 bytes. A session is for one thread.
+    A call that was interrupted, as by Ctrl-C, may have been carried out; `report` says whether it was. The session goes
+    on, but where the next call is interrupted while it waits for the end of that one; and it may be over where
+    `compact` is interrupted, or `answers` to more than 512 bytes. A session is for one thread.
     """
 
     def __init__(
@@ -136,7 +146,8 @@ class Session:
         were, and gives the new id of each old one.
 
         Ids are never given twice, and the limits bound them, so after 65,536 edges in all an insertion is refused as 7
-        Full; then this makes room. Vertices keep their numbers. The report begins anew too: take it before, if it is wanted.
+        Full; then this makes room. Vertices keep their numbers. The report begins anew too: take it before, if it is
+        wanted.
         """
         picture, new = renumbered(self.picture())
         process = self._begun(picture)
@@ -149,11 +160,12 @@ class Session:
         return self._asked(['"picture"'], lambda process, answers: answers[0].decode())
 
     def answers(self, requests: Sequence[str]) -> List[str]:
-        """The answers to several lines of docs/FORMATS.md in order, as the program writes them, also where they are faults.
+        """The answers to several lines of docs/FORMATS.md in order, as the program writes them, also where they are
+        faults.
 
-        All lines are written before the first answer is read, which saves turns through the pipes. Together they may have
-        32,768 bytes, their line feeds among them (else ValueError). A line that has a line feed in it is a ValueError: it would
-        have more than one answer.
+        All lines are written before the first answer is read, which saves turns through the pipes. Together they may
+        have 32,768 bytes, their line feeds among them (else ValueError). A line that has a line feed in it is a
+        ValueError: it would have more than one answer.
         """
         if any("\n" in request for request in requests):
             raise ValueError("a line has a line feed in it")
@@ -181,20 +193,22 @@ class Session:
     def __enter__(self: Own) -> Own:
         return self
 
-    def __exit__(self, kind: Optional[Type[BaseException]], raised: Optional[BaseException], trace: Optional[TracebackType]) -> None:
+    def __exit__(
+        self, kind: Optional[Type[BaseException]], raised: Optional[BaseException], trace: Optional[TracebackType]
+    ) -> None:
         self.close()
 
     def close(self) -> None:
-        """Ends the process: its input is closed, and if it has not ended half a second later, it is killed. What is closed
-        already stays so."""
+        """Ends the process: its input is closed, and if it has not ended half a second later, it is killed. What is
+        closed already stays so."""
         process, self._process = self._process, None
         if process is not None:
             process.end(HASTE)
 
 
 def _understood(process: LineProcess, answer: bytes, read: Callable[[Any], Value]) -> Value:
-    """An answer, read by this function; Fault where it is one. Where it is in no form that is known, the process is ended,
-    and that is ProgramFailed."""
+    """An answer, read by this function; Fault where it is one. Where it is in no form that is known, the process is
+    ended, and that is ProgramFailed."""
     try:
         value = json.loads(answer)
         fault = value.get("fault")
@@ -202,7 +216,9 @@ def _understood(process: LineProcess, answer: bytes, read: Callable[[Any], Value
             return read(value)
     except (KeyError, TypeError, ValueError, IndexError, AttributeError) as other:
         status, told = process.end()
-        raise ProgramFailed(status, f"{process.path} gave no answer in its form, but {answer[:200]!r} {told}") from other
+        raise ProgramFailed(
+            status, f"{process.path} gave no answer in its form, but {answer[:200]!r} {told}"
+        ) from other
     raise Fault(*fault)
 
 

@@ -71,7 +71,10 @@ def _neighbour(picture: Picture, names: Mapping[Point, Any], bends: Mapping[Dart
 
 def _neighbours(picture: Picture, names: Mapping[Point, Any], bends: Mapping[Dart, Dummy]) -> Dict[Any, List[Any]]:
     """For each node of the embedding its neighbours, clockwise."""
-    data = {name: [_neighbour(picture, names, bends, dart) for dart in picture.around(point)] for point, name in names.items()}
+    data = {
+        name: [_neighbour(picture, names, bends, dart) for dart in picture.around(point)]
+        for point, name in names.items()
+    }
     for bend in bends.values():
         data[bend] = [names[picture.start(bend.of)], names[picture.end(bend.of)]]
     return data
@@ -88,7 +91,9 @@ def _point_data(result: Planarization, point: Point) -> Dict[str, Any]:
 # ---- From an embedding to a picture
 
 
-def from_networkx_embedding(embedding: "networkx.PlanarEmbedding", kind: Callable[[Any, Any], int] = lambda u, v: 0) -> Picture:
+def from_networkx_embedding(
+    embedding: "networkx.PlanarEmbedding", kind: Callable[[Any, Any], int] = lambda u, v: 0
+) -> Picture:
     """The picture of a networkx PlanarEmbedding, to start a Planarizer with.
 
     Vertex i is the node number i of `list(embedding)`. The edges are numbered in the order in which they are met
@@ -100,7 +105,9 @@ def from_networkx_embedding(embedding: "networkx.PlanarEmbedding", kind: Callabl
     return picture_of(rotations, kind)[0]
 
 
-def picture_of(rotations: Mapping[Node, Sequence[Node]], kind: Callable[[Any, Any], int]) -> Tuple[Picture, List[Tuple[Node, Node]]]:
+def picture_of(
+    rotations: Mapping[Node, Sequence[Node]], kind: Callable[[Any, Any], int]
+) -> Tuple[Picture, List[Tuple[Node, Node]]]:
     """The picture with these neighbours, clockwise, and its edges by their ids."""
     vertex = {node: number for number, node in enumerate(rotations)}
     ids: Dict[FrozenSet[Node], int] = {}

@@ -37,9 +37,11 @@ class PricedGraph:
         return self.prices[self.kinds[place]]
 
 
-def read_graph(graph: Any, price: Pricing = None, forbidden: Optional[Iterable[GraphEdge]] = None, round_prices: bool = False) -> PricedGraph:
-    """The graph with its kinds, or a ValueError that says why it cannot be planarized. It need not be connected. Where there
-    are more prices than kinds, `round_prices` has those that are near each other share one."""
+def read_graph(
+    graph: Any, price: Pricing = None, forbidden: Optional[Iterable[GraphEdge]] = None, round_prices: bool = False
+) -> PricedGraph:
+    """The graph with its kinds, or a ValueError that says why it cannot be planarized. It need not be connected. Where
+    there are more prices than kinds, `round_prices` has those that are near each other share one."""
     if not hasattr(graph, "is_multigraph"):
         raise ValueError(f"{graph!r:.80} is no graph of networkx")
     nodes = tuple(graph.nodes)
@@ -74,7 +76,8 @@ def _judge_attribute(name: str, data: Sequence[Dict[str, Any]]) -> None:
     """ValueError where no edge has the attribute that prices are to be taken from."""
     if not any(name in row for row in data):
         known = sorted({repr(key) for row in data for key in row})
-        raise ValueError(f"no edge has the attribute {name!r} for its price: " + (f"there are {', '.join(known)}" if known else "edges have none at all"))
+        there_are = f"there are {', '.join(known)}" if known else "edges have none at all"
+        raise ValueError(f"no edge has the attribute {name!r} for its price: {there_are}")
 
 
 def reach(root: Node, near: Callable[[Node], Iterable[Node]]) -> Set[Node]:
@@ -109,12 +112,15 @@ def _names(edge: GraphEdge, directed: bool) -> List[GraphEdge]:
 
 
 def _judge_price(edge: GraphEdge, price: Any) -> Price:
-    """The price if it is None or a whole number from 1 to 1000, also as a float or a number of numpy; else a ValueError."""
+    """The price if it is None or a whole number from 1 to 1000, also as a float or a number of numpy; else a
+    ValueError."""
     if price is None:
         return None
     number = _whole(price)
     if number is None or not 1 <= number <= GREATEST_PRICE:
-        raise ValueError(f"the price of {edge!r} is {price!r}: it must be a whole number from 1 to {GREATEST_PRICE}, or None")
+        raise ValueError(
+            f"the price of {edge!r} is {price!r}: it must be a whole number from 1 to {GREATEST_PRICE}, or None"
+        )
     return number
 
 
@@ -179,7 +185,8 @@ def _rounded(prices: Iterable[Price]) -> Dict[Price, Price]:
 
 
 def _runs(numbers: Sequence[int], factor: float) -> List[List[int]]:
-    """Rising numbers cut into as few runs as can be, in each of which the last is at most the first times the factor."""
+    """Rising numbers cut into as few runs as can be, in each of which the last is at most the first times the
+    factor."""
     runs: List[List[int]] = []
     for number in numbers:
         if runs and number <= factor * runs[-1][0]:

@@ -13,13 +13,13 @@ if TYPE_CHECKING:
 
 
 def to_networkx_graph(result: Planarization) -> "networkx.MultiGraph":
-    """The planarization as a networkx MultiGraph whose attributes are numbers and texts alone, so that networkx writes it
-    as GML or GraphML.
+    """The planarization as a networkx MultiGraph whose attributes are numbers and texts alone, so that networkx writes
+    it as GML or GraphML.
 
-    The nodes are `v0`, `v1`, .. for the vertices and `x0`, `x1`, .. for the crossings; `label` is the `str` of the node of
-    the graph, or the name of the crossing, and `crossing` is 1 for a crossing and else 0. Each segment is an edge with
-    the id of its edge as `edge`, its place along it as `segment`, and the price of crossing it as `price`, which is 0
-    where it must not be crossed. ModuleMissing where networkx is not there.
+    The nodes are `v0`, `v1`, .. for the vertices and `x0`, `x1`, .. for the crossings; `label` is the `str` of the node
+    of the graph, or the name of the crossing, and `crossing` is 1 for a crossing and else 0. Each segment is an edge
+    with the id of its edge as `edge`, its place along it as `segment`, and the price of crossing it as `price`, which
+    is 0 where it must not be crossed. ModuleMissing where networkx is not there.
     """
     networkx = wanted("networkx", "graphs of a planarization")
     picture = result.picture
@@ -29,7 +29,13 @@ def to_networkx_graph(result: Planarization) -> "networkx.MultiGraph":
     for dart in picture.darts:
         if not dart.back:
             price = result.prices[picture.edge(dart.edge).kind] or 0
-            graph.add_edge(_short(picture.start(dart)), _short(picture.end(dart)), edge=dart.edge, segment=dart.segment, price=price)
+            graph.add_edge(
+                _short(picture.start(dart)),
+                _short(picture.end(dart)),
+                edge=dart.edge,
+                segment=dart.segment,
+                price=price,
+            )
     return graph
 
 

@@ -29,13 +29,16 @@ Job = Tuple[int, Any]
 BatchProgress = Union[None, bool, Callable[[int, Optional[int]], None]]
 
 
-def planarize_many(graphs: Iterable[Any], processes: Optional[int] = None, progress: BatchProgress = None, **options: Any) -> List[Outcome]:
+def planarize_many(
+    graphs: Iterable[Any], processes: Optional[int] = None, progress: BatchProgress = None, **options: Any
+) -> List[Outcome]:
     """Planarize many graphs; the outcomes stand in the order of the graphs.
 
     A graph that fails has its exception in its place, and the others go on. Graphs whose worker was killed are tried
-    once more, one by one; the exception BrokenProcessPool stands for one that kills its worker again. `processes` is how many work at once,
-    at least 1 (without it one a processor), `options` are those of `planarize` and count for every graph; functions among them
-    must be such that pickle can name. Graphs are taken from the iterable as they are needed.
+    once more, one by one; the exception BrokenProcessPool stands for one that kills its worker again. `processes` is
+    how many work at once, at least 1 (without it one a processor), `options` are those of `planarize` and count for
+    every graph; functions among them must be such that pickle can name. Graphs are taken from the iterable as they are
+    needed.
 
     The program is called once before the work begins. ProgramNotFound, and every other failure of that call, is raised.
 
@@ -61,7 +64,11 @@ def planarize_many(graphs: Iterable[Any], processes: Optional[int] = None, progr
     except KeyboardInterrupt:
         if not outcomes:
             raise
-        warnings.warn(f"interrupted when {len(outcomes)} graphs were done: Unfinished stands for the others", PlanarWarning, stacklevel=2)
+        warnings.warn(
+            f"interrupted when {len(outcomes)} graphs were done: Unfinished stands for the others",
+            PlanarWarning,
+            stacklevel=2,
+        )
         for place in range(max(outcomes) + 1 if total is None else total):
             outcomes.setdefault(place, Unfinished("interrupted before it was done"))
     return [outcomes[place] for place in sorted(outcomes)]
@@ -161,7 +168,9 @@ def _progress_function(progress: BatchProgress) -> Callable[[int, Optional[int]]
     if callable(progress):
         return progress
     if progress is not None and not isinstance(progress, bool):
-        raise ValueError(f"progress is {progress!r}: it must be True, False, None, or a function of the graphs done and their number")
+        raise ValueError(
+            f"progress is {progress!r}: it must be True, False, None, or a function of the graphs done and their number"
+        )
     if progress or (progress is None and sys.stderr.isatty()):
         return Bar(sys.stderr)
     return lambda done, total: None
@@ -170,8 +179,8 @@ def _progress_function(progress: BatchProgress) -> Callable[[int, Optional[int]]
 class Bar(StatusLine):
     """A line that says how many graphs are done, how fast, and how long it will take.
 
-    It ends with a line feed when all are done. `close` ends it sooner, as where the work was interrupted or their number is
-    not known; `planarize_many` calls it in any case.
+    It ends with a line feed when all are done. `close` ends it sooner, as where the work was interrupted or their
+    number is not known; `planarize_many` calls it in any case.
     """
 
     def __init__(self, stream: TextIO, width: int = 30, clock: Callable[[], float] = time.monotonic):

@@ -21,8 +21,8 @@ Order = Union[str, Sequence[GraphEdge]]
 
 @dataclass(frozen=True)
 class Beginning:
-    """A start picture with the nodes of all vertices and the edges that it draws by their ids, then the edges that are grown,
-    each with the node that it grows from, and the edges that are inserted, in this order."""
+    """A start picture with the nodes of all vertices and the edges that it draws by their ids, then the edges that are
+    grown, each with the node that it grows from, and the edges that are inserted, in this order."""
 
     picture: Picture
     node_of: Tuple[Node, ...]
@@ -37,9 +37,9 @@ class Beginning:
 
 
 def beginning(source: PricedGraph, begin: str, order: Order, seed: str, clock: Optional[Clock] = None) -> Beginning:
-    """How a graph is planarized that begins so and whose edges come in this order; ValueError for words that are not known,
-    and where the edges that must not be crossed cannot be drawn without crossings. Where the time of the clock is over, a
-    planar part is not looked for any longer, and is then smaller."""
+    """How a graph is planarized that begins so and whose edges come in this order; ValueError for words that are not
+    known, and where the edges that must not be crossed cannot be drawn without crossings. Where the time of the clock
+    is over, a planar part is not looked for any longer, and is then smaller."""
     if begin not in ("tree", "planar"):
         raise ValueError(f"the beginning {begin!r} is not known: it is 'tree' or 'planar'")
     named, rest = _ordered(source, order, seed)
@@ -102,8 +102,8 @@ def _tree(source: PricedGraph, places: Sequence[int]) -> _Start:
 
 
 def _largest(source: PricedGraph, named: Sequence[int], rest: Sequence[int], clock: Optional[Clock]) -> List[int]:
-    """The edges of a part that can be drawn without crossings: those that must not be crossed come first, then those that
-    the order names, then the dearest, of one price those on short cycles."""
+    """The edges of a part that can be drawn without crossings: those that must not be crossed come first, then those
+    that the order names, then the dearest, of one price those on short cycles."""
     number = {node: place for place, node in enumerate(source.nodes)}
     ends = [(number[edge[0]], number[edge[1]]) for edge in source.edges]
     places = [*named, *_dearest_first(source, short_cycles_first(len(number), ends, rest))]
@@ -112,8 +112,8 @@ def _largest(source: PricedGraph, named: Sequence[int], rest: Sequence[int], clo
 
 
 def _embedded(source: PricedGraph, places: Sequence[int], seed: Optional[str]) -> _Start:
-    """These edges, which connect the graph, drawn by networkx without crossings; with a seed in one of several ways. ValueError
-    where they are not planar, or where edges that must not be crossed are not among them."""
+    """These edges, which connect the graph, drawn by networkx without crossings; with a seed in one of several ways.
+    ValueError where they are not planar, or where edges that must not be crossed are not among them."""
     networkx = wanted("networkx", "edges that must not be crossed and planar beginnings")
     chosen = list(places)
     if seed is not None:

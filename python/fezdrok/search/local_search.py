@@ -1,9 +1,9 @@
-"""The search for a good picture of a connected graph: several orders of its edges, rounds in which edges are taken out and
-inserted again, and shakes, which take out some edges together.
+"""The search for a good picture of a connected graph: several orders of its edges, rounds in which edges are taken out
+and inserted again, and shakes, which take out some edges together.
 
 Taking edges out and inserting them again is described in Carsten Gutwenger and Petra Mutzel, "An Experimental Study of
-Crossing Minimization Heuristics" (2003); going on from the best solution after a small random change is an iterated local
-search (Lourenço, Martin and Stützle, 2003).
+Crossing Minimization Heuristics" (2003); going on from the best solution after a small random change is an iterated
+local search (Lourenço, Martin and Stützle, 2003).
 """
 
 from __future__ import annotations
@@ -27,8 +27,8 @@ ENDS = (KeyboardInterrupt, PlanarError, OSError, MemoryError)
 
 #: How many shakes in a row may save nothing, at least and at most, where it is not said.
 _SHAKES = (40, 200)
-#: How many edges a shake takes out at most: one for so many crossings, but not fewer and not more than these. Where there
-#: are very many crossings, few edges save little.
+#: How many edges a shake takes out at most: one for so many crossings, but not fewer and not more than these. Where
+#: there are very many crossings, few edges save little.
 _CROSSINGS_EACH, _SHAKEN = 8, (32, 128)
 #: By which part of the crossings a picture may be worse than the best, so that the shakes go on from it.
 _SLACK = 0.03
@@ -45,8 +45,8 @@ def words_of(end: BaseException) -> str:
 
 
 class Effort(NamedTuple):
-    """How much is tried: how many orders, how many rounds at most for each (None: until one saves nothing), and how many
-    shakes in a row may save nothing before the search ends (None: by the crossings)."""
+    """How much is tried: how many orders, how many rounds at most for each (None: until one saves nothing), and how
+    many shakes in a row may save nothing before the search ends (None: by the crossings)."""
 
     tries: int
     rounds: Optional[int]
@@ -61,11 +61,20 @@ class Effort(NamedTuple):
 class Search:
     """A search for a good picture of a connected graph that has an edge.
 
-    `best` is the best picture so far, `tries` has the crossings of each order that came to a picture, `failures` says what
-    was not done, and `is_ended` whether the search was ended before its time; `first` is what ended it, or the first order.
+    `best` is the best picture so far, `tries` has the crossings of each order that came to a picture, `failures` says
+    what was not done, and `is_ended` whether the search was ended before its time; `first` is what ended it, or the
+    first order.
     """
 
-    def __init__(self, source: PricedGraph, effort: Effort, limits: Optional[Limits], program: Optional[PathLike], clock: Clock, tell: Callable[[Progress], Any]):
+    def __init__(
+        self,
+        source: PricedGraph,
+        effort: Effort,
+        limits: Optional[Limits],
+        program: Optional[PathLike],
+        clock: Clock,
+        tell: Callable[[Progress], Any],
+    ):
         self.source = source
         self.best: Optional[SavedPicture] = None
         self.tries: Dict[int, int] = {}
@@ -81,7 +90,9 @@ class Search:
         self._spare_due = _SPARE_SECONDS
         self._attempt = 0
         held = bridges(source.edges)
-        self._movable = [place for place in range(len(source.edges)) if source.price(place) is not None and place not in held]
+        self._movable = [
+            place for place in range(len(source.edges)) if source.price(place) is not None and place not in held
+        ]
 
     def run(self, begin: str, order: Order, seed: int) -> None:
         """Tries the orders, all but the first at random, and goes on from the best picture."""
@@ -130,8 +141,8 @@ class Search:
         return self._effort.rounds is None and self.best is not None and self.best.score == (0, 0)
 
     def _try_ways(self, begin: str, order: Order, seed: str) -> None:
-        """One order of the edges. Where a planar part parts the ends of another edge by edges that must not be crossed, the
-        order is tried from a tree."""
+        """One order of the edges. Where a planar part parts the ends of another edge by edges that must not be crossed,
+        the order is tried from a tree."""
         try:
             self._try(begin, order, seed)
         except NotPlanarized as refused:
@@ -172,8 +183,8 @@ class Search:
         return SearchPicture(self.source, start, best.node_of, best.place_of, self._limits, self._program, best)
 
     def _between(self, picture: SearchPicture, step: str) -> bool:
-        """What is done now and then, while the picture has all edges: the progress is told, and in a long round the picture is
-        saved, for the case that something ends it. Gives whether the time is over."""
+        """What is done now and then, while the picture has all edges: the progress is told, and in a long round the
+        picture is saved, for the case that something ends it. Gives whether the time is over."""
         self._tell_progress(step, picture)
         best = None if self.best is None else self.best.score
         if self._clock.spent >= self._spare_due and (best is None or picture.score < best):
@@ -190,8 +201,12 @@ class Search:
     # ---- Rounds and shakes
 
     def _heaviest_first(self, picture: SearchPicture, places: Any) -> List[int]:
-        """Those of these edges that have crossings, the most crossed first, then those that have been there the longest."""
-        return sorted((place for place in places if picture.load(place)), key=lambda place: (-picture.load(place), picture.id_of(place)))
+        """Those of these edges that have crossings, the most crossed first, then those that have been there the
+        longest."""
+        return sorted(
+            (place for place in places if picture.load(place)),
+            key=lambda place: (-picture.load(place), picture.id_of(place)),
+        )
 
     def _rounds(self, picture: SearchPicture) -> None:
         """Inserts all crossed edges again, as long as that saves something."""
@@ -205,8 +220,8 @@ class Search:
             self._note(picture)
 
     def _shakes(self, seed: int) -> None:
-        """Takes out some edges that are near each other, inserts them again in a random order, and then those about them.
-        Goes on from there unless the picture is much worse than the best."""
+        """Takes out some edges that are near each other, inserts them again in a random order, and then those about
+        them. Goes on from there unless the picture is much worse than the best."""
         if self._effort.shakes == 0 or self._clock.is_over or self._is_done:
             return
         chance = random.Random(f"{seed}/shakes")
@@ -245,7 +260,9 @@ class Search:
             if not todo:
                 return
 
-    def _near_each_other(self, picture: SearchPicture, chance: random.Random, at: Dict[Node, List[Tuple[int, Node]]]) -> List[int]:
+    def _near_each_other(
+        self, picture: SearchPicture, chance: random.Random, at: Dict[Node, List[Tuple[int, Node]]]
+    ) -> List[int]:
         """Some edges: a crossed one, and then always one that crosses or touches one of those before."""
         crossed = [place for place in self._movable if picture.load(place)]
         if not crossed:

@@ -18,13 +18,16 @@ _TOGETHER = 600
 _WORK = 2_000_000
 
 
-def planar_subgraph(count: int, ends: Sequence[Tuple[int, int]], places: Sequence[int], clock: Optional[Clock] = None) -> List[int]:
-    """Of the edges at these places, as many as can be drawn together without crossings: those that are taken when each is
-    taken that can be drawn with those before it. Of parallel edges the first alone is taken.
+def planar_subgraph(
+    count: int, ends: Sequence[Tuple[int, int]], places: Sequence[int], clock: Optional[Clock] = None
+) -> List[int]:
+    """Of the edges at these places, as many as can be drawn together without crossings: those that are taken when each
+    is taken that can be drawn with those before it. Of parallel edges the first alone is taken.
 
-    Several are tried at once, and halves of them where they do not go together. In a graph of more than 1,200 edges, and
-    where the time of the clock is over, some are left out together of which one or the other could have been taken; where
-    they fit, they cross nothing when they are inserted later. What is taken connects what the edges connect all the same.
+    Several are tried at once, and halves of them where they do not go together. In a graph of more than 1,200 edges,
+    and where the time of the clock is over, some are left out together of which one or the other could have been taken;
+    where they fit, they cross nothing when they are inserted later. What is taken connects what the edges connect all
+    the same.
     """
     first: Dict[FrozenSet[int], int] = {}
     for place in places:
@@ -45,8 +48,8 @@ class _PlanarSubgraph:
         self._work = 0
 
     def add(self, places: Sequence[int], is_known: bool = False) -> None:
-        """Takes these edges, or of each half of them what can be taken. `is_known` says that they do not go together with
-        what was taken, as of a second half after a first that was taken wholly."""
+        """Takes these edges, or of each half of them what can be taken. `is_known` says that they do not go together
+        with what was taken, as of a second half after a first that was taken wholly."""
         if self._clock.is_over:
             return
         if not is_known and self._go_together(places):
@@ -73,8 +76,8 @@ def _connecting(count: int, ends: Sequence[Tuple[int, int]], taken: Sequence[int
 
 def short_cycles_first(count: int, ends: Sequence[Tuple[int, int]], places: Iterable[int]) -> List[int]:
     """The places by the length of the shortest cycle through each edge, those of one length in the order in which they
-    stand. An edge whose ends are far apart without it hinders many others in a planar drawing, and so it comes late. In a
-    planar graph none hinders another, and the places are given as they are."""
+    stand. An edge whose ends are far apart without it hinders many others in a planar drawing, and so it comes late. In
+    a planar graph none hinders another, and the places are given as they are."""
     if is_planar(count, list({(min(pair), max(pair)) for pair in ends})):
         return list(places)
     near: List[Set[int]] = [set() for _ in range(count)]

@@ -1,8 +1,8 @@
 """The left-right test of planarity, on numbered vertices: whether a graph can be drawn without crossings.
 
-After Ulrik Brandes, "The Left-Right Planarity Test" (2009), without its last part, which makes an embedding. A walk in depth
-directs each edge down to a new vertex or back to one above. The back edges must then be put on two sides, so that those
-which would cross on the same side lie on different ones; the test finds out whether they can, in linear time.
+After Ulrik Brandes, "The Left-Right Planarity Test" (2009), without its last part, which makes an embedding. A walk in
+depth directs each edge down to a new vertex or back to one above. The back edges must then be put on two sides, so that
+those which would cross on the same side lie on different ones; the test finds out whether they can, in linear time.
 """
 
 from __future__ import annotations
@@ -22,8 +22,9 @@ def is_planar(count: int, ends: Sequence[Tuple[int, int]]) -> bool:
 class _OrientedGraph:
     """The walk in depth over a graph.
 
-    `below[v]` has the edges out of v by their nesting depth, and `lowest[e]` the height of the lowest vertex that is reached
-    by the edge e or by a back edge from below it. `height`, `parent`, `source` and `target` are those of the walk.
+    `below[v]` has the edges out of v by their nesting depth, and `lowest[e]` the height of the lowest vertex that is
+    reached by the edge e or by a back edge from below it. `height`, `parent`, `source` and `target` are those of the
+    walk.
     """
 
     def __init__(self, count: int, ends: Sequence[Tuple[int, int]]):
@@ -77,7 +78,8 @@ class _OrientedGraph:
                     self._close(self.parent[v], stack[-1])
 
     def _close(self, edge: int, v: int) -> None:
-        """Notes what the walk has found below an edge out of v: its nesting depth, and what it means for the edge above."""
+        """Notes what the walk has found below an edge out of v: its nesting depth, and what it means for the edge
+        above."""
         low, second = self.lowest[edge], self._second[edge]
         self._depth[edge] = 2 * low + (second < self.height[v])
         above = self.parent[v]
@@ -136,8 +138,9 @@ class _Sides:
         return True
 
     def _constrain(self, edge: int, lowest_above: int) -> bool:
-        """Puts the back edges from below this edge on one side, and those of earlier edges that conflict with them on the
-        other; False where that cannot be. `lowest_above` is that of the edge above, where back edges meet no others."""
+        """Puts the back edges from below this edge on one side, and those of earlier edges that conflict with them on
+        the other; False where that cannot be. `lowest_above` is that of the edge above, where back edges meet no
+        others."""
         stack, lowest, following = self._stack, self._graph.lowest, self._next
         pair = [-1, -1, -1, -1]
         bottom, limit = self._bottom[edge], lowest[edge]

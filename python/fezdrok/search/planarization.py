@@ -91,32 +91,32 @@ def planarize(
     A graph that is not connected is planarized part by part; see `Planarization.parts`. What follows is done for each.
 
     First a large part of the graph is drawn without crossings, and every other edge is inserted along a cheapest route,
-    those that are cheap to cross last (`begin="planar"`). With `begin="tree"` the first edge is the start instead, and a
-    breadth-first tree is grown from it. This is done in `tries` orders, 2 unless given, all but the first at random by
-    `seed`. After each there are up to `rounds` rounds in which every crossed edge is taken out and inserted again; unless
-    given, until one saves nothing. Then the best picture is shaken: some edges that are near each other are taken out
-    together and inserted again, and those about them one by one. It ends when `shakes` shakes in a row have saved nothing;
-    unless given, a tenth of the crossings, but 40 at least and 200 at most. `quick=True` stands for `begin="tree", tries=1,
-    rounds=0, shakes=0`, of which each may be given otherwise.
+    those that are cheap to cross last (`begin="planar"`). With `begin="tree"` the first edge is the start instead, and
+    a breadth-first tree is grown from it. This is done in `tries` orders, 2 unless given, all but the first at random
+    by `seed`. After each there are up to `rounds` rounds in which every crossed edge is taken out and inserted again;
+    unless given, until one saves nothing. Then the best picture is shaken: some edges that are near each other are
+    taken out together and inserted again, and those about them one by one. It ends when `shakes` shakes in a row have
+    saved nothing; unless given, a tenth of the crossings, but 40 at least and 200 at most. `quick=True` stands for
+    `begin="tree", tries=1, rounds=0, shakes=0`, of which each may be given otherwise.
 
-    The picture with the fewest crossings is the result, of equal ones the one that costs least, then the first. It is the
-    same for the same graph and the same words, unless time ends the search.
+    The picture with the fewest crossings is the result, of equal ones the one that costs least, then the first. It is
+    the same for the same graph and the same words, unless time ends the search.
 
     `price` says what crossing an edge costs, from 1 to 1000: the name of an edge attribute, a mapping from edges, or a
     function of both nodes and the data; without it, and for edges that it does not name, 1. A price of None, and an
     edge of `forbidden`, has no crossing. Such edges are in the start (ValueError where they cannot be drawn without
-    crossings). At most 64 prices may differ (else ValueError); where there are more, `round_prices=True` has prices that
-    are near each other share one, which then counts as theirs, also in `cost`: so that the greatest factor by which one is
-    changed is as small as can be.
+    crossings). At most 64 prices may differ (else ValueError); where there are more, `round_prices=True` has prices
+    that are near each other share one, which then counts as theirs, also in `cost`: so that the greatest factor by
+    which one is changed is as small as can be.
 
     `order` is the order of the edges: `given`, `random`, or a list of edges that come first and in this order,
     whatever they cost.
 
-    `limits` say how large the picture may grow (see Limits; unless given, they are the greatest that there are). They count for
-    each connected part by itself. Where ids run out, they begin anew from 0, if that makes room. Where an order needs more than
-    the limits, the program refuses an edge (NotPlanarized with 7 Full), or the picture that the order begins with (Fault 20
-    TooMany). Limits out of their ranges are Fault 11 BadLimits. `program` is the path of `planar` (see `find_program`;
-    ProgramNotFound where there is none).
+    `limits` say how large the picture may grow (see Limits; unless given, they are the greatest that there are). They
+    count for each connected part by itself. Where ids run out, they begin anew from 0, if that makes room. Where an
+    order needs more than the limits, the program refuses an edge (NotPlanarized with 7 Full), or the picture that the
+    order begins with (Fault 20 TooMany). Limits out of their ranges are Fault 11 BadLimits. `program` is the path of
+    `planar` (see `find_program`; ProgramNotFound where there is none).
 
     When `seconds` are over, the best picture so far is the result; the first picture is made in any case. `progress` is
     True for a line on the terminal, or a function that is called with a Progress now and then. What it raises ends the
@@ -125,8 +125,8 @@ def planarize(
     What was found is never lost. An order that comes to no picture, since the program refuses an edge or has a fault,
     is passed over where another comes to one. Any other failure of the program and Ctrl-C (KeyboardInterrupt) end the
     search. In each of these cases the best picture so far is the result, and a PlanarWarning says what happened; where
-    there is no picture yet, the first failure is raised: NotPlanarized where the program refuses an edge; Fault and other
-    PlanarErrors as Session; KeyboardInterrupt. Numbers that make no sense, as negative ones, are a ValueError.
+    there is no picture yet, the first failure is raised: NotPlanarized where the program refuses an edge; Fault and
+    other PlanarErrors as Session; KeyboardInterrupt. Numbers that make no sense, as negative ones, are a ValueError.
     """
     begin = begin if begin is not None else "tree" if quick else "planar"
     effort = Effort(
@@ -207,7 +207,11 @@ def _edge_of(source: PricedGraph, saved: SavedPicture) -> Dict[int, GraphEdge]:
 def _warn(failures: Sequence[str]) -> None:
     """A warning where the search did not do all that was asked for."""
     if failures:
-        warnings.warn(f"the best picture so far is given, and not all was tried: {'; '.join(failures)}", PlanarWarning, stacklevel=3)
+        warnings.warn(
+            f"the best picture so far is given, and not all was tried: {'; '.join(failures)}",
+            PlanarWarning,
+            stacklevel=3,
+        )
 
 
 def prepare(
@@ -222,13 +226,14 @@ def prepare(
     limits: Optional[Limits] = None,
     program: Optional[PathLike] = None,
 ) -> Prepared:
-    """The one run that `planarize` with the same words and `quick=True` makes, to write its script and to read its report
-    elsewhere. ValueError where the graph is not connected: then prepare each part.
+    """The one run that `planarize` with the same words and `quick=True` makes, to write its script and to read its
+    report elsewhere. ValueError where the graph is not connected: then prepare each part.
 
-    `limits` say how large the picture may grow (see Limits), and go into the script. They are judged when it is run: Fault 11
-    BadLimits where they are out of their ranges, Fault 20 TooMany where the picture that it begins with is larger. An edge for
-    which they do not suffice is refused in the report as 7 Full, which `Prepared.result` raises as NotPlanarized. `program` is
-    the path of `planar` that `Prepared.run` calls (see `find_program`); here no program is called or looked for.
+    `limits` say how large the picture may grow (see Limits), and go into the script. They are judged when it is run:
+    Fault 11 BadLimits where they are out of their ranges, Fault 20 TooMany where the picture that it begins with is
+    larger. An edge for which they do not suffice is refused in the report as 7 Full, which `Prepared.result` raises as
+    NotPlanarized. `program` is the path of `planar` that `Prepared.run` calls (see `find_program`); here no program is
+    called or looked for.
     """
     source = read_graph(graph, price, forbidden, round_prices)
     judge_connected(source)
@@ -256,14 +261,14 @@ def reinsert(
 ) -> Planarization:
     """A picture of the same graph with as many crossings or fewer.
 
-    In a round each crossed edge that has a price is taken out and inserted again, the most crossed first. At most
-    this many rounds are made (None: no limit), and none after one that saves nothing. Then come shakes, as those of
-    `planarize`, until so many in a row have saved nothing (None: as many as there). The other words are those of `planarize`.
-    `limits` and `program` too: those that the result was made with count for nothing here.
+    In a round each crossed edge that has a price is taken out and inserted again, the most crossed first. At most this
+    many rounds are made (None: no limit), and none after one that saves nothing. Then come shakes, as those of
+    `planarize`, until so many in a row have saved nothing (None: as many as there). The other words are those of
+    `planarize`. `limits` and `program` too: those that the result was made with count for nothing here.
 
-    What was found is never lost: where the program fails or is not found, where the limits do not suffice or are out of their
-    ranges, and at Ctrl-C (KeyboardInterrupt), the best picture so far is given, at least the one that was given, with a
-    PlanarWarning that says what happened.
+    What was found is never lost: where the program fails or is not found, where the limits do not suffice or are out of
+    their ranges, and at Ctrl-C (KeyboardInterrupt), the best picture so far is given, at least the one that was given,
+    with a PlanarWarning that says what happened.
     """
     effort = Effort(1, _most("rounds", rounds), _most("shakes", shakes))
     clock, tell = Clock(_judged(seconds)), progress_function(progress)

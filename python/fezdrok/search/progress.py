@@ -11,9 +11,10 @@ from typing import Any, Callable, ContextManager, NamedTuple, Optional, TextIO, 
 class Progress(NamedTuple):
     """How far a planarization is.
 
-    `step` says in words what is done now, in which order of the edges, from 1 to `tries`. `crossings` are those of the picture
-    that is worked at, which may not have all edges yet, and `best` those of the best whole picture so far, or None where there
-    is none. `seconds` are those since the beginning. Where the graph is not connected, all are those of one part.
+    `step` says in words what is done now, in which order of the edges, from 1 to `tries`. `crossings` are those of the
+    picture that is worked at, which may not have all edges yet, and `best` those of the best whole picture so far, or
+    None where there is none. `seconds` are those since the beginning. Where the graph is not connected, all are those
+    of one part.
     """
 
     step: str
@@ -66,8 +67,8 @@ def line_ended(tell: Any) -> ContextManager[Any]:
 
 
 class ProgressLine(StatusLine):
-    """How far a planarization is, written at most ten times a second. The line ends when a part of the graph is done, or by
-    `close`."""
+    """How far a planarization is, written at most ten times a second. The line ends when a part of the graph is done,
+    or by `close`."""
 
     def __init__(self, stream: TextIO, clock: Callable[[], float] = time.monotonic):
         super().__init__(stream)
@@ -80,7 +81,8 @@ class ProgressLine(StatusLine):
             return
         self._next = self._clock() + 0.1
         best = "none yet" if progress.best is None else str(progress.best)
-        text = f"order {progress.order} of {progress.tries}, {progress.step}: {progress.crossings} crossings, best {best}, {progress.seconds:.1f} s"
+        text = f"order {progress.order} of {progress.tries}, {progress.step}: {progress.crossings} crossings, "
+        text += f"best {best}, {progress.seconds:.1f} s"
         self.write(text.ljust(self._length), progress.step == "done")
         self._length = len(text)
 

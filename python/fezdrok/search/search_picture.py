@@ -28,10 +28,10 @@ _PACE = 0.05
 class SavedPicture:
     """A picture that a search saved, to give it as the result or to go on from it.
 
-    `text` is the picture as the program writes it, `node_of` has the nodes of its vertices, `place_of` the places of its
-    edges by their ids, and `score` is what SearchPicture has. The process had begun with `start`, which came from
-    `before`, and had answered the first `calls` lines of `history`; `settings` are those of its report, or None where the
-    picture comes from elsewhere.
+    `text` is the picture as the program writes it, `node_of` has the nodes of its vertices, `place_of` the places of
+    its edges by their ids, and `score` is what SearchPicture has. The process had begun with `start`, which came from
+    `before`, and had answered the first `calls` lines of `history`; `settings` are those of its report, or None where
+    the picture comes from elsewhere.
     """
 
     text: str
@@ -45,8 +45,8 @@ class SavedPicture:
     before: Optional[SavedPicture] = field(default=None, repr=False)
 
     def report_texts(self) -> List[str]:
-        """The reports that lead to this picture, as the program would write them. They are made of its answers, so that they
-        are there also where it failed later."""
+        """The reports that lead to this picture, as the program would write them. They are made of its answers, so that
+        they are there also where it failed later."""
         texts: List[str] = []
         saved: Optional[SavedPicture] = self
         while saved is not None and saved.settings is not None:
@@ -67,8 +67,8 @@ class SearchPicture:
     """The picture of a connected graph in one process of the program, which begins with a picture of some of its edges.
 
     Edges are named by their places among the graph's `edges`; `place_of` has those of the ids in the start picture, and
-    `node_of` the nodes of the vertices. `crossings` and `cost` are those of the picture now. `over[p]` are the
-    edges that the edge p crossed when it was inserted, and `under[p]` those that crossed it since, once for each crossing.
+    `node_of` the nodes of the vertices. `crossings` and `cost` are those of the picture now. `over[p]` are the edges
+    that the edge p crossed when it was inserted, and `under[p]` those that crossed it since, once for each crossing.
 
     Where an edge is refused, NotPlanarized is raised, and this is of no more use. The program's exceptions are those of
     Session.
@@ -88,7 +88,10 @@ class SearchPicture:
         self.node_of = node_of
         self._vertex_of = vertex_of = {node: vertex for vertex, node in enumerate(node_of)}
         self._prices = [source.price(place) or 0 for place in range(len(source.edges))]
-        self._insertion = [f'["insert",{vertex_of[edge[0]]},{vertex_of[edge[1]]},{kind}]' for edge, kind in zip(source.edges, source.kinds)]
+        self._insertion = [
+            f'["insert",{vertex_of[edge[0]]},{vertex_of[edge[1]]},{kind}]'
+            for edge, kind in zip(source.edges, source.kinds)
+        ]
         self._turn = _FIRST
         self._session = Session(start, limits, source.prices, program)
         self._begin(start, place_of, before)
@@ -137,7 +140,11 @@ class SearchPicture:
 
     def grow(self, parents: Mapping[int, Any]) -> None:
         """Grows each of these edges to a new vertex, from the node that is named with it."""
-        self._enter_all([(place, f'["grow",{self._vertex_of[parent]},0,{self.source.kinds[place]}]') for place, parent in parents.items()])
+        calls = [
+            (place, f'["grow",{self._vertex_of[parent]},0,{self.source.kinds[place]}]')
+            for place, parent in parents.items()
+        ]
+        self._enter_all(calls)
 
     def insert(self, places: Sequence[int], tell: Callable[[], Any] = lambda: None) -> None:
         """Inserts edges one after another, each along a cheapest route. `tell` is called now and then."""
@@ -153,8 +160,8 @@ class SearchPicture:
             tell()
 
     def reinsert(self, places: Sequence[int], is_over: Callable[[], bool] = lambda: False) -> None:
-        """Takes out each of these edges and inserts it again, one after another, until `is_over` says so, which is asked now
-        and then. None of them may hold the graph together, or must not be crossed."""
+        """Takes out each of these edges and inserts it again, one after another, until `is_over` says so, which is
+        asked now and then. None of them may hold the graph together, or must not be crossed."""
         done = 0
         while done < len(places) and not is_over():
             part = places[done : done + self._most_at_once()]
@@ -225,15 +232,16 @@ class SearchPicture:
         limits = self._session.limits
         crossings = sum(map(self.load, places))
         is_full = self._next_edge + len(places) > limits.edges or self._next_crossing + crossings > limits.crossings
-        if is_full and len(places) <= limits.edges - len(self._place_of) and self.crossings + crossings <= limits.crossings:
+        is_room = len(self._place_of) + len(places) <= limits.edges and self.crossings + crossings <= limits.crossings
+        if is_full and is_room:
             saved = self.saved()
             new = self._session.compact()
             place_of = {new.edges[edge_id]: place for edge_id, place in saved.place_of.items()}
             self._begin(self._session.picture(), place_of, saved)
 
     def _most_at_once(self) -> int:
-        """How many edges can be taken out and inserted again in one turn, for which there is room when ids begin anew. Where
-        this would be a small part of all edges, room is not looked for."""
+        """How many edges can be taken out and inserted again in one turn, for which there is room when ids begin anew.
+        Where this would be a small part of all edges, room is not looked for."""
         room = self._session.limits.edges - len(self._place_of)
         return min(self._turn, room) if room * _ROOM > len(self._place_of) else self._turn
 
