@@ -1,6 +1,7 @@
-"""The scripts `planar` and `try` in a folder that is like the repository, with a toolchain that proves nothing: the
-program is built beside the one that is there, and the package builds none."""
+"""The script `planar` in a folder that is like the repository, with a toolchain that proves nothing: the program that lies
+there is taken where it is of the sources, else one is built beside the one that is there, and the package builds none."""
 
+import hashlib
 import os
 import shutil
 import signal
@@ -17,25 +18,19 @@ from fezdrok.engine import program as program_module
 
 from .support import ROOT
 
-#: Stands for the command rt: it waits for the file `go`, and makes a program that says the source. `rt ci` makes it in
-#: the folder of the crate. `rt try`, which runs there, keeps none: it ends when its program has been taken.
+#: Stands for the command rt: it waits for the file `go`, and makes a program that says the source, in the crate's folder.
 TOOLCHAIN = """#!/bin/sh
 top=$(dirname "$0")/..
 echo called >> $top/calls
 while [ ! -e $top/go ]; do sleep 0.05; done
 [ ! -e $top/fails ] || { echo "no proof"; exit 1; }
-if [ "$1" = ci ]; then
-    cd crates/planar
-    program=out/planar
-else
-    made=$(mktemp -d)
-    program=$made/1/program
-fi
-mkdir -p $(dirname $program)
-printf '#!/bin/sh\\necho "%s" "$@"\\n' "$(cat src/main.rt)" > $program
-chmod +x $program
-[ "$1" = ci ] || { until [ -e "$TMPDIR/../planar" ]; do sleep 0.05; done; rm -r $made; }
+cd crates/planar
+mkdir -p out
+printf '#!/bin/sh\\necho "%s" "$@"\\n' "$(cat src/main.rt)" > out/planar
+chmod +x out/planar
 """
+
+SCRIPTS = ("planar", ".ci/program", ".ci/build", ".ci/sources", ".ci/below", ".ci/copy", ".ci/place")
 
 
 class Folder(unittest.TestCase):
@@ -43,7 +38,7 @@ class Folder(unittest.TestCase):
         folder = tempfile.TemporaryDirectory()
         self.addCleanup(folder.cleanup)
         self.root = Path(folder.name).resolve()
-        for name in ("planar", "try", ".ci/sources", ".ci/below", ".ci/built", ".ci/copy", ".ci/place"):
+        for name in SCRIPTS:
             (self.root / name).parent.mkdir(exist_ok=True)
             shutil.copy(ROOT / name, self.root / name)
         (self.root / "crates.txt").write_text("# programs\nplanar: std\nother: std\n")
@@ -104,7 +99,7 @@ class Building(Folder):
     def test_it_is_built_once(self):
         self.assertEqual([self.said(self.script) for _ in range(2)], ["first word\n"] * 2)
         self.assertEqual(self.calls(), 1)
-        self.assertEqual(sorted(os.listdir(self.root / "out")), ["planar", "planar.lock", "planar.sources"])
+        self.assertEqual(sorted(os.listdir(self.root / "out")), ["planar", "planar.choice", "planar.lock", "planar.sources"])
         self.assertEqual(self.left(), [])
 
     def test_the_old_one_stays_until_the_new_one_is_built(self):
@@ -151,39 +146,72 @@ class Building(Folder):
         self.assertEqual(self.said(self.script), "first word\n")
 
 
-class Unproved(Folder):
-    """The script `try`."""
+class Prebuilt(Folder):
+    """The program that lies in the repository."""
 
-    def test_it_has_a_place_of_its_own(self):
-        ways = [self.root / "try", self.script, self.root / "try"]
-        done = [subprocess.run([it, "word"], capture_output=True, text=True, timeout=60) for it in ways]
-        self.assertEqual([it.stdout for it in done], ["first word\n"] * 3)
-        self.assertEqual(
-            [it.stderr.endswith("try: built without proofs; ./planar proves it\n") for it in done], [True, False, True]
-        )
-        self.assertEqual(self.calls(), 2)
-        self.assertEqual(
-            sorted(os.listdir(self.root / "out" / "unproved")), ["planar", "planar.lock", "planar.sources"]
-        )
+    def setUp(self):
+        super().setUp()
+        self.folder = self.root / "prebuilt" / "x86_64-linux"
+        self.folder.mkdir(parents=True)
+        self.lay("#!/bin/sh\necho prebuilt $@\n")
 
-    def test_it_stands_for_no_proved_one(self):
-        self.said(self.root / "try")
-        self.assertFalse(self.built.exists())
-        with self.assertRaises(ProgramNotFound):
-            find_program(self.script)
+    def lay(self, text: str):
+        """Puts a program there, with its MANIFEST."""
+        self.program = self.folder / "planar"
+        self.program.write_text(text)
+        self.program.chmod(0o755)
+        sources = subprocess.check_output([self.root / ".ci/sources", "planar"], text=True).strip()
+        checksum = hashlib.sha256(text.encode()).hexdigest()
+        (self.folder / "MANIFEST").write_text(f"kit none\nglibc 2.34\nplanar {checksum} {sources}\n")
 
-    def test_it_is_built_anew(self):
-        self.said(self.root / "try")
+    def ended(self, **variables: str) -> "subprocess.CompletedProcess[str]":
+        """A call of the script, where there is no toolchain."""
+        words = {**os.environ, "PATH": "/usr/bin:/bin", **variables}
+        return subprocess.run([self.script, "word"], capture_output=True, text=True, timeout=60, env=words)
+
+    def test_it_is_taken_and_nothing_is_built(self):
+        self.assertEqual([self.said(self.script) for _ in range(2)], ["prebuilt word\n"] * 2)
+        self.assertEqual((self.calls(), os.listdir(self.root / "out")), (0, ["planar.choice"]))
+
+    def test_without_the_toolchain(self):
+        self.assertEqual((self.ended().stdout, self.ended().stderr), ("prebuilt word\n", ""))
+
+    def test_where_the_sources_are_others(self):
+        self.said(self.script)
         self.edit()
-        self.allow()
-        self.assertEqual(self.said(self.root / "try"), "second word\n")
-
-    def test_where_it_is_not_built(self):
-        self.allow("fails")
-        done = subprocess.run([self.root / "try", "word"], capture_output=True, text=True, timeout=60)
+        done = self.ended()
         self.assertEqual((done.returncode, done.stdout), (2, ""))
-        self.assertIn("no proof\ntry: the program was not built\n", done.stderr)
-        self.assertEqual(self.left(), [])
+        self.assertRegex(done.stderr, "^planar: the sources are not those of prebuilt/.* rt .*not in PATH\n$")
+        self.allow()
+        self.assertEqual(self.said(self.script), "second word\n")
+
+    def test_one_that_was_changed_is_not_run(self):
+        self.said(self.script)
+        for change in (lambda: self.program.write_text("#!/bin/sh\necho other\n"), lambda: self.program.chmod(0o644), self.program.unlink):
+            change()
+            done = self.ended()
+            self.assertEqual((done.returncode, done.stdout), (2, ""))
+            self.assertIn("prebuilt/x86_64-linux/planar is not the file that", done.stderr)
+        self.assertEqual(self.said(self.script), "first word\n")
+
+    def test_one_that_does_not_run_here(self):
+        self.lay("#!/nowhere\n")
+        done = self.ended()
+        self.assertEqual((done.returncode, done.stdout), (2, ""))
+        self.assertIn("does not run here: it wants glibc 2.34 or later", done.stderr)
+
+    def test_a_manifest_that_is_not_there(self):
+        (self.folder / "MANIFEST").unlink()
+        done = self.ended()
+        self.assertEqual((done.returncode, done.stdout), (2, ""))
+        self.assertIn("MANIFEST is not there, or cannot be read", done.stderr)
+
+    def test_a_repository_that_cannot_be_written(self):
+        (self.root / "out").write_text("no folder")
+        cache = self.root / "cache"
+        for variables in ({"XDG_CACHE_HOME": os.fspath(cache)}, {"XDG_CACHE_HOME": "", "HOME": "/dev/null"}):
+            self.assertEqual([self.ended(**variables).stdout for _ in range(2)], ["prebuilt word\n"] * 2)
+        self.assertEqual(len(os.listdir(cache / "fezdrok")), 1)
 
 
 class Package(Folder):

@@ -1,13 +1,17 @@
 -- How the program ends, and what it writes to standard output and standard error.
-use Rattle.std.specs.Prelude.{◌≡◌, ◌≢◌, ◌⊎◌, ℕ, List, [], Option, Some, IsFalse, IsTrue, codes, true}
+use Rattle.std.specs.Prelude.{◌≡◌, ◌≢◌, ◌⊎◌, ℕ, List, [], ◌∷◌, Option, Some, IsFalse, IsTrue, codes, true}
 use Rattle.std.specs.Io.KnownBytes.{Appends, Keeps}
 use Rattle.std.specs.Prelude.{string_bytes, ⊤}
+use Rattle.clap.specs.Kinds.{IsAmong}
+use Rattle.clap.specs.declared.error.kind.ErrorKind.TheVariants.{DisplayVersion}
 use Rattle.topo_settings.specs.declared.fault.RunFault.{RunFault}
-use Rattle.topo_settings.specs.declared.fault.RunFault.TheVariants.{Memory as NoMemory}
+use Rattle.topo_settings.specs.declared.fault.RunFault.TheVariants.{Memory as NoMemory, WriteFault}
 use Rattle.topo_settings.specs.Statuses.{fault_line, status_of}
 use Rattle.topo_settings.specs.Writing.{AppendsPart}
 use Rattle.topo_cli.specs.declared.Verb.{Verb}
 use Rattle.topo_cli.specs.Words.{asked_verb, word_faults}
+use Rattle.topo_cli.specs.declared.program.Asked.{Asked}
+use Rattle.topo_cli.specs.declared.program.Asked.TheVariants.{Command, Version}
 use Rattle.topo_cli.specs.declared.program.Outcome.{Outcome}
 use Rattle.topo_cli.specs.declared.program.Unread.{Unread}
 use Rattle.topo_cli.specs.declared.program.Unread.TheVariants.{Refused, Memory}
@@ -22,11 +26,21 @@ pub record IsCommand (words : List (List ℕ)) (verb : Verb) : Type 0 where
   pub whole : word_faults words ≡ []
   pub asked : asked_verb words ≡ Some verb
 
--- the words are no command line of the program, or ask for help
-abbrev pub AreRefused : List (List ℕ) → Type 0
-AreRefused words = word_faults words ≢ []
+-- the words ask for the version
+abbrev pub AskVersion : List (List ℕ) → Type 0
+AskVersion words = IsAmong DisplayVersion (word_faults words)
 
--- why words name no command
+-- what the words ask for
+abbrev pub IsAsked : List (List ℕ) → Asked → Type 0
+IsAsked words (Command verb) = IsCommand words verb
+IsAsked words Version = AskVersion words
+
+-- the words are no command line of the program, or ask for help; and not for the version alone
+pub record AreRefused (words : List (List ℕ)) : Type 0 where
+  pub faulty : word_faults words ≢ []
+  pub unasked : word_faults words ≢ DisplayVersion ∷ []
+
+-- why words ask for nothing that the program does
 abbrev pub IsUnread : List (List ℕ) → Unread → Type 0
 IsUnread words (Refused text) = AreRefused words
 IsUnread words Memory = ⊤
@@ -48,7 +62,7 @@ pub record TurnsDown (text : List ℕ) (outcome : Outcome) (old_told new_told : 
   pub status : outcome.status ≡ 2
   pub told : IsToldBy text outcome old_told new_told
 
--- what is said of words that name no command
+-- what is said of words that ask for nothing
 abbrev pub Tells : Unread → Outcome → Option (List ℕ) → Option (List ℕ) → Type 0
 Tells (Refused text) outcome old_told new_told = TurnsDown (string_bytes text) outcome old_told new_told
 Tells Memory outcome old_told new_told = EndsBy NoMemory outcome old_told new_told
@@ -57,6 +71,28 @@ Tells Memory outcome old_told new_told = EndsBy NoMemory outcome old_told new_to
 abbrev pub Refuses : WordsFault → Outcome → Option (List ℕ) → Option (List ℕ) → Type 0
 Refuses NotText outcome old_told new_told = TurnsDown (codes "planar: the words of the command line are not UTF-8\n") outcome old_told new_told
 Refuses WordsMemory outcome old_told new_told = EndsBy NoMemory outcome old_told new_told
+
+-- ---- The version
+
+-- the line that says the version
+abbrev pub version_line : List ℕ
+version_line = codes "planar 0.5.0\n"
+
+-- standard output has just the version more, and standard error nothing
+pub record IsVersionTold (outcome : Outcome) (old_held new_held old_told new_told : Option (List ℕ)) : Type 0 where
+  pub status : outcome.status ≡ 0
+  pub written : Appends old_held new_held version_line
+  pub silent : Keeps old_told new_told
+  pub told : outcome.is_told ≡ true
+
+-- standard output failed before it had the whole version, and this fault is told
+pub record IsVersionLost (outcome : Outcome) (old_held new_held old_told new_told : Option (List ℕ)) : Type 0 where
+  pub part : AppendsPart old_held new_held version_line
+  pub ends : EndsBy WriteFault outcome old_told new_told
+
+abbrev pub TellsVersion : Outcome → Option (List ℕ) → Option (List ℕ) → Option (List ℕ) → Option (List ℕ) → Type 0
+TellsVersion outcome old_held new_held old_told new_told =
+    IsVersionTold outcome old_held new_held old_told new_told ⊎ IsVersionLost outcome old_held new_held old_told new_told
 
 -- ---- A command
 
@@ -86,6 +122,12 @@ pub record PerformsCommand (words : List (List ℕ)) (outcome : Outcome) (old_le
   pub command : IsCommand words verb
   pub carried : CarriesOut verb outcome old_left new_left old_held new_held old_told new_told
 
+-- the words ask for the version, and it is told: nothing is read
+pub record PerformsVersion (words : List (List ℕ)) (outcome : Outcome) (old_left new_left old_held new_held old_told new_told : Option (List ℕ)) : Type 0 where
+  pub asked : AskVersion words
+  pub unconsumed : Keeps old_left new_left
+  pub tells : TellsVersion outcome old_held new_held old_told new_told
+
 -- The words are none, and are turned down with a text, or there is no memory to read them. Nothing is read, and nothing
 -- is written to standard output.
 pub record PerformsNone (words : List (List ℕ)) (outcome : Outcome) (old_left new_left old_held new_held old_told new_told : Option (List ℕ)) : Type 0 where
@@ -99,4 +141,5 @@ abbrev pub Performs : List (List ℕ) → Outcome → Option (List ℕ) → Opti
     → Option (List ℕ) → Type 0
 Performs words outcome old_left new_left old_held new_held old_told new_told =
     PerformsCommand words outcome old_left new_left old_held new_held old_told new_told
-    ⊎ PerformsNone words outcome old_left new_left old_held new_held old_told new_told
+    ⊎ (PerformsVersion words outcome old_left new_left old_held new_held old_told new_told
+    ⊎ PerformsNone words outcome old_left new_left old_held new_held old_told new_told)

@@ -7,9 +7,9 @@ use Rattle.clap.specs.declared.error.kind.ErrorKind.TheVariants.{MissingSubcomma
 use Rattle.topo_cli.specs.declared.Verb.{Verb}
 use Rattle.topo_cli.specs.declared.Verb.TheVariants.{Run, Replay, Check, Serve}
 
--- a command must be named, and no word at all asks for help
+-- a command must be named, no word at all asks for help, and there is a version
 abbrev pub planar_shape : Shape → Shape
-planar_shape s = record s { subcommand_required = true; arg_required_else_help = true }
+planar_shape s = record s { has_version = true; subcommand_required = true; arg_required_else_help = true }
 
 abbrev pub with_command : App → Text → App
 with_command app name = with_subcommand app (new_app name).top

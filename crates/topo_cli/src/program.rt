@@ -2,14 +2,14 @@
 
 ghost use Rattle.std.specs.Io.KnownBytes.{Keeps};
 ghost use Rattle.std.specs.Prelude.{◌≡◌, IfErr, IfOk, codes, map};
-ghost use Rattle.topo_cli.specs.Outcomes.{CarriesOut, IsCommand, IsToldBy};
-ghost use Rattle.topo_cli.specs.Outcomes.{IsUnread, Performs, Refuses, Tells};
+ghost use Rattle.topo_cli.specs.Outcomes.{CarriesOut, IsAsked, IsToldBy, IsUnread, Performs};
+ghost use Rattle.topo_cli.specs.Outcomes.{Refuses, Tells, TellsVersion};
 ghost use Rattle.topo_settings.specs.Statuses.{fault_line, status_of};
 
 use crate::Verb;
 use crate::answers::answer;
 use crate::telling::{tell, tell_fault};
-use crate::verbs::verb;
+use crate::verbs::{VERSION_LINE, verb};
 use clap::error::ErrorKind;
 use std::alloc::Global;
 use std::convert::AsStr;
@@ -17,6 +17,7 @@ use std::io::{Read, Write};
 use std::sync::Wait;
 use std::thread::Threads;
 use topo_settings::RunFault;
+use topo_settings::writing::write_text;
 
 /// The status of a command that is done.
 const DONE: u8 = 0;
@@ -46,7 +47,16 @@ pub enum WordsFault {
     Memory,
 }
 
-/// Why words name no command.
+/// What words ask for.
+#[derive(Clone, Copy, Debug, PartialEq, Eq)]
+enum Asked {
+    /// A command.
+    Command(Verb),
+    /// The version of the program.
+    Version,
+}
+
+/// Why words ask for nothing that the program does.
 #[derive(Debug, Drop)]
 enum Unread {
     /// `clap` refuses them, or they ask for help: its text for the user.
@@ -56,9 +66,9 @@ enum Unread {
 }
 
 /// Reads the words, of which the first is the program's name, and carries out the command that they
-/// ask for, on the reader and `out`. A fault is one line on `err`. Where `clap` refuses the words,
-/// or they ask for help, its text goes to `err`, and nothing is read. A write to `err` that fails
-/// changes no status.
+/// ask for, on the reader and `out`. Where they ask for the version, it goes to `out`. A fault is one
+/// line on `err`. Where `clap` refuses the words, or they ask for help, its text goes to `err`. Only
+/// a command reads. A write to `err` that fails changes no status.
 pub fn perform<'a, R: Threads + Wait + Sync, S: AsStr, I: Read, O: Write, E: Write>(
     rt: &R,
     alloc: Global,
@@ -71,8 +81,9 @@ pub fn perform<'a, R: Threads + Wait + Sync, S: AsStr, I: Read, O: Write, E: Wri
         (I.remaining reader.new) (O.contents out.old) (O.contents out.new) (E.contents err.old)
         (E.contents err.new) }
 {
-    match read_verb(alloc, words) {
-        Ok(verb) => carry_out(rt, alloc, verb, reader, out, err),
+    match read_words(alloc, words) {
+        Ok(Asked::Command(verb)) => carry_out(rt, alloc, verb, reader, out, err),
+        Ok(Asked::Version) => tell_version(out, err),
         Err(unread) => turn_down(&unread, err),
     }
 }
@@ -90,20 +101,20 @@ pub fn refuse<E: Write>(fault: WordsFault, err: &mut E) -> Outcome
     }
 }
 
-/// The command that the words ask for, or why they name none.
-fn read_verb<'a, S: AsStr>(alloc: Global, words: &'a [S]) -> Result<Verb, Unread>
-    ensures command { IfOk result (IsCommand (map S.text words.entry.now)) }
+/// What the words ask for, or why it is nothing that the program does.
+fn read_words<'a, S: AsStr>(alloc: Global, words: &'a [S]) -> Result<Asked, Unread>
+    ensures asked { IfOk result (IsAsked (map S.text words.entry.now)) }
     ensures none { IfErr result (IsUnread (map S.text words.entry.now)) }
 {
     match verb(alloc, words) {
-        Ok(verb) => Ok(verb),
-        Err(error) => if error.kind() == ErrorKind::OutOfMemory {
-            Err(Unread::Memory)
-        } else {
-            match format!(in alloc; "{error}") {
+        Ok(verb) => Ok(Asked::Command(verb)),
+        Err(error) => match error.kind() {
+            ErrorKind::DisplayVersion => Ok(Asked::Version),
+            ErrorKind::OutOfMemory => Err(Unread::Memory),
+            _ => match format!(in alloc; "{error}") {
                 Ok(text) => Err(Unread::Refused(text)),
                 Err(_) => Err(Unread::Memory),
-            }
+            },
         },
     }
 }
@@ -129,7 +140,21 @@ fn carry_out<R: Threads + Wait + Sync, I: Read, O: Write, E: Write>(
     }
 }
 
-/// Says on `err` why words name no command.
+/// Writes the version to `out`. A fault is written on `err`.
+fn tell_version<O: Write, E: Write>(out: &mut O, err: &mut E) -> Outcome
+    ensures { TellsVersion result (O.contents out.old) (O.contents out.new) (E.contents err.old)
+        (E.contents err.new) }
+{
+    match write_text(out, VERSION_LINE) {
+        Ok(()) => Outcome {
+            status: DONE,
+            is_told: true,
+        },
+        Err(lost) => end_by(&lost, err),
+    }
+}
+
+/// Says on `err` why words ask for nothing that the program does.
 fn turn_down<E: Write>(unread: &Unread, err: &mut E) -> Outcome
     ensures { Tells unread.now result (E.contents err.old) (E.contents err.new) }
 {

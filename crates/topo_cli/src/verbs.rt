@@ -137,13 +137,18 @@ fn with_command<'a>(
     planar.subcommand(command)
 }
 
-/// The program before it has its commands.
+/// What `planar --version` prints: the program and its version.
+pub const VERSION_LINE: &str = "planar 0.5.0\n";
+
+/// The program before it has its commands. That it has a version, whatever the text, gives it the
+/// option `--version`.
 fn without_commands<'a>(alloc: Global) -> Command<'a>
     ensures { app_of result ≡ on_top planar_shape (new_app (codes "planar")) }
 {
     Command::new(alloc, "planar")
         .about(ABOUT)
         .after_help(AFTER)
+        .version(VERSION_LINE)
         .subcommand_required(true)
         .arg_required_else_help(true)
 }
@@ -173,8 +178,8 @@ fn verb_named(name: &str) -> Option<Verb>
 }
 
 /// The command that the words ask for; the first word is the program's name. Where `clap` refuses
-/// the words, or they ask for help, its answer is the error, whose text is for the user: it has one
-/// of the kinds that clap's own definition gives for the words, or that of out of memory.
+/// the words, or they ask for help or for the version, its answer is the error: it has one of the
+/// kinds that clap's own definition gives for the words, or that of out of memory.
 pub fn verb<'a, S: AsStr>(alloc: Global, words: &'a [S]) -> Result<Verb, Error>
     ensures ok { IfOk result (λ v. asked_verb (map S.text words.entry.now) ≡ Some v) }
     ensures kinds { FailsBy (word_faults (map S.text words.entry.now)) result }

@@ -78,6 +78,9 @@ const ROWS: &[Row] = &[
     ("check", "{}", (1, "", "planar: 52 BadShape $/crossings\n")),
     // a command that is not known
     ("walk", SCRIPT, (2, "", NO_COMMAND)),
+    // the version: nothing is read
+    ("--version", SCRIPT, (0, "planar 0.5.0\n", "")),
+    ("-V", "{", (0, "planar 0.5.0\n", "")),
 ];
 
 #[test]
@@ -113,8 +116,19 @@ fn words_that_are_refused(rt: HostRuntime) {
 
 /// A run of the script with these writers ends so.
 fn run_ends<R: TestRuntime, O: Write, E: Write>(rt: &R, out: &mut O, err: &mut E, due: Outcome) {
+    word_ends(rt, "run", out, err, due);
+}
+
+/// What the word asks for, over the script and with these writers, ends so.
+fn word_ends<R: TestRuntime, O: Write, E: Write>(
+    rt: &R,
+    word: &str,
+    out: &mut O,
+    err: &mut E,
+    due: Outcome,
+) {
     let mut reader = SCRIPT.as_bytes();
-    let outcome = perform(rt, rt.alloc(), &["planar", "run"], &mut reader, out, err);
+    let outcome = perform(rt, rt.alloc(), &["planar", word], &mut reader, out, err);
     assert!(rt; outcome == due);
 }
 
@@ -175,4 +189,11 @@ fn a_run_that_tells_nothing(rt: HostRuntime) {
     run_ends(&rt, &mut out, &mut FullWriter, ends(0));
     are_of(&rt, out.kept.as_slice(), REPORT);
     assert!(rt; out.passed_on == REPORT.len());
+}
+
+#[test]
+fn a_version_that_is_lost(rt: HostRuntime) {
+    let mut err: Vec<u8> = Vec::new(rt.alloc());
+    word_ends(&rt, "--version", &mut FullWriter, &mut err, ends(1));
+    are_of(&rt, err.as_slice(), "planar: 56 WriteFault\n");
 }
