@@ -1,4 +1,4 @@
-"""`python3 -m fezdrok`: reads scripts, one a line, and writes one line for each, in the same order.
+"""`python3 -m fezdrok`, and the command `fezdrok`: reads scripts, one a line, and writes one line for each, in the same order.
 
 The line is the report, or `{"fault":[NUMBER,NAME,VALUE]}` for a script that the program refused (without a value, or with
 several, if the fault is so), or `{"failed":TEXT}` if the program itself failed. So every line that is read has an answer, as a step of a pipe wants it,
@@ -35,7 +35,7 @@ def answer(program: Program, script: bytes) -> Tuple[str, bool]:
 def main(words: Optional[List[str]] = None, source: Optional[BinaryIO] = None, target: Optional[TextIO] = None) -> int:
     """Answer all lines of `source`, without it those of standard input, on `target`; the status."""
     parser = argparse.ArgumentParser(prog="python3 -m fezdrok", description="Run scripts, one a line; one line of answer for each.")
-    parser.add_argument("--program", help="the path of planar; without it what FEZDROK_PLANAR names, the repository's out/planar, or planar in PATH")
+    parser.add_argument("--program", help="the path of planar; without it the program in the package, what FEZDROK_PLANAR names, planar in PATH, or that of the checkout")
     program = Program(parser.parse_args(words).program)
     try:
         program.path
