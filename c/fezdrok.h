@@ -28,7 +28,7 @@
 extern "C" {
 #endif
 
-/* That of the program and of this file. */
+/* The version of this file, of the library and of the program. */
 #define FEZDROK_VERSION "0.5.0"
 
 #define FEZDROK_DONE 0
