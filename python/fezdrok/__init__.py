@@ -6,9 +6,6 @@ is wanted for planar beginnings, which are the default, for embeddings, for edge
 matplotlib for `draw`.
 """
 
-#: That of the program and of this package: it is what the file VERSION of the repository says.
-__version__ = "0.5.0"
-
 from .drawing import chain, draw, positions, to_svg
 from .embeddings import Dummy, from_networkx_embedding, to_networkx_embedding
 from .exchange import Segment, to_networkx_graph
@@ -84,3 +81,6 @@ __all__ = [
     "to_networkx_graph",
     "to_svg",
 ]
+
+#: That of the program and of this package: it is what the file VERSION of the repository says.
+__version__ = "0.5.0"

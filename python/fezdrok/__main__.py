@@ -1,4 +1,4 @@
-"""`python3 -m fezdrok`, and the command `fezdrok`: reads scripts, one a line, and writes one line for each, in the same order.
+"""`python3 -m fezdrok`: reads scripts, one a line, and writes one line for each, in the same order.
 
 The line is the report, or `{"fault":[NUMBER,NAME,VALUE]}` for a script that the program refused (without a value, or with
 several, if the fault is so), or `{"failed":TEXT}` if the program itself failed. So every line that is read has an answer, as a step of a pipe wants it,
