@@ -34,8 +34,14 @@ def answer(program: Program, script: bytes) -> Tuple[str, bool]:
 
 def main(words: Optional[List[str]] = None, source: Optional[BinaryIO] = None, target: Optional[TextIO] = None) -> int:
     """Answer all lines of `source`, without it those of standard input, on `target`; the status."""
-    parser = argparse.ArgumentParser(prog="python3 -m fezdrok", description="Run scripts, one a line; one line of answer for each.")
-    parser.add_argument("--program", help="the path of planar; without it the program in the package, what FEZDROK_PLANAR names, planar in PATH, or that of the checkout")
+    parser = argparse.ArgumentParser(
+        prog="python3 -m fezdrok", description="Run scripts, one a line; one line of answer for each."
+    )
+    parser.add_argument(
+        "--program",
+        help="the path of planar; without it the program in the package, what FEZDROK_PLANAR names, planar in PATH, or "
+        "that of the checkout",
+    )
     program = Program(parser.parse_args(words).program)
     try:
         program.path

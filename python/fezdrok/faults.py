@@ -19,7 +19,7 @@ class PlanarError(Exception):
 
 
 class ProgramNotFound(PlanarError, FileNotFoundError):
-    """There is no program `planar` where it was looked for, or it is not built; the message says where, and how to get one."""
+    """There is no program `planar` where it was looked for; the message says where, and how to get one."""
 
 
 class UsageRefused(PlanarError):

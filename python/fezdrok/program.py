@@ -25,7 +25,7 @@ _FAULT_LINE = re.compile(r"^planar: (\d+) (\w+)(?: (\S+(?: \d+)*))?$", re.MULTIL
 #: The program in the package itself, as a wheel has it.
 PACKAGED = Path(__file__).resolve().parent / "bin" / "planar"
 
-HOW_TO_GET_ONE = "The wheel of fezdrok for Linux on x86-64 has the program in it. In a checkout ./planar gets it, at the first call."
+HOW_TO_GET_ONE = "The wheel of fezdrok for Linux on x86-64 has the program in it; in a checkout ./planar gets it"
 
 
 def repository_script() -> Path:
@@ -77,28 +77,36 @@ def _places_of(path: str) -> List[Path]:
     """Where the programs lie that the script at this path stands for; none where it is not the script of a checkout."""
     script = Path(path).resolve()
     is_script = script.name == "planar" and (script.parent / ".ci" / "sources").is_file()
-    return [script.parent / "out" / "planar", script.parent / "prebuilt" / "x86_64-linux" / "planar"] if is_script else []
+    folders = [script.parent / "out", script.parent / "prebuilt" / "x86_64-linux"] if is_script else []
+    return [folder / "planar" for folder in folders]
 
 
 _chosen: Dict[Tuple[Path, ...], Path] = {}
 
 
 def _current(script: str, built: List[Path]) -> Path:
-    """The first of a checkout's programs that was built from the sources that are there now. Where none was, the first of
-    all, with a warning. Where that cannot be found out, nothing is said. It is looked at once in a process."""
+    """The first of a checkout's programs that was built from the sources that are there now. Where none was, the first
+    of all, with a warning. Where that cannot be found out, nothing is said. It is looked at once in a process."""
     key = tuple(built)
     if key not in _chosen:
         _chosen[key] = built[0]
         sources = Path(script).resolve().parent / ".ci" / "sources"
         try:
-            now = subprocess.run([sources, "planar"], stdin=subprocess.DEVNULL, stdout=subprocess.PIPE, stderr=subprocess.DEVNULL, check=True).stdout.decode().strip()
+            done = subprocess.run(
+                [sources, "planar"], stdin=subprocess.DEVNULL, stdout=subprocess.PIPE, stderr=subprocess.DEVNULL, check=True
+            )
         except (OSError, subprocess.CalledProcessError):
             return built[0]
-        current = [it for it in built if _sources_of(it) == now]
+        current = [it for it in built if _sources_of(it) == done.stdout.decode().strip()]
         if current:
             _chosen[key] = current[0]
         else:
-            warnings.warn(f"{built[0]} was built from other sources than those that are there now: run {script}, which builds it anew", PlanarWarning, stacklevel=2)
+            warnings.warn(
+                f"{built[0]} was built from other sources than those that are there now: "
+                f"run {script}, which builds it anew",
+                PlanarWarning,
+                stacklevel=2,
+            )
     return _chosen[key]
 
 

@@ -183,9 +183,12 @@ class Unproved(Folder):
 
 class Package(Folder):
     def test_it_builds_nothing(self):
-        with self.assertRaisesRegex(ProgramNotFound, f"{self.built} nor {self.prebuilt} is there: run {self.script}, which gets one"):
+        neither = f"{self.built} nor {self.prebuilt} is there: run {self.script}, which gets one"
+        with self.assertRaisesRegex(ProgramNotFound, neither):
             Program(self.script).run("{}")
-        with mock.patch.dict(os.environ, {"FEZDROK_PLANAR": os.fspath(self.script)}), self.assertRaisesRegex(ProgramNotFound, "FEZDROK_PLANAR .* is there"):
+        with mock.patch.dict(os.environ, {"FEZDROK_PLANAR": os.fspath(self.script)}), self.assertRaisesRegex(
+            ProgramNotFound, "FEZDROK_PLANAR .* is there"
+        ):
             find_program()
         self.assertEqual(self.calls(), 0)
 
@@ -217,7 +220,9 @@ class Package(Folder):
 
     def test_the_checkout_is_one_place_of_several(self):
         words = {"FEZDROK_PLANAR": "", "PATH": os.environ["PATH"] + os.pathsep + os.fspath(self.root)}
-        with mock.patch.dict(os.environ, words), mock.patch.object(program_module, "repository_script", return_value=self.script):
+        with mock.patch.dict(os.environ, words), mock.patch.object(
+            program_module, "repository_script", return_value=self.script
+        ):
             with self.assertRaisesRegex(ProgramNotFound, "PATH .* is there.* or the checkout .* is there"):
                 find_program()
             self.said(self.script)
@@ -228,7 +233,8 @@ class Package(Folder):
         self.prebuilt.parent.mkdir(parents=True, exist_ok=True)
         self.prebuilt.write_text('#!/bin/sh\necho "prebuilt $@"\n')
         self.prebuilt.chmod(0o755)
-        self.prebuilt.with_name("MANIFEST").write_text(f"kit some kit\nglibc 2.34\nplanar 0123 {sources}\nlibfezdrok.a 4567 89ab\n")
+        lines = ["kit some kit", "glibc 2.34", f"planar 0123 {sources}", "libfezdrok.a 4567 89ab", ""]
+        self.prebuilt.with_name("MANIFEST").write_text("\n".join(lines))
 
     def sources(self) -> str:
         """The checksum of the sources that are there now."""

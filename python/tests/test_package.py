@@ -38,7 +38,8 @@ class Refusals(unittest.TestCase):
     def test_a_file_that_is_another(self):
         for name in NAMES:
             (self.prebuilt / name).write_text("another")
-            self.assertEqual(self.refused(), f"package: prebuilt/x86_64-linux/{name} is not the file that MANIFEST names\n")
+            due = f"package: prebuilt/x86_64-linux/{name} is not the file that MANIFEST names\n"
+            self.assertEqual(self.refused(), due)
             (self.prebuilt / name).write_text(name)
 
     def test_a_file_that_is_missing(self):
@@ -52,7 +53,8 @@ class Refusals(unittest.TestCase):
 
     def test_another_version(self):
         (self.root / "VERSION").write_text("0.4.9\n")
-        self.assertEqual(self.refused(), "package: python/fezdrok/__init__.py is not of the version 0.4.9 that VERSION says\n")
+        due = "package: python/fezdrok/__init__.py is not of the version 0.4.9 that VERSION says\n"
+        self.assertEqual(self.refused(), due)
 
 
 if __name__ == "__main__":

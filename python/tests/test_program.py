@@ -53,7 +53,8 @@ class Finding(unittest.TestCase):
             find_program()
         self.assertIsInstance(caught.exception, FileNotFoundError)
         told = str(caught.exception)
-        for words in (f"the package ({self.paths['package']})", VARIABLE, "PATH (planar)", "the checkout", "The wheel of fezdrok", "./planar"):
+        package = f"the package ({self.paths['package']})"
+        for words in (package, VARIABLE, "PATH (planar)", "the checkout", "The wheel of fezdrok", "./planar"):
             self.assertIn(words, told)
 
     def test_a_program_that_is_no_program(self):
@@ -136,7 +137,13 @@ class Statuses(unittest.TestCase):
             Program(fake(self, "echo 'planar: 51 TooLong' >&2; exit 1")).run(" " * 10_000_000)
 
     def test_exceptions_pass_between_processes(self):
-        for fault in (ProgramNotFound("nowhere"), Fault(52, "BadShape", "$"), Fault(40, "Mismatch", (2, 15)), MemoryFault(8, "Memory"), ProgramFailed(-9, "oh")):
+        for fault in (
+            ProgramNotFound("nowhere"),
+            Fault(52, "BadShape", "$"),
+            Fault(40, "Mismatch", (2, 15)),
+            MemoryFault(8, "Memory"),
+            ProgramFailed(-9, "oh"),
+        ):
             again = pickle.loads(pickle.dumps(fault))
             self.assertEqual((type(again), str(again), vars(again)), (type(fault), str(fault), vars(fault)))
 
