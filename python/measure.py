@@ -1,9 +1,9 @@
 #!/usr/bin/env python3
 """Measures planarization on graphs of networkx: the crossings found, and the time taken.
 
-Prints a table in Markdown: `python/measure.py numbers` beside known crossing numbers, `python/measure.py ogdf` beside what
-OGDF found. Behind the crossings stand the time, and the time of a processor that Python and the program took, which depends
-less on other work. All numbers but the times are the same each time.
+Prints a table in Markdown: `python/measure.py numbers` beside known crossing numbers, `python/measure.py ogdf` beside
+what OGDF found. Behind the crossings stand the time, and the time of a processor that Python and the program took,
+which depends less on other work. All numbers but the times are the same each time.
 """
 
 from __future__ import annotations
@@ -85,8 +85,8 @@ class Beside(NamedTuple):
     seconds: float
 
 
-#: What OGDF's SubgraphPlanarizer found on a machine of four processors: fast planar subgraph of 16 runs, fixed embedding,
-#: all edges taken out and inserted again, 10 permutations. Which random graphs it had is not known.
+#: What OGDF's SubgraphPlanarizer found on a machine of four processors: fast planar subgraph of 16 runs, fixed
+#: embedding, all edges taken out and inserted again, 10 permutations. Which random graphs it had is not known.
 OGDF = (
     Beside("K12", lambda seed: nx.complete_graph(12), False, 150, 0.09),
     Beside("hypercube of 5 dimensions", lambda seed: nx.hypercube_graph(5), False, 58, 0.05),
@@ -98,13 +98,18 @@ OGDF = (
     Beside("random 6-regular of 20 nodes", lambda seed: nx.random_regular_graph(6, 20, seed=seed), True, 43, 0.02),
     Beside("grid 30 x 30", lambda seed: nx.grid_2d_graph(30, 30), False, 0, 0.01),
     Beside("grid 30 x 30 with 50 random chords", lambda seed: chords(30, 50, seed), True, 742, 18.0),
-    Beside("Barabasi-Albert of 200 nodes, m = 2", lambda seed: nx.barabasi_albert_graph(200, 2, seed=seed), True, 1043, 6.7),
+    Beside(
+        "Barabasi-Albert of 200 nodes, m = 2", lambda seed: nx.barabasi_albert_graph(200, 2, seed=seed), True, 1043, 6.7
+    ),
 )
 
 
 def processor_seconds() -> float:
     """The seconds of a processor that this process and the programs that have ended took so far."""
-    return sum(spent.ru_utime + spent.ru_stime for spent in map(resource.getrusage, (resource.RUSAGE_SELF, resource.RUSAGE_CHILDREN)))
+    return sum(
+        spent.ru_utime + spent.ru_stime
+        for spent in map(resource.getrusage, (resource.RUSAGE_SELF, resource.RUSAGE_CHILDREN))
+    )
 
 
 def measured(graph: Any, options: Dict[str, Any]) -> Tuple[int, float, float]:
@@ -135,7 +140,9 @@ def row(cells: Iterable[Any]) -> str:
 
 def known_numbers() -> None:
     """Print the table beside known crossing numbers."""
-    columns: Dict[str, Dict[str, Any]] = {"quick": {"quick": True}, "quick, 20 orders, 5 rounds": {"quick": True, "tries": 20, "rounds": 5}, "default": {}}
+    columns: Dict[str, Dict[str, Any]] = {
+        "quick": {"quick": True}, "quick, 20 orders, 5 rounds": {"quick": True, "tries": 20, "rounds": 5}, "default": {}
+    }
     headings = ["graph", "nodes", "edges", "crossing number", *columns]
     print(row(headings))
     print(row("---" for _ in headings))
@@ -164,7 +171,9 @@ def main() -> None:
     """Print the table that is asked for."""
     parser = argparse.ArgumentParser(description=__doc__.splitlines()[0])
     parser.add_argument("table", choices=("numbers", "ogdf"), help="beside known crossing numbers, or beside OGDF")
-    parser.add_argument("--seeds", type=int, default=5, help="how many random graphs of each kind are measured beside OGDF")
+    parser.add_argument(
+        "--seeds", type=int, default=5, help="how many random graphs of each kind are measured beside OGDF"
+    )
     words = parser.parse_args()
     if words.table == "numbers":
         known_numbers()

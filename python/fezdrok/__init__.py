@@ -1,26 +1,30 @@
 """Planarization of graphs by the proved program `planar`.
 
 `planarize` takes a networkx graph and gives a picture of it with few crossings; `planarize_many` takes many.
-`Planarizer` collects single commands, and a `Session` answers each at once. The package itself needs only Python; networkx
-is wanted for planar beginnings, which are the default, for embeddings, for edges that must not be crossed and for drawings,
-matplotlib for `draw`.
+`Planarizer` collects single commands, and a `Session` answers each at once. The package itself needs only Python;
+networkx is wanted for planar beginnings, which are the default, for embeddings, for edges that must not be crossed and
+for drawings, matplotlib for `draw`.
 """
 
-from .drawing import chain, draw, positions, to_svg
-from .embeddings import Dummy, from_networkx_embedding, to_networkx_embedding
-from .exchange import Segment, to_networkx_graph
-from .faults import Fault, MemoryFault, ModuleMissing, NoReport, NotPlanarized, OtherReport, PlanarError, PlanarWarning, ProgramFailed, ProgramNotFound, ProgramNotStarted, SessionClosed, Unfinished, UsageRefused
-from .graph_session import GraphSession
-from .many import Bar, planarize_many
-from .orthogonal import Box, OrthogonalDrawing, orthogonal_drawing
-from .pictures import Counts, Crossing, Dart, Edge, Picture, Point
-from .planarization import Prepared, planarize, prepare, reinsert
-from .planarizer import Planarizer
-from .program import Program, find_program
-from .progress import Progress
-from .reports import Delete, Deleted, Entry, Grow, Grown, Insert, Inserted, Limits, Planned, Refused, Report
-from .results import Planarization
-from .session import Renumbered, Session
+from .drawing.drawings import chain, draw, positions, to_svg
+from .drawing.orthogonal_layout import Box, OrthogonalDrawing, orthogonal_drawing
+from .engine.faults import (
+    Fault, MemoryFault, ModuleMissing, NoReport, NotPlanarized, OtherReport, PlanarError, PlanarWarning, ProgramFailed,
+    ProgramNotFound, ProgramNotStarted, SessionClosed, Unfinished, UsageRefused,
+)
+from .engine.graph_pictures import Dummy, Segment
+from .engine.graph_session import GraphSession
+from .engine.pictures import Counts, Crossing, Dart, Edge, Picture, Point
+from .engine.planarizer import Planarizer
+from .engine.program import Program, find_program
+from .engine.reports import Delete, Deleted, Entry, Grow, Grown, Insert, Inserted, Limits, Planned, Refused, Report
+from .engine.results import Planarization
+from .engine.session import Renumbered, Session
+from .files.embeddings import from_networkx_embedding, to_networkx_embedding
+from .files.multigraphs import to_networkx_graph
+from .search.batches import Bar, planarize_many
+from .search.planarization import Prepared, planarize, prepare, reinsert
+from .search.progress import Progress
 
 __all__ = [
     "Bar",

@@ -1,10 +1,11 @@
 """`python3 -m fezdrok`: reads scripts, one a line, and writes one line for each, in the same order.
 
-The line is the report, or `{"fault":[NUMBER,NAME,VALUE]}` for a script that the program refused (without a value, or with
-several, if the fault is so), or `{"failed":TEXT}` if the program itself failed. So every line that is read has an answer, as a step of a pipe wants it,
-also one that is no UTF-8: the program gets its bytes as they are. An empty line is a script too, and is refused. The
-status is 0 where every script had a report, 1 where one had none, and 2 where there is no program. Where nobody reads
-the answers any more, it ends without a word, with the status 141 as a program that the signal of a closed pipe ended.
+The line is the report, or `{"fault":[NUMBER,NAME,VALUE]}` for a script that the program refused (without a value, or
+with several, if the fault is so), or `{"failed":TEXT}` if the program itself failed. So every line that is read has an
+answer, as a step of a pipe wants it, also one that is no UTF-8: the program gets its bytes as they are. An empty line
+is a script too, and is refused. The status is 0 where every script had a report, 1 where one had none, and 2 where
+there is no program. Where nobody reads the answers any more, it ends without a word, with the status 141 as a program
+that the signal of a closed pipe ended.
 """
 
 from __future__ import annotations
@@ -14,9 +15,9 @@ import os
 import sys
 from typing import BinaryIO, List, Optional, TextIO, Tuple
 
-from .faults import Fault, PlanarError, ProgramNotFound
-from .pictures import json_text
-from .program import Program
+from .engine.faults import Fault, PlanarError, ProgramNotFound
+from .engine.pictures import json_text
+from .engine.program import Program
 
 
 CLOSED = 141

@@ -9,13 +9,18 @@ import heapq
 from dataclasses import replace
 from typing import Dict, Iterable, List, Optional, Sequence, Set, Tuple
 
-from fezdrok import Crossing, Dart, Delete, Deleted, Edge, Entry, Grow, Grown, Insert, Inserted, Limits, Picture, Point, Refused, Report
-from fezdrok.reports import Call, Prices, Reply
+from fezdrok import (
+    Crossing, Dart, Delete, Deleted, Edge, Entry, Grow, Grown, Insert, Inserted, Limits, Picture, Point, Refused,
+    Report,
+)
+from fezdrok.engine.reports import Call, Prices, Reply
 
 Heights = Dict[int, int]
 
 
-def run(start: Picture, calls: Iterable[Call], prices: Sequence[Optional[int]] = (), limits: Limits = Limits()) -> Report:
+def run(
+    start: Picture, calls: Iterable[Call], prices: Sequence[Optional[int]] = (), limits: Limits = Limits()
+) -> Report:
     """The report of these calls, made one after another."""
     history: List[Entry] = []
     picture = start
@@ -111,7 +116,9 @@ def first_route(picture: Picture, u: int, v: int, prices: Sequence[Optional[int]
     return Inserted(picture.next_edge, tuple(crossed), start, corners[v].index(face), lowest)
 
 
-def face_heights(picture: Picture, face_of: Dict[Dart, int], targets: Set[int], prices: Sequence[Optional[int]]) -> Heights:
+def face_heights(
+    picture: Picture, face_of: Dict[Dart, int], targets: Set[int], prices: Sequence[Optional[int]]
+) -> Heights:
     """For each face the least cost of a walk to one of the targets, where there is one."""
     heights: Heights = {}
     waiting = [(0, face) for face in targets]
@@ -127,7 +134,9 @@ def face_heights(picture: Picture, face_of: Dict[Dart, int], targets: Set[int], 
     return heights
 
 
-def first_tight(picture: Picture, face: Sequence[Dart], face_of: Dict[Dart, int], heights: Heights, prices: Sequence[Optional[int]]) -> Dart:
+def first_tight(
+    picture: Picture, face: Sequence[Dart], face_of: Dict[Dart, int], heights: Heights, prices: Sequence[Optional[int]]
+) -> Dart:
     """The first dart of a face, in canonical order, behind which the rest costs as much less as the dart costs."""
     height = heights[face_of[face[0]]]
     for dart in sorted(face):
@@ -144,7 +153,9 @@ def shown(picture: Picture, call: Insert, route: Inserted) -> Picture:
     rotations = list(picture.rotations)
     for vertex, position in ((call.u, route.start), (call.v, route.end)):
         rotations[vertex] = put_in(rotations[vertex], position, route.edge)
-    crossings = tuple(Crossing(number, dart.edge, route.edge, "rtl" if dart.back else "ltr") for number, dart in numbered)
+    crossings = tuple(
+        Crossing(number, dart.edge, route.edge, "rtl" if dart.back else "ltr") for number, dart in numbered
+    )
     row = Edge(route.edge, call.u, call.v, call.kind, tuple(number for number, _ in numbered))
     counters = (route.edge + 1, picture.next_crossing + len(numbered))
     return Picture(tuple(rotations), (*rows, row), (*picture.crossings, *crossings), *counters)
@@ -168,7 +179,9 @@ def delete(picture: Picture, edge: int) -> Tuple[Reply, Picture]:
         return Refused(4, "NoEdge"), picture
     after = without(picture, row)
     if not is_connected(after, ()):
-        cut = next(n for n in range(row.segments) if not is_connected(picture, {(edge, segment) for segment in range(n + 1)}))
+        cut = next(
+            n for n in range(row.segments) if not is_connected(picture, {(edge, segment) for segment in range(n + 1)})
+        )
         return Refused(6, "Cut", cut), picture
     return Deleted(edge), after
 

@@ -1,5 +1,5 @@
-"""The scripts `planar` and `try` in a folder that is like the repository, with a toolchain that proves nothing: the program
-is built beside the one that is there, and the package builds none."""
+"""The scripts `planar` and `try` in a folder that is like the repository, with a toolchain that proves nothing: the
+program is built beside the one that is there, and the package builds none."""
 
 import os
 import shutil
@@ -13,12 +13,12 @@ from pathlib import Path
 from unittest import mock
 
 from fezdrok import PlanarWarning, Program, ProgramNotFound, find_program
-from fezdrok import program as program_module
+from fezdrok.engine import program as program_module
 
 from .support import ROOT
 
-#: Stands for the command rt: it waits for the file `go`, and makes a program that says the source. `rt ci` makes it in the
-#: folder of the crate. `rt try`, which runs there, keeps none: it ends when its program has been taken.
+#: Stands for the command rt: it waits for the file `go`, and makes a program that says the source. `rt ci` makes it in
+#: the folder of the crate. `rt try`, which runs there, keeps none: it ends when its program has been taken.
 TOOLCHAIN = """#!/bin/sh
 top=$(dirname "$0")/..
 echo called >> $top/calls
@@ -55,7 +55,9 @@ class Folder(unittest.TestCase):
         self.script, self.built = self.root / "planar", self.root / "out" / "planar"
         self.prebuilt = self.root / "prebuilt" / "x86_64-linux" / "planar"
         (self.root / "scratch").mkdir()
-        self.environment = {"PATH": f"{self.root / 'bin'}{os.pathsep}{os.environ['PATH']}", "TMPDIR": os.fspath(self.root / "scratch")}
+        self.environment = {
+            "PATH": f"{self.root / 'bin'}{os.pathsep}{os.environ['PATH']}", "TMPDIR": os.fspath(self.root / "scratch")
+        }
         self.start(mock.patch.dict(os.environ, self.environment))
         self.start(mock.patch.object(program_module, "_chosen", {}))
         self.allow()
@@ -157,9 +159,13 @@ class Unproved(Folder):
         ways = [self.root / "try", self.script, self.root / "try"]
         done = [subprocess.run([it, "word"], capture_output=True, text=True, timeout=60) for it in ways]
         self.assertEqual([it.stdout for it in done], ["first word\n"] * 3)
-        self.assertEqual([it.stderr.endswith("try: built without proofs; ./planar proves it\n") for it in done], [True, False, True])
+        self.assertEqual(
+            [it.stderr.endswith("try: built without proofs; ./planar proves it\n") for it in done], [True, False, True]
+        )
         self.assertEqual(self.calls(), 2)
-        self.assertEqual(sorted(os.listdir(self.root / "out" / "unproved")), ["planar", "planar.lock", "planar.sources"])
+        self.assertEqual(
+            sorted(os.listdir(self.root / "out" / "unproved")), ["planar", "planar.lock", "planar.sources"]
+        )
 
     def test_it_stands_for_no_proved_one(self):
         self.said(self.root / "try")

@@ -2,7 +2,10 @@
 
 import unittest
 
-from fezdrok import Crossing, Dart, Dummy, Edge, Picture, Planarization, Planarizer, Point, from_networkx_embedding, planarize, to_networkx_embedding
+from fezdrok import (
+    Crossing, Dart, Dummy, Edge, Picture, Planarization, Planarizer, Point, from_networkx_embedding, planarize,
+    to_networkx_embedding,
+)
 
 from .support import crossings_of, euler, needs_networkx, needs_program, traced
 
@@ -26,7 +29,7 @@ def twice_crossed() -> Picture:
 
 
 @needs_networkx
-class There(unittest.TestCase):
+class ToNetworkx(unittest.TestCase):
     def test_a_crossing_is_marked(self):
         edges = (Edge(0, 0, 1, 0, (0,)), Edge(1, 2, 3, 0, (0,)))
         picture = Picture(((0,), (0,), (1,), (1,)), edges, (Crossing(0, 0, 1, "ltr"),), 2, 1)
@@ -35,7 +38,10 @@ class There(unittest.TestCase):
         embedding.check_structure()
         crossing = Dummy("crossing", 0)
         self.assertEqual(list(embedding.neighbors_cw_order(crossing)), ["b", "d", "a", "c"])
-        self.assertEqual(embedding.nodes[crossing], {**embedding.nodes[crossing], "dummy": True, "crossing": 0, "edges": (("a", "b"), ("c", "d"))})
+        self.assertEqual(
+            embedding.nodes[crossing],
+            {**embedding.nodes[crossing], "dummy": True, "crossing": 0, "edges": (("a", "b"), ("c", "d"))},
+        )
         self.assertEqual([embedding.nodes[node]["dummy"] for node in "abcd"], [False] * 4)
         self.assertEqual(embedding.edges["a", crossing]["edge"], ("a", "b"))
 
@@ -70,12 +76,14 @@ class There(unittest.TestCase):
 
 
 @needs_networkx
-class Back(unittest.TestCase):
+class FromNetworkx(unittest.TestCase):
     def embedding(self, graph):
         return nx.check_planarity(graph)[1]
 
     def test_the_program_takes_them(self):
-        for graph in (nx.path_graph(2), nx.icosahedral_graph(), nx.grid_2d_graph(4, 4), nx.star_graph(5), nx.wheel_graph(7)):
+        for graph in (
+            nx.path_graph(2), nx.icosahedral_graph(), nx.grid_2d_graph(4, 4), nx.star_graph(5), nx.wheel_graph(7)
+        ):
             picture = from_networkx_embedding(self.embedding(graph))
             self.assertEqual(picture.counts.euler, 2)
             self.assertEqual((picture.counts.vertices, picture.counts.edges), (len(graph), graph.number_of_edges()))
@@ -107,7 +115,9 @@ class Back(unittest.TestCase):
         result = planarize(nx.complete_graph(6))
         again = from_networkx_embedding(to_networkx_embedding(result))
         counts = result.picture.counts
-        self.assertEqual(again.counts, (counts.vertices + counts.crossings, 0, counts.segments, counts.segments, counts.faces))
+        self.assertEqual(
+            again.counts, (counts.vertices + counts.crossings, 0, counts.segments, counts.segments, counts.faces)
+        )
 
     def test_kinds(self):
         picture = from_networkx_embedding(self.embedding(nx.path_graph(3)), kind=lambda u, v: u + v)

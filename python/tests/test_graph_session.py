@@ -3,8 +3,11 @@
 import unittest
 from unittest import mock
 
-from fezdrok import Deleted, Fault, Grown, Inserted, NotPlanarized, Planarizer, SessionClosed, planarize, reinsert, to_networkx_embedding, to_svg
-from fezdrok import serving
+from fezdrok import (
+    Deleted, Fault, Grown, Inserted, NotPlanarized, Planarizer, SessionClosed, planarize, reinsert,
+    to_networkx_embedding, to_svg,
+)
+from fezdrok.engine import line_process
 
 from .support import graph_pairs, needs_networkx, needs_program, pairs_of, traced
 
@@ -21,7 +24,7 @@ def named(graph):
 
 @needs_networkx
 @needs_program
-class Names(unittest.TestCase):
+class GraphSessions(unittest.TestCase):
     def setUp(self):
         self.graph = nx.Graph(["ab", "bc", "cd", "da", "ac"])
         self.result = planarize(self.graph, quick=True)
@@ -50,7 +53,9 @@ class Names(unittest.TestCase):
             self.judge(session.result())
         self.judge(result)
         self.assertEqual((counts, result.picture.counts.vertices), (result.picture.counts, 5))
-        self.assertEqual(sorted(map(sorted, result.graph.edges)), sorted(map(sorted, ["ab", "bc", "cd", "ad", "bd", "de", "ae"])))
+        self.assertEqual(
+            sorted(map(sorted, result.graph.edges)), sorted(map(sorted, ["ab", "bc", "cd", "ad", "bd", "de", "ae"]))
+        )
         self.assertEqual(len(self.graph.edges), 5)
         self.assertEqual(result.reports[:-1], self.result.reports)
         self.assertEqual(result.reports[-1].start, self.result.picture)
@@ -97,7 +102,10 @@ class Names(unittest.TestCase):
     def test_what_the_program_refuses(self):
         with self.result.session() as session:
             session.grow_edge("a", "e")
-            for call, edge, number in ((lambda: session.delete_edge("e", "a"), ("a", "e"), 6), (lambda: session.insert_edge("a", "a"), ("a", "a"), 2)):
+            for call, edge, number in (
+                (lambda: session.delete_edge("e", "a"), ("a", "e"), 6),
+                (lambda: session.insert_edge("a", "a"), ("a", "a"), 2),
+            ):
                 with self.assertRaises(NotPlanarized) as caught:
                     call()
                 self.assertEqual((caught.exception.edge, caught.exception.reply.number), (edge, number))
@@ -131,7 +139,10 @@ class Names(unittest.TestCase):
     def test_multigraphs_and_directed_graphs(self):
         for kind in (nx.MultiGraph, nx.DiGraph, nx.MultiDiGraph):
             with planarize(kind(["ab", "bc", "ca"])).session() as session:
-                edges = [session.edge_of[session.insert_edge("b", "a").edge], session.edge_of[session.grow_edge("c", "d").edge]]
+                edges = [
+                    session.edge_of[session.insert_edge("b", "a").edge],
+                    session.edge_of[session.grow_edge("c", "d").edge],
+                ]
                 if kind is nx.MultiGraph:
                     edges.append(session.edge_of[session.insert_edge("a", "b").edge])
                     with self.assertRaisesRegex(KeyError, "the key is required"):
@@ -171,8 +182,12 @@ class Names(unittest.TestCase):
     def test_calls_that_are_interrupted(self):
         for name in ("read", "write"):
             with self.result.session() as session:
-                for call in (lambda: session.insert_edge("b", "d"), lambda: session.grow_edge("c", "e"), lambda: session.delete_edge("a", "b")):
-                    with mock.patch.object(serving.os, name, side_effect=KeyboardInterrupt):
+                for call in (
+                    lambda: session.insert_edge("b", "d"),
+                    lambda: session.grow_edge("c", "e"),
+                    lambda: session.delete_edge("a", "b"),
+                ):
+                    with mock.patch.object(line_process.os, name, side_effect=KeyboardInterrupt):
                         with self.assertRaises(KeyboardInterrupt):
                             call()
                     edges = len(session.result().graph.edges)

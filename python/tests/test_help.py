@@ -16,7 +16,7 @@ SENTENCES = {
 }
 
 
-def told(*words):
+def answer(*words):
     """The status, and what goes to standard error, of the program with these words."""
     done = subprocess.run([find_program(), *words], stdin=subprocess.DEVNULL, capture_output=True, text=True)
     assert done.stdout == "", done.stdout
@@ -27,12 +27,12 @@ def told(*words):
 class Help(unittest.TestCase):
     def test_each_command_has_its_own(self):
         for verb, (short, long) in SENTENCES.items():
-            status, text = told(verb, "-h")
+            status, text = answer(verb, "-h")
             self.assertEqual(status, 2)
             self.assertIn(short, text)
             self.assertIn(f"Usage: planar {verb}\n", text)
             self.assertNotIn(long, text)
-            status, text = told(verb, "--help")
+            status, text = answer(verb, "--help")
             self.assertEqual(status, 2)
             self.assertIn(long, text)
             for other, (_, foreign) in SENTENCES.items():
@@ -40,7 +40,7 @@ class Help(unittest.TestCase):
 
     def test_the_program_names_all(self):
         for words in (["-h"], ["--help"], []):
-            status, text = told(*words)
+            status, text = answer(*words)
             self.assertEqual(status, 2)
             for verb, (short, _) in SENTENCES.items():
                 self.assertRegex(text, rf"(?m)^  {verb} +{short}")

@@ -47,7 +47,9 @@ class Darts(unittest.TestCase):
 
     def test_round_a_crossing_by_its_sign(self):
         forward, newcomer, back, newcomer_back = cross().around(Point(True, 0))
-        self.assertEqual((forward, newcomer, back, newcomer_back), (Dart(0, 1), Dart(1, 1), Dart(0, 0, True), Dart(1, 0, True)))
+        self.assertEqual(
+            (forward, newcomer, back, newcomer_back), (Dart(0, 1), Dart(1, 1), Dart(0, 0, True), Dart(1, 0, True))
+        )
         mirrored = replace(cross(), crossings=(Crossing(0, 0, 1, "rtl"),))
         self.assertEqual(mirrored.around(Point(True, 0)), (forward, newcomer_back, back, newcomer))
 

@@ -5,8 +5,11 @@ import unittest
 from collections import Counter
 from fractions import Fraction
 
-from fezdrok import Counts, Fault, Limits, NotPlanarized, Planarizer, Report, planarize, prepare, reinsert, to_networkx_embedding
-from fezdrok.graphs import bridges, read_graph
+from fezdrok import (
+    Counts, Fault, Limits, NotPlanarized, Planarizer, Report, planarize, prepare, reinsert, to_networkx_embedding,
+)
+from fezdrok.files.graphs import read_graph
+from fezdrok.search.connectivity import bridges
 
 from .support import crossings_of, euler, graph_pairs, needs_networkx, needs_program, pairs_of, traced
 
@@ -39,7 +42,7 @@ def named_graphs():
     }
 
 
-class Judged(unittest.TestCase):
+class PlanarizationTest(unittest.TestCase):
     """What holds of every result, told from the embedding that networkx has and from the graph."""
 
     def judge(self, result):
@@ -69,7 +72,7 @@ class Judged(unittest.TestCase):
             self.assertEqual(result.edge_id(*edge), edge_id)
 
 
-class Number:
+class WholeNumber:
     """A whole number as numpy's are: it is none of Python's integers, and gives one."""
 
     def __index__(self) -> int:
@@ -97,12 +100,14 @@ class Refusals(unittest.TestCase):
                 planarize(graph, price=lambda u, v, data, price=price: price)
 
     def test_prices_that_are_whole(self):
-        for price in (3, 3.0, Fraction(3), Number()):
+        for price in (3, 3.0, Fraction(3), WholeNumber()):
             self.assertEqual(read_graph(nx.path_graph(3), lambda u, v, data, price=price: price).prices, (3,))
 
     def test_an_attribute_that_no_edge_has(self):
         graph = nx.path_graph(3)
-        with self.assertRaisesRegex(ValueError, "no edge has the attribute 'weight' for its price: edges have none at all"):
+        with self.assertRaisesRegex(
+            ValueError, "no edge has the attribute 'weight' for its price: edges have none at all"
+        ):
             planarize(graph, price="weight")
         graph.edges[0, 1]["weight"] = 2
         with self.assertRaisesRegex(ValueError, "no edge has the attribute 'wieght' for its price: there are 'weight'"):
@@ -143,12 +148,19 @@ class Refusals(unittest.TestCase):
             planarize(nx.path_graph(3), order=[(0, 2)])
 
     def test_options(self):
-        wrong = {"tries": (0, "1 or more"), "rounds": (-1, "rounds is -1: it must be 0 or more"), "shakes": (-3, "0 or more"), "seconds": (-0.5, "seconds is -0.5")}
+        wrong = {
+            "tries": (0, "1 or more"),
+            "rounds": (-1, "rounds is -1: it must be 0 or more"),
+            "shakes": (-3, "0 or more"),
+            "seconds": (-0.5, "seconds is -0.5"),
+        }
         wrong["progress"] = (3, "a function")
         for name, (value, words) in wrong.items():
             with self.subTest(name), self.assertRaisesRegex(ValueError, words):
                 planarize(nx.path_graph(3), **{name: value})
-        for name, value in (("tries", 1.5), ("rounds", "two"), ("shakes", "many"), ("seconds", "long"), ("seconds", float("nan"))):
+        for name, value in (
+            ("tries", 1.5), ("rounds", "two"), ("shakes", "many"), ("seconds", "long"), ("seconds", float("nan"))
+        ):
             with self.subTest(name), self.assertRaisesRegex(ValueError, f"{name} is .*: it must be a"):
                 planarize(nx.path_graph(3), **{name: value})
         for options in ({"order": "best"}, {"begin": "best"}):
@@ -162,7 +174,7 @@ class Refusals(unittest.TestCase):
 
 
 @needs_networkx
-class Kinds(unittest.TestCase):
+class PriceKinds(unittest.TestCase):
     """Prices become kinds, without the program."""
 
     def test_equal_prices_share_a_kind_and_the_dearest_come_first(self):
@@ -187,7 +199,10 @@ class Kinds(unittest.TestCase):
             graph.add_edges_from(random.Random(seed).sample(sorted(nx.non_edges(graph)), seed % 7))
             edges = list(graph.edges)
             with self.subTest(seed):
-                self.assertEqual({edges[place] for place in bridges(edges)}, {edge for edge in edges if edge in set(nx.bridges(graph)) or edge[::-1] in set(nx.bridges(graph))})
+                self.assertEqual(
+                    {edges[place] for place in bridges(edges)},
+                    {edge for edge in edges if edge in set(nx.bridges(graph)) or edge[::-1] in set(nx.bridges(graph))},
+                )
         self.assertEqual(bridges([(0, 1), (1, 0), (1, 2)]), {2})
 
     def test_cheap_edges_are_inserted_last(self):
@@ -214,7 +229,7 @@ class Kinds(unittest.TestCase):
 
 @needs_networkx
 @needs_program
-class Planarizations(Judged):
+class Planarizations(PlanarizationTest):
     def test_known_crossing_numbers_are_lower_bounds(self):
         for name, (graph, number) in named_graphs().items():
             with self.subTest(name):
@@ -294,9 +309,14 @@ class Planarizations(Judged):
     def test_prices_decide_what_is_crossed(self):
         graph = nx.complete_graph(5)
         dear = {edge: 1000 for edge in graph.edges if edge != (0, 1)}
-        result = planarize(graph, quick=True, price=dear, order=[edge for edge in graph.edges if 4 not in edge or edge[0] > 1])
+        result = planarize(
+            graph, quick=True, price=dear, order=[edge for edge in graph.edges if 4 not in edge or edge[0] > 1]
+        )
         self.judge(result)
-        self.assertEqual(result.cost, sum(result.prices[result.picture.edge(result.id_of[pair[0]]).kind] for pair in result.crossing_pairs))
+        self.assertEqual(
+            result.cost,
+            sum(result.prices[result.picture.edge(result.id_of[pair[0]]).kind] for pair in result.crossing_pairs),
+        )
 
     def test_forbidden_edges_have_no_crossing(self):
         for seed in range(5):
@@ -342,7 +362,9 @@ class Planarizations(Judged):
     def test_the_program_counts_the_same(self):
         result = planarize(nx.complete_graph(6))
         self.assertEqual(Planarizer().check(result.picture), result.picture.counts)
-        self.assertEqual(result.picture.counts, Counts(6, result.crossings, 15, 15 + 2 * result.crossings, 11 + result.crossings))
+        self.assertEqual(
+            result.picture.counts, Counts(6, result.crossings, 15, 15 + 2 * result.crossings, 11 + result.crossings)
+        )
 
 
 @needs_networkx
@@ -351,14 +373,18 @@ class Routes(unittest.TestCase):
     """No route is cheaper than the one that was taken: the dual graph is made here, and networkx looks in it."""
 
     def test_prices_of_routes(self):
-        for graph, price in ((nx.complete_graph(6), None), (nx.complete_graph(5), lambda u, v, data: 1 + (3 * u + v) % 5)):
+        for graph, price in (
+            (nx.complete_graph(6), None), (nx.complete_graph(5), lambda u, v, data: 1 + (3 * u + v) % 5)
+        ):
             report = planarize(graph, price, quick=True).reports[0]
             planarizer = Planarizer(start=report.start, prices=report.prices)
             before = report.start
             for entry in report.history:
                 with self.subTest(entry.call):
                     if hasattr(entry.reply, "crossed"):
-                        self.assertEqual(entry.reply.price, self.least(before, entry.call.u, entry.call.v, report.prices))
+                        self.assertEqual(
+                            entry.reply.price, self.least(before, entry.call.u, entry.call.v, report.prices)
+                        )
                 planarizer.commands.append(entry.call)
                 before = planarizer.run().picture
             self.assertEqual(before, report.picture)
@@ -370,7 +396,10 @@ class Routes(unittest.TestCase):
         for dart in picture.darts:
             kind = picture.edge(dart.edge).kind
             dual.add_edge(face_of[dart], face_of[dart.twin], weight=prices[kind] if kind < len(prices) else 1)
-        faces_at = [{face_of[picture.corner(vertex, place)] for place in range(len(picture.rotations[vertex]))} for vertex in (u, v)]
+        faces_at = [
+            {face_of[picture.corner(vertex, place)] for place in range(len(picture.rotations[vertex]))}
+            for vertex in (u, v)
+        ]
         lengths = nx.multi_source_dijkstra_path_length(dual, faces_at[0])
         return min(lengths[face] for face in faces_at[1])
 

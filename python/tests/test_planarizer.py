@@ -14,7 +14,10 @@ class Scripts(unittest.TestCase):
 
     def test_nothing_but_commands(self):
         planarizer = Planarizer()
-        self.assertEqual([planarizer.grow(1), planarizer.insert(0, 2), planarizer.planned(0, 2, 3), planarizer.delete(0)], [0, 1, 2, 3])
+        self.assertEqual(
+            [planarizer.grow(1), planarizer.insert(0, 2), planarizer.planned(0, 2, 3), planarizer.delete(0)],
+            [0, 1, 2, 3],
+        )
         expected = '{"version":1,"workers":[[["grow",1,0,0],["insert",0,2,0],["planned",0,2,3],["delete",0]]]}'
         self.assertEqual(planarizer.script_text(), expected)
 
@@ -82,7 +85,9 @@ class Runs(unittest.TestCase):
         entry = replace(report.history[0], reply=Grown(2, 5))
         with self.assertRaises(Fault) as caught:
             planarizer.replay(replace(report, history=(entry,)))
-        self.assertEqual((caught.exception.number, caught.exception.name, caught.exception.value), (60, "WrongReply", 0))
+        self.assertEqual(
+            (caught.exception.number, caught.exception.name, caught.exception.value), (60, "WrongReply", 0)
+        )
         with self.assertRaisesRegex(Fault, "61 WrongPicture"):
             planarizer.replay(replace(report, picture=Picture.seed()))
 
@@ -102,7 +107,11 @@ class Runs(unittest.TestCase):
         self.assertEqual((caught.exception.number, caught.exception.name), (25, "NotPlanar"))
 
     def test_faults_of_scripts(self):
-        for prices, limits, fault in (([0], None, "10 BadPrice 0"), (None, Limits(1, 1, 1), "11 BadLimits"), ([-1], None, r"54 BadNumber \$/prices/0")):
+        for prices, limits, fault in (
+            ([0], None, "10 BadPrice 0"),
+            (None, Limits(1, 1, 1), "11 BadLimits"),
+            ([-1], None, r"54 BadNumber \$/prices/0"),
+        ):
             with self.subTest(fault), self.assertRaisesRegex(Fault, fault):
                 Planarizer(prices=prices, limits=limits).run()
 

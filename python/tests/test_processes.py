@@ -14,7 +14,8 @@ import unittest
 from pathlib import Path
 from typing import List
 
-from fezdrok import find_program, processes
+from fezdrok import find_program
+from fezdrok.engine import processes
 
 from .support import ROOT, fake, needs_networkx, needs_program
 
@@ -65,7 +66,8 @@ if __name__ == "__main__":
 
 
 def fields(process: int) -> List[str]:
-    """The state of a process, the numbers of its parent, its group and its session, and more; of none that it has ended."""
+    """The state of a process, the numbers of its parent, its group and its session, and more; of none that it has
+    ended."""
     try:
         return Path(f"/proc/{process}/stat").read_text().rpartition(")")[2].split()
     except OSError:
@@ -92,8 +94,8 @@ class Signals(unittest.TestCase):
         self.noted = self.folder / "noted"
 
     def sleeping(self, calls: int = 0) -> str:
-        """A program that hands on so many calls, and then reads a line, notes its number and sleeps. It accepts every picture.
-        If there is no line, since what began it has ended, then it ends, as `planar` does."""
+        """A program that hands on so many calls, and then reads a line, notes its number and sleeps. It accepts every
+        picture. If there is no line, since what began it has ended, then it ends, as `planar` does."""
         count = self.folder / "count"
         count.write_text("0")
         hand_on = f'exec {os.path.abspath(find_program())} "$@"' if calls else ":"
@@ -123,7 +125,12 @@ class Signals(unittest.TestCase):
         file.write_text(BEGIN + text)
         environment = {**os.environ, "PYTHONPATH": os.pathsep.join([os.fspath(ROOT / "python"), *sys.path])}
         python = subprocess.Popen(
-            [sys.executable, file, *words], env=environment, stdout=subprocess.PIPE, stderr=subprocess.PIPE, text=True, start_new_session=True
+            [sys.executable, file, *words],
+            env=environment,
+            stdout=subprocess.PIPE,
+            stderr=subprocess.PIPE,
+            text=True,
+            start_new_session=True,
         )
         self.addCleanup(self.put_away, python)
         self.wait_until(lambda: len(self.noted_numbers()) >= count or has_ended(python.pid), "no program was begun")
@@ -139,7 +146,9 @@ class Signals(unittest.TestCase):
 
     def assert_ends(self, python: "subprocess.Popen[str]", status: int) -> str:
         """All that a Python began has ended with it, and it has this status. What it printed."""
-        self.wait_until(lambda: not session_of(python.pid) and all(map(has_ended, self.noted_numbers())), "a process was left")
+        self.wait_until(
+            lambda: not session_of(python.pid) and all(map(has_ended, self.noted_numbers())), "a process was left"
+        )
         printed, told = python.communicate(timeout=LIMIT)
         self.assertEqual(python.returncode, status, told)
         return printed + told

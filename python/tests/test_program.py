@@ -8,8 +8,8 @@ from unittest import mock
 
 import fezdrok
 from fezdrok import Fault, MemoryFault, PlanarError, ProgramFailed, ProgramNotFound, UsageRefused, find_program
-from fezdrok import program as program_module
-from fezdrok.program import VARIABLE, Program
+from fezdrok.engine import program as program_module
+from fezdrok.engine.program import VARIABLE, Program
 
 from .support import ROOT, fake
 

@@ -4,14 +4,14 @@ import io
 import unittest
 
 from fezdrok import Progress
-from fezdrok.progress import Clock, Line, ended, teller
+from fezdrok.search.progress import Clock, ProgressLine, line_ended, progress_function
 
 
-class Lines(unittest.TestCase):
+class ProgressLines(unittest.TestCase):
     def test_a_line(self):
         times = iter([0.0, 0.0, 0.0, 0.05, 0.2, 0.2, 0.21, 0.21])
         stream = io.StringIO()
-        line = Line(stream, clock=lambda: next(times))
+        line = ProgressLine(stream, clock=lambda: next(times))
         line(Progress("round 12", 1, 4, 123, None, 0.5))
         line(Progress("round 13", 1, 4, 120, None, 0.6))
         line(Progress("shakes", 4, 4, 7, 8, 0.7))
@@ -25,22 +25,22 @@ class Lines(unittest.TestCase):
 
     def test_a_line_ends_once(self):
         stream = io.StringIO()
-        line = Line(stream, clock=lambda: 0.0)
-        with self.assertRaises(KeyboardInterrupt), ended(line):
+        line = ProgressLine(stream, clock=lambda: 0.0)
+        with self.assertRaises(KeyboardInterrupt), line_ended(line):
             line(Progress("round 12", 1, 4, 123, None, 0.5))
             raise KeyboardInterrupt
         self.assertEqual(stream.getvalue().count("\n"), 1)
         line(Progress("done", 4, 4, 7, 7, 0.8))
-        with ended(line), ended(print):
+        with line_ended(line), line_ended(print):
             pass
         self.assertEqual(stream.getvalue().count("\n"), 2)
 
     def test_what_is_told(self):
-        self.assertIs(teller(print), print)
-        self.assertIsNone(teller(None)(Progress("done", 1, 1, 0, 0, 0.0)))
-        self.assertIsInstance(teller(True), Line)
+        self.assertIs(progress_function(print), print)
+        self.assertIsNone(progress_function(None)(Progress("done", 1, 1, 0, 0, 0.0)))
+        self.assertIsInstance(progress_function(True), ProgressLine)
         with self.assertRaisesRegex(ValueError, "progress is 'yes'"):
-            teller("yes")
+            progress_function("yes")
 
 
 class Clocks(unittest.TestCase):

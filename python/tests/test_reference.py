@@ -5,7 +5,7 @@ import random
 import unittest
 
 from fezdrok import Delete, Grow, Insert, Limits, Picture, Planarizer
-from fezdrok.reports import call_from_json
+from fezdrok.engine.reports import call_from_json
 
 from . import reference
 from .support import EXAMPLES, example_scripts, needs_program
@@ -61,7 +61,10 @@ class RandomScripts(unittest.TestCase):
             with self.subTest(seed):
                 report = self.compare(random_calls(chance, 60), prices, limits)
                 kinds.update(getattr(reply, "name", type(reply).__name__) for reply in report.replies)
-        self.assertLessEqual({"Grown", "Inserted", "Deleted", "SameEnds", "NoPosition", "NoEdge", "BadKind", "Cut", "Full", "NoRoute"}, kinds)
+        self.assertLessEqual(
+            {"Grown", "Inserted", "Deleted", "SameEnds", "NoPosition", "NoEdge", "BadKind", "Cut", "Full", "NoRoute"},
+            kinds,
+        )
 
     def test_starts(self):
         start = Picture.from_json(json.loads((EXAMPLES / "bipyramid.json").read_text()))

@@ -4,7 +4,7 @@ import json
 import unittest
 
 from fezdrok import Dart, Deleted, Grow, Grown, Inserted, Limits, NoReport, Picture, Refused, Report
-from fezdrok.reports import Reports as Sequences
+from fezdrok.engine.reports import Reports as Sequences
 
 from .support import EXAMPLES, example_reports, report_files
 
@@ -52,7 +52,9 @@ class Several(unittest.TestCase):
         self.reports = Sequences([self.text, "no report", self.text])
 
     def test_each_is_read_when_it_is_asked_for(self):
-        self.assertEqual((len(self.reports), self.reports[0], self.reports[-1]), (3, read("first_run"), read("first_run")))
+        self.assertEqual(
+            (len(self.reports), self.reports[0], self.reports[-1]), (3, read("first_run"), read("first_run"))
+        )
         self.assertIs(self.reports[0], self.reports[0])
         with self.assertRaises(NoReport):
             self.reports[1]

@@ -1,4 +1,5 @@
-"""Sessions: what is answered at once is what a run reports, and what becomes of faults, broken programs and interrupts."""
+"""Sessions: what is answered at once is what a run reports, and what becomes of faults, broken programs and
+interrupts."""
 
 import os
 import random
@@ -9,9 +10,11 @@ import time
 import unittest
 from unittest import mock
 
-from fezdrok import Counts, Deleted, Fault, Grown, Inserted, Limits, MemoryFault, Picture, PlanarError, Planarizer, ProgramFailed, ProgramNotFound
-from fezdrok import ProgramNotStarted, Refused, Renumbered, Session, SessionClosed, UsageRefused
-from fezdrok import serving
+from fezdrok import (
+    Counts, Deleted, Fault, Grown, Inserted, Limits, MemoryFault, Picture, PlanarError, Planarizer, ProgramFailed,
+    ProgramNotFound, ProgramNotStarted, Refused, Renumbered, Session, SessionClosed, UsageRefused,
+)
+from fezdrok.engine import line_process
 
 from .support import fake, needs_program
 
@@ -109,7 +112,9 @@ class Calls(unittest.TestCase):
             for number in (-1, 2**32):
                 with self.assertRaises(Fault) as caught:
                     session.insert(0, number)
-                self.assertEqual((caught.exception.number, caught.exception.name, caught.exception.value), (54, "BadNumber", "$/2"))
+                self.assertEqual(
+                    (caught.exception.number, caught.exception.name, caught.exception.value), (54, "BadNumber", "$/2")
+                )
             with self.assertRaises(TypeError):
                 session.grow(0.5)
             self.assertEqual(session.report().history, ())
@@ -118,7 +123,12 @@ class Calls(unittest.TestCase):
     def test_several_lines_at_once(self):
         with Session() as session:
             answers = session.answers(['["grow",1,0,0]', '["insert",0,2,0]', '["insert",0,0,0]', "[", '"counts"'])
-            due = ['{"edge":1,"vertex":2}', '{"crossed":[],"edge":2,"end":0,"price":0,"start":0}', '{"refused":[2,"SameEnds"]}', '{"fault":[50,"NotJson"]}']
+            due = [
+                '{"edge":1,"vertex":2}',
+                '{"crossed":[],"edge":2,"end":0,"price":0,"start":0}',
+                '{"refused":[2,"SameEnds"]}',
+                '{"fault":[50,"NotJson"]}',
+            ]
             self.assertEqual(answers[:4], due)
             self.assertEqual(session.answers([]), [])
             self.assertEqual(len(session.answers(['"counts"'] * 3640)), 3640)
@@ -133,7 +143,11 @@ class Calls(unittest.TestCase):
     def test_faults_of_the_start(self):
         seed = Planarizer().run().picture
         wrong = type(seed)(((0,), ()), seed.edges, (), 1, 0)
-        for words, due in (({"prices": [0]}, "10 BadPrice 0"), ({"limits": Limits(1, 1, 1)}, "11 BadLimits"), ({"start": wrong}, "23 BadRotation")):
+        for words, due in (
+            ({"prices": [0]}, "10 BadPrice 0"),
+            ({"limits": Limits(1, 1, 1)}, "11 BadLimits"),
+            ({"start": wrong}, "23 BadRotation"),
+        ):
             with self.assertRaises(Fault) as caught:
                 Session(**words)
             self.assertEqual(str(caught.exception), due)
@@ -177,7 +191,9 @@ class Compacting(unittest.TestCase):
             self.assertEqual(now.crossings, tuple(new.crossings[it] for it in row.crossings))
         for row in before.crossings:
             now = after.crossing(new.crossings[row.id])
-            self.assertEqual((now.crossed, now.newcomer, now.sign), (new.edges[row.crossed], new.edges[row.newcomer], row.sign))
+            self.assertEqual(
+                (now.crossed, now.newcomer, now.sign), (new.edges[row.crossed], new.edges[row.newcomer], row.sign)
+            )
 
     def test_it_makes_room_where_the_ids_have_run_out(self):
         with Session(limits=Limits(2, 3, 0)) as session:
@@ -233,11 +249,11 @@ class Ends(unittest.TestCase):
     @needs_program
     def test_a_call_that_is_interrupted(self):
         with Session() as session:
-            with mock.patch.object(serving.os, "read", side_effect=KeyboardInterrupt):
+            with mock.patch.object(line_process.os, "read", side_effect=KeyboardInterrupt):
                 with self.assertRaises(KeyboardInterrupt):
                     session.grow(0)
             self.assertEqual(session.grow(0), Grown(3, 2))
-            with mock.patch.object(serving.os, "write", side_effect=KeyboardInterrupt):
+            with mock.patch.object(line_process.os, "write", side_effect=KeyboardInterrupt):
                 with self.assertRaises(KeyboardInterrupt):
                     session.grow(0)
             self.assertEqual(session.counts().vertices, 4)
@@ -256,13 +272,13 @@ class Ends(unittest.TestCase):
                         raise KeyboardInterrupt
 
                     for _ in range(5):
-                        with mock.patch.object(serving.os, name, interrupted):
+                        with mock.patch.object(line_process.os, name, interrupted):
                             with self.assertRaises(KeyboardInterrupt):
                                 session.insert(0, 0)
                         self.assertEqual(session.counts(), Counts(2, 0, 1, 1, 1))
                         self.assertEqual(session.delete(7), Refused(4, "NoEdge"))
             self.assertEqual(session.report().replies.count(Refused(4, "NoEdge")), 20)
-            with mock.patch.object(serving.os, "read", side_effect=KeyboardInterrupt):
+            with mock.patch.object(line_process.os, "read", side_effect=KeyboardInterrupt):
                 for is_closed in (False, True):
                     with self.assertRaises(KeyboardInterrupt):
                         session.grow(0)
@@ -270,22 +286,31 @@ class Ends(unittest.TestCase):
 
     @needs_program
     def test_lines_that_are_answered_as_others_are_interrupted(self):
-        """Before or after they are written, before or after their answers are read: the next answers are those of the next
-        lines, whatever the lines were, also where they are answered as those with which a session finds its place again."""
+        """Before or after they are written, before or after their answers are read: the next answers are those of the
+        next lines, whatever the lines were, also where they are answered as those with which a session finds its place
+        again."""
         refused = ['["delete","x"]', '["grow","x",0,0]', '["insert","x",1,0]', '["delete",""]', "[]", ""]
         with Session() as session:
             for name in ("write", "read"):
                 for is_done in (False, True):
-                    for lines in (*([line] for line in refused), refused, refused[:4] * 7, ['"picture"', *refused], refused[:4] * 200):
+                    for lines in (
+                        *([line] for line in refused),
+                        refused,
+                        refused[:4] * 7,
+                        ['"picture"', *refused],
+                        refused[:4] * 200,
+                    ):
                         done = getattr(os, name)
 
                         def interrupted(*words, done=done, is_done=is_done):
                             _ = done(*words) if is_done else None
                             raise KeyboardInterrupt
 
-                        if name == "write" and sum(len(line) + 1 for line in lines) > serving._AT_ONCE:
+                        if name == "write" and sum(len(line) + 1 for line in lines) > line_process._AT_ONCE:
                             continue  # which ends the session
-                        with mock.patch.object(serving.os, name, interrupted), self.assertRaises(KeyboardInterrupt):
+                        with mock.patch.object(line_process.os, name, interrupted), self.assertRaises(
+                            KeyboardInterrupt
+                        ):
                             session.answers(lines)
                         self.assertEqual(session.answers(['"counts"', "["]), [COUNTS, '{"fault":[50,"NotJson"]}'])
                         self.assertEqual(session.counts(), Counts(2, 0, 1, 1, 1))
@@ -314,7 +339,7 @@ class Ends(unittest.TestCase):
                             raise KeyboardInterrupt
                         return text
 
-                    with mock.patch.object(serving.os, "read", cut_short):
+                    with mock.patch.object(line_process.os, "read", cut_short):
                         try:
                             session.answers(lines)
                         except KeyboardInterrupt:
@@ -331,19 +356,32 @@ class Ends(unittest.TestCase):
                 done(target, bytes(data[:100]))
                 raise KeyboardInterrupt
 
-            with mock.patch.object(serving.os, "write", in_part), self.assertRaises(KeyboardInterrupt):
+            with mock.patch.object(line_process.os, "write", in_part), self.assertRaises(KeyboardInterrupt):
                 session.answers(['["delete","x"]' * 40])
             self.assertTrue(session.is_closed)
 
     def other(self, body: str) -> "subprocess.Popen[str]":
-        """Another Python in a group of its own, which has a session, prints the number of its process, and goes on so. At
-        Ctrl-C it prints what it is answered then."""
+        """Another Python in a group of its own, which has a session, prints the number of its process, and goes on so.
+        At Ctrl-C it prints what it is answered then."""
         # A process that is begun in the background of a shell has Ctrl-C turned off.
         heeded = "__import__('signal').signal(2, __import__('signal').default_int_handler)"
-        lines = ("from fezdrok import Session", heeded, "with Session() as session:", "  try:", "    print(session.process_id, flush=True)", f"    {body}")
+        lines = (
+            "from fezdrok import Session",
+            heeded,
+            "with Session() as session:",
+            "  try:",
+            "    print(session.process_id, flush=True)",
+            f"    {body}",
+        )
         caught = ("  except KeyboardInterrupt:", "    print(session.grow(0), session.report().replies[-1])")
         words = {**os.environ, "PYTHONPATH": os.pathsep.join(sys.path)}
-        python = subprocess.Popen([sys.executable, "-c", "\n".join(lines + caught)], env=words, stdout=subprocess.PIPE, text=True, start_new_session=True)
+        python = subprocess.Popen(
+            [sys.executable, "-c", "\n".join(lines + caught)],
+            env=words,
+            stdout=subprocess.PIPE,
+            text=True,
+            start_new_session=True,
+        )
         self.addCleanup(python.wait)
         self.addCleanup(python.kill)
         self.addCleanup(python.stdout.close)
@@ -388,7 +426,10 @@ class Ends(unittest.TestCase):
 
     def test_a_program_that_reads_nothing(self):
         with self.assertRaisesRegex(Fault, "51 TooLong"):
-            Session(start=mock.Mock(to_json=lambda: " " * 10_000_000), program=fake(self, "exec <&-; echo 'planar: 51 TooLong' >&2; exit 1"))
+            Session(
+                start=mock.Mock(to_json=lambda: " " * 10_000_000),
+                program=fake(self, "exec <&-; echo 'planar: 51 TooLong' >&2; exit 1"),
+            )
 
     def test_an_answer_in_another_form(self):
         for answer in ("hello", "[]", "{}", '{"edge":1}', '"edge"'):
@@ -415,7 +456,9 @@ class Ends(unittest.TestCase):
             begun.append(process)
             raise OSError("no such thing")
 
-        with mock.patch.object(serving, "kill_when_closed", refused), self.assertRaisesRegex(ProgramNotStarted, "no such thing"):
+        with mock.patch.object(line_process, "kill_when_closed", refused), self.assertRaisesRegex(
+            ProgramNotStarted, "no such thing"
+        ):
             Session(program=fake(self, "exec sleep 30"))
         self.assertEqual([ended(process) for process in begun], [True])
         self.assertEqual(os.listdir("/dev/fd"), before)
@@ -425,7 +468,7 @@ class Ends(unittest.TestCase):
             self.assertEqual(session.counts(), Counts(2, 0, 1, 1, 1))
 
     def test_a_program_that_does_not_end(self):
-        with mock.patch.object(serving, "PATIENCE", 0.1):
+        with mock.patch.object(line_process, "PATIENCE", 0.1):
             with Session(program=fake(self, f"read line; echo '{COUNTS}'; exec sleep 30")) as session:
                 process = session.process_id
         self.assertTrue(ended(process))

@@ -1,4 +1,5 @@
-"""The program as a process: what it does with streams that are closed, full or broken, and with words that are no text."""
+"""The program as a process: what it does with streams that are closed, full or broken, and with words that are no
+text."""
 
 import json
 import os
@@ -33,22 +34,34 @@ class Streams(unittest.TestCase):
             self.assertEqual(self.ended(("run",), input=SCRIPT, stdout=output), (1, "planar: 56 WriteFault\n"))
 
     def test_empty_input(self):
-        self.assertEqual(self.ended(("run",), stdin=subprocess.DEVNULL, stdout=subprocess.PIPE), (1, "planar: 50 NotJson\n"))
+        self.assertEqual(
+            self.ended(("run",), stdin=subprocess.DEVNULL, stdout=subprocess.PIPE), (1, "planar: 50 NotJson\n")
+        )
 
     def test_closed_input(self):
         status, told = self.ended(("run",), stdout=subprocess.PIPE, preexec_fn=lambda: os.close(0))
         self.assertEqual((status, told), (1, "planar: 55 ReadFault\n"))
 
     def test_closed_output(self):
-        self.assertEqual(self.ended(("run",), input=SCRIPT, preexec_fn=lambda: os.close(1)), (1, "planar: 56 WriteFault\n"))
+        self.assertEqual(
+            self.ended(("run",), input=SCRIPT, preexec_fn=lambda: os.close(1)), (1, "planar: 56 WriteFault\n")
+        )
 
     def test_little_memory(self):
         """With less and less memory a run has its report or none, and then says why; its output is never a part."""
-        script = json.dumps({"version": 1, "workers": [[["grow", place % 2, 0, 0] for place in range(2000)] for _ in range(4)]}).encode()
+        workers = [[["grow", place % 2, 0, 0] for place in range(2000)] for _ in range(4)]
+        script = json.dumps({"version": 1, "workers": workers}).encode()
         ends = set()
         for kibibytes in range(200_000, 4_000, -4_000):
             limit = kibibytes * 1024
-            done = subprocess.run([find_program(), "run"], input=script, stdout=subprocess.PIPE, stderr=subprocess.PIPE, timeout=60, preexec_fn=lambda: resource.setrlimit(resource.RLIMIT_AS, (limit, limit)))
+            done = subprocess.run(
+                [find_program(), "run"],
+                input=script,
+                stdout=subprocess.PIPE,
+                stderr=subprocess.PIPE,
+                timeout=60,
+                preexec_fn=lambda: resource.setrlimit(resource.RLIMIT_AS, (limit, limit)),
+            )
             ends.add(done.returncode)
             if done.returncode == 0:
                 self.assertEqual(len(json.loads(done.stdout)["history"]), 8000)

@@ -1,0 +1,1 @@
+"""Drawings of a planarization: points, lines and documents."""

@@ -1,0 +1,160 @@
+"""Orthogonal drawings of a planarization: the second and third step of the topology-shape-metrics method.
+
+The first step, the planarization, says which edges cross and what bounds each face. `least_bends` makes a shape of it:
+the right angles and the bends (see `bends`). `compact_mesh` makes coordinates of the shape (see `compaction`).
+"""
+
+from __future__ import annotations
+
+from dataclasses import dataclass
+from typing import Dict, List, Mapping, NamedTuple, Optional, Sequence, Tuple
+
+from ..engine.graph_edges import Node
+from ..engine.pictures import Picture, Point
+from ..engine.results import Planarization
+from .bends import Shape, least_bends
+from .compaction import Places, compact_mesh
+from .meshes import Expansion, expand
+from .shelf_packing import shelf_packing
+
+GridPoint = Tuple[int, int]
+
+
+class Box(NamedTuple):
+    """A rectangle on the grid; a point where both its width and its height are 0."""
+
+    left: int
+    bottom: int
+    right: int
+    top: int
+
+    @property
+    def middle(self) -> Tuple[float, float]:
+        """The point in its middle."""
+        return ((self.left + self.right) / 2, (self.bottom + self.top) / 2)
+
+    @property
+    def is_point(self) -> bool:
+        """Whether it has no width and no height."""
+        return self.left == self.right and self.bottom == self.top
+
+    def moved(self, x: int, y: int) -> "Box":
+        """The same rectangle elsewhere."""
+        return Box(self.left + x, self.bottom + y, self.right + x, self.top + y)
+
+
+@dataclass(frozen=True)
+class OrthogonalDrawing:
+    """A drawing on the grid; x runs to the east, y to the north, and the least of both is 0.
+
+    `boxes` has the place of each node of the graph: a point, or a rectangle where it has more than four edges or was
+    given a size. `crossings` has the point of each crossing id. `lines` has for each edge id the ends of its straight
+    lines: from the side of its first node's box over its bends to its other node; crossings lie within those lines.
+    `bends` is the number of bends that the flow came to.
+    """
+
+    boxes: Dict[Node, Box]
+    crossings: Dict[int, GridPoint]
+    lines: Dict[int, Tuple[GridPoint, ...]]
+    bends: int
+
+    @property
+    def size(self) -> Tuple[int, int]:
+        """The width and the height."""
+        points = [point for line in self.lines.values() for point in line]
+        points += [corner for box in self.boxes.values() for corner in ((box.left, box.bottom), (box.right, box.top))]
+        return max(x for x, _ in points), max(y for _, y in points)
+
+    @property
+    def length(self) -> int:
+        """The total length of all edges."""
+        return sum(abs(x - u) + abs(y - v) for line in self.lines.values() for (x, y), (u, v) in zip(line, line[1:]))
+
+
+def orthogonal_drawing(
+    result: Planarization,
+    sizes: Optional[Mapping[Node, Tuple[int, int]]] = None,
+    *,
+    outer: Optional[int] = None,
+    by_flow: bool = True,
+) -> OrthogonalDrawing:
+    """An orthogonal drawing of a planarization: edges along the grid, with the fewest bends that its picture allows
+    where the face at the place `outer` lies outside, and without it `result.outer_face`. The parts of a graph that is
+    not connected lie side by side, each with its own outer face (ValueError where `outer` is given).
+
+    `sizes` gives the least width and height of nodes, in steps of the grid, as for their labels; such nodes are boxes.
+    With `by_flow` False the lines are as long as longest paths make them, which takes less time. ModuleMissing where
+    networkx is not there.
+    """
+    picture = result.picture
+    if result.parts:
+        if outer is not None:
+            raise ValueError("the graph is not connected, and each part has an outer face of its own: leave outer out")
+        return _side_by_side(
+            result, [orthogonal_drawing(part, _sizes_in(part, sizes), by_flow=by_flow) for part in result.parts]
+        )
+    if not picture.edges:
+        width, height = (sizes or {}).get(result.node_of[0], (0, 0))
+        return OrthogonalDrawing({result.node_of[0]: Box(0, 0, width, height)}, {}, {}, 0)
+    wide = {Point(False, result.vertex_of[node]): size for node, size in (sizes or {}).items()}
+    shape = least_bends(picture, picture.outer_face if outer is None else outer)
+    expansion = expand(shape, wide)
+    places = compact_mesh(expansion.mesh, expansion.sides, _room(expansion, wide), by_flow)
+    return _drawing(result, shape, expansion, places)
+
+
+def _sizes_in(part: Planarization, sizes: Optional[Mapping[Node, Tuple[int, int]]]) -> Dict[Node, Tuple[int, int]]:
+    """The sizes that are given for nodes of a part."""
+    return {node: size for node, size in (sizes or {}).items() if node in part.vertex_of}
+
+
+def _side_by_side(result: Planarization, drawings: Sequence[OrthogonalDrawing]) -> OrthogonalDrawing:
+    """One drawing from those of the parts."""
+    boxes: Dict[Node, Box] = {}
+    crossings: Dict[int, GridPoint] = {}
+    lines: Dict[int, Tuple[GridPoint, ...]] = {}
+    corners = shelf_packing([drawing.size for drawing in drawings], 2)
+    for drawing, (left, bottom), (_, edge, crossing) in zip(drawings, corners, result.offsets):
+        x, y = int(left), int(bottom)
+        boxes.update((node, box.moved(x, y)) for node, box in drawing.boxes.items())
+        crossings.update((crossing + place, (u + x, v + y)) for place, (u, v) in drawing.crossings.items())
+        lines.update((edge + place, tuple((u + x, v + y) for u, v in line)) for place, line in drawing.lines.items())
+    return OrthogonalDrawing(boxes, crossings, lines, sum(drawing.bends for drawing in drawings))
+
+
+def _room(
+    expansion: Expansion, wide: Mapping[Point, Tuple[int, int]]
+) -> Tuple[Dict[Tuple[int, int], int], Dict[Tuple[int, int], int]]:
+    """How far apart the corners of the boxes have to be that were given a size, along either axis."""
+    corners = {point: expansion.corners[point] for point in wide}
+    return (
+        {(north_west, north_east): wide[point][0] for point, (north_west, _, _, north_east) in corners.items()},
+        {(south_west, north_west): wide[point][1] for point, (north_west, south_west, _, _) in corners.items()},
+    )
+
+
+def _drawing(result: Planarization, shape: Shape, expansion: Expansion, places: Places) -> OrthogonalDrawing:
+    """The drawing whose mesh has these places."""
+    picture = shape.picture
+    boxes = {node: _box(picture, expansion, places, Point(False, vertex)) for vertex, node in enumerate(result.node_of)}
+    crossings = {row.id: places[expansion.port[picture.around(Point(True, row.id))[0]]] for row in picture.crossings}
+    lines = {edge_id: _bent([places[node] for node in chain]) for edge_id, chain in expansion.chains.items()}
+    return OrthogonalDrawing(boxes, crossings, lines, shape.bend_count)
+
+
+def _box(picture: Picture, expansion: Expansion, places: Places, point: Point) -> Box:
+    """The place of a vertex."""
+    if point in expansion.corners:
+        _, south_west, _, north_east = expansion.corners[point]
+        return Box(*places[south_west], *places[north_east])
+    x, y = places[expansion.port[picture.around(point)[0]]]
+    return Box(x, y, x, y)
+
+
+def _bent(points: List[GridPoint]) -> Tuple[GridPoint, ...]:
+    """The points of a line without those between its ends at which it goes straight on."""
+    kept = points[:1]
+    for before, point, after in zip(points, points[1:], points[2:]):
+        if (before[0] == point[0]) != (point[0] == after[0]):
+            kept.append(point)
+    return (*kept, points[-1])

@@ -1,0 +1,301 @@
+"""What a drawing shows, without saying by what it is drawn: lines, nodes with their labels, marks, and a legend.
+
+A scene is made from a planarization by `straight_scene` or `orthogonal_scene`; `svg` writes it as SVG, `drawing` draws
+it by matplotlib. x runs to the east, y to the north; `Scene.unit` says how many pixels a step of either is.
+"""
+
+from __future__ import annotations
+
+from dataclasses import dataclass, replace
+from math import hypot
+from typing import Any, Dict, List, Mapping, NamedTuple, Optional, Sequence, Tuple
+
+from ..engine.graph_edges import Node, Price
+from ..engine.pictures import Point
+from ..engine.results import Planarization
+from .orthogonal_layout import OrthogonalDrawing
+
+Position = Tuple[float, float]
+
+#: The colour of edges that all cost the same, and those of up to six prices, the dearest first.
+PLAIN = "#36618e"
+COLOURS = ("#b03a2e", "#0072b2", "#d58a00", "#009e73", "#a4509b", "#5a9bd4")
+#: The colour of edges that must not be crossed.
+FORBIDDEN = "#222222"
+#: The height of a label, the width of one of its letters and the least size of a node, in pixels.
+LETTER_HEIGHT = 9.0
+LETTER = 5.4
+LEAST_NODE = 15.0
+#: How many pixels a step of the grid is at least in orthogonal drawings, and in those with arrows.
+GRID_UNIT = 22.0
+ARROW_UNIT = 34.0
+
+
+class Look(NamedTuple):
+    """How the edges of a kind look."""
+
+    color: str
+    width: float
+
+
+@dataclass(frozen=True)
+class Stroke:
+    """An edge. `points` are the ends of its straight lines; where it is `curved`, they are an end and then, again and
+    again, two control points of a cubic curve and its other end. `head` is the triangle of an arrow, or empty."""
+
+    edge_id: int
+    points: Tuple[Position, ...]
+    curved: bool
+    look: Look
+    head: Tuple[Position, ...] = ()
+
+
+class NodeShape(NamedTuple):
+    """A node: its label, its middle, and its width and height. It is drawn with round ends, unless it is a box."""
+
+    node: Node
+    label: str
+    middle: Position
+    width: float
+    height: float
+    box: bool
+
+
+@dataclass(frozen=True)
+class Scene:
+    """All that a drawing shows. `dots` are the marks of crossings; `legend` says what the looks of edges mean, and is
+    empty where all look alike."""
+
+    unit: float
+    strokes: Tuple[Stroke, ...]
+    nodes: Tuple[NodeShape, ...]
+    dots: Tuple[Position, ...]
+    legend: Tuple[Tuple[str, Look], ...]
+
+    @property
+    def bounds(self) -> Tuple[float, float, float, float]:
+        """The least and the greatest x and y of what is drawn: left, bottom, right, top."""
+        points = [point for stroke in self.strokes for point in stroke.points]
+        for node in self.nodes:
+            (x, y), width, height = node.middle, node.width / 2, node.height / 2
+            points += [(x - width, y - height), (x + width, y + height)]
+        xs, ys = [x for x, _ in points], [y for _, y in points]
+        return min(xs), min(ys), max(xs), max(ys)
+
+
+# ---- How edges look
+
+
+def looks(result: Planarization, color: str = PLAIN) -> Tuple[List[Look], Tuple[Tuple[str, Look], ...]]:
+    """The look of each kind, and the legend, which is empty where all edges have one price.
+
+    Edges that must not be crossed are dark and broad. Up to six prices have colours of their own; more share a range
+    of colours, and the legend has the dearest, the cheapest and some between.
+    """
+    prices = result.prices
+    numbers = sorted({price for price in prices if price is not None}, reverse=True)
+    if len(prices) == 1 and numbers:
+        return [Look(color, 1.4)], ()
+    of_price: Dict[Price, Look] = {None: Look(FORBIDDEN, 3.0)}
+    are_few, last = len(numbers) <= len(COLOURS), len(numbers) - 1
+    for place, price in enumerate(numbers):
+        of_price[price] = Look(COLOURS[place] if are_few else _between(place / last), 1.6)
+    shown = numbers if are_few else [numbers[round(step * last / 4)] for step in range(5)]
+    legend = [("not to be crossed", of_price[None])] if None in prices else []
+    legend += [(f"price {price}", of_price[price]) for price in shown]
+    return [of_price[price] for price in prices], tuple(legend)
+
+
+def _between(part: float) -> str:
+    """A colour on the way from the dearest to the cheapest."""
+    first, last = (0xB0, 0x3A, 0x2E), (0x8F, 0xC1, 0xE8)
+    return "#" + "".join(f"{round(start + part * (end - start)):02x}" for start, end in zip(first, last))
+
+
+def label_size(label: str) -> Tuple[float, float]:
+    """The width and the height, in pixels, that a node needs so that its label fits."""
+    return max(LEAST_NODE, LETTER * len(label) + 8.0), LEAST_NODE
+
+
+# ---- Orthogonal drawings
+
+
+def grid_sizes(nodes: Sequence[Node]) -> Dict[Node, Tuple[int, int]]:
+    """The width and height in steps of the grid for the nodes whose labels are too long for a point of the grid."""
+    wide = [node for node in nodes if _point_width(str(node)) > 0.93 * GRID_UNIT]
+    return {node: (-int(-(label_size(str(node))[0] + 4.0) // GRID_UNIT), 2) for node in wide}
+
+
+def _point_width(label: str) -> float:
+    """The width, in pixels, of a node that lies on a point of the grid."""
+    return max(LEAST_NODE, LETTER * len(label) + 4.0)
+
+
+def orthogonal_scene(
+    result: Planarization, drawing: OrthogonalDrawing, labels: bool = True, color: str = PLAIN
+) -> Scene:
+    """The scene of an orthogonal drawing. Crossings have no mark: two lines cross at right angles."""
+    kinds, legend = looks(result, color)
+    widest = max(
+        (_point_width(str(node) if labels else "") for node, box in drawing.boxes.items() if box.is_point),
+        default=LEAST_NODE,
+    )
+    unit = (ARROW_UNIT if result.graph.is_directed() else GRID_UNIT) + widest - LEAST_NODE
+    nodes = []
+    for node, box in drawing.boxes.items():
+        label = str(node) if labels else ""
+        width, height = box.right - box.left, box.top - box.bottom
+        if box.is_point:
+            width, height = _point_width(label) / unit, LEAST_NODE / unit
+        nodes.append(NodeShape(node, label, box.middle, width, height, not box.is_point))
+    strokes = [
+        Stroke(edge_id, line, False, kinds[result.picture.edge(edge_id).kind])
+        for edge_id, line in drawing.lines.items()
+    ]
+    scene = Scene(unit, tuple(strokes), tuple(nodes), (), legend)
+    return with_arrows(result, scene) if result.graph.is_directed() else scene
+
+
+# ---- Straight drawings
+
+
+def straight_scene(
+    result: Planarization,
+    chains: Mapping[int, Sequence[Any]],
+    places: Mapping[Any, Position],
+    unit: float,
+    labels: bool = True,
+    color: str = PLAIN,
+) -> Scene:
+    """The scene of a drawing whose edges lead over these chains of nodes, each of which has a place; they pass them
+    without a corner."""
+    kinds, legend = looks(result, color)
+    nodes = []
+    for node in result.node_of:
+        width, height = label_size(str(node) if labels else "")
+        nodes.append(NodeShape(node, str(node) if labels else "", places[node], width / unit, height / unit, False))
+    ways = crossing_ways(result, chains, places)
+    strokes = []
+    for edge_id, chain in chains.items():
+        curve = smooth([places[node] for node in chain], [ways.get((edge_id, node)) for node in chain])
+        line, look = curve or (places[chain[0]], places[chain[-1]]), kinds[result.picture.edge(edge_id).kind]
+        strokes.append(Stroke(edge_id, line, bool(curve), look))
+    dots = tuple(places[result.name_of(point)] for point in result.picture.points if point.is_crossing)
+    scene = Scene(unit, tuple(strokes), tuple(nodes), dots, legend)
+    return with_arrows(result, scene) if result.graph.is_directed() else scene
+
+
+def crossing_ways(
+    result: Planarization, chains: Mapping[int, Sequence[Any]], places: Mapping[Any, Position]
+) -> Dict[Tuple[int, Any], Position]:
+    """For an edge and a crossing on it, as a node of its chain, the direction in which the edge would pass if both
+    edges met at right angles, turned as little as they can be."""
+    found: Dict[Tuple[int, Any], Position] = {}
+    for row in result.picture.crossings:
+        point = Point(True, row.id)
+        name, darts = result.name_of(point), result.picture.around(point)
+        ways = []
+        for dart in darts:
+            nodes = chains[dart.edge]
+            ways.append(complex(*_toward(places[name], places[nodes[nodes.index(name) + (-1 if dart.back else 1)]])))
+        turned = sum(way * 1j**place for place, way in enumerate(ways))
+        for place, dart in enumerate(darts):
+            if not dart.back and abs(turned) > 1e-9:
+                way = turned / abs(turned) / 1j**place
+                found[dart.edge, name] = (way.real, way.imag)
+    return found
+
+
+def smooth(chain: Sequence[Position], ways: Sequence[Optional[Position]] = ()) -> Tuple[Position, ...]:
+    """A chain of points as cubic curves that pass each of them in one direction. Empty where the chain is as good as
+    straight.
+
+    The direction is between those of the lines before and behind the point; where `ways` has one, it is turned toward
+    that the more, the sharper the corner is.
+    """
+    lines = [_toward(start, end) for start, end in zip(chain, chain[1:])]
+    if all(_cross(lines[0], line) ** 2 < 1e-4 and lines[0][0] * line[0] + lines[0][1] * line[1] > 0 for line in lines):
+        return ()
+    passing = [lines[0]]
+    for place, (before, after) in enumerate(zip(lines, lines[1:]), 1):
+        middle = _toward((0.0, 0.0), (before[0] + after[0], before[1] + after[1]))
+        way = ways[place] if place < len(ways) else None
+        if way is not None:
+            share = min(1.0, 1.0 - (before[0] * after[0] + before[1] * after[1]))
+            middle = _toward((0.0, 0.0), (middle[0] + share * way[0], middle[1] + share * way[1]))
+        passing.append(middle if middle != (0.0, 0.0) else after)
+    passing.append(lines[-1])
+    curve: List[Position] = [chain[0]]
+    for start, end, leaving, coming in zip(chain, chain[1:], passing, passing[1:]):
+        reach = 0.36 * hypot(end[0] - start[0], end[1] - start[1])
+        curve += [
+            (start[0] + reach * leaving[0], start[1] + reach * leaving[1]),
+            (end[0] - reach * coming[0], end[1] - reach * coming[1]),
+            end,
+        ]
+    return tuple(curve)
+
+
+def flat(stroke: Stroke, steps: int = 16) -> List[Position]:
+    """The points of a stroke as a chain of short straight lines, for what knows no curves."""
+    if not stroke.curved:
+        return list(stroke.points)
+    points = [stroke.points[0]]
+    for place in range(0, len(stroke.points) - 1, 3):
+        piece = stroke.points[place : place + 4]
+        for step in range(1, steps + 1):
+            part = step / steps
+            weights = ((1 - part) ** 3, 3 * part * (1 - part) ** 2, 3 * part**2 * (1 - part), part**3)
+            points.append(
+                (sum(w * x for w, (x, _) in zip(weights, piece)), sum(w * y for w, (_, y) in zip(weights, piece)))
+            )
+    return points
+
+
+def _toward(start: Position, end: Position) -> Position:
+    """The direction from one point to another as a vector of length 1, or of length 0 where they are one."""
+    length = hypot(end[0] - start[0], end[1] - start[1])
+    return ((end[0] - start[0]) / length, (end[1] - start[1]) / length) if length > 1e-12 else (0.0, 0.0)
+
+
+def _cross(first: Position, second: Position) -> float:
+    return first[0] * second[1] - first[1] * second[0]
+
+
+# ---- Arrows
+
+
+def with_arrows(result: Planarization, scene: Scene) -> Scene:
+    """The scene of a directed graph: each edge with an arrow at the node that it leads to."""
+    shape_of = {shape.node: shape for shape in scene.nodes}
+    strokes = []
+    for stroke in scene.strokes:
+        source, target = result.edge_of[stroke.edge_id][:2]
+        line = flat(stroke)
+        if result.node_of[result.picture.edge(stroke.edge_id).a] != source:
+            line.reverse()
+        strokes.append(replace(stroke, head=_head(line, shape_of[target], scene.unit)))
+    return replace(scene, strokes=tuple(strokes))
+
+
+def _head(line: Sequence[Position], node: NodeShape, unit: float) -> Tuple[Position, ...]:
+    """The triangle of an arrow whose tip is where a line comes to the rim of the node at its end."""
+    place = len(line) - 1
+    while place > 1 and _is_in(node, line[place - 1]):
+        place -= 1
+    outside, inside = line[place - 1], line[place]
+    for _ in range(30):
+        middle = ((outside[0] + inside[0]) / 2, (outside[1] + inside[1]) / 2)
+        outside, inside = (outside, middle) if _is_in(node, middle) else (middle, inside)
+    x, y = _toward(line[place - 1], line[place])
+    length, half = 7.0 / unit, 2.6 / unit
+    back = (outside[0] - length * x, outside[1] - length * y)
+    return outside, (back[0] - half * y, back[1] + half * x), (back[0] + half * y, back[1] - half * x)
+
+
+def _is_in(node: NodeShape, point: Position) -> bool:
+    """Whether a point lies in a node: a box, or a bar with round ends."""
+    x, y = abs(point[0] - node.middle[0]), abs(point[1] - node.middle[1])
+    if node.box:
+        return x <= node.width / 2 and y <= node.height / 2
+    return hypot(max(0.0, x - (node.width - node.height) / 2), y) <= node.height / 2

@@ -1,0 +1,142 @@
+"""Pictures of graphs: which vertex is which node, which edge is which, and where the edges of the graph run."""
+
+from __future__ import annotations
+
+from dataclasses import dataclass, field
+from functools import cached_property
+from typing import Any, Dict, List, NamedTuple, Sequence, Tuple
+
+from .graph_edges import GraphEdge, Node, Price, name_among
+from .pictures import Dart, Picture, Point
+from .reports import Report
+
+
+@dataclass(frozen=True)
+class Dummy:
+    """A node of an embedding that is no node of the graph.
+
+    `kind` is `crossing`, with the id of the crossing as `of`, or `bend`, with the dart in whose segment the point
+    lies: networkx allows one edge between two nodes, so segments side by side each get such a point but one.
+
+    `layer` is 0, or where the graph itself has such nodes, as it does where a planarization is planarized again, one
+    more than theirs, so that no two are equal.
+    """
+
+    kind: str
+    of: Any
+    layer: int = 0
+
+    def __repr__(self) -> str:
+        mark = "'" * self.layer
+        return f"x{self.of}{mark}" if self.kind == "crossing" else f"bend({self.of.edge},{self.of.segment}){mark}"
+
+
+class Segment(NamedTuple):
+    """A part of an edge between two points of the planarization, walked in one direction.
+
+    `start` and `end` are nodes of the graph, or the `Dummy` of a crossing. `left` and `right` are the faces on either
+    side, by their places in `picture.faces`.
+    """
+
+    dart: Dart
+    start: Any
+    end: Any
+    left: int
+    right: int
+
+
+@dataclass(frozen=True)
+class GraphPicture:
+    """A graph with a picture of it. The fields are those of Planarization, which is what users have of it."""
+
+    graph: Any
+    picture: Picture
+    node_of: Tuple[Node, ...]
+    edge_of: Dict[int, GraphEdge]
+    prices: Tuple[Price, ...]
+    reports: Sequence[Report] = field(repr=False)
+    tries: Tuple[int, ...] = ()
+    parts: Tuple["GraphPicture", ...] = field(default=(), repr=False)
+
+    @cached_property
+    def vertex_of(self) -> Dict[Node, int]:
+        """The vertex of each node."""
+        return {node: vertex for vertex, node in enumerate(self.node_of)}
+
+    @cached_property
+    def id_of(self) -> Dict[GraphEdge, int]:
+        """The id of each edge of the graph, which is named as the graph's `edges` names it."""
+        return {edge: edge_id for edge_id, edge in self.edge_of.items()}
+
+    def edge_id(self, u: Node, v: Node, *key: Any) -> int:
+        """The id of an edge, which an undirected graph may name either way round. In a multigraph its key must be
+        given: `edge_id(u, v, key)`. KeyError where there is none."""
+        return self.id_of[name_among(self.id_of, self.graph, (u, v, *key))]
+
+    def name_of(self, point: Point) -> Any:
+        """The node of the graph that a point of the picture is, or the Dummy of a crossing."""
+        return Dummy("crossing", point.id, self.layer) if point.is_crossing else self.node_of[point.id]
+
+    @cached_property
+    def layer(self) -> int:
+        """The layer of the Dummy nodes: 0, or one more than that of the Dummy nodes that the graph itself has."""
+        return max((node.layer + 1 for node in self.node_of if isinstance(node, Dummy)), default=0)
+
+    def segments(self, u: Node, v: Node, *key: Any) -> Tuple[Segment, ...]:
+        """The segments of an edge in order, from u to v, with their ends and the faces on either side. The edge is
+        named as for `edge_id`, in a multigraph with its key; KeyError where there is none."""
+        row = self.picture.edge(self.edge_id(u, v, *key))
+        darts = [Dart(row.id, place) for place in range(row.segments)]
+        if self.node_of[row.a] != u:
+            darts = [dart.twin for dart in reversed(darts)]
+        return tuple(self._segment(dart) for dart in darts)
+
+    def _segment(self, dart: Dart) -> Segment:
+        """The segment of a dart."""
+        start, end = (self.name_of(point) for point in (self.picture.start(dart), self.picture.end(dart)))
+        return Segment(dart, start, end, self.face_of(dart), self.face_of(dart.twin))
+
+    # ---- Faces
+
+    def face_of(self, dart: Dart) -> int:
+        """The place in `picture.faces` of the face on the left of a dart; KeyError where there is no such dart."""
+        return self.picture.face_of(dart)
+
+    @property
+    def outer_face(self) -> int:
+        """The place in `picture.faces` of the face that drawings have outside: the one with the most nodes of the graph
+        along it, of equal ones the longest, then the first. ValueError where there is no edge. See `outer_faces` for a
+        graph that is not connected."""
+        return self.picture.outer_face
+
+    @property
+    def outer_faces(self) -> Tuple[int, ...]:
+        """The places in `picture.faces` of the outer faces of all parts that have an edge."""
+        found: List[int] = []
+        before = 0
+        for part in self.parts or (self,):
+            found += [before + part.outer_face] if part.picture.edges else []
+            before += len(part.picture.faces)
+        return tuple(found)
+
+    # ---- Crossings
+
+    @property
+    def crossings(self) -> int:
+        """How many crossings the picture has."""
+        return len(self.picture.crossings)
+
+    @property
+    def crossing_pairs(self) -> List[Tuple[GraphEdge, GraphEdge]]:
+        """For each crossing the two edges that cross there: the one that was there, and the one that crossed it."""
+        return [(self.edge_of[row.crossed], self.edge_of[row.newcomer]) for row in self.picture.crossings]
+
+    @property
+    def cost(self) -> int:
+        """The sum of the prices of the crossings: each costs what its crossed edge costs."""
+        return sum(self.prices[self.picture.edge(row.crossed).kind] or 0 for row in self.picture.crossings)
+
+    @property
+    def score(self) -> Tuple[int, int]:
+        """What is less in a better picture: the crossings, then their cost."""
+        return (self.crossings, self.cost)

@@ -1,0 +1,214 @@
+"""Planarizations that go on: edges of a graph are inserted and taken out by the names of their nodes, one by one."""
+
+from __future__ import annotations
+
+from dataclasses import replace
+from types import TracebackType
+from typing import Any, Callable, Dict, Generic, List, Optional, Sequence, Tuple, Type, TypeVar
+
+from .faults import NotPlanarized
+from .graph_edges import KINDS, GraphEdge, Node, Price, judge_kinds, name_among
+from .graph_pictures import GraphPicture
+from .pictures import Counts
+from .program import PathLike
+from .reports import Deleted, Grown, Inserted, Limits, Refused, Reply, Report
+from .session import Renumbered, Session
+
+#: What a session goes on from and gives: a Planarization.
+Result = TypeVar("Result", bound=GraphPicture)
+
+
+class GraphSession(Generic[Result]):
+    """A planarization that is changed edge by edge, in one process of the program. See `Planarization.session`.
+
+    `graph` is the graph of now, a copy of the planarization's own. `edge_of[e]` is its edge that has the id e in the
+    picture, as the graph's `edges` gives it, and `prices` are those that an edge may have. They are to be read only.
+
+    An edge that the program refuses is NotPlanarized, which changes nothing, and the session goes on. What ends it is
+    as said of Session. A call that was interrupted, as by Ctrl-C, was carried out wholly or not at all; the next call
+    finds out which.
+    """
+
+    def __init__(
+        self,
+        result: Result,
+        prices: Sequence[Price] = (),
+        limits: Optional[Limits] = None,
+        program: Optional[PathLike] = None,
+    ):
+        if result.parts:
+            raise ValueError("the graph is not connected: begin a session for each of the planarization's parts")
+        if not result.picture.edges:
+            raise ValueError("the graph has no edge: the smallest picture is one edge between two vertices")
+        self.prices = _session_prices(result.prices, prices)
+        self.graph = result.graph.copy()
+        self._source = result
+        self._reports: Sequence[Report] = result.reports
+        self._node_of: List[Node] = list(result.node_of)
+        self._vertex_of: Dict[Node, int] = dict(result.vertex_of)
+        self._place_of: Dict[Node, int] = {node: place for place, node in enumerate(self.graph)}
+        self.edge_of: Dict[int, GraphEdge] = {edge_id: self._name(*edge) for edge_id, edge in result.edge_of.items()}
+        self._id_of: Dict[GraphEdge, int] = {edge: edge_id for edge_id, edge in self.edge_of.items()}
+        self._asked: Optional[GraphEdge] = None
+        self._calls = 0
+        self._session = Session(result.picture, limits, self.prices, program)
+
+    # ---- Edges
+
+    def insert_edge(self, u: Node, v: Node, price: Price = 1) -> Inserted:
+        """A new edge between two nodes along the first of the cheapest routes. To cross it costs `price`, or it must
+        not be crossed (None).
+
+        ValueError where one of them is no node, where they are joined already and the graph is no multigraph, or where
+        the price is none of `prices`; NotPlanarized where the program refuses the edge, as 9 NoRoute.
+        """
+        self._settle()
+        start, end, kind = self._vertex(u), self._vertex(v), self._kind(price)
+        if not self.graph.is_multigraph() and self.graph.has_edge(u, v):
+            raise ValueError(f"the graph has the edge {(u, v)!r} already, and is no multigraph")
+        name = self._name(u, v, self.graph.new_edge_key(u, v)) if self.graph.is_multigraph() else self._name(u, v)
+        return self._made(name, lambda: self._session.insert(start, end, kind))
+
+    def grow_edge(self, u: Node, v: Node, price: Price = 1, position: int = 0) -> Grown:
+        """A new node `v` on a new edge from the node `u`, which begins in the corner at this position of it.
+
+        ValueError where `u` is no node, `v` is one already or is None, which networkx takes for no node, or the price
+        is none of `prices`; TypeError where `v` has no hash; NotPlanarized where the program refuses the edge, as 7
+        Full.
+        """
+        self._settle()
+        start, kind = self._vertex(u), self._kind(price)
+        if v is None:
+            raise ValueError("None cannot be a node of a graph")
+        if v in self._vertex_of:
+            raise ValueError(f"{v!r} is a node of the graph already")
+        name = (u, v, 0) if self.graph.is_multigraph() else (u, v)
+        return self._made(name, lambda: self._session.grow(start, position, kind))
+
+    def delete_edge(self, u: Node, v: Node, *key: Any) -> Deleted:
+        """An edge taken out, which an undirected graph may name either way round. In a multigraph its key must be
+        given: `delete_edge(u, v, key)`.
+
+        KeyError where there is none; NotPlanarized where the program refuses it, as 6 Cut: the graph would fall apart.
+        """
+        self._settle()
+        name = name_among(self._id_of, self.graph, (u, v, *key))
+        edge_id = self._id_of[name]
+        return self._made(name, lambda: self._session.delete(edge_id))
+
+    def _vertex(self, node: Node) -> int:
+        if node not in self._vertex_of:
+            raise ValueError(f"{node!r} is no node of the graph")
+        return self._vertex_of[node]
+
+    def _kind(self, price: Price) -> int:
+        if price not in self.prices:
+            known = ", ".join(map(str, self.prices))
+            raise ValueError(
+                f"the price {price!r} is none of the session's, which are {known}: give it when the session begins"
+            )
+        return self.prices.index(price)
+
+    def _name(self, u: Node, v: Node, *key: Any) -> GraphEdge:
+        """The edge as the graph's `edges` gives it: an undirected one from the node that comes first."""
+        is_turned = not self.graph.is_directed() and self._place_of[u] > self._place_of[v]
+        return (v, u, *key) if is_turned else (u, v, *key)
+
+    def _made(self, name: GraphEdge, call: Callable[[], Reply]) -> Any:
+        """The reply to a call for this edge, which is noted; NotPlanarized where it is a refusal."""
+        self._asked = name
+        reply = call()
+        self._note(name, reply)
+        self._calls += 1
+        self._asked = None
+        if isinstance(reply, Refused):
+            raise NotPlanarized(name, reply)
+        return reply
+
+    def _note(self, name: GraphEdge, reply: Reply) -> None:
+        """Changes the graph and the names as a reply says. Twice is as once, since it may be interrupted."""
+        if isinstance(reply, Refused):
+            return
+        if isinstance(reply, Deleted):
+            self.edge_of.pop(reply.edge, None)
+            self._id_of.pop(name, None)
+            if self.graph.has_edge(*name):
+                self.graph.remove_edge(*name)
+            return
+        if isinstance(reply, Grown):
+            self._node_of[reply.vertex :] = [name[1]]
+            self._vertex_of[name[1]] = reply.vertex
+            self._place_of.setdefault(name[1], len(self._place_of))
+        self.graph.add_edge(*name)
+        self.edge_of[reply.edge] = name
+        self._id_of[name] = reply.edge
+
+    def _settle(self) -> None:
+        """Finds out what became of a call that was interrupted: it is the last of the history, or it is not there."""
+        if self._asked is not None:
+            history = self._session.report().history
+            if len(history) > self._calls:
+                self._note(self._asked, history[-1].reply)
+            self._calls = len(history)
+            self._asked = None
+
+    # ---- What there is now
+
+    def counts(self) -> Counts:
+        """How large the picture is, as the program counts it."""
+        return self._session.counts()
+
+    def result(self) -> Result:
+        """The planarization of the graph of now. The session goes on, and the result stays as it is."""
+        self._settle()
+        report = self._session.report()
+        kinds = max(len(self._source.prices), *(row.kind + 1 for row in report.picture.edges))
+        now = {
+            "graph": self.graph.copy(),
+            "picture": report.picture,
+            "node_of": tuple(self._node_of),
+            "edge_of": dict(self.edge_of),
+        }
+        return replace(self._source, **now, prices=self.prices[:kinds], reports=(*self._reports, report))
+
+    def compact(self) -> Renumbered:
+        """Begins anew with the ids of edges and crossings from 0 on, as `Session.compact`, and gives the new id of each
+        old one. The names stay. In the result the next report begins from the picture with the new ids. Where this is
+        interrupted, the session is over."""
+        self._settle()
+        reports = (*self._reports, self._session.report())
+        try:
+            new = self._session.compact()
+            self.edge_of = {new.edges[edge_id]: name for edge_id, name in self.edge_of.items()}
+            self._id_of = {name: edge_id for edge_id, name in self.edge_of.items()}
+            self._reports, self._calls = reports, 0
+        except KeyboardInterrupt:
+            self.close()
+            raise
+        return new
+
+    # ---- Its end
+
+    @property
+    def is_closed(self) -> bool:
+        """Whether the session is over."""
+        return self._session.is_closed
+
+    def __enter__(self) -> GraphSession[Result]:
+        return self
+
+    def __exit__(
+        self, kind: Optional[Type[BaseException]], raised: Optional[BaseException], trace: Optional[TracebackType]
+    ) -> None:
+        self.close()
+
+    def close(self) -> None:
+        """Ends the process, as `Session.close`."""
+        self._session.close()
+
+
+def _session_prices(known: Sequence[Price], more: Sequence[Price]) -> Tuple[Price, ...]:
+    """The prices that are known, those that come to them, and 1 if there is room; ValueError if they are too many."""
+    table = tuple(dict.fromkeys((*known, *more)))
+    judge_kinds(len(table))
+    return table if 1 in table or len(table) == KINDS else (*table, 1)

@@ -1,0 +1,309 @@
+"""Pictures: a graph drawn in the plane, kept as rotations, edges and crossings, with its darts and faces.
+
+The words are those of docs/MODEL.md. What is computed here (starts, turns, faces, counts) is computed in Python
+from the definitions, without the program. It expects a picture that the program gave or that it accepts.
+"""
+
+from __future__ import annotations
+
+import json
+from dataclasses import dataclass
+from functools import cached_property
+from typing import Any, Dict, Iterator, List, NamedTuple, Set, Tuple
+
+from .faults import read_as
+
+
+def json_text(value: Any) -> str:
+    """A value as JSON text in the form of the program: no space, keys in order."""
+    return json.dumps(value, separators=(",", ":"), sort_keys=True)
+
+
+class Dart(NamedTuple):
+    """A half-edge: a segment of an edge with a direction. Darts compare in their canonical order."""
+
+    edge: int
+    segment: int
+    back: bool = False
+
+    @property
+    def twin(self) -> "Dart":
+        """The same segment the other way."""
+        return Dart(self.edge, self.segment, not self.back)
+
+    @property
+    def way(self) -> str:
+        """`forward` from the edge's end `a` to its end `b`, else `back`."""
+        return "back" if self.back else "forward"
+
+    @staticmethod
+    def from_json(value: List[Any]) -> "Dart":
+        """The dart of an element of `crossed` in a report, as `[3,0,"forward"]`."""
+        edge, segment, way = value
+        return Dart(edge, segment, way == "back")
+
+    def to_json(self) -> List[Any]:
+        """The dart as it stands in a report."""
+        return [self.edge, self.segment, self.way]
+
+
+class Point(NamedTuple):
+    """A vertex or a crossing of a picture. Vertices come before crossings."""
+
+    is_crossing: bool
+    id: int
+
+
+@dataclass(frozen=True)
+class Edge:
+    """An edge: its two ends, its kind, and the ids of the crossings on its path from `a` to `b`."""
+
+    id: int
+    a: int
+    b: int
+    kind: int = 0
+    crossings: Tuple[int, ...] = ()
+
+    @property
+    def segments(self) -> int:
+        """How many segments it has: one more than crossings."""
+        return len(self.crossings) + 1
+
+    @staticmethod
+    def from_json(value: Dict[str, Any]) -> "Edge":
+        """The edge of a row of a picture, an object with `id`, `a`, `b`, `kind` and `crossings`."""
+        return Edge(value["id"], value["a"], value["b"], value["kind"], tuple(value["crossings"]))
+
+    def to_json(self) -> Dict[str, Any]:
+        """The edge as that object."""
+        return {"id": self.id, "a": self.a, "b": self.b, "kind": self.kind, "crossings": list(self.crossings)}
+
+
+@dataclass(frozen=True)
+class Crossing:
+    """A crossing: the edge that was there, the newcomer that crossed it, and how.
+
+    `sign` is `ltr` where the newcomer passes from the left to the right of the crossed edge, else `rtl`.
+    """
+
+    id: int
+    crossed: int
+    newcomer: int
+    sign: str
+
+    @staticmethod
+    def from_json(value: Dict[str, Any]) -> "Crossing":
+        """The crossing of a row of a picture, an object with `id`, `crossed`, `newcomer` and `sign`."""
+        return Crossing(value["id"], value["crossed"], value["newcomer"], value["sign"])
+
+    def to_json(self) -> Dict[str, Any]:
+        """The crossing as that object."""
+        return {"id": self.id, "crossed": self.crossed, "newcomer": self.newcomer, "sign": self.sign}
+
+
+class Counts(NamedTuple):
+    """How large a picture is."""
+
+    vertices: int
+    crossings: int
+    edges: int
+    segments: int
+    faces: int
+
+    @property
+    def euler(self) -> int:
+        """Points - segments + faces, which is 2 for a connected picture in the plane."""
+        return self.vertices + self.crossings - self.segments + self.faces
+
+
+@dataclass(frozen=True)
+class Picture:
+    """A picture as rows: the clockwise lists of edge ids round the vertices, the edges and the crossings in rising
+    order of their ids, and the ids that come next."""
+
+    rotations: Tuple[Tuple[int, ...], ...]
+    edges: Tuple[Edge, ...]
+    crossings: Tuple[Crossing, ...] = ()
+    next_edge: int = 0
+    next_crossing: int = 0
+
+    @staticmethod
+    def seed() -> "Picture":
+        """The first picture: two vertices and one edge."""
+        return Picture(((0,), (0,)), (Edge(0, 0, 1),), (), 1, 0)
+
+    @staticmethod
+    def from_json(value: Dict[str, Any]) -> "Picture":
+        """The picture of a JSON object in the form of docs/FORMATS.md."""
+        return Picture(
+            tuple(tuple(around) for around in value["rotations"]),
+            tuple(Edge.from_json(row) for row in value["edges"]),
+            tuple(Crossing.from_json(row) for row in value["crossings"]),
+            value["next_edge"],
+            value["next_crossing"],
+        )
+
+    @staticmethod
+    def from_text(text: str) -> "Picture":
+        """The picture of a text that the program wrote. NoReport where the text is no JSON, or is of another form."""
+        return read_as("picture", text, Picture.from_json)
+
+    def to_json(self) -> Dict[str, Any]:
+        """The picture as a JSON object in the form of docs/FORMATS.md."""
+        return {
+            "rotations": [list(around) for around in self.rotations],
+            "edges": [row.to_json() for row in self.edges],
+            "crossings": [row.to_json() for row in self.crossings],
+            "next_edge": self.next_edge,
+            "next_crossing": self.next_crossing,
+        }
+
+    def to_text(self) -> str:
+        """The picture as the program writes it."""
+        return json_text(self.to_json())
+
+    # ---- Rows by their ids
+
+    @cached_property
+    def _edges(self) -> Dict[int, Edge]:
+        return {row.id: row for row in self.edges}
+
+    @cached_property
+    def _crossings(self) -> Dict[int, Crossing]:
+        return {row.id: row for row in self.crossings}
+
+    def edge(self, edge_id: int) -> Edge:
+        """The edge of this id; KeyError where there is none."""
+        return self._edges[edge_id]
+
+    def crossing(self, crossing_id: int) -> Crossing:
+        """The crossing of this id; KeyError where there is none."""
+        return self._crossings[crossing_id]
+
+    @cached_property
+    def _paths(self) -> Dict[int, Tuple[Point, ...]]:
+        return {
+            row.id: (Point(False, row.a), *(Point(True, i) for i in row.crossings), Point(False, row.b))
+            for row in self.edges
+        }
+
+    def path(self, edge_id: int) -> Tuple[Point, ...]:
+        """The points on an edge from its end `a` to its end `b`, both among them."""
+        return self._paths[edge_id]
+
+    @cached_property
+    def _places(self) -> Dict[Tuple[int, int], int]:
+        """For an edge and a crossing on its path, how many crossings stand before it."""
+        return {(row.id, crossing): place for row in self.edges for place, crossing in enumerate(row.crossings)}
+
+    # ---- Points and darts
+
+    @property
+    def points(self) -> Tuple[Point, ...]:
+        """All vertices, then all crossings."""
+        vertices = tuple(Point(False, vertex) for vertex in range(len(self.rotations)))
+        return vertices + tuple(Point(True, row.id) for row in self.crossings)
+
+    @property
+    def darts(self) -> Iterator[Dart]:
+        """All darts in canonical order: by edge, by segment, forward before back."""
+        return (
+            Dart(row.id, segment, back)
+            for row in self.edges
+            for segment in range(row.segments)
+            for back in (False, True)
+        )
+
+    def start(self, dart: Dart) -> Point:
+        """The point where a dart starts."""
+        return self.path(dart.edge)[dart.segment + dart.back]
+
+    def end(self, dart: Dart) -> Point:
+        """The point where a dart ends: where its twin starts."""
+        return self.start(dart.twin)
+
+    def around(self, point: Point) -> Tuple[Dart, ...]:
+        """The darts that start at a point, clockwise: at a vertex by its rotation, at a crossing from the crossed
+        edge forward."""
+        return self._around_crossing(point.id) if point.is_crossing else self._around_vertex(point.id)
+
+    def _around_vertex(self, vertex: int) -> Tuple[Dart, ...]:
+        rows = [self.edge(edge_id) for edge_id in self.rotations[vertex]]
+        return tuple(Dart(row.id, 0) if row.a == vertex else Dart(row.id, row.segments - 1, True) for row in rows)
+
+    def _around_crossing(self, crossing_id: int) -> Tuple[Dart, ...]:
+        row = self.crossing(crossing_id)
+        old, new = (self._places[edge_id, crossing_id] for edge_id in (row.crossed, row.newcomer))
+        crossed_forward, crossed_back = Dart(row.crossed, old + 1), Dart(row.crossed, old, True)
+        new_forward, new_back = Dart(row.newcomer, new + 1), Dart(row.newcomer, new, True)
+        if row.sign == "ltr":
+            return (crossed_forward, new_forward, crossed_back, new_back)
+        return (crossed_forward, new_back, crossed_back, new_forward)
+
+    @cached_property
+    def _turns(self) -> Dict[Dart, Dart]:
+        turns: Dict[Dart, Dart] = {}
+        for point in self.points:
+            darts = self.around(point)
+            turns.update(zip(darts, darts[1:] + darts[:1]))
+        return turns
+
+    def turn(self, dart: Dart) -> Dart:
+        """The next dart clockwise at the point where this one starts."""
+        return self._turns[dart]
+
+    def face_step(self, dart: Dart) -> Dart:
+        """The next dart along the face on the left: the turn of the twin."""
+        return self._turns[dart.twin]
+
+    def corner(self, vertex: int, position: int) -> Dart:
+        """The dart that names the corner at a position of a vertex; the corner lies in this dart's face."""
+        return self._around_vertex(vertex)[position]
+
+    # ---- Faces
+
+    def face(self, dart: Dart) -> Tuple[Dart, ...]:
+        """The darts along the face on the left of a dart, from this dart on."""
+        darts = [dart]
+        while (following := self.face_step(darts[-1])) != dart:
+            darts.append(following)
+        return tuple(darts)
+
+    @cached_property
+    def faces(self) -> Tuple[Tuple[Dart, ...], ...]:
+        """All faces, each from its first dart on, in the order of their first darts."""
+        faces: List[Tuple[Dart, ...]] = []
+        seen: Set[Dart] = set()
+        for dart in self.darts:
+            if dart not in seen:
+                faces.append(self.face(dart))
+                seen.update(faces[-1])
+        return tuple(faces)
+
+    @cached_property
+    def _face_of(self) -> Dict[Dart, int]:
+        return {dart: place for place, face in enumerate(self.faces) for dart in face}
+
+    def face_of(self, dart: Dart) -> int:
+        """The place in `faces` of the face on the left of a dart; KeyError where there is no such dart."""
+        return self._face_of[dart]
+
+    @cached_property
+    def outer_face(self) -> int:
+        """The place in `faces` of the face that drawings have outside. A picture has no outer face of its own; this is
+        the one with the most vertices along it, of equal ones the longest, then the first. ValueError where there is no
+        edge, and so no face."""
+        if not self.faces:
+            raise ValueError("the picture has no edge, and so no face")
+
+        def size(place: int) -> Tuple[int, int]:
+            face = self.faces[place]
+            return sum(not self.start(dart).is_crossing for dart in face), len(face)
+
+        return max(range(len(self.faces)), key=size)
+
+    @property
+    def counts(self) -> Counts:
+        """How many vertices, crossings, edges, segments and faces there are."""
+        segments = sum(row.segments for row in self.edges)
+        return Counts(len(self.rotations), len(self.crossings), len(self.edges), segments, len(self.faces))

@@ -1,0 +1,226 @@
+"""Sessions: a picture in one process of the program, which is changed by one call after another."""
+
+from __future__ import annotations
+
+import json
+from operator import index
+from types import TracebackType
+from typing import Any, Callable, Dict, List, NamedTuple, Optional, Sequence, Tuple, Type, TypeVar, Union
+
+from .faults import Fault, ProgramFailed, SessionClosed
+from .line_process import HASTE, TOGETHER, LineProcess
+from .pictures import Counts, Crossing, Edge, Picture, json_text
+from .planarizer import Planarizer
+from .program import PathLike, Program
+from .reports import (
+    Call, Delete, Deleted, Grow, Grown, Insert, Inserted, Limits, Prices, Refused, Report, reply_from_json,
+)
+
+Value = TypeVar("Value")
+Own = TypeVar("Own", bound="Session")
+
+
+class Renumbered(NamedTuple):
+    """What `compact` did: for each id of an edge and of a crossing before it, the id after it."""
+
+    edges: Dict[int, int]
+    crossings: Dict[int, int]
+
+
+def renumbered(picture: Picture) -> Tuple[Picture, Renumbered]:
+    """The same picture with the ids of edges and crossings from 0 on, in the order in which they were, and how they
+    map."""
+    new = Renumbered(
+        {row.id: place for place, row in enumerate(picture.edges)},
+        {row.id: place for place, row in enumerate(picture.crossings)},
+    )
+    rotations = tuple(tuple(new.edges[edge] for edge in around) for around in picture.rotations)
+    edges = tuple(
+        Edge(new.edges[row.id], row.a, row.b, row.kind, tuple(new.crossings[it] for it in row.crossings))
+        for row in picture.edges
+    )
+    crossings = tuple(
+        Crossing(new.crossings[row.id], new.edges[row.crossed], new.edges[row.newcomer], row.sign)
+        for row in picture.crossings
+    )
+    return Picture(rotations, edges, crossings, len(edges), len(crossings)), new
+
+
+class Session:
+    """A picture in one process of the program, changed by calls that are answered at once.
+
+    `start` is the picture to begin with (without it two vertices and one edge), `limits` how large it may grow (see
+    Limits), `prices` the price of crossing an edge of kind 0, 1, .. (1 to 1000, or None where such edges must not be
+    crossed; kinds past the end cost 1), and `program` the path of `planar` (see `find_program`).
+
+    The process begins with the session, and ends with the `with` block or by `close`. A fault of the start, of the
+    limits or of the prices is a Fault here, as by `Planarizer.run`.
+
+    A call that the program refuses changes nothing, and its reply is a Refused. Numbers that are none of the form's, as
+    negative ones, are a Fault (54 BadNumber), which changes nothing either. Where the program ends before its time, the
+    exception of its status is raised, with what it wrote on standard error: ProgramFailed, as for a signal, or another
+    PlanarError. The session is then closed, and every further call is SessionClosed.
+
+    A call that was interrupted, as by Ctrl-C, may have been carried out; `report` says whether it was. The session goes
+    on, but where the next call is interrupted while it waits for the end of that one; and it may be over where
+    `compact` is interrupted, or `answers` to more than 512 bytes. A session is for one thread.
+    """
+
+    def __init__(
+        self,
+        start: Optional[Picture] = None,
+        limits: Optional[Limits] = None,
+        prices: Optional[Sequence[Optional[int]]] = None,
+        program: Optional[PathLike] = None,
+    ):
+        self._program = Program(program)
+        self._given = Planarizer(start, limits, prices)
+        self._process: Optional[LineProcess] = None
+        self._process = self._begun(start)
+
+    @property
+    def limits(self) -> Limits:
+        """How large the picture may grow."""
+        return self._given.limits or Limits()
+
+    @property
+    def prices(self) -> Prices:
+        """The prices of the kinds, as they were given."""
+        return self._given.prices or ()
+
+    @property
+    def is_closed(self) -> bool:
+        """Whether the session is over."""
+        return self._process is None
+
+    @property
+    def process_id(self) -> Optional[int]:
+        """The number of the program's process, or None where the session is over."""
+        return None if self._process is None else self._process.process_id
+
+    def _begun(self, start: Optional[Picture]) -> LineProcess:
+        """A process that has begun with this picture."""
+        opening = Planarizer(start, self._given.limits, self._given.prices).script()
+        del opening["workers"]
+        process = LineProcess(self._program.path)
+        try:
+            _understood(process, process.ask(json_text(opening)), _counts)
+        except BaseException:
+            process.end()
+            raise
+        return process
+
+    # ---- Calls
+
+    def grow(self, u: int, position: int = 0, kind: int = 0) -> Union[Grown, Refused]:
+        """A new vertex on a new edge, from the corner at this position of `u`."""
+        return self._call(Grow(index(u), index(position), index(kind)))
+
+    def insert(self, u: int, v: int, kind: int = 0) -> Union[Inserted, Refused]:
+        """A new edge from `u` to `v` along the first of the cheapest routes."""
+        return self._call(Insert(index(u), index(v), index(kind)))
+
+    def delete(self, edge: int) -> Union[Deleted, Refused]:
+        """An edge taken out."""
+        return self._call(Delete(index(edge)))
+
+    def _call(self, call: Call) -> Any:
+        return self._ask(call.to_json(), reply_from_json)
+
+    # ---- What there is now
+
+    def counts(self) -> Counts:
+        """How many vertices, crossings, edges, segments and faces the picture has, as the program counts them."""
+        return self._ask("counts", _counts)
+
+    def picture(self) -> Picture:
+        """The picture now."""
+        return self._ask("picture", Picture.from_json)
+
+    def report(self) -> Report:
+        """The start, each call so far with its reply, and the picture now; `Planarizer.replay` accepts it."""
+        return self._ask("report", Report.from_json)
+
+    def compact(self) -> Renumbered:
+        """Begins anew from the picture of now, with the ids of edges and crossings from 0 on in the order in which they
+        were, and gives the new id of each old one.
+
+        Ids are never given twice, and the limits bound them, so after 65,536 edges in all an insertion is refused as 7
+        Full; then this makes room. Vertices keep their numbers. The report begins anew too: take it before, if it is
+        wanted.
+        """
+        picture, new = renumbered(self.picture())
+        process = self._begun(picture)
+        self.close()
+        self._process = process
+        return new
+
+    def picture_text(self) -> str:
+        """The picture now, as the program writes it."""
+        return self._asked(['"picture"'], lambda process, answers: answers[0].decode())
+
+    def answers(self, requests: Sequence[str]) -> List[str]:
+        """The answers to several lines of docs/FORMATS.md in order, as the program writes them, also where they are
+        faults.
+
+        All lines are written before the first answer is read, which saves turns through the pipes. Together they may
+        have 32,768 bytes, their line feeds among them (else ValueError). A line that has a line feed in it is a
+        ValueError: it would have more than one answer.
+        """
+        if any("\n" in request for request in requests):
+            raise ValueError("a line has a line feed in it")
+        if sum(len(request.encode()) for request in requests) + len(requests) > TOGETHER:
+            raise ValueError(f"the lines have more than {TOGETHER} bytes together")
+        return self._asked(requests, lambda process, answers: [answer.decode() for answer in answers])
+
+    def _ask(self, request: Any, read: Callable[[Any], Value]) -> Value:
+        """The answer to a request, read by this function; Fault where the program refuses the line."""
+        return self._asked([json_text(request)], lambda process, answers: _understood(process, answers[0], read))
+
+    def _asked(self, requests: Sequence[str], read: Callable[[LineProcess, List[bytes]], Value]) -> Value:
+        """The answers to some lines, read by this function."""
+        process = self._process
+        if process is None:
+            raise SessionClosed("the session is closed")
+        try:
+            return read(process, process.ask_all(requests))
+        finally:
+            if process.is_over:
+                self._process = None
+
+    # ---- Its end
+
+    def __enter__(self: Own) -> Own:
+        return self
+
+    def __exit__(
+        self, kind: Optional[Type[BaseException]], raised: Optional[BaseException], trace: Optional[TracebackType]
+    ) -> None:
+        self.close()
+
+    def close(self) -> None:
+        """Ends the process: its input is closed, and if it has not ended half a second later, it is killed. What is
+        closed already stays so."""
+        process, self._process = self._process, None
+        if process is not None:
+            process.end(HASTE)
+
+
+def _understood(process: LineProcess, answer: bytes, read: Callable[[Any], Value]) -> Value:
+    """An answer, read by this function; Fault where it is one. Where it is in no form that is known, the process is
+    ended, and that is ProgramFailed."""
+    try:
+        value = json.loads(answer)
+        fault = value.get("fault")
+        if fault is None:
+            return read(value)
+    except (KeyError, TypeError, ValueError, IndexError, AttributeError) as other:
+        status, told = process.end()
+        raise ProgramFailed(
+            status, f"{process.path} gave no answer in its form, but {answer[:200]!r} {told}"
+        ) from other
+    raise Fault(*fault)
+
+
+def _counts(value: Dict[str, int]) -> Counts:
+    return Counts(value["vertices"], value["crossings"], value["edges"], value["segments"], value["faces"])

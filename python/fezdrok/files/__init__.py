@@ -1,0 +1,1 @@
+"""Graphs that are read, and pictures in other forms: those of networkx."""

@@ -1,0 +1,136 @@
+"""Pictures as networkx embeddings, and networkx embeddings as start pictures.
+
+networkx is imported where it is used, so the rest of the package does not want it.
+"""
+
+from __future__ import annotations
+
+from typing import TYPE_CHECKING, Any, Callable, Dict, FrozenSet, List, Mapping, Sequence, Tuple
+
+from ..engine.faults import wanted
+from ..engine.graph_edges import Node
+from ..engine.graph_pictures import Dummy
+from ..engine.pictures import Dart, Edge, Picture, Point
+from ..engine.results import Planarization
+from .graphs import reach
+
+if TYPE_CHECKING:
+    import networkx
+
+
+# ---- From a picture to an embedding
+
+
+def to_networkx_embedding(result: Planarization) -> "networkx.PlanarEmbedding":
+    """The planarization as a networkx PlanarEmbedding, which passes `check_structure`.
+
+    Its nodes are the nodes of the graph and a Dummy for each crossing. Each node has the attribute `dummy`; a
+    crossing has `crossing`, its id, and `edges`, the two edges of the graph that cross there. Each half-edge has
+    `edge`, the edge of the graph that it is a part of.
+    """
+    networkx = wanted("networkx", "embeddings")
+    picture = result.picture
+    names = _names(result)
+    bends = _bends(picture, result.layer)
+    embedding = networkx.PlanarEmbedding()
+    embedding.set_data(_neighbours(picture, names, bends))
+    embedding.add_nodes_from(names.values())
+    for point, name in names.items():
+        embedding.nodes[name].update(_point_data(result, point))
+    for bend in bends.values():
+        embedding.nodes[bend].update(dummy=True, bend=result.edge_of[bend.of.edge])
+    for dart in picture.darts:
+        edge = result.edge_of[dart.edge]
+        start, following = names[picture.start(dart)], _neighbour(picture, names, bends, dart)
+        embedding.edges[start, following]["edge"] = edge
+        embedding.edges[following, start]["edge"] = edge
+    return embedding
+
+
+def _names(result: Planarization) -> Dict[Point, Any]:
+    """The node of the embedding for each point of the picture."""
+    return {point: result.name_of(point) for point in result.picture.points}
+
+
+def _bends(picture: Picture, layer: int) -> Dict[Dart, Dummy]:
+    """For both darts of each segment that has an earlier one between the same points, the point put into it."""
+    joined = set()
+    bends: Dict[Dart, Dummy] = {}
+    for dart in picture.darts:
+        ends = frozenset((picture.start(dart), picture.end(dart)))
+        if not dart.back and ends in joined:
+            bends[dart] = bends[dart.twin] = Dummy("bend", dart, layer)
+        joined.add(ends)
+    return bends
+
+
+def _neighbour(picture: Picture, names: Mapping[Point, Any], bends: Mapping[Dart, Dummy], dart: Dart) -> Any:
+    """The node that comes next along a dart."""
+    return bends.get(dart, names[picture.end(dart)])
+
+
+def _neighbours(picture: Picture, names: Mapping[Point, Any], bends: Mapping[Dart, Dummy]) -> Dict[Any, List[Any]]:
+    """For each node of the embedding its neighbours, clockwise."""
+    data = {
+        name: [_neighbour(picture, names, bends, dart) for dart in picture.around(point)]
+        for point, name in names.items()
+    }
+    for bend in bends.values():
+        data[bend] = [names[picture.start(bend.of)], names[picture.end(bend.of)]]
+    return data
+
+
+def _point_data(result: Planarization, point: Point) -> Dict[str, Any]:
+    """The attributes of a node of the embedding."""
+    if not point.is_crossing:
+        return {"dummy": False, "vertex": point.id}
+    row = result.picture.crossing(point.id)
+    return {"dummy": True, "crossing": point.id, "edges": (result.edge_of[row.crossed], result.edge_of[row.newcomer])}
+
+
+# ---- From an embedding to a picture
+
+
+def from_networkx_embedding(
+    embedding: "networkx.PlanarEmbedding", kind: Callable[[Any, Any], int] = lambda u, v: 0
+) -> Picture:
+    """The picture of a networkx PlanarEmbedding, to start a Planarizer with.
+
+    Vertex i is the node number i of `list(embedding)`. The edges are numbered in the order in which they are met
+    round vertex 0, 1, .. clockwise; `kind(u, v)` gives the kind of each. All nodes become vertices, also dummies.
+    ValueError where it has no edge or is not connected; networkx.NetworkXException where it is no embedding.
+    """
+    embedding.check_structure()
+    rotations = {node: list(embedding.neighbors_cw_order(node)) for node in embedding}
+    return picture_of(rotations, kind)[0]
+
+
+def picture_of(
+    rotations: Mapping[Node, Sequence[Node]], kind: Callable[[Any, Any], int]
+) -> Tuple[Picture, List[Tuple[Node, Node]]]:
+    """The picture with these neighbours, clockwise, and its edges by their ids."""
+    vertex = {node: number for number, node in enumerate(rotations)}
+    ids: Dict[FrozenSet[Node], int] = {}
+    edges: List[Tuple[Node, Node]] = []
+    for node, around in rotations.items():
+        fresh = [(node, other) for other in around if frozenset((node, other)) not in ids]
+        ids.update((frozenset(pair), len(edges) + place) for place, pair in enumerate(fresh))
+        edges.extend(fresh)
+    _judge_connected(rotations)
+    lists = [_from_least([ids[frozenset((node, other))] for other in around]) for node, around in rotations.items()]
+    rows = tuple(Edge(number, vertex[u], vertex[v], kind(u, v)) for number, (u, v) in enumerate(edges))
+    return Picture(tuple(lists), rows, (), len(rows), 0), edges
+
+
+def _judge_connected(rotations: Mapping[Node, Sequence[Node]]) -> None:
+    """ValueError unless there is an edge and every node hangs together with every other."""
+    if not any(rotations.values()):
+        raise ValueError("the embedding has no edge: the smallest picture is one edge between two vertices")
+    if len(reach(next(iter(rotations)), rotations.__getitem__)) < len(rotations):
+        raise ValueError("the embedding is not connected")
+
+
+def _from_least(around: List[int]) -> Tuple[int, ...]:
+    """The same cycle, listed from its least id on."""
+    place = around.index(min(around))
+    return tuple(around[place:] + around[:place])

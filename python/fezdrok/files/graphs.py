@@ -1,0 +1,201 @@
+"""A networkx graph read for planarization: its edges in order, and a kind for each by what it costs to cross.
+
+Nothing here imports networkx: a graph is asked by its own methods.
+"""
+
+from __future__ import annotations
+
+import math
+from dataclasses import dataclass
+from numbers import Real
+from operator import index
+from typing import Any, Callable, Dict, Iterable, List, Mapping, Optional, Sequence, Set, Tuple, Union
+
+from ..engine.graph_edges import KINDS, GraphEdge, Node, Price, judge_kinds
+
+#: How prices are given: the name of an edge attribute, a mapping from edges, or a function of both nodes and the data.
+Pricing = Union[None, str, Mapping[GraphEdge, Price], Callable[[Any, Any, Dict[str, Any]], Price]]
+
+GREATEST_PRICE = 1000
+#: How often the factor by which prices are rounded is halved, till it is known.
+_HALVINGS = 40
+
+
+@dataclass(frozen=True)
+class PricedGraph:
+    """A graph whose edges have kinds: `kinds[i]` belongs to `edges[i]`, and `prices[k]` is what crossing an edge of
+    kind k costs."""
+
+    graph: Any
+    nodes: Tuple[Node, ...]
+    edges: Tuple[GraphEdge, ...]
+    kinds: Tuple[int, ...]
+    prices: Tuple[Price, ...]
+
+    def price(self, place: int) -> Price:
+        """The price of the edge at this place of `edges`."""
+        return self.prices[self.kinds[place]]
+
+
+def read_graph(
+    graph: Any, price: Pricing = None, forbidden: Optional[Iterable[GraphEdge]] = None, round_prices: bool = False
+) -> PricedGraph:
+    """The graph with its kinds, or a ValueError that says why it cannot be planarized. It need not be connected. Where
+    there are more prices than kinds, `round_prices` has those that are near each other share one."""
+    if not hasattr(graph, "is_multigraph"):
+        raise ValueError(f"{graph!r:.80} is no graph of networkx")
+    nodes = tuple(graph.nodes)
+    multi = graph.is_multigraph()
+    rows = list(graph.edges(keys=True, data=True)) if multi else list(graph.edges(data=True))
+    edges = tuple(tuple(row[:-1]) for row in rows)
+    _judge_form(edges)
+    if isinstance(price, str):
+        _judge_attribute(price, [row[-1] for row in rows])
+    price_of = _price_function(price, graph.is_directed())
+    prices = [_judge_price(edge, price_of(edge, row[-1])) for edge, row in zip(edges, rows)]
+    for place in _places(edges, forbidden or (), graph.is_directed()):
+        prices[place] = None
+    if round_prices:
+        near = _rounded(prices)
+        prices = [near[price] for price in prices]
+    table = _price_table(prices)
+    kind_of = {price: kind for kind, price in enumerate(table)}
+    return PricedGraph(graph, nodes, edges, tuple(kind_of[price] for price in prices), table)
+
+
+def _judge_form(edges: Sequence[GraphEdge]) -> None:
+    """ValueError unless the graph has an edge and no loop."""
+    if not edges:
+        raise ValueError("the graph has no edge: the smallest picture is one edge between two vertices")
+    loop = next((edge for edge in edges if edge[0] == edge[1]), None)
+    if loop is not None:
+        raise ValueError(f"the graph has a loop at {loop[0]!r}: a picture has none")
+
+
+def _judge_attribute(name: str, data: Sequence[Dict[str, Any]]) -> None:
+    """ValueError where no edge has the attribute that prices are to be taken from."""
+    if not any(name in row for row in data):
+        known = sorted({repr(key) for row in data for key in row})
+        there_are = f"there are {', '.join(known)}" if known else "edges have none at all"
+        raise ValueError(f"no edge has the attribute {name!r} for its price: {there_are}")
+
+
+def reach(root: Node, near: Callable[[Node], Iterable[Node]]) -> Set[Node]:
+    """The nodes that can be reached from the root, by steps from a node to those near it."""
+    reached, waiting = {root}, [root]
+    while waiting:
+        fresh = set(near(waiting.pop())) - reached
+        reached |= fresh
+        waiting.extend(fresh)
+    return reached
+
+
+def _price_function(price: Pricing, directed: bool) -> Callable[[GraphEdge, Dict[str, Any]], Price]:
+    """How much an edge with its data costs; an edge that is not named costs 1."""
+    if price is None:
+        return lambda edge, data: 1
+    if isinstance(price, str):
+        attribute = price
+        return lambda edge, data: data.get(attribute, 1)
+    if isinstance(price, Mapping):
+        table = price
+        return lambda edge, data: next((table[name] for name in _names(edge, directed) if name in table), 1)
+    function = price
+    return lambda edge, data: function(edge[0], edge[1], data)
+
+
+def _names(edge: GraphEdge, directed: bool) -> List[GraphEdge]:
+    """What an edge may be called: with or without its key, and in an undirected graph either way round."""
+    u, v, key = edge[0], edge[1], edge[2:]
+    names = [(u, v, *key)] if directed else [(u, v, *key), (v, u, *key)]
+    return names + [name[:2] for name in names] if key else names
+
+
+def _judge_price(edge: GraphEdge, price: Any) -> Price:
+    """The price if it is None or a whole number from 1 to 1000, also as a float or a number of numpy; else a
+    ValueError."""
+    if price is None:
+        return None
+    number = _whole(price)
+    if number is None or not 1 <= number <= GREATEST_PRICE:
+        raise ValueError(
+            f"the price of {edge!r} is {price!r}: it must be a whole number from 1 to {GREATEST_PRICE}, or None"
+        )
+    return number
+
+
+def _whole(value: Any) -> Optional[int]:
+    """A number as an integer if it is one, also where it is written as a float; else None."""
+    try:
+        return index(value)
+    except TypeError:
+        return int(value) if isinstance(value, Real) and float(value).is_integer() else None
+
+
+def _places(edges: Sequence[GraphEdge], wanted: Iterable[GraphEdge], directed: bool) -> Set[int]:
+    """The places of the edges that are named; without a key all edges between both nodes are meant."""
+    by_name: Dict[GraphEdge, List[int]] = {}
+    for place, edge in enumerate(edges):
+        for name in _names(edge, directed):
+            by_name.setdefault(name, []).append(place)
+    places: Set[int] = set()
+    for edge in wanted:
+        if tuple(edge) not in by_name:
+            raise ValueError(f"{tuple(edge)!r} is no edge of the graph")
+        places.update(by_name[tuple(edge)])
+    return places
+
+
+def places_of(edges: Sequence[GraphEdge], wanted: Iterable[GraphEdge], directed: bool) -> List[int]:
+    """The places of the edges that are named, in the order in which they are named, each once."""
+    ordered: Dict[int, None] = {}
+    for edge in wanted:
+        ordered.update(dict.fromkeys(sorted(_places(edges, [edge], directed))))
+    return list(ordered)
+
+
+def _price_table(prices: Iterable[Price]) -> Tuple[Price, ...]:
+    """The different prices, the dearest first, or a ValueError if there are more than kinds."""
+    different = sorted(set(prices), key=lambda price: -rank(price))
+    judge_kinds(len(different), "; round_prices=True has near ones share a kind")
+    return tuple(different)
+
+
+def _rounded(prices: Iterable[Price]) -> Dict[Price, Price]:
+    """For each price the one that is taken for it, so that there are no more than kinds.
+
+    Neighbours share one where that is needed, such that the greatest factor by which a price is changed is as small as
+    can be, but for the rounding to whole numbers. A price of None stays.
+    """
+    near: Dict[Price, Price] = {price: price for price in prices}
+    numbers = sorted(price for price in near if price is not None)
+    most = KINDS - (None in near)
+    factor, too_little = float(GREATEST_PRICE), 1.0
+    if len(numbers) <= most:
+        return near
+    for _ in range(_HALVINGS):
+        middle = (factor + too_little) / 2
+        if len(_runs(numbers, middle)) <= most:
+            factor = middle
+        else:
+            too_little = middle
+    for run in _runs(numbers, factor):
+        near.update(dict.fromkeys(run, round(math.sqrt(run[0] * run[-1]))))
+    return near
+
+
+def _runs(numbers: Sequence[int], factor: float) -> List[List[int]]:
+    """Rising numbers cut into as few runs as can be, in each of which the last is at most the first times the
+    factor."""
+    runs: List[List[int]] = []
+    for number in numbers:
+        if runs and number <= factor * runs[-1][0]:
+            runs[-1].append(number)
+        else:
+            runs.append([number])
+    return runs
+
+
+def rank(price: Price) -> int:
+    """A number that orders prices: None, which forbids, is above them all."""
+    return GREATEST_PRICE + 1 if price is None else price

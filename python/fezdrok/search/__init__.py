@@ -1,0 +1,1 @@
+"""The search for a picture with few crossings."""

@@ -1,0 +1,227 @@
+"""The examples of README.md, docs/USING.md and python/README.md, run as they are written there."""
+
+import ast
+import builtins
+import doctest
+import os
+import re
+import shutil
+import subprocess
+import sys
+import tempfile
+import unittest
+from importlib.util import find_spec
+from pathlib import Path
+from typing import List, Tuple
+from unittest import mock
+from xml.etree import ElementTree
+
+from fezdrok import find_program
+
+from .support import ROOT, needs_program
+
+PAGES = ("README.md", "docs/USING.md")
+MARK = "-- the next command --"
+#: From this heading on the commands of the page need networkx.
+FARM = "\n## A folder of scripts"
+
+#: What stands for GNU parallel where it is not there: it does what the two lines of the page want of it, one after
+#: another.
+STAND_IN = r"""
+parallel() {
+    if [ "$1" = --pipepart ]; then
+        while [ "$1" != -a ]; do shift; done
+        "${@:3}" < "$2"
+        return
+    fi
+    local joblog=$3 template=$4 script command base failed=0
+    printf '%s\t' Seq Host Starttime JobRuntime Send Receive Exitval Signal > "$joblog"
+    echo Command >> "$joblog"
+    shift 5
+    for script in "$@"; do
+        base=${script##*/}
+        command=${template//'{}'/$script}
+        command=${command//'{/.}'/${base%.*}}
+        local status=0
+        bash -c "$command" || status=$?
+        failed=$((failed + (status != 0)))
+        printf '1\t:\t0\t0\t0\t0\t%s\t0\t%s\n' "$status" "$command" >> "$joblog"
+    done
+    return "$failed"
+}
+"""
+
+
+def python_examples(page: str) -> doctest.DocTest:
+    """The examples in Python; without matplotlib those that draw are left out, and without networkx those that need
+    it."""
+    found = doctest.DocTestParser().get_doctest((ROOT / page).read_text(), {}, page, page, 0)
+    if find_spec("matplotlib") is None:
+        found.examples = [example for example in found.examples if not re.search(r"\bdraw\b", example.source)]
+    if find_spec("networkx") is None:
+        found.examples = without_networkx(found.examples)
+    return found
+
+
+def without_networkx(examples: List[doctest.Example]) -> List[doctest.Example]:
+    """The examples that do not import networkx, and use no variable that one that is left out sets or uses."""
+    words, variables, kept = set(dir(builtins)), set(), []
+    for example in examples:
+        nodes = list(ast.walk(ast.parse(example.source)))
+        imported = {it.asname or it.name for it in nodes if isinstance(it, ast.alias)}
+        names = [it for it in nodes if isinstance(it, ast.Name)]
+        new, used = {it.id for it in names if isinstance(it.ctx, ast.Store)}, {it.id for it in names}
+        if "import networkx" not in example.source and used <= words | variables | imported | new:
+            kept.append(example)
+            words |= imported
+            variables |= new
+        else:
+            variables -= used
+    return kept
+
+
+def commands(page: str) -> List[Tuple[str, str]]:
+    """The commands of a page, which begin with `$`, each with what it prints; `./test` itself is left out, without a C
+    compiler what is compiled, and without networkx all from the heading on below which scripts are made by it.
+
+    Lines that begin with `>` go on with a command. The lines below it, up to an empty one, are what it prints; where
+    there are none, nothing is said of what it prints.
+    """
+    found: List[Tuple[List[str], List[str]]] = []
+    is_open = False
+    text = (ROOT / page).read_text()
+    for line in (text if find_spec("networkx") else text.partition(FARM)[0]).splitlines():
+        if line.startswith("    $ "):
+            found.append(([line[6:]], []))
+        elif is_open and (line.startswith("    > ") or line == "    >"):
+            found[-1][0].append(line[6:])
+        elif is_open and line.startswith("    "):
+            found[-1][1].append(line[4:])
+        is_open = line.startswith("    $ ") or is_open and line.startswith("    ")
+    joined = [("\n".join(lines), "\n".join(printed)) for lines, printed in found]
+    in_c = ("cc ", "./session ") if shutil.which("cc") is None else ()
+    return [it for it in joined if not it[0].startswith(("./test", *in_c))]
+
+
+def pattern_of(printed: str) -> str:
+    """A pattern of what a command prints, in which two dots and the space before them are any text."""
+    return re.escape(printed).replace(re.escape(" .."), ".*")
+
+
+@needs_program
+class Pages(unittest.TestCase):
+    def setUp(self):
+        folder = tempfile.TemporaryDirectory()
+        self.addCleanup(folder.cleanup)
+        self.folder = folder.name
+
+    def test_python(self):
+        os.environ.setdefault("MPLBACKEND", "Agg")
+        self.addCleanup(os.chdir, os.getcwd())
+        os.chdir(self.folder)
+        for page in (*PAGES, "python/README.md"):
+            told = []
+            examples = python_examples(page)
+            self.assertTrue(examples.examples or (page == "README.md" and not find_spec("networkx")), page)
+            result = doctest.DocTestRunner(optionflags=doctest.ELLIPSIS, verbose=False).run(examples, out=told.append)
+            self.assertEqual(result.failed, 0, "".join(told))
+        if find_spec("networkx"):
+            self.check_pictures(Path(self.folder))
+
+    def check_pictures(self, folder: Path):
+        """The pictures that are shown are small, and are those that the examples wrote: with as many lines, nodes and
+        marks, and the same names. Points may differ a little from machine to machine."""
+        shown = re.findall(r"!\[[^]]+\]\((pictures/\S+\.svg)\)", (ROOT / "docs" / "USING.md").read_text())
+        self.assertEqual(
+            sorted(shown), sorted(f"pictures/{file.name}" for file in (ROOT / "docs" / "pictures").iterdir())
+        )
+        self.assertEqual(len(shown), 8)
+        for name in shown:
+            kept, written = ROOT / "docs" / name, folder / Path(name).name
+            self.assertLess(kept.stat().st_size, 20000)
+            shown_there, written_now = (
+                [(it.tag, it.text) for it in ElementTree.parse(file).iter() if it.get("id") is None]
+                for file in (kept, written)
+            )
+            self.assertEqual(shown_there, written_now)
+
+    def checkout(self) -> Path:
+        """A folder that is as the repository, with the program that the tests call as the one that is built there: so
+        the commands build nothing."""
+        folder = Path(self.folder) / "checkout"
+        folder.mkdir()
+        for file in ROOT.iterdir():
+            if file.name != "out":
+                (folder / file.name).symlink_to(file)
+        (folder / "out").mkdir()
+        (folder / "out" / "planar").symlink_to(Path(find_program()).resolve())
+        (folder / "out" / "planar.sources").write_bytes(subprocess.check_output([".ci/sources", "planar"], cwd=folder))
+        return folder
+
+    def check_commands(self, page: str):
+        todo = commands(page)
+        self.assertTrue(todo, page)
+        script = "" if shutil.which("parallel") else STAND_IN
+        script += "\n".join(f"{{ {command}\n}} 2>&1\necho '{MARK}'" for command, _ in todo)
+        words = {"HOME": self.folder, "PATH": os.path.dirname(sys.executable) + os.pathsep + os.environ["PATH"]}
+        ran = subprocess.run(
+            ["bash", "-c", script],
+            cwd=self.checkout(),
+            env={**os.environ, **words},
+            stdout=subprocess.PIPE,
+            universal_newlines=True,
+        )
+        told = ran.stdout.split(MARK + "\n")
+        self.assertEqual(len(told), len(todo) + 1, ran.stdout)
+        for (command, printed), text in zip(todo, told):
+            if printed:
+                self.assertRegex(text.rstrip("\n"), re.compile(rf"\A{pattern_of(printed)}\Z", re.DOTALL), command)
+
+    def test_what_needs_no_networkx(self):
+        """Without networkx the sections of sessions and single commands are run all the same, and the lines before the
+        farm."""
+        with mock.patch.object(sys.modules[__name__], "find_spec", return_value=None):
+            left = "".join(example.source for example in python_examples("docs/USING.md").examples)
+            shorter = commands("docs/USING.md")
+        for words in ("Planarizer(prices=[0]).run()", "with Session(prices=[1, 5])", "session.compact()"):
+            self.assertIn(words, left)
+        self.assertNotRegex(left, r"\bnx\b|\bplanarize\(")
+        self.assertIn(FARM, (ROOT / "docs" / "USING.md").read_text())
+        self.assertTrue(shorter)
+        self.assertNotIn("networkx", str(shorter))
+
+    def test_readme_commands(self):
+        self.check_commands("README.md")
+
+    def test_using_commands(self):
+        self.check_commands("docs/USING.md")
+
+    def test_shown_code(self):
+        """The code that is shown is that of the program or the tests it is from, which the gate proves and runs."""
+        folders = [
+            ROOT / "crates" / name / "src"
+            for name in ("planar_book", "planar_editors", "topo_test_support", "topo_tests")
+        ]
+        sources = "".join(file.read_text() for folder in folders for file in sorted(folder.glob("*.rt")))
+        for page in PAGES:
+            shown = re.findall(r"```rust\n(.*?)```", (ROOT / page).read_text(), re.DOTALL)
+            self.assertTrue(shown, page)
+            for text in shown:
+                self.assertTrue(text in sources, text)
+        for name in ("planar_book", "planar_editors"):
+            stdout = (ROOT / "crates" / name / "stdout").read_text()
+            self.assertIn(
+                "".join(f"    {line}\n" for line in stdout.splitlines()), (ROOT / "docs" / "USING.md").read_text()
+            )
+
+    def test_readme_script(self):
+        """The script that is shown with words beside it is the example file that the commands below it name."""
+        page = (ROOT / "README.md").read_text()
+        shown = page[page.index('    {"prices":') :].split("\n\n")[0]
+        script = "".join(line.strip().split("   ")[0] for line in shown.splitlines())
+        file = ROOT / "crates" / "topo_examples" / "data" / "across_the_cheap_side.json"
+        self.assertEqual("".join(script.split()), "".join(file.read_text().split()))
+
+
+if __name__ == "__main__":
+    unittest.main()
