@@ -1,3 +1,4 @@
+/* SPDX-License-Identifier: MIT OR Apache-2.0 */
 /* The commands `check` and `replay` of Fezdrok, for programs in C: from bytes to bytes, in memory of the caller's.
  *
  * Each judges an input of INPUT_LENGTH bytes and has a text to tell: its answer, or the line of a fault, as the program
@@ -26,6 +27,9 @@
 #ifdef __cplusplus
 extern "C" {
 #endif
+
+/* The version of this file, of the library and of the program. */
+#define FEZDROK_VERSION "0.5.0"
 
 #define FEZDROK_DONE 0
 #define FEZDROK_FAULT 1

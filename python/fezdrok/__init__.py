@@ -85,3 +85,6 @@ __all__ = [
     "to_networkx_graph",
     "to_svg",
 ]
+
+#: That of the program and of this package: it is what the file VERSION of the repository says.
+__version__ = "0.5.0"

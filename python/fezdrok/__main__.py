@@ -40,7 +40,8 @@ def main(words: Optional[List[str]] = None, source: Optional[BinaryIO] = None, t
     )
     parser.add_argument(
         "--program",
-        help="the path of planar; without it what FEZDROK_PLANAR names, the repository's out/planar, or planar in PATH",
+        help="the path of planar; without it the program in the package, what FEZDROK_PLANAR names, planar in PATH, or "
+        "that of the checkout",
     )
     program = Program(parser.parse_args(words).program)
     try:

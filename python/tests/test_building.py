@@ -48,12 +48,13 @@ class Folder(unittest.TestCase):
             (self.root / name).write_text(text)
         (self.root / "bin" / "rt").chmod(0o755)
         self.script, self.built = self.root / "planar", self.root / "out" / "planar"
+        self.prebuilt = self.root / "prebuilt" / "x86_64-linux" / "planar"
         (self.root / "scratch").mkdir()
         self.environment = {
             "PATH": f"{self.root / 'bin'}{os.pathsep}{os.environ['PATH']}", "TMPDIR": os.fspath(self.root / "scratch")
         }
         self.start(mock.patch.dict(os.environ, self.environment))
-        self.start(mock.patch.object(program_module, "_warned", set()))
+        self.start(mock.patch.object(program_module, "_chosen", {}))
         self.allow()
 
     def start(self, patch):
@@ -216,10 +217,11 @@ class Prebuilt(Folder):
 
 class Package(Folder):
     def test_it_builds_nothing(self):
-        with self.assertRaisesRegex(ProgramNotFound, f"{self.built} is not built: run {self.script}, which builds it"):
+        neither = f"{self.built} nor {self.prebuilt} is there: run {self.script}, which gets one"
+        with self.assertRaisesRegex(ProgramNotFound, neither):
             Program(self.script).run("{}")
         with mock.patch.dict(os.environ, {"FEZDROK_PLANAR": os.fspath(self.script)}), self.assertRaisesRegex(
-            ProgramNotFound, "FEZDROK_PLANAR .*is not built"
+            ProgramNotFound, "FEZDROK_PLANAR .* is there"
         ):
             find_program()
         self.assertEqual(self.calls(), 0)
@@ -250,15 +252,50 @@ class Package(Folder):
             self.assertEqual(Program(self.script).run(""), "first run\n")
         self.allow()
 
-    def test_the_repository_is_one_place_of_several(self):
+    def test_the_checkout_is_one_place_of_several(self):
         words = {"FEZDROK_PLANAR": "", "PATH": os.environ["PATH"] + os.pathsep + os.fspath(self.root)}
         with mock.patch.dict(os.environ, words), mock.patch.object(
             program_module, "repository_script", return_value=self.script
         ):
-            with self.assertRaisesRegex(ProgramNotFound, "by the repository .*is not built.* or PATH .*is not built"):
+            with self.assertRaisesRegex(ProgramNotFound, "PATH .* is there.* or the checkout .* is there"):
                 find_program()
             self.said(self.script)
             self.assertEqual(find_program(), os.fspath(self.built))
+
+    def put_prebuilt(self, sources: str):
+        """Puts a program into `prebuilt/` that is said to be built from sources of this checksum."""
+        self.prebuilt.parent.mkdir(parents=True, exist_ok=True)
+        self.prebuilt.write_text('#!/bin/sh\necho "prebuilt $@"\n')
+        self.prebuilt.chmod(0o755)
+        lines = ["kit some kit", "glibc 2.34", f"planar 0123 {sources}", "libfezdrok.a 4567 89ab", ""]
+        self.prebuilt.with_name("MANIFEST").write_text("\n".join(lines))
+
+    def sources(self) -> str:
+        """The checksum of the sources that are there now."""
+        return subprocess.check_output([self.root / ".ci" / "sources", "planar"], text=True).strip()
+
+    def test_it_takes_the_prebuilt_one(self):
+        self.put_prebuilt(self.sources())
+        with warnings.catch_warnings():
+            warnings.simplefilter("error")
+            self.assertEqual(Program(self.script).run(""), "prebuilt run\n")
+        self.assertEqual(self.calls(), 0)
+
+    def test_of_two_it_takes_the_one_of_these_sources(self):
+        self.said(self.script)
+        self.put_prebuilt("none")
+        with warnings.catch_warnings():
+            warnings.simplefilter("error")
+            self.assertEqual(find_program(self.script), os.fspath(self.built))
+            self.edit()
+            self.put_prebuilt(self.sources())
+            with mock.patch.object(program_module, "_chosen", {}):
+                self.assertEqual([find_program(self.script) for _ in range(2)], [os.fspath(self.prebuilt)] * 2)
+
+    def test_an_old_prebuilt_one_is_told_of_and_used(self):
+        self.put_prebuilt("none")
+        with self.assertWarns(PlanarWarning):
+            self.assertEqual(Program(self.script).run(""), "prebuilt run\n")
 
 
 if __name__ == "__main__":

@@ -6,52 +6,65 @@ import unittest
 from pathlib import Path
 from unittest import mock
 
+import fezdrok
 from fezdrok import Fault, MemoryFault, PlanarError, ProgramFailed, ProgramNotFound, UsageRefused, find_program
 from fezdrok.engine import program as program_module
 from fezdrok.engine.program import VARIABLE, Program
 
-from .support import fake
+from .support import ROOT, fake
 
 
 class Finding(unittest.TestCase):
-    """The argument, the variable, the repository, PATH: the first that is there."""
+    """The argument, the package, the variable, PATH, the checkout: the first that is there."""
 
     def setUp(self):
-        self.paths = {name: fake(self, "exit 0") for name in ("argument", "variable", "repository", "path")}
+        self.paths = {name: fake(self, "exit 0") for name in ("argument", "package", "variable", "path", "checkout")}
         words = {VARIABLE: self.paths["variable"], "PATH": str(Path(self.paths["path"]).parent)}
         self.start(mock.patch.dict(os.environ, words))
+        self.start(mock.patch.object(program_module, "PACKAGED", Path(self.paths["package"])))
         self.script = self.start(mock.patch.object(program_module, "repository_script"))
-        self.script.return_value = Path(self.paths["repository"])
+        self.script.return_value = Path(self.paths["checkout"])
 
     def start(self, patch):
         self.addCleanup(patch.stop)
         return patch.start()
 
+    def remove(self, *names):
+        for name in names:
+            os.remove(self.paths[name])
+
     def test_argument_first(self):
         self.assertEqual(find_program(self.paths["argument"]), self.paths["argument"])
         self.assertEqual(find_program(Path(self.paths["argument"])), self.paths["argument"])
 
-    def test_then_variable(self):
+    def test_then_each_place_in_order(self):
+        self.assertEqual(find_program(), self.paths["package"])
+        self.remove("package")
         self.assertEqual(find_program(), self.paths["variable"])
-
-    def test_then_repository(self):
         del os.environ[VARIABLE]
-        self.assertEqual(find_program(), self.paths["repository"])
-
-    def test_then_path(self):
-        del os.environ[VARIABLE]
-        self.script.return_value = Path("/nowhere/planar")
         self.assertEqual(find_program(), self.paths["path"])
+        self.remove("path")
+        self.assertEqual(find_program(), self.paths["checkout"])
 
     def test_nowhere(self):
-        os.environ.update({VARIABLE: "", "PATH": ""})
-        self.script.return_value = Path("/nowhere/planar")
-        with self.assertRaisesRegex(ProgramNotFound, "PATH"):
+        self.remove("package", "path", "checkout")
+        os.environ[VARIABLE] = ""
+        with self.assertRaises(ProgramNotFound) as caught:
             find_program()
+        self.assertIsInstance(caught.exception, FileNotFoundError)
+        told = str(caught.exception)
+        package = f"the package ({self.paths['package']})"
+        for words in (package, VARIABLE, "PATH (planar)", "the checkout", "The wheel of fezdrok", "./planar"):
+            self.assertIn(words, told)
+
+    def test_a_program_that_is_no_program(self):
+        os.chmod(self.paths["package"], 0o644)
+        self.assertEqual(find_program(), self.paths["variable"])
 
     def test_a_wrong_argument_or_variable_is_not_passed_over(self):
         with self.assertRaisesRegex(ProgramNotFound, "/nowhere/planar"):
             find_program("/nowhere/planar")
+        self.remove("package")
         os.environ[VARIABLE] = "/nowhere/else"
         with self.assertRaisesRegex(ProgramNotFound, VARIABLE):
             find_program()
@@ -60,6 +73,16 @@ class Finding(unittest.TestCase):
         program = Program("/nowhere/planar")
         with self.assertRaises(ProgramNotFound):
             program.run("{}")
+
+
+class OfThisPackage(unittest.TestCase):
+    def test_the_places_are_those_of_the_package(self):
+        package = Path(fezdrok.__file__).resolve().parent
+        self.assertEqual(program_module.PACKAGED, package / "bin" / "planar")
+        self.assertEqual(program_module.repository_script(), package.parent.parent / "planar")
+
+    def test_the_version_is_that_of_the_repository(self):
+        self.assertEqual(fezdrok.__version__, (ROOT / "VERSION").read_text().strip())
 
 
 class Statuses(unittest.TestCase):
@@ -115,6 +138,7 @@ class Statuses(unittest.TestCase):
 
     def test_exceptions_pass_between_processes(self):
         for fault in (
+            ProgramNotFound("nowhere"),
             Fault(52, "BadShape", "$"),
             Fault(40, "Mismatch", (2, 15)),
             MemoryFault(8, "Memory"),

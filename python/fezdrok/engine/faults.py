@@ -18,8 +18,8 @@ class PlanarError(Exception):
     """Base of all exceptions of this package that come from the program or from a refused call."""
 
 
-class ProgramNotFound(PlanarError):
-    """There is no program `planar` where it was looked for, or it is not built."""
+class ProgramNotFound(PlanarError, FileNotFoundError):
+    """There is no program `planar` where it was looked for; the message says where, and how to get one."""
 
 
 class UsageRefused(PlanarError):

@@ -8,7 +8,7 @@ import shutil
 import subprocess
 import warnings
 from pathlib import Path
-from typing import Iterator, Optional, Set, Tuple, Union
+from typing import Dict, Iterator, List, Optional, Tuple, Union
 
 from .faults import (
     Fault, MemoryFault, PlanarWarning, ProgramFailed, ProgramNotFound, ProgramNotStarted, UsageRefused, read_value,
@@ -24,6 +24,12 @@ VARIABLE = "FEZDROK_PLANAR"
 _FAULT_LINE = re.compile(r"^planar: (\d+) (\w+)(?: (\S+(?: \d+)*))?$", re.MULTILINE)
 
 
+#: The program in the package itself, as a wheel has it.
+PACKAGED = Path(__file__).resolve().parents[1] / "bin" / "planar"
+
+HOW_TO_GET_ONE = "The wheel of fezdrok for Linux on x86-64 has the program in it; in a checkout ./planar gets it"
+
+
 def repository_script() -> Path:
     """Where the script `planar` stands, if this package lies in `python/` of the repository."""
     return Path(__file__).resolve().parents[3] / "planar"
@@ -34,74 +40,85 @@ def _candidates(program: Optional[PathLike]) -> Iterator[Tuple[str, str]]:
     if program is not None:
         yield "the argument", os.fspath(program)
         return
-    if os.environ.get(VARIABLE):
-        yield f"the environment variable {VARIABLE}", os.environ[VARIABLE]
-        return
-    script = repository_script()
-    if script.is_file():
-        yield "the repository", str(script)
-    yield "PATH", "planar"
+    yield "the package", str(PACKAGED)
+    named, script = os.environ.get(VARIABLE, ""), repository_script()
+    yield f"the environment variable {VARIABLE}", named
+    if not named:
+        yield "PATH", "planar"
+        yield "the checkout that holds the package", str(script) if script.is_file() else ""
 
 
 def find_program(program: Optional[PathLike] = None) -> str:
-    """The path of the program: the argument, else what the environment variable FEZDROK_PLANAR names, else the
-    program of the repository that holds this package, else `planar` in PATH.
+    """The path of the program: the argument, else the program in this package, else what the environment variable
+    FEZDROK_PLANAR names, else `planar` in PATH, else that of the checkout that holds this package.
 
     An argument or a variable that names no program is an error; nothing else is tried then.
 
-    The script `planar` of a repository stands for the program that it builds, wherever it is named. It is not called,
-    so nothing is built here: where there is no such program, that is as if nothing were named, and the message says
-    how to build it. A PlanarWarning, once in a process, says that the program was built from other sources than those
-    that are there now; it is used all the same.
+    The script `planar` of a checkout stands for the program `out/planar`, which it builds, or else for the one in
+    `prebuilt/`, wherever the script is named. It is not called, so nothing is built here: where there is no such
+    program, that is as if nothing were named. Of the two the one is taken that was built from the sources that are
+    there now. Where neither was, the first is taken, and a PlanarWarning, once in a process, says that it is old.
     """
     looked = []
     for place, name in _candidates(program):
         path = shutil.which(name)
-        built = None if path is None else _built_by(path)
+        places = [] if path is None else _places_of(path)
+        built = [it for it in places if os.access(it, os.X_OK)]
         if path is None:
-            looked.append(f"{place} ({name})")
-        elif built is None:
-            return path
-        elif os.access(built, os.X_OK):
-            _warn_if_old(path, built)
-            return os.fspath(built)
+            looked.append(f"{place} ({name or 'there is none'})")
+        elif built:
+            return os.fspath(_current(path, built))
+        elif places:
+            looked.append(f"{place} (neither {' nor '.join(map(str, places))} is there: run {path}, which gets one)")
         else:
-            looked.append(f"{place} ({built} is not built: run {path}, which builds it)")
-    raise ProgramNotFound("no program planar by " + " or ".join(looked))
+            return path
+    raise ProgramNotFound(f"no program planar by {' or '.join(looked)}. {HOW_TO_GET_ONE}")
 
 
-def _built_by(path: str) -> Optional[Path]:
-    """The program that the script at this path builds, or None where it is not the script of a repository."""
+def _places_of(path: str) -> List[Path]:
+    """Where the programs lie that the script at this path stands for; none where it is not the script of a checkout."""
     script = Path(path).resolve()
     is_script = script.name == "planar" and (script.parent / ".ci" / "sources").is_file()
-    return script.parent / "out" / "planar" if is_script else None
+    folders = [script.parent / "out", script.parent / "prebuilt" / "x86_64-linux"] if is_script else []
+    return [folder / "planar" for folder in folders]
 
 
-_warned: Set[Path] = set()
+_chosen: Dict[Tuple[Path, ...], Path] = {}
 
 
-def _warn_if_old(script: str, built: Path) -> None:
-    """A warning where the repository's sources are not those that its program was built from, once for each program.
+def _current(script: str, built: List[Path]) -> Path:
+    """The first of a checkout's programs that was built from the sources that are there now. Where none was, the first
+    of all, with a warning. Where that cannot be found out, nothing is said. It is looked at once in a process."""
+    key = tuple(built)
+    if key not in _chosen:
+        _chosen[key] = built[0]
+        sources = Path(script).resolve().parent / ".ci" / "sources"
+        try:
+            done = subprocess.run(
+                [sources, "planar"], stdin=subprocess.DEVNULL, stdout=subprocess.PIPE, stderr=subprocess.DEVNULL, check=True
+            )
+        except (OSError, subprocess.CalledProcessError):
+            return built[0]
+        current = [it for it in built if _sources_of(it) == done.stdout.decode().strip()]
+        if current:
+            _chosen[key] = current[0]
+        else:
+            warnings.warn(
+                f"{built[0]} was built from other sources than those that are there now: "
+                f"run {script}, which builds it anew",
+                PlanarWarning,
+                stacklevel=2,
+            )
+    return _chosen[key]
 
-    Where that cannot be found out, nothing is said.
-    """
-    if built in _warned:
-        return
-    _warned.add(built)
-    sources = built.parent.parent / ".ci" / "sources"
-    try:
-        now = subprocess.run(
-            [sources, "planar"], stdin=subprocess.DEVNULL, stdout=subprocess.PIPE, stderr=subprocess.DEVNULL, check=True
-        ).stdout
-    except (OSError, subprocess.CalledProcessError):
-        return
-    noted = Path(f"{built}.sources")
-    if not noted.is_file() or noted.read_bytes() != now:
-        warnings.warn(
-            f"{built} was built from other sources than those that are there now: run {script}, which builds it anew",
-            PlanarWarning,
-            stacklevel=2,
-        )
+
+def _sources_of(built: Path) -> Optional[str]:
+    """The checksum of the sources that a program was built from, as it was noted beside it; None where it was not."""
+    noted, listed = Path(f"{built}.sources"), built.parent / "MANIFEST"
+    if noted.is_file():
+        return noted.read_text().strip()
+    lines = listed.read_text().splitlines() if listed.is_file() else []
+    return next((words[2] for words in map(str.split, lines) if len(words) == 3 and words[0] == "planar"), None)
 
 
 class Program:
@@ -135,10 +152,11 @@ class Program:
 
     def _call(self, verb: str, text: Text) -> str:
         """What the program prints, or the exception that its status stands for."""
+        path = self.path
         try:
-            status, output, errors = run([self.path, verb], text.encode() if isinstance(text, str) else text)
+            status, output, errors = run([path, verb], text.encode() if isinstance(text, str) else text)
         except OSError as refused:
-            raise ProgramNotStarted(f"{self.path} cannot be run: {refused.strerror or refused}") from refused
+            raise ProgramNotStarted(f"{path} cannot be run: {refused.strerror or refused}") from refused
         if status == 0:
             return output.decode(errors="replace")
         raise failure(status, errors.decode(errors="replace"))
