@@ -1,5 +1,5 @@
 //! Judges random texts twice, by the C library of the proved program and by the plain program, and tells where they
-//! differ: fuzz MINUTES SEED FOLDER. The script ./fuzz builds and runs it.
+//! differ: fuzz MINUTES SEED FOLDER. The script tools/fuzz builds and runs it.
 //!
 //! Each seed stands for two random runs, of which the second goes on from the picture of the first. Their reports and
 //! pictures are judged as they are, and garbled in several ways. A text that the two judge differently is kept as a file in

@@ -1,7 +1,7 @@
 #!/usr/bin/env python3
 """Measures planarization on graphs of networkx: the crossings found, and the time taken.
 
-Prints a table in Markdown: `python/measure.py numbers` beside known crossing numbers, `python/measure.py ogdf` beside
+Prints a table in Markdown: `tools/measure.py numbers` beside known crossing numbers, `tools/measure.py ogdf` beside
 what OGDF found. Behind the crossings stand the time, and the time of a processor that Python and the program took,
 which depends less on other work. All numbers but the times are the same each time.
 """
@@ -16,7 +16,7 @@ import time
 from pathlib import Path
 from typing import Any, Callable, Dict, Iterable, Iterator, NamedTuple, Optional, Tuple
 
-sys.path.insert(0, str(Path(__file__).resolve().parent))
+sys.path.insert(0, str(Path(__file__).resolve().parent.parent / "python"))
 
 import networkx as nx  # noqa: E402
 
