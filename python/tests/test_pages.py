@@ -146,15 +146,16 @@ class Pages(unittest.TestCase):
             self.assertEqual(shown_there, written_now)
 
     def checkout(self) -> Path:
-        """A folder that is as the repository, with the program that the tests call as the one that is built there: so
-        the commands build nothing."""
+        """A folder that is as the repository, with the program that the tests call as the one that is built there and the
+        one that lies there: so the commands build nothing."""
         folder = Path(self.folder) / "checkout"
         folder.mkdir()
         for file in ROOT.iterdir():
-            if file.name != "out":
+            if file.name not in ("out", "prebuilt"):
                 (folder / file.name).symlink_to(file)
-        (folder / "out").mkdir()
-        (folder / "out" / "planar").symlink_to(Path(find_program()).resolve())
+        for place in ("out", "prebuilt/x86_64-linux"):
+            (folder / place).mkdir(parents=True)
+            (folder / place / "planar").symlink_to(Path(find_program()).resolve())
         (folder / "out" / "planar.sources").write_bytes(subprocess.check_output([".ci/sources", "planar"], cwd=folder))
         return folder
 
