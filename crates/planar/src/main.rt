@@ -7,6 +7,7 @@ use std::rt::Env;
 use std::{env, io};
 use topo_cli::program::WordsFault;
 use topo_cli::{perform, refuse};
+use topo_settings::reading::CountedReader;
 
 /// A failed write to standard error is passed over: there is nowhere left to tell it.
 fn main(rt: HostRuntime) -> ExitCode {
@@ -16,7 +17,7 @@ fn main(rt: HostRuntime) -> ExitCode {
             &rt,
             rt.alloc(),
             words.as_slice(),
-            &mut rt.reader(),
+            &mut CountedReader::new(rt.reader()),
             &mut io::writer(&rt),
             &mut err,
         ),

@@ -5,7 +5,7 @@ use Rattle.topo_forms.specs.Reads.{Gives, Read}
 use Rattle.topo_settings.specs.declared.fault.RunFault.{RunFault}
 use Rattle.topo_settings.specs.declared.fault.RunFault.TheVariants.{Memory, Script, BadLimits, Price, Load}
 use Rattle.topo_settings.specs.declared.fault.RunFault.TheVariants.{WrongReply, WrongPicture}
-use Rattle.topo_settings.specs.Reading.{IsRead}
+use Rattle.topo_settings.specs.Reading.{IsRead, ReaderState}
 use Rattle.topo_settings.specs.Writing.{AppendsPart, IsOfWriting}
 use Rattle.topo_settings.proofs.Faults.{by_writing}
 use Rattle.topo_check.specs.Checks.{CheckFailsBy, IsChecked, IsLawfulInput, IsSizeOfBytes, IsUnlawful}
@@ -15,31 +15,14 @@ use Rattle.topo_check.specs.Replays.{IsUntrueReport, ReplayFailsBy, ReportsUntru
 pub read_so : {A : Type 0} {read due : Read A} {a : A} → read ≡ Ok a → Gives read due → due ≡ Ok a
 read_so {due} is gives = subst (λ r. Gives r due) is gives
 
-module _ (old_left new_left old_held new_held : Option (List ℕ)) where
+module _ (old_held new_held : Option (List ℕ)) where
   appends_so : (text line : List ℕ) → text ≡ line → Appends old_held new_held text → Appends old_held new_held line
   appends_so text line same h = subst (λ (bs : List ℕ). Appends old_held new_held bs) same h
 
   part_so : (text line : List ℕ) → text ≡ line → AppendsPart old_held new_held text → AppendsPart old_held new_held line
   part_so text line same h = subst (λ (bs : List ℕ). AppendsPart old_held new_held bs) same h
 
-  module _ (bytes : List ℕ) (read : IsRead 268435456 old_left new_left bytes) where
-    -- ---- A replay
-
-    untrue : (fault : RunFault) → IsUntrueReport bytes fault → ReportsUntruly old_left new_left fault
-    untrue fault is = record { report = is.report; reported = record { input = bytes; read = read; spelled = is.spelled }; untrue = is.untrue }
-
-    pub replay_fails : (fault : RunFault) → TellsUntrue bytes fault → Keeps old_held new_held → ReplayFailsBy fault old_left new_left old_held new_held
-    replay_fails Memory is kept = kept
-    replay_fails (Script fault) is kept = (record { input = bytes; read = read; first = is }, kept)
-    replay_fails BadLimits is kept = (untrue BadLimits is, kept)
-    replay_fails (Price fault) is kept = (untrue (Price fault) is, kept)
-    replay_fails (Load fault) is kept = (untrue (Load fault) is, kept)
-    replay_fails (WrongReply i) is kept = (untrue (WrongReply i) is, kept)
-    replay_fails WrongPicture is kept = (untrue WrongPicture is, kept)
-    replay_fails _ is kept = absurd is
-
-    -- ---- A check
-
+  module _ (old_left new_left : Option (List ℕ)) (bytes : List ℕ) (read : IsRead 268435456 old_left new_left bytes) where
     lawful : (line : List ℕ) (told : IsSizeOfBytes bytes line) → IsLawfulInput old_left new_left told.rows
     lawful line told = record {
       spelled = record { input = bytes; read = read; spelled = told.spelled };
@@ -57,7 +40,25 @@ module _ (old_left new_left old_held new_held : Option (List ℕ)) where
       written = appends_so line _ told.told (appends_so text line same written);
     }
 
-    pub check_fails : (fault : RunFault) → IsUnlawful bytes fault → Keeps old_held new_held → CheckFailsBy fault old_left new_left old_held new_held
+  module _ (old new : ReaderState) (bytes : List ℕ) (read : IsRead 268435456 old.left new.left bytes) where
+    -- ---- A replay
+
+    untrue : (fault : RunFault) → IsUntrueReport bytes fault → ReportsUntruly old.left new.left fault
+    untrue fault is = record { report = is.report; reported = record { input = bytes; read = read; spelled = is.spelled }; untrue = is.untrue }
+
+    pub replay_fails : (fault : RunFault) → TellsUntrue bytes fault → Keeps old_held new_held → ReplayFailsBy fault old new old_held new_held
+    replay_fails Memory is kept = kept
+    replay_fails (Script fault) is kept = (record { input = bytes; read = read; first = is }, kept)
+    replay_fails BadLimits is kept = (untrue BadLimits is, kept)
+    replay_fails (Price fault) is kept = (untrue (Price fault) is, kept)
+    replay_fails (Load fault) is kept = (untrue (Load fault) is, kept)
+    replay_fails (WrongReply i) is kept = (untrue (WrongReply i) is, kept)
+    replay_fails WrongPicture is kept = (untrue WrongPicture is, kept)
+    replay_fails _ is kept = absurd is
+
+    -- ---- A check
+
+    pub check_fails : (fault : RunFault) → IsUnlawful bytes fault → Keeps old_held new_held → CheckFailsBy fault old new old_held new_held
     check_fails Memory is kept = kept
     check_fails (Script fault) is kept = (record { input = bytes; read = read; first = is }, kept)
     check_fails (Load fault) is kept = (
@@ -73,10 +74,10 @@ module _ (old_left new_left old_held new_held : Option (List ℕ)) where
     check_fails _ is kept = absurd is
 
     pub check_unwritten : (fault : RunFault) (line text : List ℕ) → IsSizeOfBytes bytes line → text ≡ line → AppendsPart old_held new_held text
-        → IsOfWriting fault → CheckFailsBy fault old_left new_left old_held new_held
-    check_unwritten fault line text told same written is = by_writing (λ f. CheckFailsBy f old_left new_left old_held new_held) fault is (record {
+        → IsOfWriting fault → CheckFailsBy fault old new old_held new_held
+    check_unwritten fault line text told same written is = by_writing (λ f. CheckFailsBy f old new old_held new_held) fault is (record {
       rows = told.rows;
-      input = lawful line told;
+      input = lawful old.left new.left bytes read line told;
       counts = told.counts;
       counted = told.counted;
       written = part_so line _ told.told (part_so text line same written);

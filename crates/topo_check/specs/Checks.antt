@@ -15,7 +15,7 @@ use Rattle.topo_settings.specs.declared.fault.RunFault.{RunFault}
 use Rattle.topo_settings.specs.declared.fault.RunFault.TheVariants.{Memory, Script, BadLimits, Price, Load, NoSeat, Mismatch}
 use Rattle.topo_settings.specs.declared.fault.RunFault.TheVariants.{WrongReply, WrongPicture, ReadFault, WriteFault}
 use Rattle.topo_settings.specs.Limiting.{AreLimits}
-use Rattle.topo_settings.specs.Reading.{Spells, SpellsNone}
+use Rattle.topo_settings.specs.Reading.{HasFailed, ReaderState, Spells, SpellsNone}
 use Rattle.topo_settings.specs.Writing.{AppendsPart}
 
 -- the line that says how large a picture is, with its line feed
@@ -92,17 +92,17 @@ pub record IsPartlyChecked (old_left new_left old_held new_held : Option (List �
   pub counted : AreCountsOf rows counts
   pub written : AppendsPart old_held new_held (size_line counts)
 
--- A fault is the first one of what was read, and then nothing is written, but where the writer failed: then what was
--- read is a lawful picture.
-abbrev pub CheckFailsBy : RunFault → Option (List ℕ) → Option (List ℕ) → Option (List ℕ) → Option (List ℕ) → Type 0
-CheckFailsBy Memory old_left new_left old_held new_held = Keeps old_held new_held
-CheckFailsBy (Script fault) old_left new_left old_held new_held = SpellsNone rows_of 268435456 old_left new_left fault × Keeps old_held new_held
-CheckFailsBy BadLimits old_left new_left old_held new_held = ⊥
-CheckFailsBy (Price fault) old_left new_left old_held new_held = ⊥
-CheckFailsBy (Load fault) old_left new_left old_held new_held = IsUnlawfulInput old_left new_left fault × Keeps old_held new_held
-CheckFailsBy NoSeat old_left new_left old_held new_held = ⊥
-CheckFailsBy (Mismatch list i) old_left new_left old_held new_held = ⊥
-CheckFailsBy (WrongReply i) old_left new_left old_held new_held = ⊥
-CheckFailsBy WrongPicture old_left new_left old_held new_held = ⊥
-CheckFailsBy ReadFault old_left new_left old_held new_held = Keeps old_held new_held
-CheckFailsBy WriteFault old_left new_left old_held new_held = IsPartlyChecked old_left new_left old_held new_held
+-- A fault is that reading has failed, or the first one of what was read, and then nothing is written, but where the writer
+-- failed: then what was read is a lawful picture.
+abbrev pub CheckFailsBy : RunFault → ReaderState → ReaderState → Option (List ℕ) → Option (List ℕ) → Type 0
+CheckFailsBy Memory old new old_held new_held = Keeps old_held new_held
+CheckFailsBy (Script fault) old new old_held new_held = SpellsNone rows_of 268435456 old.left new.left fault × Keeps old_held new_held
+CheckFailsBy BadLimits old new old_held new_held = ⊥
+CheckFailsBy (Price fault) old new old_held new_held = ⊥
+CheckFailsBy (Load fault) old new old_held new_held = IsUnlawfulInput old.left new.left fault × Keeps old_held new_held
+CheckFailsBy NoSeat old new old_held new_held = ⊥
+CheckFailsBy (Mismatch list i) old new old_held new_held = ⊥
+CheckFailsBy (WrongReply i) old new old_held new_held = ⊥
+CheckFailsBy WrongPicture old new old_held new_held = ⊥
+CheckFailsBy ReadFault old new old_held new_held = HasFailed 268435456 old new × Keeps old_held new_held
+CheckFailsBy WriteFault old new old_held new_held = IsPartlyChecked old.left new.left old_held new_held

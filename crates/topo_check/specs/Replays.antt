@@ -11,7 +11,7 @@ use Rattle.topo_forms.specs.declared.reports.Report.{Report}
 use Rattle.topo_settings.specs.declared.fault.RunFault.{RunFault}
 use Rattle.topo_settings.specs.declared.fault.RunFault.TheVariants.{Memory, Script, BadLimits, Price, Load, NoSeat, Mismatch}
 use Rattle.topo_settings.specs.declared.fault.RunFault.TheVariants.{WrongReply, WrongPicture, ReadFault, WriteFault}
-use Rattle.topo_settings.specs.Reading.{Spells, SpellsNone}
+use Rattle.topo_settings.specs.Reading.{HasFailed, ReaderState, Spells, SpellsNone}
 use Rattle.topo_settings.specs.Settings.{IsSound, IsUnsound, priced}
 use Rattle.topo_settings.specs.Writing.{AppendsPart}
 
@@ -114,17 +114,17 @@ pub record IsPartlyReplayed (old_left new_left old_held new_held : Option (List 
   pub legal : IsTrueReport report
   pub written : AppendsPart old_held new_held (calls_line (length report.history))
 
--- A fault is the first one of what was read, and then nothing is written, but where the writer failed: then what was
--- read has no fault.
-abbrev pub ReplayFailsBy : RunFault → Option (List ℕ) → Option (List ℕ) → Option (List ℕ) → Option (List ℕ) → Type 0
-ReplayFailsBy Memory old_left new_left old_held new_held = Keeps old_held new_held
-ReplayFailsBy (Script fault) old_left new_left old_held new_held = SpellsNone report_of 268435456 old_left new_left fault × Keeps old_held new_held
-ReplayFailsBy BadLimits old_left new_left old_held new_held = ReportsUntruly old_left new_left BadLimits × Keeps old_held new_held
-ReplayFailsBy (Price fault) old_left new_left old_held new_held = ReportsUntruly old_left new_left (Price fault) × Keeps old_held new_held
-ReplayFailsBy (Load fault) old_left new_left old_held new_held = ReportsUntruly old_left new_left (Load fault) × Keeps old_held new_held
-ReplayFailsBy NoSeat old_left new_left old_held new_held = ⊥
-ReplayFailsBy (Mismatch list i) old_left new_left old_held new_held = ⊥
-ReplayFailsBy (WrongReply i) old_left new_left old_held new_held = ReportsUntruly old_left new_left (WrongReply i) × Keeps old_held new_held
-ReplayFailsBy WrongPicture old_left new_left old_held new_held = ReportsUntruly old_left new_left WrongPicture × Keeps old_held new_held
-ReplayFailsBy ReadFault old_left new_left old_held new_held = Keeps old_held new_held
-ReplayFailsBy WriteFault old_left new_left old_held new_held = IsPartlyReplayed old_left new_left old_held new_held
+-- A fault is that reading has failed, or the first one of what was read, and then nothing is written, but where the writer
+-- failed: then what was read has no fault.
+abbrev pub ReplayFailsBy : RunFault → ReaderState → ReaderState → Option (List ℕ) → Option (List ℕ) → Type 0
+ReplayFailsBy Memory old new old_held new_held = Keeps old_held new_held
+ReplayFailsBy (Script fault) old new old_held new_held = SpellsNone report_of 268435456 old.left new.left fault × Keeps old_held new_held
+ReplayFailsBy BadLimits old new old_held new_held = ReportsUntruly old.left new.left BadLimits × Keeps old_held new_held
+ReplayFailsBy (Price fault) old new old_held new_held = ReportsUntruly old.left new.left (Price fault) × Keeps old_held new_held
+ReplayFailsBy (Load fault) old new old_held new_held = ReportsUntruly old.left new.left (Load fault) × Keeps old_held new_held
+ReplayFailsBy NoSeat old new old_held new_held = ⊥
+ReplayFailsBy (Mismatch list i) old new old_held new_held = ⊥
+ReplayFailsBy (WrongReply i) old new old_held new_held = ReportsUntruly old.left new.left (WrongReply i) × Keeps old_held new_held
+ReplayFailsBy WrongPicture old new old_held new_held = ReportsUntruly old.left new.left WrongPicture × Keeps old_held new_held
+ReplayFailsBy ReadFault old new old_held new_held = HasFailed 268435456 old new × Keeps old_held new_held
+ReplayFailsBy WriteFault old new old_held new_held = IsPartlyReplayed old.left new.left old_held new_held

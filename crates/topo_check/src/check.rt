@@ -1,12 +1,13 @@
 //! The command `check`.
 
-ghost use Rattle.std.specs.Prelude.{◌≡◌, ℕ, List, IfOk, IfErr, string_bytes};
+ghost use Rattle.std.specs.Prelude.{◌≡◌, ◌≤◌, ◌+◌, ℕ, List, IfOk, IfErr, string_bytes};
 ghost use Rattle.topo_check.specs.Checks.{CheckFailsBy, IsChecked};
 ghost use Rattle.topo_check.specs.Checks.{IsSizeOfBytes, IsUnlawful, size_line};
 ghost use Rattle.topo_forms.specs.Reads.{Gives};
 ghost use Rattle.topo_forms.specs.RowForms.{rows_of};
 ghost use Rattle.topo_forms.specs.Scripts.{greatest_limits};
 ghost use Rattle.topo_settings.specs.Limiting.{AreLimits};
+ghost use Rattle.topo_settings.specs.Reading.{most_calls};
 
 use std::alloc::{AllocError, Global};
 use std::io::{Read, Write};
@@ -16,7 +17,7 @@ use topo_forms::row_forms::MAX_PICTURE_BYTES;
 use topo_forms::{ScriptFault, read_rows};
 use topo_picture::{Counts, Picture};
 use topo_settings::RunFault;
-use topo_settings::reading::read_bytes;
+use topo_settings::reading::{CountedReader, read_bytes};
 use topo_settings::writing::write_text;
 
 /// Reads a picture, and writes how large it is where it is a lawful one under the greatest limits.
@@ -26,13 +27,14 @@ use topo_settings::writing::write_text;
 /// where a call of the writer fails.
 pub fn check_io<R: Read, W: Write>(
     alloc: Global,
-    reader: &mut R,
+    reader: &mut CountedReader<R>,
     writer: &mut W,
 ) -> Result<(), RunFault>
-    ensures done { IfOk result (λ _. IsChecked (R.remaining reader.old) (R.remaining reader.new)
+    ensures done { IfOk result (λ _. IsChecked reader.old.left reader.new.left
         (W.contents writer.old) (W.contents writer.new)) }
-    ensures fault { IfErr result (λ fault. CheckFailsBy fault (R.remaining reader.old)
-        (R.remaining reader.new) (W.contents writer.old) (W.contents writer.new)) }
+    ensures fault { IfErr result (λ fault. CheckFailsBy fault reader.old reader.new
+        (W.contents writer.old) (W.contents writer.new)) }
+    ensures calls { reader.new.calls ≤ reader.old.calls + most_calls 268435456 }
 {
     let bytes = read_bytes(alloc, MAX_PICTURE_BYTES as u32, reader)?;
     let read = read_rows(alloc, bytes.as_slice());

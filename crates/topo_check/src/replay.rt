@@ -1,6 +1,6 @@
 //! The command `replay`.
 
-ghost use Rattle.std.specs.Prelude.{◌≡◌, ℕ, List, IfOk, IfErr, Some};
+ghost use Rattle.std.specs.Prelude.{◌≡◌, ◌≤◌, ◌+◌, ℕ, List, IfOk, IfErr, Some};
 ghost use Rattle.std.specs.Prelude.{string_bytes};
 ghost use Rattle.topo_book.specs.Faults.{IsFaultOf, IsIllegalAt};
 ghost use Rattle.topo_core.specs.History.{Replays};
@@ -9,6 +9,7 @@ ghost use Rattle.topo_check.specs.Replays.{IsReplayed, IsTrueReport, IsUntrue, R
 ghost use Rattle.topo_check.specs.Replays.{TellsCalls, TellsUntrue, calls_line};
 ghost use Rattle.topo_forms.specs.Reads.{Gives};
 ghost use Rattle.topo_forms.specs.Scripts.{report_of};
+ghost use Rattle.topo_settings.specs.Reading.{most_calls};
 ghost use Rattle.topo_settings.specs.Settings.{priced, price_table};
 
 use std::alloc::{AllocError, Global};
@@ -21,7 +22,7 @@ use topo_picture::Picture;
 use topo_price::table::PriceTable;
 use topo_price::tariff::{PriceFn, Tariff};
 use topo_settings::RunFault;
-use topo_settings::reading::read_bytes;
+use topo_settings::reading::{CountedReader, read_bytes};
 use topo_settings::settings::validate;
 use topo_settings::writing::write_text;
 
@@ -34,13 +35,14 @@ use topo_settings::writing::write_text;
 /// WriteFault where a call of the writer fails.
 pub fn replay_io<R: Read, W: Write>(
     alloc: Global,
-    reader: &mut R,
+    reader: &mut CountedReader<R>,
     writer: &mut W,
 ) -> Result<(), RunFault>
-    ensures done { IfOk result (λ _. IsReplayed (R.remaining reader.old) (R.remaining reader.new)
+    ensures done { IfOk result (λ _. IsReplayed reader.old.left reader.new.left
         (W.contents writer.old) (W.contents writer.new)) }
-    ensures fault { IfErr result (λ fault. ReplayFailsBy fault (R.remaining reader.old)
-        (R.remaining reader.new) (W.contents writer.old) (W.contents writer.new)) }
+    ensures fault { IfErr result (λ fault. ReplayFailsBy fault reader.old reader.new
+        (W.contents writer.old) (W.contents writer.new)) }
+    ensures calls { reader.new.calls ≤ reader.old.calls + most_calls 268435456 }
 {
     let bytes = read_bytes(alloc, MAX_PICTURE_BYTES as u32, reader)?;
     let read = read_report(alloc, bytes.as_slice());

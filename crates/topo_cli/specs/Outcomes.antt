@@ -6,6 +6,7 @@ use Rattle.clap.specs.Kinds.{IsAmong}
 use Rattle.clap.specs.declared.error.kind.ErrorKind.TheVariants.{DisplayVersion}
 use Rattle.topo_settings.specs.declared.fault.RunFault.{RunFault}
 use Rattle.topo_settings.specs.declared.fault.RunFault.TheVariants.{Memory as NoMemory, WriteFault}
+use Rattle.topo_settings.specs.Reading.{ReaderState}
 use Rattle.topo_settings.specs.Statuses.{fault_line, status_of}
 use Rattle.topo_settings.specs.Writing.{AppendsPart}
 use Rattle.topo_cli.specs.declared.Verb.{Verb}
@@ -97,49 +98,49 @@ TellsVersion outcome old_held new_held old_told new_told =
 -- ---- A command
 
 -- the command is done: standard output has just its answer more, and standard error nothing
-pub record IsCarriedOut (verb : Verb) (outcome : Outcome) (old_left new_left old_held new_held old_told new_told : Option (List ℕ)) : Type 0 where
+pub record IsCarriedOut (verb : Verb) (outcome : Outcome) (old new : ReaderState) (old_held new_held old_told new_told : Option (List ℕ)) : Type 0 where
   pub status : outcome.status ≡ 0
-  pub answered : IsAnswered verb old_left new_left old_held new_held
+  pub answered : IsAnswered verb old new old_held new_held
   pub silent : Keeps old_told new_told
   pub told : outcome.is_told ≡ true
 
 -- the command has no answer, by a fault that is told
-pub record IsGivenUp (verb : Verb) (outcome : Outcome) (old_left new_left old_held new_held old_told new_told : Option (List ℕ)) : Type 0 where
+pub record IsGivenUp (verb : Verb) (outcome : Outcome) (old new : ReaderState) (old_held new_held old_told new_told : Option (List ℕ)) : Type 0 where
   pub fault : RunFault
-  pub fails : CommandFailsBy verb fault old_left new_left old_held new_held
+  pub fails : CommandFailsBy verb fault old new old_held new_held
   pub ends : EndsBy fault outcome old_told new_told
 
-abbrev pub CarriesOut : Verb → Outcome → Option (List ℕ) → Option (List ℕ) → Option (List ℕ) → Option (List ℕ) → Option (List ℕ) → Option (List ℕ) → Type 0
-CarriesOut verb outcome old_left new_left old_held new_held old_told new_told =
-    IsCarriedOut verb outcome old_left new_left old_held new_held old_told new_told
-    ⊎ IsGivenUp verb outcome old_left new_left old_held new_held old_told new_told
+abbrev pub CarriesOut : Verb → Outcome → ReaderState → ReaderState → Option (List ℕ) → Option (List ℕ) → Option (List ℕ) → Option (List ℕ) → Type 0
+CarriesOut verb outcome old new old_held new_held old_told new_told =
+    IsCarriedOut verb outcome old new old_held new_held old_told new_told
+    ⊎ IsGivenUp verb outcome old new old_held new_held old_told new_told
 
 -- ---- The program
 
 -- the words are a command line, and the command that they ask for is carried out
-pub record PerformsCommand (words : List (List ℕ)) (outcome : Outcome) (old_left new_left old_held new_held old_told new_told : Option (List ℕ)) : Type 0 where
+pub record PerformsCommand (words : List (List ℕ)) (outcome : Outcome) (old new : ReaderState) (old_held new_held old_told new_told : Option (List ℕ)) : Type 0 where
   pub verb : Verb
   pub command : IsCommand words verb
-  pub carried : CarriesOut verb outcome old_left new_left old_held new_held old_told new_told
+  pub carried : CarriesOut verb outcome old new old_held new_held old_told new_told
 
 -- the words ask for the version, and it is told: nothing is read
-pub record PerformsVersion (words : List (List ℕ)) (outcome : Outcome) (old_left new_left old_held new_held old_told new_told : Option (List ℕ)) : Type 0 where
+pub record PerformsVersion (words : List (List ℕ)) (outcome : Outcome) (old new : ReaderState) (old_held new_held old_told new_told : Option (List ℕ)) : Type 0 where
   pub asked : AskVersion words
-  pub unconsumed : Keeps old_left new_left
+  pub unread : new ≡ old
   pub tells : TellsVersion outcome old_held new_held old_told new_told
 
 -- The words are none, and are turned down with a text, or there is no memory to read them. Nothing is read, and nothing
 -- is written to standard output.
-pub record PerformsNone (words : List (List ℕ)) (outcome : Outcome) (old_left new_left old_held new_held old_told new_told : Option (List ℕ)) : Type 0 where
+pub record PerformsNone (words : List (List ℕ)) (outcome : Outcome) (old new : ReaderState) (old_held new_held old_told new_told : Option (List ℕ)) : Type 0 where
   pub unread : Unread
   pub is_unread : IsUnread words unread
   pub told : Tells unread outcome old_told new_told
-  pub unconsumed : Keeps old_left new_left
+  pub unread : new ≡ old
   pub unwritten : Keeps old_held new_held
 
-abbrev pub Performs : List (List ℕ) → Outcome → Option (List ℕ) → Option (List ℕ) → Option (List ℕ) → Option (List ℕ) → Option (List ℕ)
+abbrev pub Performs : List (List ℕ) → Outcome → ReaderState → ReaderState → Option (List ℕ) → Option (List ℕ) → Option (List ℕ)
     → Option (List ℕ) → Type 0
-Performs words outcome old_left new_left old_held new_held old_told new_told =
-    PerformsCommand words outcome old_left new_left old_held new_held old_told new_told
-    ⊎ (PerformsVersion words outcome old_left new_left old_held new_held old_told new_told
-    ⊎ PerformsNone words outcome old_left new_left old_held new_held old_told new_told)
+Performs words outcome old new old_held new_held old_told new_told =
+    PerformsCommand words outcome old new old_held new_held old_told new_told
+    ⊎ (PerformsVersion words outcome old new old_held new_held old_told new_told
+    ⊎ PerformsNone words outcome old new old_held new_held old_told new_told)

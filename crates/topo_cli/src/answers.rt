@@ -12,19 +12,20 @@ use topo_check::{check_io, replay_io};
 use topo_run::{OpenGate, run_io};
 use topo_serve::serve_io;
 use topo_settings::RunFault;
+use topo_settings::reading::CountedReader;
 
 /// Carries out a command: it reads its input from the reader and writes its answer to the writer.
 pub fn answer<R: Threads + Wait + Sync, I: Read, O: Write>(
     rt: &R,
     alloc: Global,
     verb: Verb,
-    reader: &mut I,
+    reader: &mut CountedReader<I>,
     writer: &mut O,
 ) -> Result<(), RunFault>
-    ensures done { IfOk result (λ _. IsAnswered verb (I.remaining reader.old)
-        (I.remaining reader.new) (O.contents writer.old) (O.contents writer.new)) }
-    ensures fault { IfErr result (λ fault. CommandFailsBy verb fault (I.remaining reader.old)
-        (I.remaining reader.new) (O.contents writer.old) (O.contents writer.new)) }
+    ensures done { IfOk result (λ _. IsAnswered verb reader.old reader.new
+        (O.contents writer.old) (O.contents writer.new)) }
+    ensures fault { IfErr result (λ fault. CommandFailsBy verb fault reader.old reader.new
+        (O.contents writer.old) (O.contents writer.new)) }
 {
     match verb {
         Verb::Run => run_io(rt, alloc, reader, writer, &OpenGate),

@@ -17,6 +17,7 @@ use std::io::{Read, Write};
 use std::sync::Wait;
 use std::thread::Threads;
 use topo_settings::RunFault;
+use topo_settings::reading::CountedReader;
 use topo_settings::writing::write_text;
 
 /// The status of a command that is done.
@@ -73,12 +74,12 @@ pub fn perform<'a, R: Threads + Wait + Sync, S: AsStr, I: Read, O: Write, E: Wri
     rt: &R,
     alloc: Global,
     words: &'a [S],
-    reader: &mut I,
+    reader: &mut CountedReader<I>,
     out: &mut O,
     err: &mut E,
 ) -> Outcome
-    ensures { Performs (map S.text words.entry.now) result (I.remaining reader.old)
-        (I.remaining reader.new) (O.contents out.old) (O.contents out.new) (E.contents err.old)
+    ensures { Performs (map S.text words.entry.now) result reader.old reader.new
+        (O.contents out.old) (O.contents out.new) (E.contents err.old)
         (E.contents err.new) }
 {
     match read_words(alloc, words) {
@@ -124,11 +125,11 @@ fn carry_out<R: Threads + Wait + Sync, I: Read, O: Write, E: Write>(
     rt: &R,
     alloc: Global,
     verb: Verb,
-    reader: &mut I,
+    reader: &mut CountedReader<I>,
     out: &mut O,
     err: &mut E,
 ) -> Outcome
-    ensures { CarriesOut verb result (I.remaining reader.old) (I.remaining reader.new)
+    ensures { CarriesOut verb result reader.old reader.new
         (O.contents out.old) (O.contents out.new) (E.contents err.old) (E.contents err.new) }
 {
     match answer(rt, alloc, verb, reader, out) {

@@ -1,5 +1,6 @@
 //! Texts that the commands read, what they write then, and what is told of them.
 
+use crate::streams::LentReader;
 use std::alloc::Global;
 use std::io::{Read, Write};
 use std::process::Abort;
@@ -8,6 +9,7 @@ use std::test::Fail;
 use std::thread::Threads;
 use topo_cli::{Verb, answer};
 use topo_settings::RunFault;
+use topo_settings::reading::CountedReader;
 
 pub(crate) const SCRIPT: &str = "{\"version\":1,\"workers\":[[[\"grow\",1,0,0],[\"grow\",1,1,7]]]}";
 
@@ -56,7 +58,8 @@ pub(crate) fn ends<R: TestRuntime, I: Read, O: Write>(
     writer: &mut O,
     due: Result<(), RunFault>,
 ) {
-    let told = answer(rt, rt.alloc(), verb, reader, writer);
+    let mut counted = CountedReader::new(LentReader { reader });
+    let told = answer(rt, rt.alloc(), verb, &mut counted, writer);
     assert!(rt; told == due, "{verb:?}: {told:?}");
 }
 

@@ -36,11 +36,21 @@ fn lengths(rt: HostRuntime) -> Result<(), Fail> {
     Ok(())
 }
 
+/// The commands that end by themselves, and the most calls of a reader that each makes: twice the
+/// bytes that its text may have, and two.
+const MOST_CALLS: &[(Verb, u64)] = &[
+    (Verb::Run, 2 * 1_048_576 + 2),
+    (Verb::Replay, 2 * 268_435_456 + 2),
+    (Verb::Check, 2 * 268_435_456 + 2),
+];
+
 #[test]
 fn readers_without_an_end(rt: HostRuntime) {
-    let mut never = NeverReader { calls: 0 };
-    writes(&rt, Verb::Run, &mut never, Err(RunFault::ReadFault), "");
-    assert_eq!(rt; never.calls, 2 * 1_048_576 + 2);
+    for (verb, most) in MOST_CALLS {
+        let mut never = NeverReader { calls: 0 };
+        writes(&rt, *verb, &mut never, Err(RunFault::ReadFault), "");
+        assert_eq!(rt; never.calls, *most);
+    }
     let mut endless = EndlessReader { given: 0 };
     writes(&rt, Verb::Run, &mut endless, Err(TOO_LONG), "");
     assert_eq!(rt; endless.given, LONGEST + 1);

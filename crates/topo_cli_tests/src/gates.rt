@@ -7,6 +7,7 @@ use topo_forms::read_report;
 use topo_run::run_io;
 use topo_service::Gate;
 use topo_service_test_support::gates::Turns;
+use topo_settings::reading::CountedReader;
 
 const TWO_LISTS: &str = "{\"version\":1,\"workers\":[[[\"insert\",0,1,0]],[[\"insert\",0,1,1]]]}";
 
@@ -20,7 +21,7 @@ fn is_insertion(entry: &Entry, caller: u32, edge: u32) -> bool {
 fn a_gate_fixes_the_order_of_two_lists(rt: HostRuntime) -> Result<(), Fail> {
     let alloc = rt.alloc();
     let gate = Turns::new();
-    let mut reader = TWO_LISTS.as_bytes();
+    let mut reader = CountedReader::new(TWO_LISTS.as_bytes());
     let mut written: Vec<u8> = Vec::new(alloc);
     assert!(rt; run_io(&rt, alloc, &mut reader, &mut written, &gate) == Ok(()));
     assert!(rt; !gate.is_late());
@@ -78,7 +79,7 @@ fn a_gate_sees_each_command_of_one_list(rt: HostRuntime) -> Result<(), Fail> {
         run_io(
             &rt,
             rt.alloc(),
-            &mut ONE_LIST.as_bytes(),
+            &mut CountedReader::new(ONE_LIST.as_bytes()),
             &mut written,
             &gate
         ) == Ok(())

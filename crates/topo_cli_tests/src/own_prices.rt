@@ -21,6 +21,7 @@ use topo_run::{OpenGate, run_io, run_script};
 use topo_script::report;
 use topo_service::Gate;
 use topo_settings::RunFault;
+use topo_settings::reading::CountedReader;
 use topo_settings::settings::validate;
 
 /// One list, which grows a vertex on each side of a triangle and crosses it twice between them.
@@ -153,7 +154,15 @@ fn check_run<R: Threads + Wait + Abort + Sync>(
     let mut counted = counted_text(rt, alloc, &script, &gate).expect(rt, "a report");
     counted.push_str("\n")?;
     let mut written: Vec<u8> = Vec::new(alloc);
-    assert!(rt; run_io(rt, alloc, &mut text.as_bytes(), &mut written, &OpenGate) == Ok(()));
+    assert!(rt;
+        run_io(
+            rt,
+            alloc,
+            &mut CountedReader::new(text.as_bytes()),
+            &mut written,
+            &OpenGate
+        ) == Ok(())
+    );
     assert!(rt; written.as_slice() == counted.as_bytes());
     assert!(rt; gate.asked.load(Ordering::SeqCst) > 0);
     gate.before(0, 0);

@@ -2,11 +2,14 @@
 
 use crate::commands::{CROSSED, REPLAYED, REPORT, SCRIPT, SIZE, TestRuntime, are_of};
 use crate::serving::{ANSWERS, SESSION};
-use crate::streams::{BreakingReader, EndlessReader, FailingWriter, FullWriter, SlowWriter};
+use crate::streams::{
+    BreakingReader, EndlessReader, FailingWriter, FullWriter, LentReader, SlowWriter,
+};
 use std::io::{Read, Write};
 use std::process::Abort;
 use topo_cli::program::WordsFault;
 use topo_cli::{Outcome, perform, refuse};
+use topo_settings::reading::CountedReader;
 
 /// What is said of a command that is not known.
 const NO_COMMAND: &str = "\
@@ -53,7 +56,7 @@ fn check_row<R: TestRuntime>(rt: &R, words: &[&str], input: &str, wanted: (u8, &
         rt,
         rt.alloc(),
         words,
-        &mut input.as_bytes(),
+        &mut CountedReader::new(input.as_bytes()),
         &mut out,
         &mut err,
     );
@@ -127,7 +130,7 @@ fn word_ends<R: TestRuntime, O: Write, E: Write>(
     err: &mut E,
     due: Outcome,
 ) {
-    let mut reader = SCRIPT.as_bytes();
+    let mut reader = CountedReader::new(SCRIPT.as_bytes());
     let outcome = perform(rt, rt.alloc(), &["planar", word], &mut reader, out, err);
     assert!(rt; outcome == due);
 }
@@ -140,7 +143,7 @@ fn check_reader<R: TestRuntime, I: Read>(rt: &R, reader: &mut I, told: &str) {
         rt,
         rt.alloc(),
         &["planar", "run"],
-        reader,
+        &mut CountedReader::new(LentReader { reader }),
         &mut out,
         &mut err,
     );

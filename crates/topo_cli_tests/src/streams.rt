@@ -51,6 +51,18 @@ impl Read for SlowReader<'_> {
     }
 }
 
+/// Lends a reader, so that a test can ask it afterwards.
+#[derive(Drop)]
+pub(crate) struct LentReader<'a, R: Read> {
+    pub(crate) reader: &'a mut R,
+}
+
+impl<R: Read> Read for LentReader<'_, R> {
+    fn read(&mut self, buf: &mut [u8]) -> io::Result<usize> {
+        self.reader.read(buf)
+    }
+}
+
 /// A reader that is interrupted at each call, and counts them.
 #[derive(Drop)]
 pub(crate) struct NeverReader {

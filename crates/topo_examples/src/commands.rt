@@ -10,6 +10,7 @@ use topo_forms::{Report, ScriptFault, read_report, read_rows, read_script};
 use topo_run::{OpenGate, run_io};
 use topo_script::{picture_text, report};
 use topo_serve::serve_io;
+use topo_settings::reading::CountedReader;
 
 /// What is done with the bytes of a row.
 #[derive(Clone, Copy)]
@@ -132,14 +133,14 @@ fn run<R: Threads + Wait + Sync>(
     alloc: Global,
     bytes: &[u8],
 ) -> Result<Vec<u8>, AllocError> {
-    let mut reader = bytes;
+    let mut reader = CountedReader::new(bytes);
     let mut written: Vec<u8> = Vec::new(alloc);
     let ended = run_io(rt, alloc, &mut reader, &mut written, &OpenGate);
     told(alloc, ended, written)
 }
 
 fn replay(alloc: Global, bytes: &[u8]) -> Result<Vec<u8>, AllocError> {
-    let mut reader = bytes;
+    let mut reader = CountedReader::new(bytes);
     let mut written: Vec<u8> = Vec::new(alloc);
     let ended = replay_io(alloc, &mut reader, &mut written);
     let printed = told(alloc, ended, written)?;
@@ -147,7 +148,7 @@ fn replay(alloc: Global, bytes: &[u8]) -> Result<Vec<u8>, AllocError> {
 }
 
 fn check(alloc: Global, bytes: &[u8]) -> Result<Vec<u8>, AllocError> {
-    let mut reader = bytes;
+    let mut reader = CountedReader::new(bytes);
     let mut written: Vec<u8> = Vec::new(alloc);
     let ended = check_io(alloc, &mut reader, &mut written);
     let printed = told(alloc, ended, written)?;

@@ -15,7 +15,7 @@ use Rattle.topo_settings.specs.declared.fault.RunFault.{RunFault}
 use Rattle.topo_settings.specs.declared.fault.RunFault.TheVariants.{Memory, Script as OfScript, BadLimits, Price, Load, NoSeat}
 use Rattle.topo_settings.specs.declared.fault.RunFault.TheVariants.{Mismatch, WrongReply, WrongPicture, ReadFault, WriteFault}
 use Rattle.topo_settings.specs.Limiting.{AreLimits}
-use Rattle.topo_settings.specs.Reading.{Spells, SpellsNone}
+use Rattle.topo_settings.specs.Reading.{HasFailed, ReaderState, Spells, SpellsNone}
 use Rattle.topo_settings.specs.Settings.{IsSound, IsUnsound, priced, start_of}
 use Rattle.topo_settings.specs.Writing.{AppendsPart}
 
@@ -123,17 +123,17 @@ pub record IsPartlyDone (old_left new_left old_held new_held : Option (List ℕ)
   pub shown : IsRunLine script line
   pub written : AppendsPart old_held new_held line
 
--- A fault is the first one of what was read, and then nothing is written, but where the writer failed: then what was
--- read has no fault.
-abbrev pub FailsBy : RunFault → Option (List ℕ) → Option (List ℕ) → Option (List ℕ) → Option (List ℕ) → Type 0
-FailsBy Memory old_left new_left old_held new_held = Keeps old_held new_held
-FailsBy (OfScript fault) old_left new_left old_held new_held = SpellsNone script_of MAX_SCRIPT_BYTES old_left new_left fault × Keeps old_held new_held
-FailsBy BadLimits old_left new_left old_held new_held = AsksInVain old_left new_left BadLimits × Keeps old_held new_held
-FailsBy (Price fault) old_left new_left old_held new_held = AsksInVain old_left new_left (Price fault) × Keeps old_held new_held
-FailsBy (Load fault) old_left new_left old_held new_held = AsksInVain old_left new_left (Load fault) × Keeps old_held new_held
-FailsBy NoSeat old_left new_left old_held new_held = AsksInVain old_left new_left NoSeat × Keeps old_held new_held
-FailsBy (Mismatch list i) old_left new_left old_held new_held = AsksInVain old_left new_left (Mismatch list i) × Keeps old_held new_held
-FailsBy (WrongReply i) old_left new_left old_held new_held = ⊥
-FailsBy WrongPicture old_left new_left old_held new_held = ⊥
-FailsBy ReadFault old_left new_left old_held new_held = Keeps old_held new_held
-FailsBy WriteFault old_left new_left old_held new_held = IsPartlyDone old_left new_left old_held new_held
+-- A fault is that reading has failed, or the first one of what was read, and then nothing is written, but where the writer
+-- failed: then what was read has no fault.
+abbrev pub FailsBy : RunFault → ReaderState → ReaderState → Option (List ℕ) → Option (List ℕ) → Type 0
+FailsBy Memory old new old_held new_held = Keeps old_held new_held
+FailsBy (OfScript fault) old new old_held new_held = SpellsNone script_of MAX_SCRIPT_BYTES old.left new.left fault × Keeps old_held new_held
+FailsBy BadLimits old new old_held new_held = AsksInVain old.left new.left BadLimits × Keeps old_held new_held
+FailsBy (Price fault) old new old_held new_held = AsksInVain old.left new.left (Price fault) × Keeps old_held new_held
+FailsBy (Load fault) old new old_held new_held = AsksInVain old.left new.left (Load fault) × Keeps old_held new_held
+FailsBy NoSeat old new old_held new_held = AsksInVain old.left new.left NoSeat × Keeps old_held new_held
+FailsBy (Mismatch list i) old new old_held new_held = AsksInVain old.left new.left (Mismatch list i) × Keeps old_held new_held
+FailsBy (WrongReply i) old new old_held new_held = ⊥
+FailsBy WrongPicture old new old_held new_held = ⊥
+FailsBy ReadFault old new old_held new_held = HasFailed MAX_SCRIPT_BYTES old new × Keeps old_held new_held
+FailsBy WriteFault old new old_held new_held = IsPartlyDone old.left new.left old_held new_held

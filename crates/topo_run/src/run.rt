@@ -1,12 +1,15 @@
 //! The command `run`.
 
-ghost use Rattle.std.specs.Prelude.{◌≡◌, ℕ, List, IfErr, IfOk, ◌++◌, ◌∷◌, [], string_bytes};
+ghost use Rattle.std.specs.Prelude.{◌≡◌, ◌≤◌, ◌+◌, ℕ, List, IfErr, IfOk, ◌++◌, ◌∷◌, []};
+ghost use Rattle.std.specs.Prelude.{string_bytes};
+ghost use Rattle.topo_forms.specs.declared.script_forms.TheConstants.{MAX_SCRIPT_BYTES};
 ghost use Rattle.topo_forms.specs.Reads.{Gives};
 ghost use Rattle.topo_forms.specs.Scripts.{script_of};
 ghost use Rattle.topo_run.specs.Runs.{FailsBy, FailsRun, IsDone, IsFaultOfBytes};
 ghost use Rattle.topo_run.specs.Runs.{IsLineOfBytes, IsRunLine, ShowsRun};
 ghost use Rattle.topo_run.specs.Working.{IsOfRun};
 ghost use Rattle.topo_script.specs.ReportTexts.{report_text};
+ghost use Rattle.topo_settings.specs.Reading.{most_calls};
 ghost use Rattle.topo_settings.specs.Settings.{price_table, start_of};
 
 use crate::scripts::priced_report;
@@ -21,7 +24,7 @@ use topo_price::table::PriceTable;
 use topo_script::report;
 use topo_service::Gate;
 use topo_settings::RunFault;
-use topo_settings::reading::read_bytes;
+use topo_settings::reading::{CountedReader, read_bytes};
 use topo_settings::settings::validate;
 use topo_settings::writing::write_text;
 
@@ -36,14 +39,15 @@ use topo_settings::writing::write_text;
 pub fn run_io<R: Threads + Wait + Sync, I: Read, O: Write, T: Gate>(
     rt: &R,
     alloc: Global,
-    reader: &mut I,
+    reader: &mut CountedReader<I>,
     writer: &mut O,
     gate: &T,
 ) -> Result<(), RunFault>
-    ensures done { IfOk result (λ _. IsDone (I.remaining reader.old) (I.remaining reader.new)
+    ensures done { IfOk result (λ _. IsDone reader.old.left reader.new.left
         (O.contents writer.old) (O.contents writer.new)) }
-    ensures fault { IfErr result (λ fault. FailsBy fault (I.remaining reader.old)
-        (I.remaining reader.new) (O.contents writer.old) (O.contents writer.new)) }
+    ensures fault { IfErr result (λ fault. FailsBy fault reader.old reader.new
+        (O.contents writer.old) (O.contents writer.new)) }
+    ensures calls { reader.new.calls ≤ reader.old.calls + most_calls MAX_SCRIPT_BYTES }
 {
     let bytes = read_bytes(alloc, MAX_SCRIPT_BYTES as u32, reader)?;
     let read = read_script(alloc, bytes.as_slice());

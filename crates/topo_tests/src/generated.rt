@@ -16,6 +16,7 @@ use topo_forms::{LimitRows, Report};
 use topo_picture::Picture;
 use topo_price::tariff::PriceFn;
 use topo_script::report;
+use topo_settings::reading::CountedReader;
 use topo_test_support::books::make;
 use topo_test_support::lawful::{is_loaded_again, shows};
 use topo_test_support::prices::{Entries, table_of};
@@ -219,7 +220,8 @@ fn is_reported<F: PriceFn>(rt: &impl Abort, alloc: Global, book: &Book<F>) -> Re
     drop(made);
     let text = text?;
     let mut written: Vec<u8> = Vec::new(alloc);
-    replay_io(alloc, &mut text.as_str().as_bytes(), &mut written)?;
+    let mut reader = CountedReader::new(text.as_str().as_bytes());
+    replay_io(alloc, &mut reader, &mut written)?;
     assert!(rt; written.as_slice() == "replayed 250 calls\n".as_bytes());
     Ok(())
 }
