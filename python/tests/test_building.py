@@ -201,6 +201,14 @@ class Prebuilt(Folder):
         self.assertEqual((done.returncode, done.stdout), (2, ""))
         self.assertIn("does not run here: it wants glibc 2.34 or later", done.stderr)
 
+    def test_another_system(self):
+        uname = self.root / "bin" / "uname"
+        uname.write_text("#!/bin/sh\necho Darwin arm64\n")
+        uname.chmod(0o755)
+        done = self.ended(PATH=f"{self.root / 'bin'}:/usr/bin:/bin")
+        self.assertEqual((done.returncode, done.stdout, self.calls()), (2, "", 0))
+        self.assertRegex(done.stderr, "^planar: the program is for Linux on x86_64, and this is Darwin arm64: Containerfile .*\n$")
+
     def test_a_manifest_that_is_not_there(self):
         (self.folder / "MANIFEST").unlink()
         done = self.ended()
