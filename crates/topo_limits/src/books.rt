@@ -104,15 +104,16 @@ pub(crate) const ROWS: &[Row] = &[
     Row {
         name: "90000 crossing ids, most of them gone",
         start: Start::Spiral(Spiral {
-            windings: 30_000,
+            parts: 30,
+            each: 1_000,
             stride: 3,
             given: 90_000,
         }),
         steps: &[
-            Step::Insert(0, 1),
+            Step::Insert(0, 30),
             Step::Counts,
-            Step::Delete(2),
-            Step::Insert(0, 1),
+            Step::Delete(31),
+            Step::Insert(0, 30),
             Step::Counts,
             Step::Replay,
         ],
@@ -120,7 +121,8 @@ pub(crate) const ROWS: &[Row] = &[
     Row {
         name: "1048575 crossing ids",
         start: Start::Spiral(Spiral {
-            windings: 2,
+            parts: 1,
+            each: 2,
             stride: 1,
             given: 1_048_575,
         }),
@@ -133,69 +135,111 @@ pub(crate) const ROWS: &[Row] = &[
     },
     Row {
         name: "price 65000",
-        start: Start::Spiral(Spiral { windings: 66, stride: 1, given: 66 }),
+        start: Start::Spiral(Spiral {
+            parts: 1,
+            each: 66,
+            stride: 1,
+            given: 66,
+        }),
         steps: &[Step::Insert(0, 1)],
     },
     Row {
         name: "price 66000",
-        start: Start::Spiral(Spiral { windings: 67, stride: 1, given: 67 }),
+        start: Start::Spiral(Spiral {
+            parts: 1,
+            each: 67,
+            stride: 1,
+            given: 67,
+        }),
         steps: &[Step::Insert(0, 1)],
     },
     Row {
         name: "price 1000000",
-        start: Start::Spiral(Spiral { windings: 1_001, stride: 1, given: 1_001 }),
+        start: Start::Spiral(Spiral {
+            parts: 1,
+            each: 1_001,
+            stride: 1,
+            given: 1_001,
+        }),
         steps: &[Step::Insert(0, 1)],
     },
     Row {
         name: "price 1001000",
-        start: Start::Spiral(Spiral { windings: 1_002, stride: 1, given: 1_002 }),
+        start: Start::Spiral(Spiral {
+            parts: 1,
+            each: 1_002,
+            stride: 1,
+            given: 1_002,
+        }),
         steps: &[Step::Insert(0, 1)],
     },
     Row {
         name: "4096 crossings",
-        start: Start::Spiral(Spiral { windings: 4_097, stride: 1, given: 4_097 }),
+        start: Start::Spiral(Spiral {
+            parts: 1,
+            each: 4_097,
+            stride: 1,
+            given: 4_097,
+        }),
         steps: &[Step::Insert(0, 1), Step::Replay],
     },
     Row {
-        name: "70000 crossings",
-        start: Start::Spiral(Spiral { windings: 70_001, stride: 1, given: 70_001 }),
-        steps: &[Step::Insert(0, 1), Step::Replay, Step::Delete(2)],
+        name: "65999 crossings",
+        start: Start::Spiral(Spiral {
+            parts: 66,
+            each: 1_000,
+            stride: 1,
+            given: 66_000,
+        }),
+        steps: &[Step::Insert(0, 66), Step::Replay, Step::Delete(67)],
     },
     Row {
         name: "1048574 crossing ids, half of them by a call",
-        start: Start::Spiral(Spiral { windings: 524_288, stride: 1, given: 524_289 }),
+        start: Start::Spiral(Spiral {
+            parts: 2_048,
+            each: 256,
+            stride: 1,
+            given: 524_289,
+        }),
         steps: &[
-            Step::Insert(0, 1),
+            Step::Insert(0, 2_048),
             Step::Counts,
-            Step::Insert(0, 1),
-            Step::Insert(0, 2),
-            Step::Insert(0, 2),
+            Step::Insert(0, 2_048),
+            Step::Insert(0, 2_049),
+            Step::Insert(0, 2_049),
             Step::Counts,
-            Step::Delete(2),
-            Step::Insert(0, 1),
+            Step::Delete(2_049),
+            Step::Insert(0, 2_048),
             Step::Counts,
         ],
     },
     Row {
         name: "1048576 windings",
-        start: Start::Spiral(Spiral { windings: 1_048_576, stride: 1, given: 1_048_576 }),
+        start: Start::Spiral(Spiral {
+            parts: 4_096,
+            each: 256,
+            stride: 1,
+            given: 1_048_576,
+        }),
         steps: &[
             Step::Counts,
-            Step::Insert(0, 1),
-            Step::Insert(0, 2),
-            Step::Insert(1, 3),
+            Step::Insert(0, 4_096),
+            Step::Insert(0, 4_097),
+            Step::Insert(4_096, 4_098),
             Step::Counts,
-            Step::Delete(1),
-            Step::Counts,
-            Step::Insert(0, 1),
         ],
     },
 ];
 
 /// What is told of a call.
-fn call_text<F: PriceFn>(alloc: Global, book: &mut Book<F>, call: Call) -> Result<String> {
+fn call_text<F: PriceFn>(
+    alloc: Global,
+    book: &mut Book<F>,
+    call: Call,
+    each: u32,
+) -> Result<String> {
     let reply = make(alloc, book, 0, call);
-    let text = reply_text(alloc, &reply);
+    let text = reply_text(alloc, &reply, each);
     drop(reply);
     Ok(text?)
 }
@@ -266,16 +310,10 @@ fn pairs_text<F: PriceFn>(alloc: Global, book: &mut Book<F>, times: u32) -> Resu
 /// How large the picture is.
 fn counts_text<F: PriceFn>(alloc: Global, book: &Book<F>) -> Result<String> {
     let counts = book.picture().counts();
-    Ok(
-        format!(in alloc;
-            "{} vertices, {} crossings, {} edges, {} segments, {} faces",
-            counts.vertices,
-            counts.crossings,
-            counts.edges,
-            counts.segments,
-            counts.faces
-        )?,
-    )
+    Ok(format!(in alloc;
+        "{} vertices, {} crossings, {} edges, {} segments, {} faces",
+        counts.vertices, counts.crossings, counts.edges, counts.segments, counts.faces
+    )?)
 }
 
 /// How the history is carried out once more.
@@ -290,7 +328,12 @@ fn replay_text<F: PriceFn>(alloc: Global, book: &Book<F>) -> Result<String> {
 }
 
 /// Takes a step, and tells of it.
-fn step_text<F: PriceFn>(alloc: Global, book: &mut Book<F>, step: Step) -> Result<String> {
+fn step_text<F: PriceFn>(
+    alloc: Global,
+    book: &mut Book<F>,
+    step: Step,
+    each: u32,
+) -> Result<String> {
     match step {
         Step::Grow(times) => grow_text(alloc, book, times),
         Step::Pairs(times) => pairs_text(alloc, book, times),
@@ -302,9 +345,10 @@ fn step_text<F: PriceFn>(alloc: Global, book: &mut Book<F>, step: Step) -> Resul
                 position: 0,
                 kind: 0,
             },
+            each,
         ),
-        Step::Insert(u, v) => call_text(alloc, book, Call::Insert { u, v, kind: 0 }),
-        Step::Delete(edge) => call_text(alloc, book, Call::Delete { edge }),
+        Step::Insert(u, v) => call_text(alloc, book, Call::Insert { u, v, kind: 0 }, each),
+        Step::Delete(edge) => call_text(alloc, book, Call::Delete { edge }, each),
         Step::Counts => counts_text(alloc, book),
         Step::Replay => replay_text(alloc, book),
     }
@@ -314,10 +358,11 @@ fn step_text<F: PriceFn>(alloc: Global, book: &mut Book<F>, step: Step) -> Resul
 fn take_steps<R: Print + AllocGlobal, F: PriceFn>(
     rt: &R,
     book: &mut Book<F>,
-    steps: &[Step],
+    row: &Row,
 ) -> Result<()> {
-    for step in steps {
-        let text = step_text(rt.alloc(), book, *step)?;
+    let each = row.start.each();
+    for step in row.steps {
+        let text = step_text(rt.alloc(), book, *step, each)?;
         println!(rt; "  {text}")?;
     }
     Ok(())
@@ -330,7 +375,7 @@ fn tell_row<R: Print + AllocGlobal, F: PriceFn + Drop>(rt: &R, row: &Row, ask: F
 {
     println!(rt; "{}:", row.name)?;
     let mut book = book_of(rt.alloc(), row.start.picture(rt.alloc())?, ask)?;
-    let told = take_steps(rt, &mut book, row.steps);
+    let told = take_steps(rt, &mut book, row);
     drop(book);
     told
 }

@@ -5,24 +5,30 @@ use topo_core::calls::Reply;
 use topo_core::darts::{Dart, Way};
 use topo_core::routes::Inserted;
 
-/// Whether a route crosses the segments 1, 2, .. of edge 0 from left to right, and nothing else.
-fn is_along_ray(crossed: &[Dart]) -> bool {
-    for (place, dart) in crossed.iter().enumerate() {
-        if dart.edge.number() != 0
-            || dart.way != Way::Forward
-            || dart.seg as usize != place.saturating_add(1)
-        {
+/// Whether a route crosses segment 1, 2, .., so many, of edge 0, of edge 1 and so on, each from left
+/// to right.
+pub(crate) fn is_along_ray(crossed: &[Dart], each: u32) -> bool {
+    let (mut edge, mut seg) = (0u32, 1u32);
+    for dart in crossed {
+        if dart.edge.number() != edge || dart.seg != seg || dart.way != Way::Forward {
             return false;
+        }
+        if seg < each {
+            seg = seg.saturating_add(1);
+        } else {
+            seg = 1;
+            edge = edge.saturating_add(1);
         }
     }
     true
 }
 
-/// A new edge by its id, its positions, and how many segments it crosses at which price.
-fn inserted_text(alloc: Global, made: &Inserted) -> Result<String, AllocError> {
+/// A new edge by its id, its positions, and how many segments it crosses at which price. Each edge of
+/// the ray is crossed so often.
+fn inserted_text(alloc: Global, made: &Inserted, each: u32) -> Result<String, AllocError> {
     let route = &made.route;
     let crossed = route.crossed.as_slice();
-    let way = if is_along_ray(crossed) {
+    let way = if is_along_ray(crossed, each) {
         ""
     } else {
         ", not along the ray"
@@ -37,10 +43,12 @@ fn inserted_text(alloc: Global, made: &Inserted) -> Result<String, AllocError> {
     )
 }
 
-/// What is told of a reply: a refusal by its number and name, out of memory too.
+/// What is told of a reply: a refusal by its number and name, out of memory too. Each edge of the ray
+/// is crossed so often.
 pub(crate) fn reply_text(
     alloc: Global,
     reply: &Result<Reply, AllocError>,
+    each: u32,
 ) -> Result<String, AllocError> {
     match reply {
         Ok(Reply::Grown { vertex, edge }) => format!(in alloc;
@@ -48,7 +56,7 @@ pub(crate) fn reply_text(
             vertex.number(),
             edge.number()
         ),
-        Ok(Reply::Inserted(made)) => inserted_text(alloc, made),
+        Ok(Reply::Inserted(made)) => inserted_text(alloc, made, each),
         Ok(Reply::Deleted(edge)) => format!(in alloc; "without edge {}", edge.number()),
         Ok(Reply::Refused(why)) => format!(in alloc; "{why}"),
         Err(_) => String::from_str(alloc, "8 Memory"),
@@ -58,10 +66,12 @@ pub(crate) fn reply_text(
 /// Whether a reply is a new vertex of this number on a new edge of this id.
 pub(crate) fn is_grown(reply: &Result<Reply, AllocError>, vertex: u32, edge: u32) -> bool {
     match reply {
-        Ok(Reply::Grown {
-            vertex: new_vertex,
-            edge: new_edge,
-        }) => new_vertex.number() == vertex && new_edge.number() == edge,
+        Ok(
+            Reply::Grown {
+                vertex: new_vertex,
+                edge: new_edge,
+            },
+        ) => new_vertex.number() == vertex && new_edge.number() == edge,
         _ => false,
     }
 }

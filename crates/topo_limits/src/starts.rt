@@ -8,25 +8,33 @@ use topo_core::rows::{CrossRow, EdgeRow, Rows};
 use topo_picture::Picture;
 use topo_test_support::pictures::greatest_limits;
 
-/// An edge from vertex 0 in the middle to vertex 1 outside, the *ray*, and an edge from vertex 2 in
-/// the middle to vertex 3 outside, which winds round and crosses the ray in each winding:
+/// A chain of edges from vertex 0 in the middle to a vertex outside, the *ray*, and one edge from the
+/// middle to the outside, which winds round and crosses the ray in each winding:
 ///
 ///        .---------------.
 ///        |  .---------.  |
 ///        |  |  .---.  |  |
-///        |  |  2 0-x--x--x--1
+///        |  |  * 0-x--x--x--*
 ///        |  |      |  |  |
 ///        |  '------'  |  |
-///        |            |  3
+///        |            |  *
 ///        '------------'
 ///
-/// So a route from the middle to the outside crosses the ray in each segment but its first and its
-/// last: the face on both sides of winding i is bounded by the segments i and i + 1 of both edges,
-/// and of segments that lead on the ray's come first.
+/// Ray edge k has id k and leads from vertex k to vertex k + 1. The edge that winds has the next id
+/// and leads between the next two vertices. All crossings lie on the ray in the order of their ids,
+/// the first ones on ray edge 0.
+///
+/// Between two windings lies one face, which begins left of the ray behind a crossing, and ends
+/// right of the ray before the same crossing. To come from one face to the next a route crosses the
+/// ray or the edge that winds. The darts of the ray come first, and where a vertex lies between two
+/// crossings, the last segment of the ray edge before it. So the first route from vertex 0 to the
+/// end of the ray crosses of each ray edge the segments 1, 2, .., but not the last of the last edge.
 #[derive(Clone, Copy)]
 pub(crate) struct Spiral {
-    /// How often the edges cross.
-    pub windings: u32,
+    /// How many edges the ray has.
+    pub parts: u32,
+    /// How often each of them is crossed.
+    pub each: u32,
     /// How far the ids of crossings lie apart: others between them are gone.
     pub stride: u32,
     /// How many ids of crossings were given.
@@ -42,18 +50,26 @@ pub(crate) enum Start {
     Line(u32),
     /// The same, and the last is joined to the first.
     Ring(u32),
-    /// Two edges that cross often.
+    /// An edge that winds round and crosses a ray.
     Spiral(Spiral),
 }
 
 impl Start {
+    /// How often each edge of the ray is crossed.
+    pub(crate) fn each(&self) -> u32 {
+        match self {
+            Start::Spiral(spiral) => spiral.each,
+            _ => 1,
+        }
+    }
+
     /// The rows of the picture.
     pub(crate) fn rows(&self, alloc: Global) -> Result<Rows, AllocError> {
         match self {
             Start::Seed(given) => seed_rows(alloc, *given),
             Start::Line(vertices) => chain_rows(alloc, *vertices, vertices.saturating_sub(1)),
             Start::Ring(vertices) => chain_rows(alloc, *vertices, *vertices),
-            Start::Spiral(spiral) => spiral_rows(alloc, spiral),
+            Start::Spiral(spiral) => spiral.rows(alloc),
         }
     }
 
@@ -149,57 +165,78 @@ fn chain_rows(alloc: Global, vertices: u32, edges: u32) -> Result<Rows, AllocErr
     })
 }
 
-/// The ids of the crossings of a spiral, from the middle outwards.
-fn path(alloc: Global, spiral: &Spiral) -> Result<Listed<u32>, AllocError> {
-    let mut ids = Vec::with_capacity(alloc, spiral.windings as usize)?;
-    let mut id = 0u32;
-    for _ in 0..spiral.windings {
+/// The ids of crossings, so many from one on.
+fn ids_from(alloc: Global, first: u32, count: u32, stride: u32) -> Result<Listed<u32>, AllocError> {
+    let mut ids = Vec::with_capacity(alloc, count as usize)?;
+    let mut id = first;
+    for _ in 0..count {
         ids.push(id)?;
-        id = id.saturating_add(spiral.stride);
+        id = id.saturating_add(stride);
     }
     Ok(Listed::from_vec(ids))
 }
 
-/// The crossings of a spiral: in each the winding edge passes from left to right of the ray.
-fn windings(alloc: Global, spiral: &Spiral) -> Result<Listed<CrossRow>, AllocError> {
-    let mut rows = Vec::with_capacity(alloc, spiral.windings as usize)?;
-    let mut id = 0u32;
-    for _ in 0..spiral.windings {
-        rows.push(CrossRow {
-            id,
-            crossed: 0,
-            newcomer: 1,
-            sign: Sign::LeftToRight,
-        })?;
-        id = id.saturating_add(spiral.stride);
+impl Spiral {
+    /// How often the edges cross.
+    fn windings(&self) -> u32 {
+        self.parts.saturating_mul(self.each)
     }
-    Ok(Listed::from_vec(rows))
-}
 
-/// One edge end at each of four vertices.
-fn spiral_rotations(alloc: Global) -> Result<Listed<Listed<u32>>, AllocError> {
-    let mut rotations = Vec::with_capacity(alloc, 4)?;
-    for edge in [0, 0, 1, 1] {
-        rotations.push(listed(alloc, &[edge])?)?;
+    /// The id of the first crossing of a ray edge.
+    fn first_on(&self, part: u32) -> u32 {
+        part.saturating_mul(self.each).saturating_mul(self.stride)
     }
-    Ok(Listed::from_vec(rotations))
-}
 
-/// The ray, and the edge that winds round.
-fn spiral_edges(alloc: Global, spiral: &Spiral) -> Result<Listed<EdgeRow>, AllocError> {
-    let mut edges = Vec::with_capacity(alloc, 2)?;
-    edges.push(edge(0, 0, 1, path(alloc, spiral)?))?;
-    edges.push(edge(1, 2, 3, path(alloc, spiral)?))?;
-    Ok(Listed::from_vec(edges))
-}
+    /// The ray, and the edge that winds.
+    fn edges(&self, alloc: Global) -> Result<Listed<EdgeRow>, AllocError> {
+        let mut rows = Vec::new(alloc);
+        for k in 0..self.parts {
+            let path = ids_from(alloc, self.first_on(k), self.each, self.stride)?;
+            rows.push(edge(k, k, k.saturating_add(1), path))?;
+        }
+        let path = ids_from(alloc, 0, self.windings(), self.stride)?;
+        let a = self.parts.saturating_add(1);
+        rows.push(edge(self.parts, a, a.saturating_add(1), path))?;
+        Ok(Listed::from_vec(rows))
+    }
 
-/// The rows of a spiral.
-fn spiral_rows(alloc: Global, spiral: &Spiral) -> Result<Rows, AllocError> {
-    Ok(Rows {
-        rotations: spiral_rotations(alloc)?,
-        edges: spiral_edges(alloc, spiral)?,
-        crossings: windings(alloc, spiral)?,
-        next_edge: 2,
-        next_crossing: spiral.given,
-    })
+    /// The edges round the vertices of the ray, and round the ends of the edge that winds.
+    fn rotations(&self, alloc: Global) -> Result<Listed<Listed<u32>>, AllocError> {
+        let mut rotations = Vec::new(alloc);
+        for v in 0..self.parts.saturating_add(1) {
+            rotations.push(chained(alloc, v, u32::MAX, self.parts)?)?;
+        }
+        rotations.push(listed(alloc, &[self.parts])?)?;
+        rotations.push(listed(alloc, &[self.parts])?)?;
+        Ok(Listed::from_vec(rotations))
+    }
+
+    /// The crossings: in each the edge that winds passes from left to right of the ray.
+    fn crossings(&self, alloc: Global) -> Result<Listed<CrossRow>, AllocError> {
+        let mut rows = Vec::with_capacity(alloc, self.windings() as usize)?;
+        let mut id = 0u32;
+        for crossed in 0..self.parts {
+            for _ in 0..self.each {
+                rows.push(CrossRow {
+                    id,
+                    crossed,
+                    newcomer: self.parts,
+                    sign: Sign::LeftToRight,
+                })?;
+                id = id.saturating_add(self.stride);
+            }
+        }
+        Ok(Listed::from_vec(rows))
+    }
+
+    /// The rows of the picture.
+    fn rows(&self, alloc: Global) -> Result<Rows, AllocError> {
+        Ok(Rows {
+            rotations: self.rotations(alloc)?,
+            edges: self.edges(alloc)?,
+            crossings: self.crossings(alloc)?,
+            next_edge: self.parts.saturating_add(1),
+            next_crossing: self.given,
+        })
+    }
 }
