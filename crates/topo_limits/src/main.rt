@@ -11,20 +11,26 @@ use std::sync::Wait;
 use std::thread::Threads;
 
 mod books;
+mod lists;
 mod replies;
 mod reports;
+mod services;
 mod sessions;
 mod starts;
 mod streams;
 mod texts;
 
 use books::tell_books;
+use lists::tell_lists;
 use reports::tell_reports;
+use services::tell_services;
 use sessions::tell_sessions;
 
 fn run<R: Print + AllocGlobal + Threads + Wait + Sync>(rt: &R) -> Result<()> {
     tell_sessions(rt)?;
     tell_reports(rt)?;
+    tell_lists(rt)?;
+    tell_services(rt)?;
     tell_books(rt)
 }
 
