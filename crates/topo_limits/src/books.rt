@@ -14,7 +14,7 @@ use topo_test_support::books::{book_of, make};
 
 /// What is done with a book, and told.
 #[derive(Clone, Copy)]
-pub(crate) enum Step {
+enum Step {
     /// So many vertices are grown, each from the one before, and the first from vertex 1.
     Grow(u32),
     /// So many edges from vertex 0 to vertex 1 are put in and taken out again, the first with id 1.
@@ -32,14 +32,14 @@ pub(crate) enum Step {
 }
 
 /// A picture to begin with, and the steps that are taken from it.
-pub(crate) struct Row {
+struct Row {
     name: &'static str,
     start: Start,
     steps: &'static [Step],
 }
 
-/// The rows whose pictures are small, or few edges cross often.
-pub(crate) const ROWS: &[Row] = &[
+/// The rows. The numbers in them are at the limits, or on both sides of 65,536 and of a million.
+const ROWS: &[Row] = &[
     Row {
         name: "vertices one by one",
         start: Start::Seed(1),
@@ -194,7 +194,7 @@ pub(crate) const ROWS: &[Row] = &[
         steps: &[Step::Insert(0, 66), Step::Replay, Step::Delete(67)],
     },
     Row {
-        name: "1048574 crossing ids, half of them by a call",
+        name: "1048576 crossing ids, half of them by a call",
         start: Start::Spiral(Spiral {
             parts: 2_048,
             each: 256,
