@@ -17,6 +17,8 @@ use topo_test_support::books::{book_of, make};
 enum Step {
     /// So many vertices are grown, each from the one before, and the first from vertex 1.
     Grow(u32),
+    /// So many vertices are grown from vertex 0.
+    Star(u32),
     /// So many edges from vertex 0 to vertex 1 are put in and taken out again, the first with id 1.
     Pairs(u32),
     /// A vertex is grown from this one.
@@ -50,6 +52,16 @@ const ROWS: &[Row] = &[
             Step::Insert(0, 65_535),
             Step::Counts,
             Step::Replay,
+        ],
+    },
+    Row {
+        name: "vertices round one",
+        start: Start::Seed(1),
+        steps: &[
+            Step::Star(65_534),
+            Step::GrowAt(0),
+            Step::Insert(1, 65_535),
+            Step::Counts,
         ],
     },
     Row {
@@ -135,52 +147,27 @@ const ROWS: &[Row] = &[
     },
     Row {
         name: "price 65000",
-        start: Start::Spiral(Spiral {
-            parts: 1,
-            each: 66,
-            stride: 1,
-            given: 66,
-        }),
+        start: Start::Wound(66),
         steps: &[Step::Insert(0, 1)],
     },
     Row {
         name: "price 66000",
-        start: Start::Spiral(Spiral {
-            parts: 1,
-            each: 67,
-            stride: 1,
-            given: 67,
-        }),
+        start: Start::Wound(67),
         steps: &[Step::Insert(0, 1)],
     },
     Row {
         name: "price 1000000",
-        start: Start::Spiral(Spiral {
-            parts: 1,
-            each: 1_001,
-            stride: 1,
-            given: 1_001,
-        }),
+        start: Start::Wound(1_001),
         steps: &[Step::Insert(0, 1)],
     },
     Row {
         name: "price 1001000",
-        start: Start::Spiral(Spiral {
-            parts: 1,
-            each: 1_002,
-            stride: 1,
-            given: 1_002,
-        }),
+        start: Start::Wound(1_002),
         steps: &[Step::Insert(0, 1)],
     },
     Row {
         name: "4096 crossings",
-        start: Start::Spiral(Spiral {
-            parts: 1,
-            each: 4_097,
-            stride: 1,
-            given: 4_097,
-        }),
+        start: Start::Wound(4_097),
         steps: &[Step::Insert(0, 1), Step::Replay],
     },
     Row {
@@ -244,19 +231,25 @@ fn call_text<F: PriceFn>(
     Ok(text?)
 }
 
-/// Whether a growth at the vertex of this number gives the next vertex, on the edge of this number.
-fn grows<F: PriceFn>(alloc: Global, book: &mut Book<F>, u: u32) -> bool {
+/// Whether a growth from a vertex gives an edge of this id, and the vertex of the number after it.
+fn grows<F: PriceFn>(alloc: Global, book: &mut Book<F>, u: u32, edge: u32) -> bool {
     let reply = book.grow(alloc, 0, u, 0, 0);
-    let is_due = is_grown(&reply, u.saturating_add(1), u);
+    let is_due = is_grown(&reply, edge.saturating_add(1), edge);
     drop(reply);
     is_due
 }
 
-/// Grows so many vertices, each from the one before.
-fn grow_text<F: PriceFn>(alloc: Global, book: &mut Book<F>, times: u32) -> Result<String> {
-    for u in 1..=times {
-        if !grows(alloc, book, u) {
-            return Ok(format!(in alloc; "no growth at {u}")?);
+/// Grows so many vertices, all from vertex 0 or each from the one before.
+fn grow_text<F: PriceFn>(
+    alloc: Global,
+    book: &mut Book<F>,
+    times: u32,
+    is_star: bool,
+) -> Result<String> {
+    for edge in 1..=times {
+        let u = if is_star { 0 } else { edge };
+        if !grows(alloc, book, u, edge) {
+            return Ok(format!(in alloc; "no edge {edge}")?);
         }
     }
     Ok(format!(in alloc; "grown {times}")?)
@@ -335,7 +328,8 @@ fn step_text<F: PriceFn>(
     each: u32,
 ) -> Result<String> {
     match step {
-        Step::Grow(times) => grow_text(alloc, book, times),
+        Step::Grow(times) => grow_text(alloc, book, times, false),
+        Step::Star(times) => grow_text(alloc, book, times, true),
         Step::Pairs(times) => pairs_text(alloc, book, times),
         Step::GrowAt(u) => call_text(
             alloc,

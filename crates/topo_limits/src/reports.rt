@@ -1,26 +1,39 @@
-//! Long reports that are replayed, and long texts that are written to slow writers.
+//! Long reports that are replayed, a large picture that is checked, and long texts that are written
+//! to writers that take little or hold much.
 
+use crate::starts::Spiral;
 use crate::streams::{HoldingWriter, SlowWriter};
 use crate::texts::{Flaw, judgement, pairs_report, pairs_script};
 use anyhow::Result;
 use std::alloc::{AllocError, Global};
 use std::sync::Wait;
 use std::thread::Threads;
-use topo_check::replay_io;
+use topo_check::{check_io, replay_io};
 use topo_cli::perform;
 use topo_run::{OpenGate, run_io};
+use topo_script::picture_text;
+use topo_settings::RunFault;
+
+/// What a command has written, or its fault.
+fn printed(
+    alloc: Global,
+    ended: Result<(), RunFault>,
+    written: &[u8],
+) -> Result<String, AllocError> {
+    match ended {
+        Ok(()) => {
+            let text = String::from_utf8_lossy(alloc, written)?;
+            format!(in alloc; "{}", text.trim_end())
+        }
+        Err(fault) => format!(in alloc; "{fault}"),
+    }
+}
 
 /// What `replay_io` writes of a report, or its fault.
 fn replayed(alloc: Global, report: &str) -> Result<String, AllocError> {
     let mut written: Vec<u8> = Vec::new(alloc);
     let ended = replay_io(alloc, &mut report.as_bytes(), &mut written);
-    let told = match ended {
-        Ok(()) => {
-            let text = String::from_utf8_lossy(alloc, written.as_slice())?;
-            format!(in alloc; "{}", text.trim_end())
-        }
-        Err(fault) => format!(in alloc; "{fault}"),
-    };
+    let told = printed(alloc, ended, written.as_slice());
     drop(written);
     told
 }
@@ -39,6 +52,27 @@ fn tell_replays<R: Print + AllocGlobal>(rt: &R) -> Result<()> {
         drop(report);
         println!(rt; "report of 70000 calls: {}", told?)?;
     }
+    Ok(())
+}
+
+/// What `check_io` writes of a picture, or its fault.
+fn checked(alloc: Global, picture: &str) -> Result<String, AllocError> {
+    let mut written: Vec<u8> = Vec::new(alloc);
+    let ended = check_io(alloc, &mut picture.as_bytes(), &mut written);
+    let told = printed(alloc, ended, written.as_slice());
+    drop(written);
+    told
+}
+
+/// A picture with all crossings that there may be, as a text.
+fn tell_check<R: Print + AllocGlobal>(rt: &R) -> Result<()> {
+    let rows = Spiral::new(4_096, 256).rows(rt.alloc())?;
+    let text = picture_text(rt.alloc(), &rows);
+    drop(rows);
+    let text = text?;
+    let told = checked(rt.alloc(), text.as_str());
+    drop(text);
+    println!(rt; "picture of 1048576 crossings: {}", told?)?;
     Ok(())
 }
 
@@ -131,20 +165,6 @@ fn held<R: Threads + Wait + Sync>(
     Ok(format!(in alloc; "{} bytes, passed on at the end: {}", due.len(), told?)?)
 }
 
-/// A report of 4,000 calls, written to writers that take little or hold much.
-fn tell_written<R: Print + AllocGlobal + Threads + Wait + Sync>(
-    rt: &R,
-    script: &str,
-    due: &str,
-) -> Result<()> {
-    let text = slowly(rt, rt.alloc(), script, due)?;
-    println!(rt; "{text}")?;
-    drop(text);
-    let text = held(rt, rt.alloc(), script, due)?;
-    println!(rt; "{text}")?;
-    Ok(())
-}
-
 /// The report of a script of so many pairs, and a line feed.
 fn report_line(alloc: Global, pairs: u32) -> Result<String, AllocError> {
     let mut text = pairs_report(alloc, pairs, Flaw::Nothing)?;
@@ -152,14 +172,33 @@ fn report_line(alloc: Global, pairs: u32) -> Result<String, AllocError> {
     Ok(text)
 }
 
-/// A line for each report.
-pub(crate) fn tell_reports<R: Print + AllocGlobal + Threads + Wait + Sync>(rt: &R) -> Result<()> {
-    tell_replays(rt)?;
-    tell_complaint(rt)?;
-    let script = pairs_script(rt.alloc(), 2_000)?;
-    let due = report_line(rt.alloc(), 2_000)?;
-    let told = tell_written(rt, script.as_str(), due.as_str());
+/// What becomes of the report of so many pairs, at a writer that is slow or holds it.
+fn written<R: Threads + Wait + Sync>(
+    rt: &R,
+    alloc: Global,
+    pairs: u32,
+    is_slow: bool,
+) -> Result<String> {
+    let script = pairs_script(alloc, pairs)?;
+    let due = report_line(alloc, pairs)?;
+    let told = if is_slow {
+        slowly(rt, alloc, script.as_str(), due.as_str())
+    } else {
+        held(rt, alloc, script.as_str(), due.as_str())
+    };
     drop(script);
     drop(due);
     told
+}
+
+/// A line for each report. The last script has nearly as many bytes as one may have.
+pub(crate) fn tell_reports<R: Print + AllocGlobal + Threads + Wait + Sync>(rt: &R) -> Result<()> {
+    tell_replays(rt)?;
+    tell_check(rt)?;
+    tell_complaint(rt)?;
+    for (pairs, is_slow) in [(2_000, true), (2_000, false), (29_000, false)] {
+        let told = written(rt, rt.alloc(), pairs, is_slow)?;
+        println!(rt; "report of {pairs} pairs: {told}")?;
+    }
+    Ok(())
 }

@@ -21,20 +21,11 @@ use topo_service::{FreshService, Pass, Receipt, Service};
 use topo_service_test_support::calls::make;
 use topo_versions::ServiceBrand;
 
-/// How often the winding edge crosses the ray.
-const WINDINGS: [u32; 2] = [4_097, 5_001];
-
-/// What is told of a reply, where each edge of the ray is crossed so often that all routes cross
-/// the first one alone.
-fn told(alloc: Global, reply: Result<Reply, AllocError>) -> Result<String, AllocError> {
-    let text = reply_text(alloc, &reply, u32::MAX);
+/// What is told of a reply, where each edge of the ray is crossed so often.
+fn told(alloc: Global, reply: Result<Reply, AllocError>, each: u32) -> Result<String, AllocError> {
+    let text = reply_text(alloc, &reply, each);
     drop(reply);
     text
-}
-
-/// What is told of a receipt.
-fn receipt_text(alloc: Global, receipt: &Receipt) -> Result<String, AllocError> {
-    told(alloc, receipt.reply.copy(alloc))
 }
 
 /// Finds the route outside the lock, and puts an edge in along it.
@@ -43,26 +34,28 @@ fn insert_found<F: PriceFn + Drop, K: ServiceBrand<F>, R: Wait>(
     alloc: Global,
     service: &Service<F, K>,
     pass: &mut Pass<F, K>,
+    spiral: &Spiral,
 ) -> Result<String> {
-    let Ok(found) = pass.find(alloc, service.tariff(), 0, 1) else {
+    let Ok(found) = pass.find(alloc, service.tariff(), 0, spiral.parts) else {
         bail!("no route is found");
     };
     let price = found.first().price;
     let reply = service.insert_found(rt, pass, 0, &found);
     drop(found);
-    let text = told(alloc, reply)?;
+    let text = told(alloc, reply, spiral.each)?;
     Ok(format!(in alloc; "found at {price}: {text}")?)
 }
 
-/// Prints what is told of a call and of the last receipt.
+/// Prints what is told of a call.
 fn tell_call<F: PriceFn + Drop, K: ServiceBrand<F>, R: Wait + Print>(
     rt: &R,
     alloc: Global,
     service: &Service<F, K>,
     pass: &mut Pass<F, K>,
     call: Call,
+    each: u32,
 ) -> Result<()> {
-    let text = told(alloc, make(rt, service, pass, call))?;
+    let text = told(alloc, make(rt, service, pass, call), each)?;
     println!(rt; "  {text}")?;
     Ok(())
 }
@@ -85,9 +78,9 @@ fn tell_view<F: PriceFn + Drop, K: ServiceBrand<F>, R: Print>(
 }
 
 /// Prints what is told of each receipt.
-fn tell_receipts<R: Print>(rt: &R, alloc: Global, receipts: &[Receipt]) -> Result<()> {
+fn tell_receipts<R: Print>(rt: &R, alloc: Global, receipts: &[Receipt], each: u32) -> Result<()> {
     for receipt in receipts {
-        let text = receipt_text(alloc, receipt)?;
+        let text = told(alloc, receipt.reply.copy(alloc), each)?;
         println!(rt; "  receipt: {text}")?;
     }
     Ok(())
@@ -99,18 +92,23 @@ fn use_pass<F: PriceFn + Drop, K: ServiceBrand<F>, R: Wait + Print>(
     alloc: Global,
     service: &Service<F, K>,
     pass: &mut Pass<F, K>,
+    spiral: &Spiral,
 ) -> Result<()> {
+    let (end, each) = (spiral.parts, spiral.each);
     let across = Call::Insert {
         u: 0,
-        v: 1,
+        v: end,
         kind: 0,
     };
-    tell_call(rt, alloc, service, pass, across)?;
-    tell_call(rt, alloc, service, pass, Call::Delete { edge: 2 })?;
-    let text = insert_found(rt, alloc, service, pass)?;
+    let gone = Call::Delete {
+        edge: end.saturating_add(1),
+    };
+    tell_call(rt, alloc, service, pass, across, each)?;
+    tell_call(rt, alloc, service, pass, gone, each)?;
+    let text = insert_found(rt, alloc, service, pass, spiral)?;
     println!(rt; "  {text}")?;
     tell_view(rt, pass)?;
-    tell_receipts(rt, alloc, pass.receipts())
+    tell_receipts(rt, alloc, pass.receipts(), each)
 }
 
 /// Gives a pass out, which is then used.
@@ -119,10 +117,11 @@ fn use_service<F: PriceFn + Drop, K: ServiceBrand<F>, R: Wait + Print>(
     alloc: Global,
     service: &mut Service<F, K>,
     passes: &mut Vec<Pass<F, K>>,
+    spiral: &Spiral,
 ) -> Result<()> {
     passes.push(service.pass()?)?;
     match passes.as_mut_slice().first_mut() {
-        Some(pass) => use_pass(rt, alloc, &*service, pass),
+        Some(pass) => use_pass(rt, alloc, &*service, pass, spiral),
         None => Ok(()),
     }
 }
@@ -151,6 +150,7 @@ fn named<F: PriceFn + Drop, K: ServiceBrand<F>, R: Wait + Print>(
     fresh: FreshService,
     start: Picture,
     tariff: Arc<Tariff<F>>,
+    spiral: &Spiral,
 ) -> Result<()>
     requires ledger { (fresh.blank.name ≡ K.name) × (fresh.blank.parts ≡ K.parts) }
     requires parts { K.parts ≡ MAX_PASSES }
@@ -160,7 +160,7 @@ fn named<F: PriceFn + Drop, K: ServiceBrand<F>, R: Wait + Print>(
 {
     let mut service = Service::<F, K>::new(alloc, fresh, start, tariff)?;
     let mut passes = Vec::new(alloc);
-    let used = use_service(rt, alloc, &mut service, &mut passes);
+    let used = use_service(rt, alloc, &mut service, &mut passes, spiral);
     let end = service.close(rt, passes);
     let text = end_text(alloc, &end);
     drop(end);
@@ -173,32 +173,23 @@ fn named<F: PriceFn + Drop, K: ServiceBrand<F>, R: Wait + Print>(
 fn tell_service<F: PriceFn + Drop, R: Wait + Print>(
     rt: &R,
     alloc: Global,
-    start: Picture,
+    spiral: &Spiral,
     ask: F,
 ) -> Result<()>
     requires callable { F.is_callable ask }
     requires promise { IsPromise (F.may_return ask) }
 {
     let tariff = Arc::new(alloc, Tariff::new(ask))?;
-    named::<F, Brand, R>(rt, alloc, FreshService::new(), start, tariff)
+    let start = Start::Spiral(*spiral).picture(alloc)?;
+    named::<F, Brand, R>(rt, alloc, FreshService::new(), start, tariff, spiral)
 }
 
 /// A service for each number of windings.
 pub(crate) fn tell_services<R: Print + AllocGlobal + Wait>(rt: &R) -> Result<()> {
-    for each in WINDINGS {
-        let start = Start::Spiral(Spiral {
-            parts: 1,
-            each,
-            stride: 1,
-            given: each,
-        });
-        println!(rt; "service with {each} windings:")?;
-        tell_service(
-            rt,
-            rt.alloc(),
-            start.picture(rt.alloc())?,
-            |_facts: &Facts| Some(1000),
-        )?;
+    for (parts, each) in [(1, 4_097), (1, 5_001), (66, 1_000)] {
+        let spiral = Spiral::new(parts, each);
+        println!(rt; "service with {} windings:", spiral.windings())?;
+        tell_service(rt, rt.alloc(), &spiral, |_facts: &Facts| Some(1000))?;
     }
     Ok(())
 }

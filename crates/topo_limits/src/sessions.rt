@@ -1,6 +1,6 @@
 //! Sessions of many lines, with long openings, and with an insertion across many segments.
 
-use crate::starts::{Spiral, Start};
+use crate::starts::Spiral;
 use crate::streams::PieceReader;
 use crate::texts::{crossing_reply, judgement, pad, push_uncrossed};
 use anyhow::Result;
@@ -88,44 +88,54 @@ fn counted_twice(alloc: Global) -> Result<String, AllocError> {
     format!(in alloc; "{OPENED}{OPENED}")
 }
 
-/// An edge that crosses another so often.
-fn wound(windings: u32) -> Start {
-    Start::Spiral(Spiral {
-        parts: 1,
-        each: windings,
-        stride: 1,
-        given: windings,
-    })
-}
-
-/// The text of a picture in which an edge crosses another so often.
-fn wound_text(alloc: Global, windings: u32) -> Result<String, AllocError> {
-    let rows = wound(windings).rows(alloc)?;
+/// The text of a picture in which an edge winds round a ray.
+fn spiral_text(alloc: Global, spiral: &Spiral) -> Result<String, AllocError> {
+    let rows = spiral.rows(alloc)?;
     let text = picture_text(alloc, &rows);
     drop(rows);
     text
 }
 
-/// A session that begins with such a picture, and puts an edge across all segments but two.
-fn crossing_lines(alloc: Global, windings: u32) -> Result<String, AllocError> {
-    let picture = wound_text(alloc, windings)?;
+/// A session that begins with such a picture, and puts an edge across the ray in each winding but
+/// one.
+fn crossing_lines(alloc: Global, spiral: &Spiral) -> Result<String, AllocError> {
+    let picture = spiral_text(alloc, spiral)?;
+    let end = spiral.parts;
     let lines = format!(in alloc;
-        "{{\"prices\":[1000],\"start\":{picture},\"version\":1}}\n[\"insert\",0,1,0]\n"
+        "{{\"prices\":[1000],\"start\":{picture},\"version\":1}}\n[\"insert\",0,{end},0]\n"
     );
     drop(picture);
     lines
 }
 
 /// What is answered to it.
-fn crossing_answers(alloc: Global, windings: u32) -> Result<String, AllocError> {
-    let reply = crossing_reply(alloc, 2, windings.saturating_sub(1))?;
-    let segments = windings.saturating_mul(2).saturating_add(2);
+fn crossing_answers(alloc: Global, spiral: &Spiral) -> Result<String, AllocError> {
+    let windings = spiral.windings();
+    let edges = spiral.parts.saturating_add(1);
+    let crossed = windings.saturating_sub(1);
+    let reply = crossing_reply(alloc, edges, crossed, spiral.each)?;
+    let segments = windings.saturating_mul(2).saturating_add(edges);
+    let vertices = spiral.parts.saturating_add(3);
     let answers = format!(in alloc;
-        "{{\"crossings\":{windings},\"edges\":2,\"faces\":{windings},\
-        \"segments\":{segments},\"vertices\":4}}\n{reply}\n"
+        "{{\"crossings\":{windings},\"edges\":{edges},\"faces\":{windings},\
+        \"segments\":{segments},\"vertices\":{vertices}}}\n{reply}\n"
     );
     drop(reply);
     answers
+}
+
+/// A line for each session that puts an edge across a ray of so many edges, each crossed so often.
+fn tell_crossings<R: Print + AllocGlobal>(rt: &R) -> Result<()> {
+    let alloc = rt.alloc();
+    for (parts, each) in [(1, 4_097), (1, 5_001), (66, 1_000)] {
+        let spiral = Spiral::new(parts, each);
+        let lines = crossing_lines(alloc, &spiral);
+        let due = crossing_answers(alloc, &spiral);
+        let told = made_is_served(alloc, lines, 8_192, due)?;
+        let windings = spiral.windings();
+        println!(rt; "session with {windings} windings: {told}")?;
+    }
+    Ok(())
 }
 
 /// A line for each session.
@@ -138,13 +148,5 @@ pub(crate) fn tell_sessions<R: Print + AllocGlobal>(rt: &R) -> Result<()> {
         let told = made_is_served(alloc, lines, piece, counted_twice(alloc))?;
         println!(rt; "opening with {spaces} spaces, {piece} at a time: {told}")?;
     }
-    for windings in [4_097, 5_001, 10_001] {
-        let (lines, due) = (
-            crossing_lines(alloc, windings),
-            crossing_answers(alloc, windings),
-        );
-        let told = made_is_served(alloc, lines, 8_192, due)?;
-        println!(rt; "session with {windings} windings: {told}")?;
-    }
-    Ok(())
+    tell_crossings(rt)
 }

@@ -50,6 +50,8 @@ pub(crate) enum Start {
     Line(u32),
     /// The same, and the last is joined to the first.
     Ring(u32),
+    /// An edge that winds round and crosses a ray of one edge so often.
+    Wound(u32),
     /// An edge that winds round and crosses a ray.
     Spiral(Spiral),
 }
@@ -58,6 +60,7 @@ impl Start {
     /// How often each edge of the ray is crossed.
     pub(crate) fn each(&self) -> u32 {
         match self {
+            Start::Wound(each) => *each,
             Start::Spiral(spiral) => spiral.each,
             _ => 1,
         }
@@ -69,6 +72,7 @@ impl Start {
             Start::Seed(given) => seed_rows(alloc, *given),
             Start::Line(vertices) => chain_rows(alloc, *vertices, vertices.saturating_sub(1)),
             Start::Ring(vertices) => chain_rows(alloc, *vertices, *vertices),
+            Start::Wound(each) => Spiral::new(1, *each).rows(alloc),
             Start::Spiral(spiral) => spiral.rows(alloc),
         }
     }
@@ -177,8 +181,18 @@ fn ids_from(alloc: Global, first: u32, count: u32, stride: u32) -> Result<Listed
 }
 
 impl Spiral {
-    /// How often the edges cross.
-    fn windings(&self) -> u32 {
+    /// A ray of so many edges, each of which is crossed so often, with all ids of crossings there.
+    pub(crate) fn new(parts: u32, each: u32) -> Self {
+        Spiral {
+            parts,
+            each,
+            stride: 1,
+            given: parts.saturating_mul(each),
+        }
+    }
+
+    /// How often the edge that winds crosses the ray.
+    pub(crate) fn windings(&self) -> u32 {
         self.parts.saturating_mul(self.each)
     }
 
@@ -230,7 +244,7 @@ impl Spiral {
     }
 
     /// The rows of the picture.
-    fn rows(&self, alloc: Global) -> Result<Rows, AllocError> {
+    pub(crate) fn rows(&self, alloc: Global) -> Result<Rows, AllocError> {
         Ok(Rows {
             rotations: self.rotations(alloc)?,
             edges: self.edges(alloc)?,

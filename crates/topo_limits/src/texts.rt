@@ -77,25 +77,30 @@ pub(crate) fn pairs_script(alloc: Global, pairs: u32) -> Result<String, AllocErr
     Ok(text)
 }
 
-/// The reply to the insertion of an edge that crosses the segments 1, 2, .., so many, of edge 0, at
-/// a price of 1000 each.
+/// The reply to the insertion of an edge that crosses so many segments, at a price of 1000 each: of
+/// each edge from edge 0 on the segments 1, 2, .., so many of each.
 pub(crate) fn crossing_reply(
     alloc: Global,
-    edge: u32,
+    id: u32,
     crossings: u32,
+    each: u32,
 ) -> Result<String, AllocError> {
     let mut text = String::new(alloc);
-    text.push_str("{\"crossed\":[")?;
-    for seg in 1..=crossings {
-        if seg > 1 {
-            text.push_str(",")?;
+    text.push_str("{\"crossed\":[[0,1,\"forward\"]")?;
+    let (mut edge, mut seg) = (0u32, 1u32);
+    for _ in 1..crossings {
+        if seg < each {
+            seg = seg.saturating_add(1);
+        } else {
+            seg = 1;
+            edge = edge.saturating_add(1);
         }
-        write!(text, "[0,{seg},\"forward\"]")?;
+        write!(text, ",[{edge},{seg},\"forward\"]")?;
     }
     let price = crossings as u64 * 1000;
     write!(
         text,
-        "],\"edge\":{edge},\"end\":0,\"price\":{price},\"start\":0}}"
+        "],\"edge\":{id},\"end\":0,\"price\":{price},\"start\":0}}"
     )?;
     Ok(text)
 }
