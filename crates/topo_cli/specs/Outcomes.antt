@@ -126,7 +126,7 @@ pub record PerformsCommand (words : List (List ℕ)) (outcome : Outcome) (old ne
 -- the words ask for the version, and it is told: nothing is read
 pub record PerformsVersion (words : List (List ℕ)) (outcome : Outcome) (old new : ReaderState) (old_held new_held old_told new_told : Option (List ℕ)) : Type 0 where
   pub asked : AskVersion words
-  pub unread : new ≡ old
+  pub untouched : new ≡ old
   pub tells : TellsVersion outcome old_held new_held old_told new_told
 
 -- The words are none, and are turned down with a text, or there is no memory to read them. Nothing is read, and nothing
@@ -135,7 +135,7 @@ pub record PerformsNone (words : List (List ℕ)) (outcome : Outcome) (old new :
   pub unread : Unread
   pub is_unread : IsUnread words unread
   pub told : Tells unread outcome old_told new_told
-  pub unread : new ≡ old
+  pub untouched : new ≡ old
   pub unwritten : Keeps old_held new_held
 
 abbrev pub Performs : List (List ℕ) → Outcome → ReaderState → ReaderState → Option (List ℕ) → Option (List ℕ) → Option (List ℕ)
