@@ -1,0 +1,49 @@
+"""Straight lines in the squares of a grid that they pass, so that those near each other are found without a look at
+all pairs."""
+
+from __future__ import annotations
+
+from typing import Dict, Iterator, List, Sequence, Set, Tuple
+
+#: A square of the grid: its column and its row.
+Square = Tuple[int, int]
+
+
+class SegmentGrid:
+    """Segments, each a tuple that begins with the x and y of its one end and of its other, and the squares that they
+    pass: `squares[column, row]` has the places of the segments in it. Also a square that a segment only comes near to
+    may have it; none that it passes is missed."""
+
+    def __init__(self, segments: Sequence[Tuple]):
+        extents = [max(abs(u - x), abs(v - y)) for x, y, u, v, *_ in segments]
+        self.size = max(sum(extents) / len(extents), max(extents) / 500) if extents and max(extents) else 1.0
+        self.squares: Dict[Square, List[int]] = {}
+        for place, segment in enumerate(segments):
+            for square in self._passed(*segment[:4]):
+                self.squares.setdefault(square, []).append(place)
+
+    def _passed(self, x: float, y: float, u: float, v: float) -> Iterator[Square]:
+        """The squares that a segment passes, column by column."""
+        if x > u:
+            x, y, u, v = u, v, x, y
+        size, spare = self.size, 1e-3 * self.size
+        first, last = int((x - spare) // size), int((u + spare) // size)
+        slope = (v - y) / (u - x) if u > x else 0.0
+        for column in range(first, last + 1):
+            low, high = y, v
+            if first < last and slope:
+                low = y + slope * (min(max(x, column * size - spare), u) - x)
+                high = y + slope * (max(min(u, (column + 1) * size + spare), x) - x)
+            if low > high:
+                low, high = high, low
+            for row in range(int((low - spare) // size), int((high + spare) // size) + 1):
+                yield column, row
+
+    def near(self, left: float, bottom: float, right: float, top: float) -> Set[int]:
+        """The places of all segments that come into a rectangle, and of some near it."""
+        found: Set[int] = set()
+        rows = range(int(bottom // self.size), int(top // self.size) + 1)
+        for column in range(int(left // self.size), int(right // self.size) + 1):
+            for row in rows:
+                found.update(self.squares.get((column, row), ()))
+        return found
