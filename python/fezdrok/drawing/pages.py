@@ -13,7 +13,7 @@ from typing import List, NamedTuple, Optional, Tuple
 
 from ..engine.graph_edges import Node
 from ..engine.pictures import Point
-from .scenes import Position, Scene
+from .scenes import Position, Scene, Stroke
 
 PagePoint = Tuple[int, int]
 
@@ -67,21 +67,19 @@ class Page:
             )
             for shape in scene.nodes
         ]
-        self.lines = [
-            PageLine(stroke.edge_id, self._pieces(stroke.points, stroke.curved), stroke.marks)
-            for stroke in scene.strokes
-        ]
+        self.lines = [self.line(stroke) for stroke in scene.strokes]
 
     def at(self, place: Position) -> PagePoint:
         """The point of the page for a place of the scene."""
         x, y = place
         return round(x * self._factor) - self._left, -round(y * self._factor) - self._top
 
-    def _pieces(self, points: Tuple[Position, ...], is_curved: bool) -> Tuple[Tuple[PagePoint, ...], ...]:
-        """The pieces of a stroke."""
-        on_page = [self.at(point) for point in points]
-        step = 3 if is_curved else 1
-        return tuple(tuple(on_page[start : start + step + 1]) for start in range(0, len(on_page) - 1, step))
+    def line(self, stroke: Stroke) -> PageLine:
+        """A stroke as it would stand on this page."""
+        points = [self.at(point) for point in stroke.points]
+        step = 3 if stroke.curved else 1
+        pieces = tuple(tuple(points[start : start + step + 1]) for start in range(0, len(points) - 1, step))
+        return PageLine(stroke.edge_id, pieces, stroke.marks)
 
 
 def flattened(piece: Tuple[PagePoint, ...], tolerance: int) -> List[PagePoint]:

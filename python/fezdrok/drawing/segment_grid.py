@@ -3,10 +3,14 @@ all pairs."""
 
 from __future__ import annotations
 
+from math import sqrt
 from typing import Dict, Iterator, List, Sequence, Set, Tuple
 
 #: A square of the grid: its column and its row.
 Square = Tuple[int, int]
+
+#: How many squares a segment passes, in the mean, at most.
+MOST_PASSED = 12
 
 
 class SegmentGrid:
@@ -15,15 +19,19 @@ class SegmentGrid:
     may have it; none that it passes is missed."""
 
     def __init__(self, segments: Sequence[Tuple]):
-        extents = [max(abs(u - x), abs(v - y)) for x, y, u, v, *_ in segments]
-        self.size = max(sum(extents) / len(extents), max(extents) / 500) if extents and max(extents) else 1.0
+        self.size = _square_size(segments)
         self.squares: Dict[Square, List[int]] = {}
         for place, segment in enumerate(segments):
-            for square in self._passed(*segment[:4]):
-                self.squares.setdefault(square, []).append(place)
+            self.add(place, segment)
 
-    def _passed(self, x: float, y: float, u: float, v: float) -> Iterator[Square]:
+    def add(self, place: int, segment: Tuple) -> None:
+        """One more segment, by its place."""
+        for square in self.passed(segment):
+            self.squares.setdefault(square, []).append(place)
+
+    def passed(self, segment: Tuple) -> Iterator[Square]:
         """The squares that a segment passes, column by column."""
+        x, y, u, v = segment[:4]
         if x > u:
             x, y, u, v = u, v, x, y
         size, spare = self.size, 1e-3 * self.size
@@ -47,3 +55,15 @@ class SegmentGrid:
             for row in rows:
                 found.update(self.squares.get((column, row), ()))
         return found
+
+
+def _square_size(segments: Sequence[Tuple]) -> float:
+    """The size of squares of which there are about as many as segments, but not so many that long segments pass very
+    many."""
+    if not segments:
+        return 1.0
+    xs = [it for x, _, u, *_ in segments for it in (x, u)]
+    ys = [it for _, y, _, v, *_ in segments for it in (y, v)]
+    width, height = max(xs) - min(xs), max(ys) - min(ys)
+    length = sum(max(abs(u - x), abs(v - y)) for x, y, u, v, *_ in segments) / len(segments)
+    return max(sqrt(float(width) * float(height) / len(segments)), length / MOST_PASSED) or 1.0

@@ -18,14 +18,17 @@ from .curves import crossing_ways, is_as_good_as_straight, smooth
 from .pages import Page
 from .scenes import PLAIN, NodeShape, Position, Scene, Stroke, label_size, looks, with_arrows
 from .segment_grid import SegmentGrid
-from .verification import Defect, Piece, defects
+from .verification import Defect, Judge, Piece, defects
 
 #: How many decimals the coordinates of a file have at most.
 MOST_DECIMALS = 4
 #: How near, in pixels, a node of full size comes to what it must not lie on.
 GAP = 2.0
-#: What follows each reach of a curve where it meets what it must not.
+#: The greatest number of nodes for which a drawing becomes larger where they have too little room.
+MANY = 600
+#: What follows each reach of a curve where it meets what it must not; and in drawings with more than MANY nodes.
 LESS_REACH = {1.0: 0.6, 0.6: 0.35, 0.35: 0.18, 0.18: 0.0}
+LESS_REACH_OF_MANY = {1.0: 0.3, 0.3: 0.0}
 
 
 @dataclass(frozen=True)
@@ -98,9 +101,10 @@ def _sized(chains: Chains, labels: Sequence[str]) -> Tuple[float, Tuple[NodeShap
     root = sqrt(len(chains.places))
     least = max(200.0, min(900.0, 80.0 * root), 45.0 * root) / extent
     sizes = [label_size(label) for label in labels]
-    room = min(_scales(chains, sizes, least), default=1.0)
-    unit = least * min(2.0, max(1.0, 1.0 / max(room, 0.1)))
-    scales = _scales(chains, sizes, unit)
+    scales = _scales(chains, sizes, least)
+    unit = least * min(2.0, max(1.0, 1.0 / max(min(scales), 0.1))) if len(scales) <= MANY else least
+    if unit > least:
+        scales = _scales(chains, sizes, unit)
     return unit, tuple(
         NodeShape(node, label, chains.places[node], scale * width / unit, scale * height / unit, False, scale)
         for node, label, (width, height), scale in zip(chains.result.node_of, labels, sizes, scales)
@@ -165,14 +169,21 @@ def _curved(chains: Chains, scene: Scene, false: List[Defect]) -> Tuple[Scene, L
         if not is_as_good_as_straight([chains.places[node] for node in chain])
     }
     reaches: Dict[Piece, float] = {}
+    less_reach = LESS_REACH if len(scene.nodes) <= MANY else LESS_REACH_OF_MANY
+    strokes = {it.edge_id: _curve(chains, it, ways, reaches, bent) for it in scene.strokes}
+    page = Page(replace(scene, strokes=tuple(strokes.values())))
+    judge = Judge(chains.result, page)
+    found = judge.defects()
     while True:
-        scene = replace(scene, strokes=tuple(_curve(chains, it, ways, reaches, bent) for it in scene.strokes))
-        false = defects(chains.result, Page(scene))
-        pieces = {piece for it in false if (it.words, it.pieces) not in allowed for piece in it.pieces}
-        less = {piece: LESS_REACH[now] for piece in pieces if (now := reaches.get(piece, 1.0)) and piece[0] in bent}
+        pieces = {piece for it in found if (it.words, it.pieces) not in allowed for piece in it.pieces}
+        less = {piece: less_reach[now] for piece in pieces if (now := reaches.get(piece, 1.0)) and piece[0] in bent}
         if not less:
-            return scene, false
+            scene = replace(scene, strokes=tuple(strokes.values()))
+            return scene, defects(chains.result, Page(scene)) if false else []
         reaches.update(less)
+        changed = {edge_id: _curve(chains, strokes[edge_id], ways, reaches, bent) for edge_id, _ in less}
+        strokes.update(changed)
+        found = judge.drawn_otherwise([page.line(stroke) for stroke in changed.values()])
 
 
 def _curve(

@@ -7,9 +7,9 @@ numbers are whole, so nothing is rounded in any test. Lines that could meet are 
 from __future__ import annotations
 
 from collections import Counter
-from typing import Dict, Iterator, List, NamedTuple, Optional, Sequence, Tuple
+from typing import Dict, Iterable, Iterator, List, NamedTuple, Optional, Sequence, Set, Tuple
 
-from ..engine.pictures import Dart, Picture, Point
+from ..engine.pictures import Dart, Point
 from ..engine.results import Planarization
 from .pages import FINE, Page, PageLine, PageNode, PagePoint, flattened
 from .segment_grid import SegmentGrid
@@ -48,30 +48,78 @@ class _Straight(NamedTuple):
 
 def defects(result: Planarization, page: Page) -> List[Defect]:
     """All that is false on a page that shows a planarization; empty where it is true."""
-    return _Judge(result, page).all()
+    return Judge(result, page).defects()
 
 
-class _Judge:
-    """A page with all its straight lines, and how the darts of the picture leave their points."""
+class Judge:
+    """A page with all its straight lines, and how the darts of the picture leave their points. Edges can be drawn
+    otherwise, and are then judged beside all that stays."""
 
     def __init__(self, result: Planarization, page: Page):
         self.result, self.page, self.picture = result, page, result.picture
         self.lines: List[_Straight] = []
+        self.places_of: Dict[int, range] = {}
+        self.gone: Set[int] = set()
         self.found: List[Defect] = []
         self.place_of: Dict[Point, PagePoint] = {}
         self.leaving: Dict[Dart, Tuple[PagePoint, PagePoint, Piece]] = {}
+        self.shapes = {Point(False, result.vertex_of[node.node]): _Shape(node) for node in page.nodes}
         for line in page.lines:
             self._add(line)
+        self.grid = SegmentGrid(self.lines)
+        degree = Counter(mark for line in self.lines for mark in (line.start, line.end) if mark is not None)
+        self.degree = {None: 0, **degree}
+        self.boxes = SegmentGrid([shape.bounds for shape in self.shapes.values()])
 
-    def all(self) -> List[Defect]:
+    def defects(self) -> List[Defect]:
         """What is false."""
-        grid = SegmentGrid(self.lines)
-        self._judge_meetings(grid)
-        self._judge_orders()
-        self._judge_nodes(grid)
+        hubs = [self._hub(line) for line in self.lines]
+        seen = set()
+        for places in self.grid.squares.values():
+            for pair in _pairs(places, hubs):
+                if pair not in seen:
+                    seen.add(pair)
+                    self._judge_pair(*pair)
+        self._judge_orders(self.picture.points)
+        own = self._judge_ends()
+        for point, shape in self.shapes.items():
+            for place in self.grid.near(*shape.bounds):
+                line = self.lines[place]
+                self._judge_shape(shape, line, (line.piece, point) in own)
+        self._judge_overlaps()
+        return self._told()
+
+    def drawn_otherwise(self, lines: Sequence[PageLine]) -> List[Defect]:
+        """What is false about these edges where they are drawn like this from now on."""
+        first = len(self.lines)
+        for line in lines:
+            self.gone.update(self.places_of[line.edge_id])
+            self._add(line)
+        for place in range(first, len(self.lines)):
+            self.grid.add(place, self.lines[place])
+        for place in range(first, len(self.lines)):
+            line = self.lines[place]
+            others = {other for square in self.grid.passed(line) for other in self.grid.squares[square]}
+            hub = self._hub(line)
+            for other in others - self.gone:
+                if other < place and (hub is None or self._hub(self.lines[other]) != hub):
+                    self._judge_pair(other, place)
+        self._judge_orders({point for line in lines for point in self.picture.path(line.edge_id)})
+        own, shapes = self._judge_ends(), list(self.shapes.items())
+        for line in self.lines[first:]:
+            left, right = sorted((line.x, line.u))
+            top, bottom = sorted((line.y, line.v))
+            for place in self.boxes.near(left, top, right, bottom):
+                point, shape = shapes[place]
+                self._judge_shape(shape, line, (line.piece, point) in own)
+        return self._told()
+
+    def _told(self) -> List[Defect]:
+        """What was found, each defect once."""
         merged: Dict[Tuple[str, Tuple[float, float]], Dict[Piece, None]] = {}
         for words, place, pieces in self.found:
             merged.setdefault((words, place), {}).update(dict.fromkeys(pieces))
+        self.found = []
         return [Defect(words, place, tuple(pieces)) for (words, place), pieces in merged.items()]
 
     def _tell(self, words: str, place: PagePoint, *pieces: Piece) -> None:
@@ -89,6 +137,7 @@ class _Judge:
         if tuple(mark for mark in line.marks if mark is not None) != path:
             self._tell(f"{self._name(line.edge_id)} does not pass its crossings in their order", (0, 0))
         number = segment = 0
+        first = len(self.lines)
         tolerance = max(1, int(TOLERANCE * self.page.steps))
         for place, piece in enumerate(line.pieces):
             own = (line.edge_id, place)
@@ -111,20 +160,18 @@ class _Judge:
                 self.lines.append(_Straight(*start, *end, own, number, *ends))
                 number += 1
             segment += marks[1] is not None
+        self.places_of[line.edge_id] = range(first, len(self.lines))
 
     # ---- Lines that meet
 
-    def _judge_meetings(self, grid: SegmentGrid) -> None:
-        """Each two lines that have a point in common have to share an end, and nothing else."""
-        degree = Counter(mark for line in self.lines for mark in (line.start, line.end) if mark is not None)
-        hubs = [max((line.start, line.end), key=lambda mark: degree[mark] if mark else 0) for line in self.lines]
-        seen = set()
-        for places in grid.squares.values():
-            for one, other in _pairs(places, hubs):
-                if (one, other) not in seen:
-                    seen.add((one, other))
-                    if _meet_falsely(self.lines[one], self.lines[other]):
-                        self._tell_meeting(self.lines[one], self.lines[other])
+    def _hub(self, line: _Straight) -> Optional[Point]:
+        """The end of a line at which most lines end."""
+        return line.start if self.degree[line.start] >= self.degree[line.end] else line.end
+
+    def _judge_pair(self, one: int, other: int) -> None:
+        """Two lines that have a point in common have to share an end, and nothing else."""
+        if _meet_falsely(self.lines[one], self.lines[other]):
+            self._tell_meeting(self.lines[one], self.lines[other])
 
     def _tell_meeting(self, first: _Straight, second: _Straight) -> None:
         one, other = self._name(first.piece[0]), self._name(second.piece[0])
@@ -133,38 +180,28 @@ class _Judge:
 
     # ---- The order round points
 
-    def _judge_orders(self) -> None:
+    def _judge_orders(self, points: Iterable[Point]) -> None:
         """The edges leave each node, and pass each crossing, in the clockwise order of the picture."""
-        middle = {node.node: node.middle for node in self.page.nodes}
-        for point in self.picture.points:
+        for point in points:
             left = [self.leaving[dart] for dart in self.picture.around(point) if dart in self.leaving]
-            if point.is_crossing:
-                at = left[0][0] if left else (0, 0)
-            else:
-                x, y = middle[self.result.node_of[point.id]]
-                at = (x * FINE, y * FINE)
-            ways = [_way(at, end, beside) for end, beside, _ in left]
-            if not is_clockwise(ways):
+            at = left[0][0] if point.is_crossing and left else (0, 0)
+            if not point.is_crossing:
+                at = self.shapes[point].middle
+            if not is_clockwise([_way(at, end, beside) for end, beside, _ in left]):
                 what = "crossing" if point.is_crossing else f"node {self.result.node_of[point.id]!r}"
                 self._tell(f"the edges at the {what} are not in their order", at, *(piece for _, _, piece in left))
 
     # ---- Nodes
 
-    def _judge_nodes(self, grid: SegmentGrid) -> None:
-        """No node lies on an edge that does not end there, on a crossing or on another node; its own edges come to its
-        shape."""
-        shapes = {Point(False, self.result.vertex_of[node.node]): _Shape(node) for node in self.page.nodes}
+    def _judge_ends(self) -> Set[Tuple[Piece, Point]]:
+        """The edges of a node come to its shape; the pieces that end at points, each with its point."""
         own = set()
         for dart, (end, _, piece) in self.leaving.items():
             point = self.picture.start(dart)
             own.add((piece, point))
-            if not point.is_crossing and not shapes[point].has(end):
+            if not point.is_crossing and not self.shapes[point].has(end):
                 self._tell(f"{self._name(dart.edge)} does not come to its node", end, piece)
-        for point, shape in shapes.items():
-            for place in grid.near(*shape.bounds):
-                line = self.lines[place]
-                self._judge_shape(shape, line, (line.piece, point) in own)
-        self._judge_overlaps(list(shapes.values()))
+        return own
 
     def _judge_shape(self, shape: "_Shape", line: _Straight, is_own: bool) -> None:
         """A node and a line that is near it, which may be one of the node's own."""
@@ -174,11 +211,11 @@ class _Judge:
         if not is_own and shape.meets(line):
             self._tell(f"the node {shape.node!r} lies on {self._name(line.piece[0])}", shape.middle, line.piece)
 
-    def _judge_overlaps(self, shapes: List["_Shape"]) -> None:
+    def _judge_overlaps(self) -> None:
         """No node lies on another."""
-        grid = SegmentGrid([shape.bounds for shape in shapes])
+        shapes = list(self.shapes.values())
         for place, shape in enumerate(shapes):
-            for other in grid.near(*shape.bounds):
+            for other in self.boxes.near(*shape.bounds):
                 if other < place and shape.overlaps(shapes[other]):
                     self._tell(f"the node {shapes[other].node!r} lies on the node {shape.node!r}", shape.middle)
 
