@@ -26,10 +26,10 @@ Position = Tuple[float, float]
 #: the way of a node below which it is enough.
 FEW = 1000
 ROUND_SWEEPS = 2
-SWEEPS = 400
+SWEEPS = 250
 LEAST_SWEEPS = 5
 MOVES = 30_000
-STILL = 5e-4
+STILL = 1e-3
 #: How much triangles push, those at the ring beside others, and how much more where they are thin; how much the halves
 #: of an edge pull each other into one line, and the two edges of a crossing into a right angle.
 PUSH = 20.0

@@ -26,6 +26,8 @@ FORBIDDEN = "#222222"
 LETTER_HEIGHT = 9.0
 LETTER = 5.4
 LEAST_NODE = 15.0
+#: The greatest number of nodes for which there is time to give each the room that it wants.
+MANY = 600
 #: How many pixels a step of the grid is at least in orthogonal drawings, and in those with arrows.
 GRID_UNIT = 22.0
 ARROW_UNIT = 34.0
@@ -126,7 +128,10 @@ def label_size(label: str) -> Tuple[float, float]:
 
 
 def grid_sizes(nodes: Sequence[Node]) -> Dict[Node, Tuple[int, int]]:
-    """The width and height in steps of the grid for the nodes whose labels are too long for a point of the grid."""
+    """The width and height in steps of the grid for the nodes whose labels are too long for a point of the grid; of more
+    than MANY nodes all are points, and the grid is so wide that the labels fit."""
+    if len(nodes) > MANY:
+        return {}
     wide = [node for node in nodes if _point_width(str(node)) > 0.93 * GRID_UNIT]
     return {node: (-int(-(label_size(str(node))[0] + 4.0) // GRID_UNIT), 2) for node in wide}
 

@@ -29,6 +29,17 @@ class SegmentGrid:
         for square in self.passed(segment):
             self.squares.setdefault(square, []).append(place)
 
+    @staticmethod
+    def of_rectangles(bounds: Sequence[Tuple[float, float, float, float]]) -> "SegmentGrid":
+        """A grid of rectangles, each the least x and y and the greatest, with the places of those in each square."""
+        grid = SegmentGrid(())
+        grid.size = _square_size(bounds)
+        for place, (left, bottom, right, top) in enumerate(bounds):
+            for column in range(int(left // grid.size), int(right // grid.size) + 1):
+                for row in range(int(bottom // grid.size), int(top // grid.size) + 1):
+                    grid.squares.setdefault((column, row), []).append(place)
+        return grid
+
     def passed(self, segment: Tuple) -> Iterator[Square]:
         """The squares that a segment passes, column by column."""
         x, y, u, v = segment[:4]

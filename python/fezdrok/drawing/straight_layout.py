@@ -3,7 +3,7 @@
 from __future__ import annotations
 
 import warnings
-from math import sqrt
+from math import cos, pi, sin, sqrt
 from typing import TYPE_CHECKING, Any, Dict, Iterable, List, Mapping, Optional, Sequence
 
 from ..engine.faults import PlanarWarning, wanted
@@ -11,6 +11,7 @@ from ..engine.graph_edges import GraphEdge
 from ..engine.graph_pictures import Dummy
 from ..engine.results import Planarization
 from ..files.embeddings import to_networkx_embedding
+from .orthogonal_layout import SHORT, path_order
 from .relaxation import between, spread
 from .scenes import Position
 from .shelf_packing import shelf_packing
@@ -29,6 +30,9 @@ def positions(result: Planarization, embedding: Optional["networkx.PlanarEmbeddi
     """
     if result.parts:
         return _side_by_side(result, [positions(part) for part in result.parts])
+    order = path_order(result.picture)
+    if order is not None and len(order) > SHORT:
+        return {result.node_of[vertex]: place for vertex, place in zip(order, _spiral(len(order)))}
     embedding = to_networkx_embedding(result) if embedding is None else embedding
     rotations = {node: list(embedding.neighbors_cw_order(node)) for node in embedding}
     crossings = frozenset(result.name_of(point) for point in result.picture.points if point.is_crossing)
@@ -42,6 +46,15 @@ def positions(result: Planarization, embedding: Optional["networkx.PlanarEmbeddi
         warnings.warn("no drawing was found in which faces are of like size: its points lie on a grid", PlanarWarning)
         found = grid_positions(result, embedding)
     return found
+
+
+def _spiral(count: int) -> List[Position]:
+    """So many points on a spiral from the middle of the unit disk, as far from each other as its turns are."""
+    found, turned = [], 2 * pi
+    for _ in range(count):
+        found.append((turned * cos(turned), turned * sin(turned)))
+        turned += 2 * pi / turned
+    return [(x / turned, y / turned) for x, y in found]
 
 
 def grid_positions(

@@ -16,7 +16,7 @@ from ..engine.pictures import Point
 from ..engine.results import Planarization
 from .curves import crossing_ways, is_as_good_as_straight, smooth
 from .pages import Page
-from .scenes import PLAIN, NodeShape, Position, Scene, Stroke, label_size, looks, with_arrows
+from .scenes import MANY, PLAIN, NodeShape, Position, Scene, Stroke, label_size, looks, with_arrows
 from .segment_grid import SegmentGrid
 from .verification import Defect, Judge, Piece, defects
 
@@ -24,8 +24,6 @@ from .verification import Defect, Judge, Piece, defects
 MOST_DECIMALS = 4
 #: How near, in pixels, a node of full size comes to what it must not lie on.
 GAP = 2.0
-#: The greatest number of nodes for which a drawing becomes larger where they have too little room.
-MANY = 600
 #: What follows each reach of a curve where it meets what it must not; and in drawings with more than MANY nodes.
 LESS_REACH = {1.0: 0.6, 0.6: 0.35, 0.35: 0.18, 0.18: 0.0}
 LESS_REACH_OF_MANY = {1.0: 0.3, 0.3: 0.0}
@@ -129,7 +127,7 @@ def _scales(chains: Chains, sizes: Sequence[Tuple[float, float]], unit: float) -
                 scale = min(scale, _reach(far, far, right, up))
         scales.append(scale)
     boxes = [(x - w, y - h, x + w, y + h) for (x, y), (w, h) in zip(middles, sizes)]
-    near = SegmentGrid(boxes)
+    near = SegmentGrid.of_rectangles(boxes)
     for place, ((x, y), (width, height)) in enumerate(zip(middles, sizes)):
         for other in near.near(*boxes[place]):
             if other != place:

@@ -69,7 +69,7 @@ class Judge:
         self.grid = SegmentGrid(self.lines)
         degree = Counter(mark for line in self.lines for mark in (line.start, line.end) if mark is not None)
         self.degree = {None: 0, **degree}
-        self.boxes = SegmentGrid([shape.bounds for shape in self.shapes.values()])
+        self.boxes = SegmentGrid.of_rectangles([shape.bounds for shape in self.shapes.values()])
 
     def defects(self) -> List[Defect]:
         """What is false."""
