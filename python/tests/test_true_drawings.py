@@ -35,8 +35,8 @@ def named_graphs():
     """Graphs of networkx that have a name, and all complete ones from 5 to 12 nodes."""
     names = (
         "bull chvatal cubical desargues diamond dodecahedral frucht heawood hoffman_singleton house house_x "
-        "icosahedral krackhardt_kite moebius_kantor octahedral pappus petersen sedgewick_maze tetrahedral truncated_cube "
-        "truncated_tetrahedron tutte karate_club florentine_families davis_southern_women"
+        "icosahedral krackhardt_kite moebius_kantor octahedral pappus petersen sedgewick_maze tetrahedral "
+        "truncated_cube truncated_tetrahedron tutte karate_club florentine_families davis_southern_women"
     )
     graphs = {name: getattr(nx, f"{name}_graph")() for name in names.split()}
     return {**graphs, **{f"k{count}": nx.complete_graph(count) for count in range(5, 13)}}

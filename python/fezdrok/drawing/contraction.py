@@ -3,7 +3,7 @@ out again, each into the middle of where it sees all of its neighbours.
 
 A node that was contracted into a neighbour leaves that one in sight of all that it had round it. So there always is a
 place for it near there, and at each step no triangle turns over: the drawing is plane at the end, as the ring was
-(progressive meshes: Hoppe 1996; that each such step has a place, as in Wagner's proof that a planar graph has a straight
+(progressive meshes: Hoppe 1996; each such step has a place, as in Wagner's proof that a planar graph has a straight
 drawing, 1936). In between the nodes are moved about, when they are still few.
 """
 
@@ -35,8 +35,8 @@ class Triangulation:
         self.fixed = set(ring)
 
     def contracted(self) -> Optional[List[List[Contraction]]]:
-        """Contract all nodes but those of the ring, in rounds in which no neighbour of a node that went goes itself; the
-        rounds. None where it comes to no end."""
+        """Contract all nodes but those of the ring, in rounds in which no neighbour of a node that went goes itself;
+        the rounds. None where it comes to no end."""
         left = [node for node in range(len(self.around)) if node not in self.fixed]
         rounds: List[List[Contraction]] = []
         most = FEW

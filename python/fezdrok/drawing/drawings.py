@@ -153,9 +153,9 @@ def draw(
     """Draw a planarization by matplotlib and give the axes.
 
     `style` is `straight`, `curved` or `orthogonal`. Nodes have their names if `labels`, and are as wide as these. Edges
-    of different prices have colours of their own, those that must not be crossed are dark and broad, and a legend says so;
-    where all cost the same they have `edge_color`. Directed edges have arrows. `pos` gives points for the nodes of the
-    graph, and if you like for those of `to_networkx_embedding(result)`; crossings without a point are put between
+    of different prices have colours of their own, those that must not be crossed are dark and broad, and a legend says
+    so; where all cost the same they have `edge_color`. Directed edges have arrows. `pos` gives points for the nodes of
+    the graph, and if you like for those of `to_networkx_embedding(result)`; crossings without a point are put between
     their neighbours. Where these points show what is not in the picture, that is FalseDrawing, and with `keep_pos` a
     PlanarWarning. Without `pos` the points are those of `positions`, and the drawing is true. ModuleMissing where
     networkx or matplotlib is not there.

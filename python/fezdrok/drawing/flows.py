@@ -1,4 +1,4 @@
-"""Flows of least cost in networks, by the primal-dual method: along shortest ways, all at once that are equally long."""
+"""Flows of least cost in networks, by the primal-dual method: along all shortest ways at once."""
 
 from __future__ import annotations
 

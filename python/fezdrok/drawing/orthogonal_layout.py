@@ -110,9 +110,9 @@ def orthogonal_drawing(
 
 
 def path_order(picture: Picture) -> Optional[List[int]]:
-    """The vertices of a picture along it, if it is a path; else None."""
+    """The vertices of a picture along it, if it is a path of at least one edge; else None."""
     degrees = list(map(len, picture.rotations))
-    if len(picture.edges) != len(degrees) - 1 or max(degrees) > 2 or picture.crossings:
+    if not picture.edges or len(picture.edges) != len(degrees) - 1 or max(degrees) > 2 or picture.crossings:
         return None
     order, last = [degrees.index(1)], -1
     while len(order) < len(degrees):

@@ -21,14 +21,17 @@ from .filled_graphs import FilledGraph, fill
 
 Position = Tuple[float, float]
 
-#: How often all nodes are moved while there are few of them, after each round in which some came, and once where there
-#: are more; how often, at most and at least, when all are there, and how many moves that may be beyond the least; and
-#: the way of a node below which it is enough.
+#: The greatest number of nodes that are few.
+#: How often all nodes are moved after each round in which some came, while they are few; else that is once.
+#: How often, at most and at least, they are moved when all are there; how often each is put at the mean of its
+#: neighbours before that, where they are few; how many moves there may be, half as many where they are not few; and the
+#: way of a node below which it is enough.
 FEW = 1000
 ROUND_SWEEPS = 2
 SWEEPS = 250
 LEAST_SWEEPS = 5
-MOVES = 30_000
+MEANS = 60
+MOVES = 60_000
 STILL = 1e-3
 #: How much triangles push, those at the ring beside others, and how much more where they are thin; how much the halves
 #: of an edge pull each other into one line, and the two edges of a crossing into a right angle.
@@ -36,7 +39,7 @@ PUSH = 20.0
 PUSH_AT_RING = 0.5
 SHAPE = 0.4
 STRAIGHTEN = 0.5
-SQUARE = 0.5
+SQUARE = 0.7
 #: Twice the area that a triangle has at least; less cannot be told from nothing.
 LEAST_AREA = 1e-14
 
@@ -55,6 +58,8 @@ def spread(
     points = _from_few_to_many(filled)
     if points is None:
         return None
+    if len(points) <= FEW:
+        points = _at_means(filled, points)
     _settle(filled, points)
     return {node: points[place] for place, node in enumerate(rotations)}
 
@@ -81,6 +86,21 @@ def _from_few_to_many(filled: FilledGraph) -> Optional[List[Position]]:
             for node in there:
                 forces.move(node, points)
     return points if rounds is not None and _is_plane(filled, points) else None
+
+
+def _at_means(filled: FilledGraph, points: List[Position]) -> List[Position]:
+    """The points with each node, but those of the ring, near the mean of its neighbours: at rest such a drawing is
+    plane and as symmetric as the graph (Tutte, How to Draw a Graph, 1963). As they were, where not all of that can be
+    told apart."""
+    found, ring = list(points), set(filled.ring)
+    for _ in range(MEANS):
+        for node, links in enumerate(filled.links):
+            if node not in ring:
+                total = sum(weight for _, weight in links)
+                x = sum(weight * found[other][0] for other, weight in links) / total
+                y = sum(weight * found[other][1] for other, weight in links) / total
+                found[node] = (x, y)
+    return found if _is_plane(filled, found) else points
 
 
 # ---- Nodes moved by what pulls and pushes them
@@ -231,7 +251,8 @@ def _settle(filled: FilledGraph, points: List[Position]) -> None:
     """Move the nodes that are not of the ring until they hardly move, or have been moved often; in large graphs that is
     less often."""
     forces, ring = _Forces.of_all(filled), set(filled.ring)
-    for _ in range(max(LEAST_SWEEPS, min(SWEEPS, MOVES // len(points)))):
+    moves = MOVES if len(points) <= FEW else MOVES // 2
+    for _ in range(max(LEAST_SWEEPS, min(SWEEPS, moves // len(points)))):
         most = 0.0
         forces.square(points)
         for node in range(len(points)):

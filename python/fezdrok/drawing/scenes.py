@@ -128,8 +128,8 @@ def label_size(label: str) -> Tuple[float, float]:
 
 
 def grid_sizes(nodes: Sequence[Node]) -> Dict[Node, Tuple[int, int]]:
-    """The width and height in steps of the grid for the nodes whose labels are too long for a point of the grid; of more
-    than MANY nodes all are points, and the grid is so wide that the labels fit."""
+    """The width and height in steps of the grid for the nodes whose labels are too long for a point of the grid; of
+    more than MANY nodes all are points, and the grid is so wide that the labels fit."""
     if len(nodes) > MANY:
         return {}
     wide = [node for node in nodes if _point_width(str(node)) > 0.93 * GRID_UNIT]
