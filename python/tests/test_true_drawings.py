@@ -19,8 +19,8 @@ try:
 except ImportError:
     nx = None
 
-#: How many random graphs are drawn: 500 take some ten minutes.
-COUNT = int(os.environ.get("FEZDROK_RANDOM_DRAWINGS", "12"))
+#: How many random graphs are drawn; with 500, which take over half an hour, all named ones are too.
+COUNT = int(os.environ.get("FEZDROK_RANDOM_DRAWINGS", "7"))
 
 
 def random_graph(seed):
@@ -86,7 +86,7 @@ class TrueDrawings(DrawnTest):
 
     def test_named_graphs(self):
         graphs = named_graphs()
-        for name in graphs if COUNT > 100 else ("k5", "k8", "k10", "karate_club", "heawood", "davis_southern_women"):
+        for name in graphs if COUNT > 100 else ("k5", "k8", "karate_club", "heawood"):
             result = planarize(graphs[name], tries=1, rounds=1, shakes=0)
             for style in STYLES:
                 with self.subTest(name=name, style=style):
