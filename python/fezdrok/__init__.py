@@ -1,9 +1,8 @@
 """Planarization of graphs by the proved program `planar`.
 
 `planarize` takes a networkx graph and gives a picture of it with few crossings; `planarize_many` takes many.
-`Planarizer` collects single commands, and a `Session` answers each at once. The package itself needs only Python;
-networkx is wanted for planar beginnings, which are the default, for embeddings, for edges that must not be crossed and
-for drawings, matplotlib for `draw`.
+`Planarizer` collects single commands, and a `Session` answers each at once. It needs networkx, which is
+imported when it is first used, and matplotlib for `draw` alone.
 """
 
 from .drawing.drawings import chain, draw, positions, to_svg

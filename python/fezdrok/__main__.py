@@ -13,7 +13,7 @@ from __future__ import annotations
 import argparse
 import os
 import sys
-from typing import BinaryIO, List, Optional, TextIO, Tuple
+from typing import BinaryIO, TextIO
 
 from .engine.faults import Fault, PlanarError, ProgramNotFound
 from .engine.pictures import json_text
@@ -23,7 +23,7 @@ from .engine.program import Program
 CLOSED = 141
 
 
-def answer(program: Program, script: bytes) -> Tuple[str, bool]:
+def answer(program: Program, script: bytes) -> tuple[str, bool]:
     """The line for one script, and whether it is a report."""
     try:
         return program.run(script).rstrip("\n"), True
@@ -33,7 +33,7 @@ def answer(program: Program, script: bytes) -> Tuple[str, bool]:
         return json_text({"failed": str(failure)}), False
 
 
-def main(words: Optional[List[str]] = None, source: Optional[BinaryIO] = None, target: Optional[TextIO] = None) -> int:
+def main(words: list[str] | None = None, source: BinaryIO | None = None, target: TextIO | None = None) -> int:
     """Answer all lines of `source`, without it those of standard input, on `target`; the status."""
     parser = argparse.ArgumentParser(
         prog="python3 -m fezdrok", description="Run scripts, one a line; one line of answer for each."

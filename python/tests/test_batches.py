@@ -9,14 +9,11 @@ from concurrent.futures.process import BrokenProcessPool
 from contextlib import nullcontext
 from unittest import mock
 
+import networkx as nx
+
 from fezdrok import Bar, MemoryFault, Planarization, ProgramNotFound, planarize, planarize_many
 
-from .support import fake, needs_networkx, needs_program
-
-try:
-    import networkx as nx
-except ImportError:
-    nx = None
+from .support import fake, needs_program
 
 PARENT = os.getpid()
 
@@ -41,7 +38,6 @@ class UnpicklableGraph:
         raise TypeError("sealed")
 
 
-@needs_networkx
 @needs_program
 class Batches(unittest.TestCase):
     def test_as_one_by_one(self):
@@ -115,7 +111,6 @@ class Batches(unittest.TestCase):
         self.assertEqual(planarize_many([]), [])
 
 
-@needs_networkx
 class Programs(unittest.TestCase):
     """With programs that are shell scripts, or none."""
 

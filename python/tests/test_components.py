@@ -1,7 +1,8 @@
 """Graphs that are not connected, planarizations planarized again, and failures that say what was wrong."""
 
 import unittest
-from unittest import mock
+
+import networkx as nx
 
 from fezdrok import (
     Dummy, NoReport, Picture, PlanarError, Planarizer, ProgramFailed, ProgramNotStarted, Report,
@@ -9,15 +10,9 @@ from fezdrok import (
 )
 from fezdrok.drawing.drawings import positions
 
-from .support import crossings_of, fake, graph_pairs, needs_networkx, needs_program, pairs_of, traced
-
-try:
-    import networkx as nx
-except ImportError:
-    nx = None
+from .support import crossings_of, fake, graph_pairs, needs_program, pairs_of, traced
 
 
-@needs_networkx
 @needs_program
 class Components(unittest.TestCase):
     def graph(self):
@@ -87,7 +82,6 @@ class Components(unittest.TestCase):
             self.assertEqual(to_svg(result, style=style).count("<use"), len(graph))
 
 
-@needs_networkx
 @needs_program
 class PlanarizedTwice(unittest.TestCase):
     def test_dummies_do_not_clash(self):
@@ -135,14 +129,6 @@ class Failures(unittest.TestCase):
             file.write(b"\x7fELF no program")
         with self.assertRaisesRegex(ProgramNotStarted, "planar cannot be run: Exec format error"):
             Planarizer(program=path).run()
-
-    @needs_networkx
-    def test_networkx_is_named(self):
-        with mock.patch.dict("sys.modules", {"networkx": None}):
-            with self.assertRaisesRegex(
-                PlanarError, "edges that must not be crossed and planar beginnings want the package networkx"
-            ):
-                planarize(nx.complete_graph(4), begin="planar")
 
 
 if __name__ == "__main__":

@@ -3,18 +3,15 @@
 import unittest
 from unittest import mock
 
+import networkx as nx
+
 from fezdrok import (
     Deleted, Fault, Grown, Inserted, NotPlanarized, Planarizer, SessionClosed, planarize, reinsert,
     to_networkx_embedding, to_svg,
 )
 from fezdrok.engine import line_process
 
-from .support import graph_pairs, needs_networkx, needs_program, pairs_of, traced
-
-try:
-    import networkx as nx
-except ImportError:
-    nx = None
+from .support import graph_pairs, needs_program, pairs_of, traced
 
 
 def named(graph):
@@ -22,7 +19,6 @@ def named(graph):
     return list(graph.edges(keys=True) if graph.is_multigraph() else graph.edges())
 
 
-@needs_networkx
 @needs_program
 class GraphSessions(unittest.TestCase):
     def setUp(self):

@@ -4,7 +4,6 @@ import ast
 import re
 import unittest
 from pathlib import Path
-from typing import Dict, Set
 
 FOLDER = Path(__file__).resolve().parent.parent
 #: What the modules of each subpackage may import of the others.
@@ -13,16 +12,16 @@ ALLOWED = {"engine": set(), "files": {"engine"}, "drawing": {"engine", "files"},
 TOP = {"fezdrok", "fezdrok.__main__"}
 
 
-def module_files() -> Dict[str, Path]:
+def module_files() -> dict[str, Path]:
     """The files of all modules by their names; that of a package is its `__init__`."""
     files = sorted((FOLDER / "fezdrok").rglob("*.py"))
     return {".".join(file.relative_to(FOLDER).with_suffix("").parts).replace(".__init__", ""): file for file in files}
 
 
-def imported_by(module: str, file: Path, known: Set[str]) -> Set[str]:
+def imported_by(module: str, file: Path, known: set[str]) -> set[str]:
     """The modules of the package that a module imports anywhere, also in functions and for type checkers alone."""
     package = module if file.stem == "__init__" else module.rpartition(".")[0]
-    names: Set[str] = set()
+    names: set[str] = set()
     for node in ast.walk(ast.parse(file.read_text())):
         if isinstance(node, ast.Import):
             names.update(alias.name for alias in node.names)
@@ -33,7 +32,7 @@ def imported_by(module: str, file: Path, known: Set[str]) -> Set[str]:
     return names & known
 
 
-def imports() -> Dict[str, Set[str]]:
+def imports() -> dict[str, set[str]]:
     """What each module imports."""
     files = module_files()
     return {module: imported_by(module, file, set(files)) for module, file in files.items()}
@@ -44,7 +43,7 @@ def subpackage(module: str) -> str:
     return module.partition(".")[2].partition(".")[0]
 
 
-def in_circles(graph: Dict[str, Set[str]]) -> Set[str]:
+def in_circles(graph: dict[str, set[str]]) -> set[str]:
     """The modules that import themselves by way of others, and those that import these."""
     left = dict(graph)
     while free := [module for module, others in left.items() if not others & set(left)]:

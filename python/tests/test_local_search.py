@@ -4,21 +4,17 @@ know what crosses what, and the same result each time."""
 import unittest
 from collections import Counter
 
+import networkx as nx
+
 from fezdrok import Picture, Planarizer, planarize, reinsert
 from fezdrok.files.graphs import read_graph
 from fezdrok.search.beginnings import beginning
 from fezdrok.search.search_picture import SearchPicture
 
-from .support import needs_networkx, needs_program
+from .support import needs_program
 from .test_planarization import PlanarizationTest
 
-try:
-    import networkx as nx
-except ImportError:
-    nx = None
 
-
-@needs_networkx
 @needs_program
 class Defaults(PlanarizationTest):
     def test_known_crossing_numbers(self):
@@ -80,7 +76,6 @@ class Defaults(PlanarizationTest):
             self.assertEqual(report.picture, following.start)
 
 
-@needs_networkx
 @needs_program
 class SearchPictures(unittest.TestCase):
     def test_what_crosses_what(self):

@@ -5,18 +5,15 @@ import unittest
 from collections import Counter
 from fractions import Fraction
 
+import networkx as nx
+
 from fezdrok import (
     Counts, Fault, Limits, NotPlanarized, Planarizer, Report, planarize, prepare, reinsert, to_networkx_embedding,
 )
 from fezdrok.files.graphs import read_graph
 from fezdrok.search.connectivity import bridges
 
-from .support import crossings_of, euler, graph_pairs, needs_networkx, needs_program, pairs_of, traced
-
-try:
-    import networkx as nx
-except ImportError:
-    nx = None
+from .support import crossings_of, euler, graph_pairs, needs_program, pairs_of, traced
 
 
 def named_graphs():
@@ -79,7 +76,6 @@ class WholeNumber:
         return 3
 
 
-@needs_networkx
 class Refusals(unittest.TestCase):
     """Graphs and words that are refused before the program is called."""
 
@@ -173,7 +169,6 @@ class Refusals(unittest.TestCase):
             planarize(graph, forbidden=graph.edges)
 
 
-@needs_networkx
 class PriceKinds(unittest.TestCase):
     """Prices become kinds, without the program."""
 
@@ -227,7 +222,6 @@ class PriceKinds(unittest.TestCase):
         self.assertNotEqual(prepare(graph, order="random", seed=1).asked, prepare(graph, order="random", seed=2).asked)
 
 
-@needs_networkx
 @needs_program
 class Planarizations(PlanarizationTest):
     def test_known_crossing_numbers_are_lower_bounds(self):
@@ -367,7 +361,6 @@ class Planarizations(PlanarizationTest):
         )
 
 
-@needs_networkx
 @needs_program
 class Routes(unittest.TestCase):
     """No route is cheaper than the one that was taken: the dual graph is made here, and networkx looks in it."""

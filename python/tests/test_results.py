@@ -4,17 +4,13 @@ import io
 import json
 import unittest
 
+import networkx as nx
+
 from fezdrok import Dummy, planarize, to_networkx_graph
 
-from .support import needs_networkx, needs_program
-
-try:
-    import networkx as nx
-except ImportError:
-    nx = None
+from .support import needs_program
 
 
-@needs_networkx
 @needs_program
 class Results(unittest.TestCase):
     def test_segments_lead_from_the_first_node_to_the_other(self):

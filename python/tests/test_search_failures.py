@@ -9,23 +9,19 @@ import warnings
 from pathlib import Path
 from unittest import mock
 
+import networkx as nx
+
 from fezdrok import (
     Fault, Limits, NotPlanarized, PlanarWarning, Planarizer, ProgramFailed, find_program, planarize, reinsert,
 )
 from fezdrok.search import local_search, search_picture
 
-from .support import fake, needs_networkx, needs_program
-
-try:
-    import networkx as nx
-except ImportError:
-    nx = None
+from .support import fake, needs_program
 
 TOO_LONG = "echo 'planar: 51 TooLong' >&2; exit 1"
 KILLED = "kill -9 $$"
 
 
-@needs_networkx
 @needs_program
 class SearchFailures(unittest.TestCase):
     def setUp(self):
@@ -147,7 +143,6 @@ class Interrupted(Exception):
     """What a function raises that is told of the progress."""
 
 
-@needs_networkx
 @needs_program
 class ProgressCalls(unittest.TestCase):
     def test_progress(self):

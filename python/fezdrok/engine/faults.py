@@ -3,10 +3,11 @@
 from __future__ import annotations
 
 import json
+from collections.abc import Callable
 from importlib import import_module
-from typing import Any, Callable, List, Optional, Tuple, Union
+from typing import Any
 
-Value = Union[int, str, Tuple[int, ...], None]
+Value = int | str | tuple[int, ...] | None
 
 
 class PlanarWarning(UserWarning):
@@ -76,7 +77,7 @@ class Fault(PlanarError):
         self.value = value
 
     @property
-    def words(self) -> List[Union[int, str]]:
+    def words(self) -> list[int | str]:
         """The number, the name and what stands behind it, one after another."""
         values = self.value if isinstance(self.value, tuple) else () if self.value is None else (self.value,)
         return [self.number, self.name, *values]
@@ -136,7 +137,7 @@ def wanted(module: str, purpose: str) -> Any:
         ) from missing
 
 
-def read_value(text: Optional[str]) -> Value:
+def read_value(text: str | None) -> Value:
     """The value of a fault line: a number if it is written in digits, a tuple if these are several, else the text
     itself."""
     if text is None or not text.replace(" ", "").isdecimal():

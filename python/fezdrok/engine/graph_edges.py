@@ -2,13 +2,14 @@
 
 from __future__ import annotations
 
-from typing import Any, Container, Hashable, Optional, Tuple
+from collections.abc import Container, Hashable
+from typing import Any
 
 Node = Hashable
 #: An edge of a graph as its `edges` gives it: two nodes, and in a multigraph a key.
-GraphEdge = Tuple[Any, ...]
+GraphEdge = tuple[Any, ...]
 #: None where the edge must not be crossed.
-Price = Optional[int]
+Price = int | None
 
 #: How many kinds of edges the program knows, one for each price.
 KINDS = 64

@@ -2,9 +2,10 @@
 
 from __future__ import annotations
 
+from collections.abc import Sequence
 from dataclasses import dataclass, field
 from functools import cached_property
-from typing import Any, Dict, List, NamedTuple, Sequence, Tuple
+from typing import Any, NamedTuple
 
 from .graph_edges import GraphEdge, Node, Price, name_among
 from .pictures import Dart, Picture, Point
@@ -51,20 +52,20 @@ class GraphPicture:
 
     graph: Any
     picture: Picture
-    node_of: Tuple[Node, ...]
-    edge_of: Dict[int, GraphEdge]
-    prices: Tuple[Price, ...]
+    node_of: tuple[Node, ...]
+    edge_of: dict[int, GraphEdge]
+    prices: tuple[Price, ...]
     reports: Sequence[Report] = field(repr=False)
-    tries: Tuple[int, ...] = ()
-    parts: Tuple["GraphPicture", ...] = field(default=(), repr=False)
+    tries: tuple[int, ...] = ()
+    parts: tuple["GraphPicture", ...] = field(default=(), repr=False)
 
     @cached_property
-    def vertex_of(self) -> Dict[Node, int]:
+    def vertex_of(self) -> dict[Node, int]:
         """The vertex of each node."""
         return {node: vertex for vertex, node in enumerate(self.node_of)}
 
     @cached_property
-    def id_of(self) -> Dict[GraphEdge, int]:
+    def id_of(self) -> dict[GraphEdge, int]:
         """The id of each edge of the graph, which is named as the graph's `edges` names it."""
         return {edge: edge_id for edge_id, edge in self.edge_of.items()}
 
@@ -82,7 +83,7 @@ class GraphPicture:
         """The layer of the Dummy nodes: 0, or one more than that of the Dummy nodes that the graph itself has."""
         return max((node.layer + 1 for node in self.node_of if isinstance(node, Dummy)), default=0)
 
-    def segments(self, u: Node, v: Node, *key: Any) -> Tuple[Segment, ...]:
+    def segments(self, u: Node, v: Node, *key: Any) -> tuple[Segment, ...]:
         """The segments of an edge in order, from u to v, with their ends and the faces on either side. The edge is
         named as for `edge_id`, in a multigraph with its key; KeyError where there is none."""
         row = self.picture.edge(self.edge_id(u, v, *key))
@@ -110,9 +111,9 @@ class GraphPicture:
         return self.picture.outer_face
 
     @property
-    def outer_faces(self) -> Tuple[int, ...]:
+    def outer_faces(self) -> tuple[int, ...]:
         """The places in `picture.faces` of the outer faces of all parts that have an edge."""
-        found: List[int] = []
+        found: list[int] = []
         before = 0
         for part in self.parts or (self,):
             found += [before + part.outer_face] if part.picture.edges else []
@@ -127,7 +128,7 @@ class GraphPicture:
         return len(self.picture.crossings)
 
     @property
-    def crossing_pairs(self) -> List[Tuple[GraphEdge, GraphEdge]]:
+    def crossing_pairs(self) -> list[tuple[GraphEdge, GraphEdge]]:
         """For each crossing the two edges that cross there: the one that was there, and the one that crossed it."""
         return [(self.edge_of[row.crossed], self.edge_of[row.newcomer]) for row in self.picture.crossings]
 
@@ -137,6 +138,6 @@ class GraphPicture:
         return sum(self.prices[self.picture.edge(row.crossed).kind] or 0 for row in self.picture.crossings)
 
     @property
-    def score(self) -> Tuple[int, int]:
+    def score(self) -> tuple[int, int]:
         """What is less in a better picture: the crossings, then their cost."""
         return (self.crossings, self.cost)

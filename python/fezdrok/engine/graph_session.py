@@ -2,9 +2,10 @@
 
 from __future__ import annotations
 
+from collections.abc import Callable, Sequence
 from dataclasses import replace
 from types import TracebackType
-from typing import Any, Callable, Dict, Generic, List, Optional, Sequence, Tuple, Type, TypeVar
+from typing import Any, Generic, TypeVar
 
 from .faults import NotPlanarized
 from .graph_edges import KINDS, GraphEdge, Node, Price, judge_kinds, name_among
@@ -33,8 +34,8 @@ class GraphSession(Generic[Result]):
         self,
         result: Result,
         prices: Sequence[Price] = (),
-        limits: Optional[Limits] = None,
-        program: Optional[PathLike] = None,
+        limits: Limits | None = None,
+        program: PathLike | None = None,
     ):
         if result.parts:
             raise ValueError("the graph is not connected: begin a session for each of the planarization's parts")
@@ -44,12 +45,12 @@ class GraphSession(Generic[Result]):
         self.graph = result.graph.copy()
         self._source = result
         self._reports: Sequence[Report] = result.reports
-        self._node_of: List[Node] = list(result.node_of)
-        self._vertex_of: Dict[Node, int] = dict(result.vertex_of)
-        self._place_of: Dict[Node, int] = {node: place for place, node in enumerate(self.graph)}
-        self.edge_of: Dict[int, GraphEdge] = {edge_id: self._name(*edge) for edge_id, edge in result.edge_of.items()}
-        self._id_of: Dict[GraphEdge, int] = {edge: edge_id for edge_id, edge in self.edge_of.items()}
-        self._asked: Optional[GraphEdge] = None
+        self._node_of: list[Node] = list(result.node_of)
+        self._vertex_of: dict[Node, int] = dict(result.vertex_of)
+        self._place_of: dict[Node, int] = {node: place for place, node in enumerate(self.graph)}
+        self.edge_of: dict[int, GraphEdge] = {edge_id: self._name(*edge) for edge_id, edge in result.edge_of.items()}
+        self._id_of: dict[GraphEdge, int] = {edge: edge_id for edge_id, edge in self.edge_of.items()}
+        self._asked: GraphEdge | None = None
         self._calls = 0
         self._session = Session(result.picture, limits, self.prices, program)
 
@@ -198,7 +199,7 @@ class GraphSession(Generic[Result]):
         return self
 
     def __exit__(
-        self, kind: Optional[Type[BaseException]], raised: Optional[BaseException], trace: Optional[TracebackType]
+        self, kind: type[BaseException] | None, raised: BaseException | None, trace: TracebackType | None
     ) -> None:
         self.close()
 
@@ -207,7 +208,7 @@ class GraphSession(Generic[Result]):
         self._session.close()
 
 
-def _session_prices(known: Sequence[Price], more: Sequence[Price]) -> Tuple[Price, ...]:
+def _session_prices(known: Sequence[Price], more: Sequence[Price]) -> tuple[Price, ...]:
     """The prices that are known, those that come to them, and 1 if there is room; ValueError if they are too many."""
     table = tuple(dict.fromkeys((*known, *more)))
     judge_kinds(len(table))

@@ -3,8 +3,9 @@
 from __future__ import annotations
 
 import re
+from collections.abc import Sequence
 from operator import index
-from typing import Any, Dict, List, Optional, Sequence
+from typing import Any
 
 from .faults import NoReport, ProgramFailed
 from .pictures import Counts, Picture, json_text
@@ -28,16 +29,16 @@ class Planarizer:
 
     def __init__(
         self,
-        start: Optional[Picture] = None,
-        limits: Optional[Limits] = None,
-        prices: Optional[Sequence[Optional[int]]] = None,
-        program: Optional[PathLike] = None,
+        start: Picture | None = None,
+        limits: Limits | None = None,
+        prices: Sequence[int | None] | None = None,
+        program: PathLike | None = None,
     ):
         self.start = start
         self.limits = limits
         self.prices = None if prices is None else tuple(None if price is None else index(price) for price in prices)
         self.program = Program(program)
-        self.commands: List[Call] = []
+        self.commands: list[Call] = []
 
     # ---- Commands
 
@@ -63,9 +64,9 @@ class Planarizer:
 
     # ---- Scripts and runs
 
-    def script(self) -> Dict[str, Any]:
+    def script(self) -> dict[str, Any]:
         """The script of all commands so far, in the form of docs/FORMATS.md."""
-        script: Dict[str, Any] = {
+        script: dict[str, Any] = {
             "version": version_of(self.prices or ()), "workers": [[command.to_json() for command in self.commands]]
         }
         if self.limits is not None:

@@ -2,8 +2,9 @@
 
 from __future__ import annotations
 
+from collections.abc import Sequence
 from dataclasses import dataclass, field
-from typing import Any, Dict, List, Optional, Sequence, Tuple
+from typing import Any
 
 from .graph_edges import GraphEdge, Node, Price
 from .graph_pictures import GraphPicture
@@ -28,15 +29,15 @@ class Planarization(GraphPicture):
     the program takes. Where the graph is connected, `parts` is empty.
     """
 
-    parts: Tuple["Planarization", ...] = field(default=(), repr=False)
+    parts: tuple["Planarization", ...] = field(default=(), repr=False)
 
     @property
-    def offsets(self) -> List[Tuple[int, int, int]]:
+    def offsets(self) -> list[tuple[int, int, int]]:
         """For each of `parts` how much larger the ids of its vertices, edges and crossings are here than there."""
         return _offsets(self.parts)
 
     def session(
-        self, prices: Sequence[Price] = (), limits: Optional[Limits] = None, program: Optional[PathLike] = None
+        self, prices: Sequence[Price] = (), limits: Limits | None = None, program: PathLike | None = None
     ) -> GraphSession["Planarization"]:
         """A session that goes on from here, in which edges are inserted and taken out by the names of their nodes.
 
@@ -49,7 +50,7 @@ class Planarization(GraphPicture):
 
     # ---- As one JSON object
 
-    def to_json(self) -> Dict[str, Any]:
+    def to_json(self) -> dict[str, Any]:
         """The planarization as one object that `json.dumps` takes, with the nodes as the graph names them.
 
         `nodes` and `crossings` have the darts that leave them, clockwise, each as `[EDGE,SEGMENT,"forward"]` or
@@ -72,14 +73,14 @@ class Planarization(GraphPicture):
             "outer_faces": list(self.outer_faces),
         }
 
-    def _darts_json(self, point: Point) -> List[Any]:
+    def _darts_json(self, point: Point) -> list[Any]:
         """The darts that leave a point, clockwise."""
         return [dart.to_json() for dart in self.picture.around(point)]
 
-    def _edge_json(self, edge_id: int) -> Dict[str, Any]:
+    def _edge_json(self, edge_id: int) -> dict[str, Any]:
         """An edge with its segments."""
         edge = self.edge_of[edge_id]
-        row: Dict[str, Any] = {"id": edge_id, "ends": [_plain(node) for node in edge[:2]]}
+        row: dict[str, Any] = {"id": edge_id, "ends": [_plain(node) for node in edge[:2]]}
         if len(edge) > 2:
             row["key"] = _plain(edge[2])
         row["price"] = self.prices[self.picture.edge(edge_id).kind]
@@ -99,17 +100,17 @@ def _plain(value: Any) -> Any:
 # ---- Parts
 
 
-def single(graph: Any, node: Node, prices: Tuple[Price, ...]) -> Planarization:
+def single(graph: Any, node: Node, prices: tuple[Price, ...]) -> Planarization:
     """The picture of a node without edges, which the program does not know."""
     return Planarization(graph, Picture(((),), ()), (node,), {}, prices, ())
 
 
-def joined_parts(graph: Any, prices: Tuple[Price, ...], parts: Sequence[Planarization]) -> Planarization:
+def joined_parts(graph: Any, prices: tuple[Price, ...], parts: Sequence[Planarization]) -> Planarization:
     """One planarization of a graph from those of its parts, whose rows come one after another."""
-    rotations: List[Tuple[int, ...]] = []
-    edges: List[Edge] = []
-    crossings: List[Crossing] = []
-    edge_of: Dict[int, GraphEdge] = {}
+    rotations: list[tuple[int, ...]] = []
+    edges: list[Edge] = []
+    crossings: list[Crossing] = []
+    edge_of: dict[int, GraphEdge] = {}
     for part, (vertex, edge, crossing) in zip(parts, _offsets(parts)):
         rotations += [tuple(edge + it for it in around) for around in part.picture.rotations]
         edges += [
@@ -129,7 +130,7 @@ def joined_parts(graph: Any, prices: Tuple[Price, ...], parts: Sequence[Planariz
     return Planarization(graph, picture, nodes, edge_of, prices, reports, tries, tuple(parts))
 
 
-def _offsets(parts: Sequence[Planarization]) -> List[Tuple[int, int, int]]:
+def _offsets(parts: Sequence[Planarization]) -> list[tuple[int, int, int]]:
     """For each part how many vertices, edge ids and crossing ids those before it have."""
     found = [(0, 0, 0)]
     for part in parts[:-1]:

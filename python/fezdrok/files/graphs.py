@@ -6,15 +6,16 @@ Nothing here imports networkx: a graph is asked by its own methods.
 from __future__ import annotations
 
 import math
+from collections.abc import Callable, Iterable, Mapping, Sequence
 from dataclasses import dataclass
 from numbers import Real
 from operator import index
-from typing import Any, Callable, Dict, Iterable, List, Mapping, Optional, Sequence, Set, Tuple, Union
+from typing import Any
 
 from ..engine.graph_edges import KINDS, GraphEdge, Node, Price, judge_kinds
 
 #: How prices are given: the name of an edge attribute, a mapping from edges, or a function of both nodes and the data.
-Pricing = Union[None, str, Mapping[GraphEdge, Price], Callable[[Any, Any, Dict[str, Any]], Price]]
+Pricing = None | str | Mapping[GraphEdge, Price] | Callable[[Any, Any, dict[str, Any]], Price]
 
 GREATEST_PRICE = 1000
 #: How often the factor by which prices are rounded is halved, till it is known.
@@ -27,10 +28,10 @@ class PricedGraph:
     kind k costs."""
 
     graph: Any
-    nodes: Tuple[Node, ...]
-    edges: Tuple[GraphEdge, ...]
-    kinds: Tuple[int, ...]
-    prices: Tuple[Price, ...]
+    nodes: tuple[Node, ...]
+    edges: tuple[GraphEdge, ...]
+    kinds: tuple[int, ...]
+    prices: tuple[Price, ...]
 
     def price(self, place: int) -> Price:
         """The price of the edge at this place of `edges`."""
@@ -38,7 +39,7 @@ class PricedGraph:
 
 
 def read_graph(
-    graph: Any, price: Pricing = None, forbidden: Optional[Iterable[GraphEdge]] = None, round_prices: bool = False
+    graph: Any, price: Pricing = None, forbidden: Iterable[GraphEdge] | None = None, round_prices: bool = False
 ) -> PricedGraph:
     """The graph with its kinds, or a ValueError that says why it cannot be planarized. It need not be connected. Where
     there are more prices than kinds, `round_prices` has those that are near each other share one."""
@@ -72,7 +73,7 @@ def _judge_form(edges: Sequence[GraphEdge]) -> None:
         raise ValueError(f"the graph has a loop at {loop[0]!r}: a picture has none")
 
 
-def _judge_attribute(name: str, data: Sequence[Dict[str, Any]]) -> None:
+def _judge_attribute(name: str, data: Sequence[dict[str, Any]]) -> None:
     """ValueError where no edge has the attribute that prices are to be taken from."""
     if not any(name in row for row in data):
         known = sorted({repr(key) for row in data for key in row})
@@ -80,17 +81,7 @@ def _judge_attribute(name: str, data: Sequence[Dict[str, Any]]) -> None:
         raise ValueError(f"no edge has the attribute {name!r} for its price: {there_are}")
 
 
-def reach(root: Node, near: Callable[[Node], Iterable[Node]]) -> Set[Node]:
-    """The nodes that can be reached from the root, by steps from a node to those near it."""
-    reached, waiting = {root}, [root]
-    while waiting:
-        fresh = set(near(waiting.pop())) - reached
-        reached |= fresh
-        waiting.extend(fresh)
-    return reached
-
-
-def _price_function(price: Pricing, directed: bool) -> Callable[[GraphEdge, Dict[str, Any]], Price]:
+def _price_function(price: Pricing, directed: bool) -> Callable[[GraphEdge, dict[str, Any]], Price]:
     """How much an edge with its data costs; an edge that is not named costs 1."""
     if price is None:
         return lambda edge, data: 1
@@ -104,7 +95,7 @@ def _price_function(price: Pricing, directed: bool) -> Callable[[GraphEdge, Dict
     return lambda edge, data: function(edge[0], edge[1], data)
 
 
-def _names(edge: GraphEdge, directed: bool) -> List[GraphEdge]:
+def _names(edge: GraphEdge, directed: bool) -> list[GraphEdge]:
     """What an edge may be called: with or without its key, and in an undirected graph either way round."""
     u, v, key = edge[0], edge[1], edge[2:]
     names = [(u, v, *key)] if directed else [(u, v, *key), (v, u, *key)]
@@ -124,7 +115,7 @@ def _judge_price(edge: GraphEdge, price: Any) -> Price:
     return number
 
 
-def _whole(value: Any) -> Optional[int]:
+def _whole(value: Any) -> int | None:
     """A number as an integer if it is one, also where it is written as a float; else None."""
     try:
         return index(value)
@@ -132,13 +123,13 @@ def _whole(value: Any) -> Optional[int]:
         return int(value) if isinstance(value, Real) and float(value).is_integer() else None
 
 
-def _places(edges: Sequence[GraphEdge], wanted: Iterable[GraphEdge], directed: bool) -> Set[int]:
+def _places(edges: Sequence[GraphEdge], wanted: Iterable[GraphEdge], directed: bool) -> set[int]:
     """The places of the edges that are named; without a key all edges between both nodes are meant."""
-    by_name: Dict[GraphEdge, List[int]] = {}
+    by_name: dict[GraphEdge, list[int]] = {}
     for place, edge in enumerate(edges):
         for name in _names(edge, directed):
             by_name.setdefault(name, []).append(place)
-    places: Set[int] = set()
+    places: set[int] = set()
     for edge in wanted:
         if tuple(edge) not in by_name:
             raise ValueError(f"{tuple(edge)!r} is no edge of the graph")
@@ -146,28 +137,28 @@ def _places(edges: Sequence[GraphEdge], wanted: Iterable[GraphEdge], directed: b
     return places
 
 
-def places_of(edges: Sequence[GraphEdge], wanted: Iterable[GraphEdge], directed: bool) -> List[int]:
+def places_of(edges: Sequence[GraphEdge], wanted: Iterable[GraphEdge], directed: bool) -> list[int]:
     """The places of the edges that are named, in the order in which they are named, each once."""
-    ordered: Dict[int, None] = {}
+    ordered: dict[int, None] = {}
     for edge in wanted:
         ordered.update(dict.fromkeys(sorted(_places(edges, [edge], directed))))
     return list(ordered)
 
 
-def _price_table(prices: Iterable[Price]) -> Tuple[Price, ...]:
+def _price_table(prices: Iterable[Price]) -> tuple[Price, ...]:
     """The different prices, the dearest first, or a ValueError if there are more than kinds."""
     different = sorted(set(prices), key=lambda price: -rank(price))
     judge_kinds(len(different), "; round_prices=True has near ones share a kind")
     return tuple(different)
 
 
-def _rounded(prices: Iterable[Price]) -> Dict[Price, Price]:
+def _rounded(prices: Iterable[Price]) -> dict[Price, Price]:
     """For each price the one that is taken for it, so that there are no more than kinds.
 
     Neighbours share one where that is needed, such that the greatest factor by which a price is changed is as small as
     can be, but for the rounding to whole numbers. A price of None stays.
     """
-    near: Dict[Price, Price] = {price: price for price in prices}
+    near: dict[Price, Price] = {price: price for price in prices}
     numbers = sorted(price for price in near if price is not None)
     most = KINDS - (None in near)
     factor, too_little = float(GREATEST_PRICE), 1.0
@@ -184,10 +175,10 @@ def _rounded(prices: Iterable[Price]) -> Dict[Price, Price]:
     return near
 
 
-def _runs(numbers: Sequence[int], factor: float) -> List[List[int]]:
+def _runs(numbers: Sequence[int], factor: float) -> list[list[int]]:
     """Rising numbers cut into as few runs as can be, in each of which the last is at most the first times the
     factor."""
-    runs: List[List[int]] = []
+    runs: list[list[int]] = []
     for number in numbers:
         if runs and number <= factor * runs[-1][0]:
             runs[-1].append(number)

@@ -2,26 +2,28 @@
 
 from __future__ import annotations
 
-from typing import TYPE_CHECKING
+from typing import TYPE_CHECKING, Any
 
-from ..engine.faults import wanted
 from ..engine.pictures import Point
 from ..engine.results import Planarization
 
 if TYPE_CHECKING:
-    import networkx
+    from networkx import MultiGraph
+else:
+    MultiGraph = Any
 
 
-def to_networkx_graph(result: Planarization) -> "networkx.MultiGraph":
+def to_networkx_graph(result: Planarization) -> MultiGraph:
     """The planarization as a networkx MultiGraph whose attributes are numbers and texts alone, so that networkx writes
     it as GML or GraphML.
 
     The nodes are `v0`, `v1`, .. for the vertices and `x0`, `x1`, .. for the crossings; `label` is the `str` of the node
     of the graph, or the name of the crossing, and `crossing` is 1 for a crossing and else 0. Each segment is an edge
     with the id of its edge as `edge`, its place along it as `segment`, and the price of crossing it as `price`, which
-    is 0 where it must not be crossed. ModuleMissing where networkx is not there.
+    is 0 where it must not be crossed.
     """
-    networkx = wanted("networkx", "graphs of a planarization")
+    import networkx
+
     picture = result.picture
     graph = networkx.MultiGraph()
     for point in picture.points:

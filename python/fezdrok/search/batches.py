@@ -8,10 +8,11 @@ import signal
 import sys
 import time
 import warnings
+from collections.abc import Callable, Iterable, Iterator, Sized
 from concurrent.futures import FIRST_COMPLETED, Future, ProcessPoolExecutor, wait
 from concurrent.futures.process import BrokenProcessPool
 from contextlib import closing
-from typing import Any, Callable, Dict, Iterable, Iterator, List, Optional, Sized, TextIO, Tuple, Union
+from typing import Any, TextIO
 
 from ..engine.faults import PlanarWarning, Unfinished
 from ..engine.pictures import Picture
@@ -22,16 +23,16 @@ from .planarization import planarize
 from .progress import StatusLine, line_ended
 
 #: A planarization, or the exception that came in its place.
-Outcome = Union[Planarization, Exception]
+Outcome = Planarization | Exception
 #: A graph with its place in the list.
-Job = Tuple[int, Any]
+Job = tuple[int, Any]
 #: True for a bar, False for none, None for a bar on a terminal, or a function of the graphs done and their number.
-BatchProgress = Union[None, bool, Callable[[int, Optional[int]], None]]
+BatchProgress = None | bool | Callable[[int, int | None], None]
 
 
 def planarize_many(
-    graphs: Iterable[Any], processes: Optional[int] = None, progress: BatchProgress = None, **options: Any
-) -> List[Outcome]:
+    graphs: Iterable[Any], processes: int | None = None, progress: BatchProgress = None, **options: Any
+) -> list[Outcome]:
     """Planarize many graphs; the outcomes stand in the order of the graphs.
 
     A graph that fails has its exception in its place, and the others go on. Graphs whose worker was killed are tried
@@ -54,7 +55,7 @@ def planarize_many(
     program.check(Picture.seed())
     options["program"] = program.program.path
     total = len(graphs) if isinstance(graphs, Sized) else None
-    outcomes: Dict[int, Outcome] = {}
+    outcomes: dict[int, Outcome] = {}
     try:
         with line_ended(tell), closing(_each(graphs, workers, options)) as each:
             tell(0, total)
@@ -74,10 +75,10 @@ def planarize_many(
     return [outcomes[place] for place in sorted(outcomes)]
 
 
-def _each(graphs: Iterable[Any], workers: int, options: Dict[str, Any]) -> Iterator[Tuple[int, Outcome]]:
+def _each(graphs: Iterable[Any], workers: int, options: dict[str, Any]) -> Iterator[tuple[int, Outcome]]:
     """The places of the graphs with their outcomes, as they are done; last those whose worker was killed, each tried
     once more."""
-    lost: List[Job] = []
+    lost: list[Job] = []
     with closing(_pooled(enumerate(graphs), workers, options)) as pooled:
         for job, outcome in pooled:
             if isinstance(outcome, BrokenProcessPool):
@@ -100,7 +101,7 @@ def _begin_worker() -> None:
         os._exit(1)
 
 
-def _one(graph: Any, options: Dict[str, Any]) -> Outcome:
+def _one(graph: Any, options: dict[str, Any]) -> Outcome:
     """One graph, in a worker: its planarization or its exception."""
     try:
         return planarize(graph, **options)
@@ -108,7 +109,7 @@ def _one(graph: Any, options: Dict[str, Any]) -> Outcome:
         return fault
 
 
-def _pooled(jobs: Iterable[Job], workers: int, options: Dict[str, Any]) -> Iterator[Tuple[Job, Outcome]]:
+def _pooled(jobs: Iterable[Job], workers: int, options: dict[str, Any]) -> Iterator[tuple[Job, Outcome]]:
     """The jobs as they are done, each with its outcome. At most a few jobs a worker wait at any time.
 
     Where a worker is killed its whole pool is lost: the jobs that waited in it have BrokenProcessPool as their
@@ -118,7 +119,7 @@ def _pooled(jobs: Iterable[Job], workers: int, options: Dict[str, Any]) -> Itera
     job = next(source, None)
     while job is not None:
         pool = ProcessPoolExecutor(workers, initializer=_begin_worker)
-        waiting: Dict["Future[Outcome]", Job] = {}
+        waiting: dict["Future[Outcome]", Job] = {}
         is_whole = True
         try:
             while waiting or (is_whole and job is not None):
@@ -142,7 +143,7 @@ def _kill(pool: ProcessPoolExecutor) -> None:
     pool.shutdown(wait=False, cancel_futures=True)
 
 
-def _submit(pool: ProcessPoolExecutor, job: Job, options: Dict[str, Any]) -> "Future[Outcome]":
+def _submit(pool: ProcessPoolExecutor, job: Job, options: dict[str, Any]) -> "Future[Outcome]":
     """The job given to the pool; where the pool is lost already, a future with that outcome."""
     try:
         return pool.submit(_one, job[1], options)
@@ -163,7 +164,7 @@ def _outcome(done: "Future[Outcome]") -> Outcome:
 # ---- Progress
 
 
-def _progress_function(progress: BatchProgress) -> Callable[[int, Optional[int]], None]:
+def _progress_function(progress: BatchProgress) -> Callable[[int, int | None], None]:
     """What is told after each graph; ValueError if it is neither a function nor True, False or None."""
     if callable(progress):
         return progress
@@ -189,11 +190,11 @@ class Bar(StatusLine):
         self.clock = clock
         self.begun = clock()
 
-    def __call__(self, done: int, total: Optional[int]) -> None:
+    def __call__(self, done: int, total: int | None) -> None:
         """Writes the line anew for so many graphs that are done of so many, or of a number that is not known (None)."""
         self.write(self.line(done, total), done == total)
 
-    def line(self, done: int, total: Optional[int]) -> str:
+    def line(self, done: int, total: int | None) -> str:
         """The line as it stands now."""
         spent = self.clock() - self.begun
         pace = done / spent if spent > 0 else 0.0

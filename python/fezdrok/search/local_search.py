@@ -9,7 +9,8 @@ local search (Lourenço, Martin and Stützle, 2003).
 from __future__ import annotations
 
 import random
-from typing import Any, Callable, Dict, List, NamedTuple, Optional, Set, Tuple
+from collections.abc import Callable
+from typing import Any, NamedTuple
 
 from ..engine.faults import Fault, NotPlanarized, PlanarError
 from ..engine.graph_edges import Node
@@ -49,8 +50,8 @@ class Effort(NamedTuple):
     many shakes in a row may save nothing before the search ends (None: by the crossings)."""
 
     tries: int
-    rounds: Optional[int]
-    shakes: Optional[int]
+    rounds: int | None
+    shakes: int | None
 
     def shakes_for(self, crossings: int) -> int:
         """How many shakes in a row may save nothing, if the best picture has so many crossings."""
@@ -70,23 +71,23 @@ class Search:
         self,
         source: PricedGraph,
         effort: Effort,
-        limits: Optional[Limits],
-        program: Optional[PathLike],
+        limits: Limits | None,
+        program: PathLike | None,
         clock: Clock,
         tell: Callable[[Progress], Any],
     ):
         self.source = source
-        self.best: Optional[SavedPicture] = None
-        self.tries: Dict[int, int] = {}
-        self.failures: List[str] = []
-        self.first: Optional[BaseException] = None
+        self.best: SavedPicture | None = None
+        self.tries: dict[int, int] = {}
+        self.failures: list[str] = []
+        self.first: BaseException | None = None
         self.is_ended = False
         self._effort = effort
         self._limits = limits
         self._program = program
         self._clock = clock
         self._tell = tell
-        self._spare: Optional[SavedPicture] = None
+        self._spare: SavedPicture | None = None
         self._spare_due = _SPARE_SECONDS
         self._attempt = 0
         held = bridges(source.edges)
@@ -193,14 +194,14 @@ class Search:
             self._spare_due = self._clock.spent + max(_SPARE_SECONDS, _SPARE_TIMES * (self._clock.spent - begun))
         return self._clock.is_over
 
-    def _tell_progress(self, step: str, picture: Optional[SearchPicture]) -> None:
+    def _tell_progress(self, step: str, picture: SearchPicture | None) -> None:
         best = None if self.best is None else self.best.score[0]
         crossings = (best or 0) if picture is None else picture.crossings
         self._tell(Progress(step, self._attempt + 1, self._effort.tries, crossings, best, self._clock.spent))
 
     # ---- Rounds and shakes
 
-    def _heaviest_first(self, picture: SearchPicture, places: Any) -> List[int]:
+    def _heaviest_first(self, picture: SearchPicture, places: Any) -> list[int]:
         """Those of these edges that have crossings, the most crossed first, then those that have been there the
         longest."""
         return sorted(
@@ -241,7 +242,7 @@ class Search:
         finally:
             picture.close()
 
-    def _shake(self, picture: SearchPicture, chance: random.Random, at: Dict[Node, List[Tuple[int, Node]]]) -> None:
+    def _shake(self, picture: SearchPicture, chance: random.Random, at: dict[Node, list[tuple[int, Node]]]) -> None:
         """One shake, and then the edges about it one by one, as long as that saves something."""
         places = self._near_each_other(picture, chance, at)
         todo = picture.crossing(places)
@@ -261,8 +262,8 @@ class Search:
                 return
 
     def _near_each_other(
-        self, picture: SearchPicture, chance: random.Random, at: Dict[Node, List[Tuple[int, Node]]]
-    ) -> List[int]:
+        self, picture: SearchPicture, chance: random.Random, at: dict[Node, list[tuple[int, Node]]]
+    ) -> list[int]:
         """Some edges: a crossed one, and then always one that crosses or touches one of those before."""
         crossed = [place for place in self._movable if picture.load(place)]
         if not crossed:
@@ -272,7 +273,7 @@ class Search:
         count = chance.randint(2, max(3, min(limit, len(self.source.edges) // 4)))
         movable = set(self._movable)
         chosen = [chance.choice(crossed)]
-        seen: Set[int] = set(chosen)
+        seen: set[int] = set(chosen)
         waiting = list(chosen)
         while waiting and len(chosen) < count:
             place = waiting.pop(chance.randrange(len(waiting)))

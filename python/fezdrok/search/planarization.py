@@ -4,10 +4,11 @@ from __future__ import annotations
 
 import math
 import warnings
+from collections.abc import Iterable, Sequence
 from dataclasses import dataclass, replace
 from numbers import Real
 from operator import index
-from typing import Any, Dict, Iterable, List, Optional, Sequence, Tuple
+from typing import Any
 
 from ..engine.faults import NotPlanarized, OtherReport, PlanarWarning
 from ..engine.graph_edges import GraphEdge, Node
@@ -37,9 +38,9 @@ class Prepared:
 
     source: PricedGraph
     planarizer: Planarizer
-    node_of: Tuple[Node, ...]
-    drawn: Tuple[int, ...]
-    asked: Tuple[int, ...]
+    node_of: tuple[Node, ...]
+    drawn: tuple[int, ...]
+    asked: tuple[int, ...]
 
     def script_text(self) -> str:
         """The script, to be run elsewhere by `planar run`."""
@@ -71,20 +72,20 @@ class Prepared:
 def planarize(
     graph: Any,
     price: Pricing = None,
-    forbidden: Optional[Iterable[GraphEdge]] = None,
+    forbidden: Iterable[GraphEdge] | None = None,
     *,
     quick: bool = False,
-    begin: Optional[str] = None,
+    begin: str | None = None,
     order: Order = "given",
-    tries: Optional[int] = None,
-    rounds: Optional[int] = None,
-    shakes: Optional[int] = None,
+    tries: int | None = None,
+    rounds: int | None = None,
+    shakes: int | None = None,
     seed: int = 0,
-    seconds: Optional[float] = None,
+    seconds: float | None = None,
     progress: ProgressOption = None,
     round_prices: bool = False,
-    limits: Optional[Limits] = None,
-    program: Optional[PathLike] = None,
+    limits: Limits | None = None,
+    program: PathLike | None = None,
 ) -> Planarization:
     """A picture of a networkx graph, which must have an edge and no loop (else ValueError).
 
@@ -138,8 +139,8 @@ def planarize(
     source = read_graph(graph, price, forbidden, round_prices)
     if not isinstance(order, (str, set, frozenset)):
         order = [source.edges[place] for place in places_of(source.edges, order, graph.is_directed())]
-    results: List[Planarization] = []
-    failures: List[str] = []
+    results: list[Planarization] = []
+    failures: list[str] = []
     sources = components(source)
     with line_ended(tell):
         for part in sources:
@@ -167,12 +168,12 @@ def _whole(name: str, otherwise: int, value: Any, least: int) -> int:
     return number
 
 
-def _most(name: str, value: Any) -> Optional[int]:
+def _most(name: str, value: Any) -> int | None:
     """A number that is 0 or more, or None where it is left to the search; ValueError where it is none."""
     return None if value is None else _whole(name, 0, value, 0)
 
 
-def _judged(seconds: Any) -> Optional[float]:
+def _judged(seconds: Any) -> float | None:
     """The seconds that a search has, or None for as many as it takes; ValueError where they are no time."""
     if seconds is None:
         return None
@@ -199,7 +200,7 @@ def _result(search: Search) -> Planarization:
     return Planarization(source.graph, picture, best.node_of, _edge_of(source, best), source.prices, reports, tries)
 
 
-def _edge_of(source: PricedGraph, saved: SavedPicture) -> Dict[int, GraphEdge]:
+def _edge_of(source: PricedGraph, saved: SavedPicture) -> dict[int, GraphEdge]:
     """The edge of each id in a picture that was saved."""
     return {edge_id: source.edges[place] for edge_id, place in sorted(saved.place_of.items())}
 
@@ -217,14 +218,14 @@ def _warn(failures: Sequence[str]) -> None:
 def prepare(
     graph: Any,
     price: Pricing = None,
-    forbidden: Optional[Iterable[GraphEdge]] = None,
+    forbidden: Iterable[GraphEdge] | None = None,
     *,
     begin: str = "tree",
     order: Order = "given",
     seed: int = 0,
     round_prices: bool = False,
-    limits: Optional[Limits] = None,
-    program: Optional[PathLike] = None,
+    limits: Limits | None = None,
+    program: PathLike | None = None,
 ) -> Prepared:
     """The one run that `planarize` with the same words and `quick=True` makes, to write its script and to read its
     report elsewhere. ValueError where the graph is not connected: then prepare each part.
@@ -250,13 +251,13 @@ def prepare(
 
 def reinsert(
     result: Planarization,
-    rounds: Optional[int] = 1,
-    limits: Optional[Limits] = None,
-    program: Optional[PathLike] = None,
+    rounds: int | None = 1,
+    limits: Limits | None = None,
+    program: PathLike | None = None,
     *,
-    shakes: Optional[int] = 0,
+    shakes: int | None = 0,
     seed: int = 0,
-    seconds: Optional[float] = None,
+    seconds: float | None = None,
     progress: ProgressOption = None,
 ) -> Planarization:
     """A picture of the same graph with as many crossings or fewer.
@@ -272,7 +273,7 @@ def reinsert(
     """
     effort = Effort(1, _most("rounds", rounds), _most("shakes", shakes))
     clock, tell = Clock(_judged(seconds)), progress_function(progress)
-    failures: List[str] = []
+    failures: list[str] = []
     parts = list(result.parts or (result,))
     with line_ended(tell):
         for place, part in enumerate(parts):
