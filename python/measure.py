@@ -141,7 +141,7 @@ def row(cells: Iterable[Any]) -> str:
 def known_numbers() -> None:
     """Print the table beside known crossing numbers."""
     columns: Dict[str, Dict[str, Any]] = {
-        "quick": {"quick": True}, "quick, 20 orders, 5 rounds": {"quick": True, "tries": 20, "rounds": 5}, "default": {}
+        "quick": {"effort": "quick"}, "quick, 20 orders, 5 rounds": {"effort": "quick", "tries": 20, "rounds": 5}, "default": {}
     }
     headings = ["graph", "nodes", "edges", "crossing number", *columns]
     print(row(headings))

@@ -9,7 +9,7 @@ from .drawing.drawings import chain, draw, positions, to_svg
 from .drawing.orthogonal_layout import Box, OrthogonalDrawing, orthogonal_drawing
 from .engine.faults import (
     Fault, MemoryFault, ModuleMissing, NoReport, NotPlanarized, OtherReport, PlanarError, PlanarWarning, ProgramFailed,
-    ProgramNotFound, ProgramNotStarted, SessionClosed, Unfinished, UsageRefused,
+    ProgramNotFound, ProgramNotStarted, SessionClosed, Unfinished, UsageRefused, VerificationError,
 )
 from .engine.graph_pictures import Dummy, Segment
 from .engine.graph_session import GraphSession
@@ -17,7 +17,7 @@ from .engine.pictures import Counts, Crossing, Dart, Edge, Picture, Point
 from .engine.planarizer import Planarizer
 from .engine.program import Program, find_program
 from .engine.reports import Delete, Deleted, Entry, Grow, Grown, Insert, Inserted, Limits, Planned, Refused, Report
-from .engine.results import Planarization
+from .engine.results import Planarization, load
 from .engine.session import Renumbered, Session
 from .files.embeddings import from_networkx_embedding, to_networkx_embedding
 from .files.multigraphs import to_networkx_graph
@@ -70,10 +70,12 @@ __all__ = [
     "SessionClosed",
     "Unfinished",
     "UsageRefused",
+    "VerificationError",
     "chain",
     "draw",
     "find_program",
     "from_networkx_embedding",
+    "load",
     "orthogonal_drawing",
     "planarize",
     "planarize_many",
@@ -87,3 +89,5 @@ __all__ = [
 
 #: That of the program and of this package: it is what the file VERSION of the repository says.
 __version__ = "0.5.0"
+
+Planarization.painter = staticmethod(to_svg)

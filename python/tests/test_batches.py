@@ -18,17 +18,13 @@ from .support import fake, needs_program
 PARENT = os.getpid()
 
 
-class KillingGraph:
-    """No graph: whoever reads it in a worker is killed."""
+class KillingGraph(nx.Graph):
+    """A graph without nodes: whoever copies it in a worker is killed."""
 
-    def is_multigraph(self):
-        return False
-
-    @property
-    def nodes(self):
+    def copy(self, as_view=False):
         if os.getpid() != PARENT:
             os.kill(os.getpid(), signal.SIGKILL)
-        return ()
+        return super().copy(as_view)
 
 
 class UnpicklableGraph:
@@ -42,15 +38,15 @@ class UnpicklableGraph:
 class Batches(unittest.TestCase):
     def test_as_one_by_one(self):
         graphs = [nx.complete_graph(size) for size in range(2, 8)] + [nx.petersen_graph()]
-        results = planarize_many(graphs, processes=2, quick=True, tries=2, seed=5)
+        results = planarize_many(graphs, processes=2, effort="quick", tries=2, seed=5)
         self.assertEqual(
             [result.picture for result in results],
-            [planarize(graph, quick=True, tries=2, seed=5).picture for graph in graphs],
+            [planarize(graph, effort="quick", tries=2, seed=5).picture for graph in graphs],
         )
 
     def test_a_failure_stands_in_its_place(self):
         graphs = [
-            nx.complete_graph(3), nx.empty_graph(2), nx.Graph([(0, 0)]), None, nx.complete_graph(5), UnpicklableGraph()
+            nx.complete_graph(3), nx.Graph(), nx.Graph([(0, 0)]), None, nx.complete_graph(5), UnpicklableGraph()
         ]
         outcomes = planarize_many(iter(graphs), processes=2)
         self.assertEqual(
@@ -95,7 +91,7 @@ class Batches(unittest.TestCase):
             stream = io.StringIO()
             with mock.patch("sys.stderr", stream), warnings.catch_warnings(), self.assertRaises(raised) if raised else nullcontext():
                 warnings.simplefilter("always")
-                planarize_many(graphs, processes=1, progress=True, quick=True)
+                planarize_many(graphs, processes=1, progress=True, effort="quick")
             return stream.getvalue()
 
         self.assertRegex(printed(list(graphs(2))), r"2/2[^\n]*\n\Z")

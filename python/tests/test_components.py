@@ -35,8 +35,8 @@ class Components(unittest.TestCase):
         self.assertEqual(len(result.to_json()["nodes"]), len(graph))
 
     def test_each_part_is_lawful_and_as_by_itself(self):
-        result = planarize(self.graph(), quick=True)
-        self.assertEqual(result.parts[1].picture, planarize(nx.complete_graph(6), quick=True).picture)
+        result = planarize(self.graph(), effort="quick")
+        self.assertEqual(result.parts[1].picture, planarize(nx.complete_graph(6), effort="quick").picture)
         for part in result.parts:
             if part.picture.edges:
                 self.assertEqual(Planarizer().check(part.picture), part.picture.counts)
@@ -61,13 +61,13 @@ class Components(unittest.TestCase):
 
     def test_reinsert(self):
         graph = nx.disjoint_union(nx.petersen_graph(), nx.empty_graph(1))
-        result = planarize(graph, quick=True)
-        better = reinsert(result, 3)
+        result = planarize(graph, effort="quick")
+        better = reinsert(result, rounds=3)
         self.assertLess(better.crossings, result.crossings)
         self.assertEqual(set(better.id_of), set(graph.edges))
         self.assertEqual(better.crossings, sum(part.crossings for part in better.parts))
         with self.assertRaisesRegex(ValueError, "rounds is -2"):
-            reinsert(result, -2)
+            reinsert(result, rounds=-2)
 
     def test_drawings(self):
         graph = self.graph()

@@ -89,7 +89,7 @@ class Results(unittest.TestCase):
                 )
 
     def test_the_object_is_whole(self):
-        result = planarize(nx.petersen_graph(), quick=True)
+        result = planarize(nx.petersen_graph(), effort="quick")
         value = result.to_json()
         darts = sorted(map(tuple, (dart for face in value["faces"] for dart in face)))
         self.assertEqual(

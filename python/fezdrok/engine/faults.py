@@ -23,11 +23,11 @@ class ProgramNotFound(PlanarError, FileNotFoundError):
     """There is no program `planar` where it was looked for; the message says where, and how to get one."""
 
 
-class UsageRefused(PlanarError):
+class UsageRefused(PlanarError, ValueError):
     """Status 2: the program refused the words of its command line."""
 
 
-class ProgramFailed(PlanarError):
+class ProgramFailed(PlanarError, RuntimeError):
     """The program ended in a way that its documents do not name, for example by a signal.
 
     `status` is its exit status (negative for a signal), `text` is what it wrote on standard error.
@@ -61,7 +61,7 @@ def read_as(name: str, text: str, read: Callable[[Any], Any]) -> Any:
         raise NoReport(f"the text is no {name}: {type(fault).__name__} {fault}") from fault
 
 
-class Fault(PlanarError):
+class Fault(PlanarError, ValueError):
     """Status 1: the first fault of the text that the program read, as `52 BadShape $/workers`.
 
     `number` and `name` are those of docs/FORMATS.md. `value` is what stands behind the name: a path as text,
@@ -86,42 +86,55 @@ class Fault(PlanarError):
         return " ".join(map(str, self.words))
 
 
-class MemoryFault(Fault):
+class MemoryFault(Fault, MemoryError):
     """Status 3: the program could not get memory. The same call may succeed later."""
 
     status = 3
 
 
-class OtherReport(PlanarError):
+class OtherReport(PlanarError, ValueError):
     """A report was to be read as that of a script that it does not belong to."""
 
 
-class Unfinished(PlanarError):
+class VerificationError(PlanarError, ValueError):
+    """A planarization is not whole, or not true of its graph; the message says where."""
+
+
+class Unfinished(PlanarError, RuntimeError):
     """Stands for a graph that was not planarized, since `planarize_many` was interrupted before."""
 
 
-class NotPlanarized(PlanarError):
-    """A graph could not be planarized: the program refused one of its edges.
+class NotPlanarized(PlanarError, ValueError):
+    """A graph could not be planarized, since one of its edges could not be drawn as it has to be.
 
-    `edge` is the edge of the graph, `reply` the refusal, as 9 `NoRoute` where edges that must not be crossed part
-    its ends.
+    `edge` is the edge of the graph, `reply` the refusal of the program, as 9 `NoRoute` where edges that must not be
+    crossed part its ends. It is None where the edge itself must not be crossed, and would have crossings.
     """
 
-    def __init__(self, edge: Any, reply: Any):
+    def __init__(self, edge: Any, reply: Any = None):
         super().__init__(edge, reply)
         self.edge = edge
         self.reply = reply
 
     def __str__(self) -> str:
+        if self.reply is None:
+            return f"the edge {self.edge!r} must not be crossed, and cannot be drawn without crossings"
         return f"the edge {self.edge!r} was refused: {self.reply.number} {self.reply.name}"
 
 
-class SessionClosed(PlanarError):
+class SessionClosed(PlanarError, ValueError):
     """A session was called after its end: it was closed, or its program had ended."""
 
 
 class ModuleMissing(PlanarError, ImportError):
     """A package that is wanted for what was asked is not there; the message says which, and for what."""
+
+
+#: The same exceptions by names that end in Error.
+FaultError, MemoryFaultError, ModuleMissingError, NoReportError = Fault, MemoryFault, ModuleMissing, NoReport
+NotPlanarizedError, OtherReportError, ProgramFailedError = NotPlanarized, OtherReport, ProgramFailed
+ProgramNotFoundError, ProgramNotStartedError = ProgramNotFound, ProgramNotStarted
+SessionClosedError, UnfinishedError, UsageRefusedError = SessionClosed, Unfinished, UsageRefused
 
 
 def wanted(module: str, purpose: str) -> Any:

@@ -11,8 +11,9 @@ GraphEdge = tuple[Any, ...]
 #: None where the edge must not be crossed.
 Price = int | None
 
-#: How many kinds of edges the program knows, one for each price.
+#: How many kinds of edges the program knows, one for each price, and what crossing an edge costs at most.
 KINDS = 64
+GREATEST_PRICE = 1000
 
 
 def name_among(names: Container[GraphEdge], graph: Any, edge: GraphEdge) -> GraphEdge:

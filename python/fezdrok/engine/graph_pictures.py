@@ -3,7 +3,7 @@
 from __future__ import annotations
 
 from collections.abc import Sequence
-from dataclasses import dataclass, field
+from dataclasses import dataclass
 from functools import cached_property
 from typing import Any, NamedTuple
 
@@ -46,7 +46,7 @@ class Segment(NamedTuple):
     right: int
 
 
-@dataclass(frozen=True)
+@dataclass(frozen=True, eq=False, repr=False)
 class GraphPicture:
     """A graph with a picture of it. The fields are those of Planarization, which is what users have of it."""
 
@@ -55,9 +55,27 @@ class GraphPicture:
     node_of: tuple[Node, ...]
     edge_of: dict[int, GraphEdge]
     prices: tuple[Price, ...]
-    reports: Sequence[Report] = field(repr=False)
+    reports: Sequence[Report]
     tries: tuple[int, ...] = ()
-    parts: tuple["GraphPicture", ...] = field(default=(), repr=False)
+    parts: tuple["GraphPicture", ...] = ()
+
+    def __eq__(self, other: object) -> bool:
+        """Whether both are the same picture of the same graph, with the same names and prices. Reports, and what each
+        order came to, count for nothing."""
+        if not isinstance(other, GraphPicture):
+            return NotImplemented
+        mine, others = (
+            (it.picture, it.node_of, it.edge_of, it.prices, len(it.parts), *_graph_values(it.graph))
+            for it in (self, other)
+        )
+        return mine == others
+
+    def __hash__(self) -> int:
+        return hash((self.picture, self.node_of, self.prices))
+
+    def __repr__(self) -> str:
+        counts = f"{len(self.node_of)} nodes, {len(self.edge_of)} edges, {self.crossings} crossings"
+        return f"<{type(self).__name__}: {counts}>"
 
     @cached_property
     def vertex_of(self) -> dict[Node, int]:
@@ -134,10 +152,15 @@ class GraphPicture:
 
     @property
     def cost(self) -> int:
-        """The sum of the prices of the crossings: each costs what its crossed edge costs."""
-        return sum(self.prices[self.picture.edge(row.crossed).kind] or 0 for row in self.picture.crossings)
+        """The sum of the costs of the crossings. One costs the product of the prices of both edges, whichever of them
+        was there first."""
+        return sum(self._price(row.crossed) * self._price(row.newcomer) for row in self.picture.crossings)
 
-    @property
-    def score(self) -> tuple[int, int]:
-        """What is less in a better picture: the crossings, then their cost."""
-        return (self.crossings, self.cost)
+    def _price(self, edge_id: int) -> int:
+        """The price of an edge that has a crossing, and so a price."""
+        return self.prices[self.picture.edge(edge_id).kind] or 0
+
+
+def _graph_values(graph: Any) -> tuple[Any, ...]:
+    """What two equal graphs have in common: of which kind they are, their nodes, edges and attributes."""
+    return graph.is_directed(), graph.is_multigraph(), graph.graph, dict(graph.nodes(data=True)), graph.adj

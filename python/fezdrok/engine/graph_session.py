@@ -60,27 +60,34 @@ class GraphSession(Generic[Result]):
         """A new edge between two nodes along the first of the cheapest routes. To cross it costs `price`, or it must
         not be crossed (None).
 
-        ValueError where one of them is no node, where they are joined already and the graph is no multigraph, or where
-        the price is none of `prices`; NotPlanarized where the program refuses the edge, as 9 NoRoute.
+        networkx.NodeNotFound where one of them is no node; ValueError where they are joined already and the graph is no
+        multigraph, or where the price is none of `prices`; NotPlanarized where the program refuses the edge, as 9
+        NoRoute, and where the edge must not be crossed and its route crosses others: it is taken out again.
         """
         self._settle()
         start, end, kind = self._vertex(u), self._vertex(v), self._kind(price)
         if not self.graph.is_multigraph() and self.graph.has_edge(u, v):
             raise ValueError(f"the graph has the edge {(u, v)!r} already, and is no multigraph")
         name = self._name(u, v, self.graph.new_edge_key(u, v)) if self.graph.is_multigraph() else self._name(u, v)
-        return self._made(name, lambda: self._session.insert(start, end, kind))
+        inserted: Inserted = self._made(name, lambda: self._session.insert(start, end, kind))
+        if price is None and inserted.crossed:
+            self._made(name, lambda: self._session.delete(inserted.edge))
+            raise NotPlanarized(name)
+        return inserted
 
     def grow_edge(self, u: Node, v: Node, price: Price = 1, position: int = 0) -> Grown:
         """A new node `v` on a new edge from the node `u`, which begins in the corner at this position of it.
 
-        ValueError where `u` is no node, `v` is one already or is None, which networkx takes for no node, or the price
-        is none of `prices`; TypeError where `v` has no hash; NotPlanarized where the program refuses the edge, as 7
-        Full.
+        networkx.NodeNotFound where `u` is no node; ValueError where `v` is one already or is None, which networkx takes
+        for no node, where it is not equal to itself, or where the price is none of `prices`; TypeError where `v` has no
+        hash; NotPlanarized where the program refuses the edge, as 7 Full.
         """
         self._settle()
         start, kind = self._vertex(u), self._kind(price)
         if v is None:
             raise ValueError("None cannot be a node of a graph")
+        if v != v:
+            raise ValueError(f"{v!r} is not equal to itself, so its edges could not be found")
         if v in self._vertex_of:
             raise ValueError(f"{v!r} is a node of the graph already")
         name = (u, v, 0) if self.graph.is_multigraph() else (u, v)
@@ -99,7 +106,9 @@ class GraphSession(Generic[Result]):
 
     def _vertex(self, node: Node) -> int:
         if node not in self._vertex_of:
-            raise ValueError(f"{node!r} is no node of the graph")
+            from networkx import NodeNotFound
+
+            raise NodeNotFound(f"{node!r} is no node of the graph")
         return self._vertex_of[node]
 
     def _kind(self, price: Price) -> int:

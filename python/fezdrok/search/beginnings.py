@@ -3,22 +3,23 @@
 from __future__ import annotations
 
 import random
+from bisect import bisect_left
 from collections.abc import Iterable, Sequence
 from dataclasses import dataclass
 
-from ..engine.graph_edges import GraphEdge, Node
+from ..engine.faults import NotPlanarized
+from ..engine.graph_edges import Node
 from ..engine.pictures import Edge, Picture
 from ..files.embeddings import picture_of
 from ..files.graphs import PricedGraph, places_of, rank
 from .connectivity import incidence, undirected
+from .options import Begin, Order
 from .planar_subgraph import planar_subgraph, short_cycles_first
+from .planarity import is_planar
 from .progress import Clock
 
-#: `given` (the order of the graph's edges), `random`, or edges in the order in which they are to come.
-Order = str | Sequence[GraphEdge]
 
-
-@dataclass(frozen=True)
+@dataclass(frozen=True, eq=False)
 class Beginning:
     """A start picture with the nodes of all vertices and the edges that it draws by their ids, then the edges that are
     grown, each with the node that it grows from, and the edges that are inserted, in this order."""
@@ -35,12 +36,9 @@ class Beginning:
         return {node: vertex for vertex, node in enumerate(self.node_of)}
 
 
-def beginning(source: PricedGraph, begin: str, order: Order, seed: str, clock: Clock | None = None) -> Beginning:
-    """How a graph is planarized that begins so and whose edges come in this order; ValueError for words that are not
-    known, and where the edges that must not be crossed cannot be drawn without crossings. Where the time of the clock
-    is over, a planar part is not looked for any longer, and is then smaller."""
-    if begin not in ("tree", "planar"):
-        raise ValueError(f"the beginning {begin!r} is not known: it is 'tree' or 'planar'")
+def beginning(source: PricedGraph, begin: Begin, order: Order, seed: str, clock: Clock | None = None) -> Beginning:
+    """How a graph is planarized that begins so and whose edges come in this order, where `judge_forbidden` has nothing
+    against it. Where the time of the clock is over, a planar part is not looked for any longer, and is then smaller."""
     named, rest = _ordered(source, order, seed)
     if begin == "planar":
         start = _embedded(source, _largest(source, named, rest, clock), seed if order == "random" else None)
@@ -61,16 +59,12 @@ _Start = tuple[Picture, tuple[Node, ...], tuple[int, ...], dict[int, Node]]
 
 def _ordered(source: PricedGraph, order: Order, seed: str) -> tuple[list[int], list[int]]:
     """The places of the edges that are named by the order, and those of all others in order."""
-    if isinstance(order, (set, frozenset)):
-        raise ValueError("the order is a set, whose edges stand in no order: give a list")
     if not isinstance(order, str):
-        named = places_of(source.edges, order, source.graph.is_directed())
+        named = places_of("order", source.edges, order, source.graph.is_directed())
         others = dict.fromkeys(range(len(source.edges)))
         for place in named:
             del others[place]
         return named, list(others)
-    if order not in ("given", "random"):
-        raise ValueError(f"the order {order!r} is not known: it is 'given', 'random', or a list of edges")
     places = list(range(len(source.edges)))
     if order == "random":
         random.Random(seed).shuffle(places)
@@ -103,26 +97,46 @@ def _tree(source: PricedGraph, places: Sequence[int]) -> _Start:
 def _largest(source: PricedGraph, named: Sequence[int], rest: Sequence[int], clock: Clock | None) -> list[int]:
     """The edges of a part that can be drawn without crossings: those that must not be crossed come first, then those
     that the order names, then the dearest, of one price those on short cycles."""
+    count, ends = len(source.nodes), _numbered(source)
+    places = [*named, *_dearest_first(source, short_cycles_first(count, ends, rest))]
+    held = [place for place in places if source.price(place) is None]
+    return planar_subgraph(count, ends, [place for place in places if source.price(place) is not None], clock, held)
+
+
+def _numbered(source: PricedGraph) -> list[tuple[int, int]]:
+    """The ends of the edges by the places of the nodes."""
     number = {node: place for place, node in enumerate(source.nodes)}
-    ends = [(number[edge[0]], number[edge[1]]) for edge in source.edges]
-    places = [*named, *_dearest_first(source, short_cycles_first(len(number), ends, rest))]
-    places.sort(key=lambda place: source.price(place) is not None)
-    return planar_subgraph(len(number), ends, places, clock)
+    return [(number[edge[0]], number[edge[1]]) for edge in source.edges]
+
+
+def judge_forbidden(source: PricedGraph) -> None:
+    """NotPlanarized where the edges that must not be crossed cannot be drawn without crossings. It names the first of
+    them that does not go together with those before it."""
+    ends, pairs = _numbered(source), dict[frozenset[int], int]()
+    for place, pair in enumerate(ends):
+        if source.price(place) is None:
+            pairs.setdefault(frozenset(pair), place)
+    places = list(pairs.values())
+    many = bisect_left(
+        range(len(places) + 1),
+        True,
+        key=lambda many: not is_planar(len(source.nodes), [ends[place] for place in places[:many]]),
+    )
+    if many <= len(places):
+        raise NotPlanarized(source.edges[places[many - 1]])
 
 
 def _embedded(source: PricedGraph, places: Sequence[int], seed: str | None) -> _Start:
-    """These edges, which connect the graph, drawn by networkx without crossings; with a seed in one of several ways.
-    ValueError where they are not planar, or where edges that must not be crossed are not among them."""
+    """These edges, which are planar and connect the graph, drawn by networkx without crossings; with a seed in one of
+    several ways."""
     import networkx
 
     chosen = list(places)
     if seed is not None:
         random.Random(seed).shuffle(chosen)
     place_of = {frozenset(source.edges[place][:2]): place for place in chosen}
-    pairs = {frozenset(source.edges[place][:2]) for place in range(len(source.edges)) if source.price(place) is None}
     is_drawn, embedding = networkx.check_planarity(undirected(source.edges[place] for place in chosen))
-    if not is_drawn or not pairs <= set(place_of):
-        raise ValueError("the edges that must not be crossed cannot be drawn without crossings")
+    assert is_drawn
     rotations = {node: list(embedding.neighbors_cw_order(node)) for node in embedding}
     picture, drawn = picture_of(rotations, lambda u, v: source.kinds[place_of[frozenset((u, v))]])
     return picture, tuple(rotations), tuple(place_of[frozenset(pair)] for pair in drawn), {}

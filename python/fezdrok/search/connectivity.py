@@ -24,7 +24,9 @@ def undirected(edges: Iterable[GraphEdge], nodes: Iterable[Node] = ()) -> Any:
 
 
 def judge_connected(source: PricedGraph) -> None:
-    """ValueError unless the graph is connected."""
+    """ValueError unless the graph has an edge and is connected."""
+    if not source.edges:
+        raise ValueError("the graph has no edge: the smallest picture that the program knows is one edge")
     root = source.edges[0][0]
     reached = next(part for part in parts_of(source) if root in part)
     if len(reached) < len(source.nodes):
@@ -58,7 +60,7 @@ def components(source: PricedGraph) -> list[PricedGraph]:
 def _part(source: PricedGraph, nodes: Sequence[Node], places: Sequence[int]) -> PricedGraph:
     """The part of a graph with these nodes and with the edges at these places."""
     edges, kinds = (tuple(rows[place] for place in places) for rows in (source.edges, source.kinds))
-    return PricedGraph(source.graph.subgraph(nodes), tuple(nodes), edges, kinds, source.prices)
+    return PricedGraph(source.graph.subgraph(nodes), tuple(nodes), edges, kinds, source.prices, source.objective)
 
 
 def incidence(edges: Sequence[GraphEdge], places: Iterable[int]) -> dict[Node, list[tuple[int, Node]]]:

@@ -18,10 +18,15 @@ _WORK = 2_000_000
 
 
 def planar_subgraph(
-    count: int, ends: Sequence[tuple[int, int]], places: Sequence[int], clock: Clock | None = None
+    count: int,
+    ends: Sequence[tuple[int, int]],
+    places: Sequence[int],
+    clock: Clock | None = None,
+    held: Sequence[int] = (),
 ) -> list[int]:
-    """Of the edges at these places, as many as can be drawn together without crossings: those that are taken when each
-    is taken that can be drawn with those before it. Of parallel edges the first alone is taken.
+    """The edges `held`, which can be drawn together without crossings, and of those at these places as many as can be
+    drawn with them: those that are taken when each is taken that can be drawn with those before it. Of parallel edges
+    the first alone is taken.
 
     Several are tried at once, and halves of them where they do not go together. In a graph of more than 1,200 edges,
     and where the time of the clock is over, some are left out together of which one or the other could have been taken;
@@ -29,18 +34,19 @@ def planar_subgraph(
     the same.
     """
     first: dict[frozenset[int], int] = {}
-    for place in places:
+    for place in (*held, *places):
         first.setdefault(frozenset(ends[place]), place)
-    found = _PlanarSubgraph(count, ends, clock or Clock())
-    found.add(list(first.values()))
+    known = set(held)
+    found = _PlanarSubgraph(count, ends, clock or Clock(), [place for place in first.values() if place in known])
+    found.add([place for place in first.values() if place not in known])
     return found.taken + _connecting(count, ends, found.taken, places)
 
 
 class _PlanarSubgraph:
     """A part that grows: `taken` are the places of its edges."""
 
-    def __init__(self, count: int, ends: Sequence[tuple[int, int]], clock: Clock):
-        self.taken: list[int] = []
+    def __init__(self, count: int, ends: Sequence[tuple[int, int]], clock: Clock, taken: list[int]):
+        self.taken = taken
         self._count = count
         self._ends = ends
         self._clock = clock

@@ -25,20 +25,21 @@ _ROOM = 64
 _PACE = 0.05
 
 
-@dataclass(frozen=True)
+@dataclass(frozen=True, eq=False)
 class SavedPicture:
     """A picture that a search saved, to give it as the result or to go on from it.
 
     `text` is the picture as the program writes it, `node_of` has the nodes of its vertices, `place_of` the places of
-    its edges by their ids, and `score` is what SearchPicture has. The process had begun with `start`, which came from
-    `before`, and had answered the first `calls` lines of `history`; `settings` are those of its report, or None where
-    the picture comes from elsewhere.
+    its edges by their ids, and `score` and `crossings` are what SearchPicture has. The process had begun with `start`,
+    which came from `before`, and had answered the first `calls` lines of `history`; `settings` are those of its report,
+    or None where the picture comes from elsewhere.
     """
 
     text: str
     node_of: tuple[Node, ...]
     place_of: dict[int, int]
     score: tuple[int, int]
+    crossings: int
     start: Picture
     history: list[tuple[str, str]] = field(default_factory=list, repr=False)
     calls: int = 0
@@ -115,12 +116,12 @@ class SearchPicture:
             crossed, newcomer = place_of[row.crossed], place_of[row.newcomer]
             self.over[newcomer].append(crossed)
             self.under[crossed].append(newcomer)
-            self.cost += self._prices[crossed]
+            self.cost += self._prices[crossed] * self._prices[newcomer]
 
     @property
     def score(self) -> tuple[int, int]:
-        """What is less in a better picture: the crossings, then their cost."""
-        return (self.crossings, self.cost)
+        """What is less in a better picture: first what the objective of the graph says."""
+        return self.source.score(self.crossings, self.cost)
 
     def id_of(self, place: int) -> int:
         """The id that an edge has now."""
@@ -202,10 +203,9 @@ class SearchPicture:
         over, under = self.over[place], self.under[place]
         for other in over:
             self.under[other].remove(place)
-            self.cost -= self._prices[other]
         for other in under:
             self.over[other].remove(place)
-        self.cost -= self._prices[place] * len(under)
+        self.cost -= self._prices[place] * sum(self._prices[other] for other in (*over, *under))
         self.crossings -= len(over) + len(under)
         self.over[place], self.under[place] = [], []
         del self._place_of[self._ids[place]]
@@ -216,7 +216,7 @@ class SearchPicture:
         over = [self._place_of[dart[0]] for dart in reply.get("crossed", ())]
         for other in over:
             self.under[other].append(place)
-            self.cost += self._prices[other]
+        self.cost += self._prices[place] * sum(self._prices[other] for other in over)
         self.over[place] = over
         self.crossings += len(over)
         self._ids[place] = reply["edge"]
@@ -256,6 +256,7 @@ class SearchPicture:
             self.node_of,
             dict(self._place_of),
             self.score,
+            self.crossings,
             self._start,
             self._history,
             len(self._history),
