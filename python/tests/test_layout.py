@@ -7,7 +7,13 @@ from pathlib import Path
 
 FOLDER = Path(__file__).resolve().parent.parent
 #: What the modules of each subpackage may import of the others.
-ALLOWED = {"engine": set(), "files": {"engine"}, "drawing": {"engine", "files"}, "search": {"engine", "files"}}
+ALLOWED = {
+    "engine": set(),
+    "files": {"engine"},
+    "drawing": {"engine", "files"},
+    "search": {"engine", "files"},
+    "command": {"engine", "files", "drawing", "search"},
+}
 #: The modules that may import all subpackages.
 TOP = {"fezdrok", "fezdrok.__main__"}
 
@@ -56,7 +62,7 @@ class Layout(unittest.TestCase):
     def test_imports_are_found(self):
         found = imports()
         self.assertIn("fezdrok.engine.session", found["fezdrok"])
-        self.assertIn("fezdrok.engine.faults", found["fezdrok.__main__"])
+        self.assertIn("fezdrok.command.words", found["fezdrok.__main__"])
         self.assertIn("fezdrok.engine.line_process", found["fezdrok.engine.session"])
         self.assertIn("fezdrok.engine.results", found["fezdrok.drawing.scenes"])
 

@@ -5,7 +5,7 @@ from __future__ import annotations
 import json
 from collections.abc import Callable
 from importlib import import_module
-from typing import Any
+from typing import Any, TypeVar
 
 Value = int | str | tuple[int, ...] | None
 
@@ -50,7 +50,10 @@ class NoReport(PlanarError, ValueError):
     """A text was to be read as a report or as a picture, and is none."""
 
 
-def read_as(name: str, text: str, read: Callable[[Any], Any]) -> Any:
+Read = TypeVar("Read")
+
+
+def read_as(name: str, text: str, read: Callable[[Any], Read]) -> Read:
     """What a text says that is to be a thing of this name, as this function reads it. NoReport where the text is no
     JSON, or is of another form."""
     try:

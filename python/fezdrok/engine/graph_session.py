@@ -91,7 +91,8 @@ class GraphSession(Generic[Result]):
         if v in self._vertex_of:
             raise ValueError(f"{v!r} is a node of the graph already")
         name = (u, v, 0) if self.graph.is_multigraph() else (u, v)
-        return self._made(name, lambda: self._session.grow(start, position, kind))
+        grown: Grown = self._made(name, lambda: self._session.grow(start, position, kind))
+        return grown
 
     def delete_edge(self, u: Node, v: Node, *key: Any) -> Deleted:
         """An edge taken out, which an undirected graph may name either way round. In a multigraph its key must be
@@ -102,7 +103,8 @@ class GraphSession(Generic[Result]):
         self._settle()
         name = name_among(self._id_of, self.graph, (u, v, *key))
         edge_id = self._id_of[name]
-        return self._made(name, lambda: self._session.delete(edge_id))
+        deleted: Deleted = self._made(name, lambda: self._session.delete(edge_id))
+        return deleted
 
     def _vertex(self, node: Node) -> int:
         if node not in self._vertex_of:

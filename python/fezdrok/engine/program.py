@@ -94,9 +94,8 @@ def _current(script: str, built: list[Path]) -> Path:
         _chosen[key] = built[0]
         sources = Path(script).resolve().parent / ".ci" / "sources"
         try:
-            done = subprocess.run(
-                [sources, "planar"], stdin=subprocess.DEVNULL, stdout=subprocess.PIPE, stderr=subprocess.DEVNULL, check=True
-            )
+            nothing, pipe = subprocess.DEVNULL, subprocess.PIPE
+            done = subprocess.run([sources, "planar"], stdin=nothing, stdout=pipe, stderr=nothing, check=True)
         except (OSError, subprocess.CalledProcessError):
             return built[0]
         current = [it for it in built if _sources_of(it) == done.stdout.decode().strip()]

@@ -272,7 +272,9 @@ class Reports(Sequence[Report]):
         return report
 
     def __eq__(self, other: object) -> bool:
-        return tuple(self) == tuple(other) if isinstance(other, (Reports, tuple)) else NotImplemented
+        if not isinstance(other, (Reports, tuple)):
+            return NotImplemented
+        return tuple(self) == tuple(other)
 
     def __hash__(self) -> int:
         return hash(tuple(self))

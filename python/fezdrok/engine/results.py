@@ -20,6 +20,8 @@ from .whole_files import write_whole
 
 #: What the first two words of a saved planarization say.
 SAVED, SAVED_VERSION = "planarization", 1
+#: The suffix of the file of a planarization.
+SUFFIX = ".planar.json"
 #: Up to how many points a notebook draws a planarization.
 SHOWN = 300
 

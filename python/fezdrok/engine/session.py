@@ -115,15 +115,18 @@ class Session:
 
     def grow(self, u: int, position: int = 0, kind: int = 0) -> Grown | Refused:
         """A new vertex on a new edge, from the corner at this position of `u`."""
-        return self._call(Grow(index(u), index(position), index(kind)))
+        reply: Grown | Refused = self._call(Grow(index(u), index(position), index(kind)))
+        return reply
 
     def insert(self, u: int, v: int, kind: int = 0) -> Inserted | Refused:
         """A new edge from `u` to `v` along the first of the cheapest routes."""
-        return self._call(Insert(index(u), index(v), index(kind)))
+        reply: Inserted | Refused = self._call(Insert(index(u), index(v), index(kind)))
+        return reply
 
     def delete(self, edge: int) -> Deleted | Refused:
         """An edge taken out."""
-        return self._call(Delete(index(edge)))
+        reply: Deleted | Refused = self._call(Delete(index(edge)))
+        return reply
 
     def _call(self, call: Call) -> Any:
         return self._ask(call.to_json(), reply_from_json)

@@ -28,7 +28,9 @@ def write_whole(path: PathLike, text: str | bytes) -> None:
         if place.exists():
             shutil.copymode(place, beside)
         os.replace(beside, place)
-    except BaseException:
+    except BaseException as fault:
         with suppress(OSError):
             beside.unlink()
+        if isinstance(fault, OSError):
+            raise OSError(fault.errno, fault.strerror, os.fspath(path)) from None
         raise

@@ -8,7 +8,7 @@ import signal
 import sys
 import time
 import warnings
-from collections.abc import Callable, Iterable, Iterator, Sized
+from collections.abc import Callable, Generator, Iterable, Sized
 from concurrent.futures import FIRST_COMPLETED, Future, ProcessPoolExecutor, wait
 from concurrent.futures.process import BrokenProcessPool
 from contextlib import closing
@@ -75,7 +75,7 @@ def planarize_many(
     return [outcomes[place] for place in sorted(outcomes)]
 
 
-def _each(graphs: Iterable[Any], workers: int, options: dict[str, Any]) -> Iterator[tuple[int, Outcome]]:
+def _each(graphs: Iterable[Any], workers: int, options: dict[str, Any]) -> Generator[tuple[int, Outcome], None, None]:
     """The places of the graphs with their outcomes, as they are done; last those whose worker was killed, each tried
     once more."""
     lost: list[Job] = []
@@ -109,7 +109,7 @@ def _one(graph: Any, options: dict[str, Any]) -> Outcome:
         return fault
 
 
-def _pooled(jobs: Iterable[Job], workers: int, options: dict[str, Any]) -> Iterator[tuple[Job, Outcome]]:
+def _pooled(jobs: Iterable[Job], workers: int, options: dict[str, Any]) -> Generator[tuple[Job, Outcome], None, None]:
     """The jobs as they are done, each with its outcome. At most a few jobs a worker wait at any time.
 
     Where a worker is killed its whole pool is lost: the jobs that waited in it have BrokenProcessPool as their

@@ -59,7 +59,7 @@ def components(source: PricedGraph) -> list[PricedGraph]:
 
 def _part(source: PricedGraph, nodes: Sequence[Node], places: Sequence[int]) -> PricedGraph:
     """The part of a graph with these nodes and with the edges at these places."""
-    edges, kinds = (tuple(rows[place] for place in places) for rows in (source.edges, source.kinds))
+    edges, kinds = tuple(source.edges[place] for place in places), tuple(source.kinds[place] for place in places)
     return PricedGraph(source.graph.subgraph(nodes), tuple(nodes), edges, kinds, source.prices, source.objective)
 
 

@@ -36,7 +36,9 @@ def progress_function(progress: ProgressOption) -> Callable[[Progress], Any]:
         return progress
     if progress is not None and not isinstance(progress, bool):
         raise ValueError(f"progress is {progress!r}: it must be True, False, None, or a function that takes a Progress")
-    return ProgressLine(sys.stderr) if progress else lambda told: None
+    if progress:
+        return ProgressLine(sys.stderr)
+    return lambda told: None
 
 
 class StatusLine:
