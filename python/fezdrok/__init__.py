@@ -8,8 +8,11 @@ imported when it is first used, and matplotlib for `draw` alone.
 from .drawing.drawings import chain, draw, positions, to_svg
 from .drawing.orthogonal_layout import Box, OrthogonalDrawing, orthogonal_drawing
 from .engine.faults import (
-    Fault, MemoryFault, ModuleMissing, NoReport, NotPlanarized, OtherReport, PlanarError, PlanarWarning, ProgramFailed,
-    ProgramNotFound, ProgramNotStarted, SessionClosed, Unfinished, UsageRefused, VerificationError,
+    Fault, FaultError, MemoryFault, MemoryFaultError, ModuleMissing, ModuleMissingError, NoReport, NoReportError,
+    NotPlanarized, NotPlanarizedError, OtherReport, OtherReportError, PlanarError, PlanarWarning, ProgramFailed,
+    ProgramFailedError, ProgramNotFound, ProgramNotFoundError, ProgramNotStarted, ProgramNotStartedError,
+    SessionClosed, SessionClosedError, Unfinished, UnfinishedError, UsageRefused, UsageRefusedError,
+    VerificationError,
 )
 from .engine.graph_pictures import Dummy, Segment
 from .engine.graph_session import GraphSession
@@ -21,7 +24,7 @@ from .engine.results import Planarization, load
 from .engine.session import Renumbered, Session
 from .files.embeddings import from_networkx_embedding, to_networkx_embedding
 from .files.multigraphs import to_networkx_graph
-from .search.batches import Bar, planarize_many
+from .search.batches import Bar, iter_planarize, planarize_many
 from .search.planarization import Prepared, planarize, prepare, reinsert
 from .search.progress import Progress
 
@@ -37,6 +40,7 @@ __all__ = [
     "Edge",
     "Entry",
     "Fault",
+    "FaultError",
     "GraphSession",
     "Grow",
     "Grown",
@@ -44,11 +48,16 @@ __all__ = [
     "Inserted",
     "Limits",
     "MemoryFault",
+    "MemoryFaultError",
     "ModuleMissing",
+    "ModuleMissingError",
     "NoReport",
+    "NoReportError",
     "NotPlanarized",
+    "NotPlanarizedError",
     "OrthogonalDrawing",
     "OtherReport",
+    "OtherReportError",
     "Picture",
     "PlanarError",
     "PlanarWarning",
@@ -59,8 +68,11 @@ __all__ = [
     "Prepared",
     "Program",
     "ProgramFailed",
+    "ProgramFailedError",
     "ProgramNotFound",
+    "ProgramNotFoundError",
     "ProgramNotStarted",
+    "ProgramNotStartedError",
     "Progress",
     "Refused",
     "Renumbered",
@@ -68,13 +80,17 @@ __all__ = [
     "Segment",
     "Session",
     "SessionClosed",
+    "SessionClosedError",
     "Unfinished",
+    "UnfinishedError",
     "UsageRefused",
+    "UsageRefusedError",
     "VerificationError",
     "chain",
     "draw",
     "find_program",
     "from_networkx_embedding",
+    "iter_planarize",
     "load",
     "orthogonal_drawing",
     "planarize",

@@ -28,6 +28,26 @@ class GraphSession(Generic[Result]):
     An edge that the program refuses is NotPlanarized, which changes nothing, and the session goes on. What ends it is
     as said of Session. A call that was interrupted, as by Ctrl-C, was carried out wholly or not at all; the next call
     finds out which.
+
+    Parameters
+    ----------
+    result : Planarization
+        Of a graph that is connected and has an edge, else ValueError.
+    prices : sequence of int or None, optional
+        Prices that new edges may have, beside those of the result and 1; ValueError for more than 64 in all.
+    limits : Limits, optional
+    program : str or os.PathLike, optional
+
+    Examples
+    --------
+    >>> from fezdrok import planarize
+    >>> with planarize([("a", "b"), ("b", "c"), ("c", "a")]).session() as session:
+    ...     reply = session.grow_edge("a", "d")
+    ...     reply = session.insert_edge("d", "b")
+    ...     session
+    ...     session.result()
+    <GraphSession: 4 nodes, 5 edges>
+    <Planarization: 4 nodes, 5 edges, 0 crossings>
     """
 
     def __init__(
@@ -53,6 +73,10 @@ class GraphSession(Generic[Result]):
         self._asked: GraphEdge | None = None
         self._calls = 0
         self._session = Session(result.picture, limits, self.prices, program)
+
+    def __repr__(self) -> str:
+        words = "closed" if self.is_closed else f"{len(self._node_of)} nodes, {len(self.edge_of)} edges"
+        return f"<GraphSession: {words}>"
 
     # ---- Edges
 

@@ -120,13 +120,26 @@ class Counts(NamedTuple):
 @dataclass(frozen=True)
 class Picture:
     """A picture as rows: the clockwise lists of edge ids round the vertices, the edges and the crossings in rising
-    order of their ids, and the ids that come next."""
+    order of their ids, and the ids that come next.
+
+    Examples
+    --------
+    >>> from fezdrok import Picture
+    >>> Picture.seed()
+    <Picture: 2 vertices, 1 edges, 0 crossings>
+    >>> Picture.seed().faces
+    ((Dart(edge=0, segment=0, back=False), Dart(edge=0, segment=0, back=True)),)
+    """
 
     rotations: tuple[tuple[int, ...], ...]
     edges: tuple[Edge, ...]
     crossings: tuple[Crossing, ...] = ()
     next_edge: int = 0
     next_crossing: int = 0
+
+    def __repr__(self) -> str:
+        counts = f"{len(self.rotations)} vertices, {len(self.edges)} edges, {len(self.crossings)} crossings"
+        return f"<Picture: {counts}>"
 
     @staticmethod
     def seed() -> "Picture":

@@ -25,6 +25,24 @@ class Planarizer:
 
     A command is not judged when it is collected. `run` carries all of them out; one that is refused changes
     nothing, and its reply says why.
+
+    Parameters
+    ----------
+    start : Picture, optional
+    limits : Limits, optional
+    prices : sequence of int or None, optional
+    program : str or os.PathLike, optional
+
+    Examples
+    --------
+    >>> from fezdrok import Planarizer
+    >>> planarizer = Planarizer()
+    >>> planarizer.grow(1), planarizer.insert(0, 2)
+    (0, 1)
+    >>> planarizer
+    <Planarizer: 2 commands>
+    >>> planarizer.run().picture
+    <Picture: 3 vertices, 3 edges, 0 crossings>
     """
 
     def __init__(
@@ -39,6 +57,9 @@ class Planarizer:
         self.prices = None if prices is None else tuple(None if price is None else index(price) for price in prices)
         self.program = Program(program)
         self.commands: list[Call] = []
+
+    def __repr__(self) -> str:
+        return f"<Planarizer: {len(self.commands)} commands>"
 
     # ---- Commands
 

@@ -58,6 +58,14 @@ def find_program(program: PathLike | None = None) -> str:
     `prebuilt/`, wherever the script is named. It is not called, so nothing is built here: where there is no such
     program, that is as if nothing were named. Of the two the one is taken that was built from the sources that are
     there now. Where neither was, the first is taken, and a PlanarWarning, once in a process, says that it is old.
+
+    Examples
+    --------
+    >>> from fezdrok import find_program
+    >>> find_program("/nowhere/planar")
+    Traceback (most recent call last):
+        ...
+    fezdrok.engine.faults.ProgramNotFound: no program planar by the argument (/nowhere/planar). The wheel ...
     """
     looked = []
     for place, name in _candidates(program):
@@ -129,6 +137,9 @@ class Program:
     def __init__(self, program: PathLike | None = None):
         self._wanted = program
         self._path: str | None = None
+
+    def __repr__(self) -> str:
+        return f"<Program: {self._path or self._wanted or 'not looked for yet'}>"
 
     @property
     def path(self) -> str:

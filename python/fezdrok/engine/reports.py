@@ -22,6 +22,13 @@ class Limits:
     Nothing is tested here. Where the program is called, a number outside its range is the Fault 11 BadLimits, a
     negative one or one of 2**32 or more the Fault 54 BadNumber, and a start picture that is larger the Fault 20
     TooMany. A call that would go beyond is refused as 7 Full.
+
+    Examples
+    --------
+    >>> from fezdrok import Limits, Session
+    >>> with Session(limits=Limits(vertices=2)) as session:
+    ...     session.grow(0)
+    Refused(number=7, name='Full', segment=None)
     """
 
     vertices: int = 65536
@@ -201,6 +208,9 @@ class Report:
     prices: Prices
     start: Picture
     version: int
+
+    def __repr__(self) -> str:
+        return f"<Report: {len(self.history)} calls, {len(self.refused)} refused, {self.picture!r}>"
 
     @property
     def replies(self) -> tuple[Reply, ...]:

@@ -13,7 +13,7 @@ from .graph_pictures import GraphPicture
 from .graph_session import GraphSession
 from .pictures import Crossing, Edge, Picture, Point, json_text
 from .program import PathLike
-from .reports import Limits, Reports
+from .reports import Limits, Report, Reports  # the fields that are inherited name Report
 from .saved_graphs import edges_of, graph_from_json, graph_json
 from .verification import verify
 from .whole_files import write_whole
@@ -39,6 +39,20 @@ class Planarization(GraphPicture):
     Where the graph is not connected, `parts` has the planarization of each of its parts, in the order of their first
     nodes. The picture then has the rows of all parts side by side, each with an outer face of its own, and is none that
     the program takes. Where the graph is connected, `parts` is empty.
+
+    Planarizations are equal where graph, picture, names and prices are; reports and `tries` count for nothing.
+
+    Examples
+    --------
+    >>> import networkx as nx
+    >>> from fezdrok import planarize
+    >>> result = planarize(nx.petersen_graph())
+    >>> result
+    <Planarization: 10 nodes, 15 edges, 2 crossings>
+    >>> result.crossing_pairs
+    [((3, 4), (6, 8)), ((0, 1), (7, 9))]
+    >>> [segment.end for segment in result.segments(3, 4)]
+    [x0, 4]
     """
 
     parts: tuple["Planarization", ...] = ()

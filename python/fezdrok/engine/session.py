@@ -65,6 +65,24 @@ class Session:
     A call that was interrupted, as by Ctrl-C, may have been carried out; `report` says whether it was. The session goes
     on, but where the next call is interrupted while it waits for the end of that one; and it may be over where
     `compact` is interrupted, or `answers` to more than 512 bytes. A session is for one thread.
+
+    Parameters
+    ----------
+    start : Picture, optional
+    limits : Limits, optional
+    prices : sequence of int or None, optional
+    program : str or os.PathLike, optional
+
+    Examples
+    --------
+    >>> from fezdrok import Session
+    >>> with Session() as session:
+    ...     session.grow(1)
+    ...     session.insert(0, 2).crossed
+    ...     session.counts()
+    Grown(vertex=2, edge=1)
+    ()
+    Counts(vertices=3, crossings=0, edges=3, segments=3, faces=2)
     """
 
     def __init__(
@@ -78,6 +96,9 @@ class Session:
         self._given = Planarizer(start, limits, prices)
         self._process: LineProcess | None = None
         self._process = self._begun(start)
+
+    def __repr__(self) -> str:
+        return "<Session: closed>" if self._process is None else f"<Session: process {self._process.process_id}>"
 
     @property
     def limits(self) -> Limits:

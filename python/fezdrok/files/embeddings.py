@@ -23,11 +23,27 @@ else:
 
 
 def to_networkx_embedding(result: Planarization) -> PlanarEmbedding:
-    """The planarization as a networkx PlanarEmbedding, which passes `check_structure`.
+    """Make a networkx PlanarEmbedding of a planarization, which passes `check_structure`.
 
     Its nodes are the nodes of the graph and a Dummy for each crossing. Each node has the attribute `dummy`; a
     crossing has `crossing`, its id, and `edges`, the two edges of the graph that cross there. Each half-edge has
     `edge`, the edge of the graph that it is a part of.
+
+    Parameters
+    ----------
+    result : Planarization
+
+    Returns
+    -------
+    networkx.PlanarEmbedding
+
+    Examples
+    --------
+    >>> import networkx as nx
+    >>> from fezdrok import planarize, to_networkx_embedding
+    >>> embedding = to_networkx_embedding(planarize(nx.complete_graph(5)))
+    >>> [node for node, data in embedding.nodes(data=True) if data["dummy"]]
+    [x0]
     """
     import networkx
 
@@ -96,11 +112,34 @@ def _point_data(result: Planarization, point: Point) -> dict[str, Any]:
 def from_networkx_embedding(
     embedding: PlanarEmbedding, kind: Callable[[Any, Any], int] = lambda u, v: 0
 ) -> Picture:
-    """The picture of a networkx PlanarEmbedding, to start a Planarizer with.
+    """Make the picture of a networkx PlanarEmbedding, to start a Planarizer with.
 
     Vertex i is the node number i of `list(embedding)`. The edges are numbered in the order in which they are met
-    round vertex 0, 1, .. clockwise; `kind(u, v)` gives the kind of each. All nodes become vertices, also dummies.
-    ValueError where it has no edge or is not connected; networkx.NetworkXException where it is no embedding.
+    round vertex 0, 1, .. clockwise. All nodes become vertices, also dummies.
+
+    Parameters
+    ----------
+    embedding : networkx.PlanarEmbedding
+    kind : callable, optional
+        Gives the kind of the edge between two nodes, from 0 to 63; 0 for all unless given.
+
+    Returns
+    -------
+    Picture
+
+    Raises
+    ------
+    ValueError
+        Where the embedding has no edge or is not connected.
+    networkx.NetworkXException
+        Where it is no embedding.
+
+    Examples
+    --------
+    >>> import networkx as nx
+    >>> from fezdrok import from_networkx_embedding
+    >>> from_networkx_embedding(nx.check_planarity(nx.icosahedral_graph())[1])
+    <Picture: 12 vertices, 30 edges, 0 crossings>
     """
     embedding.check_structure()
     rotations = {node: list(embedding.neighbors_cw_order(node)) for node in embedding}

@@ -42,6 +42,10 @@ class Prepared:
     drawn: tuple[int, ...]
     asked: tuple[int, ...]
 
+    def __repr__(self) -> str:
+        counts = f"{len(self.source.nodes)} nodes, {len(self.source.edges)} edges, {len(self.asked)} commands"
+        return f"<Prepared: {counts}>"
+
     def script_text(self) -> str:
         """The script, to be run elsewhere by `planar run`."""
         return self.planarizer.script_text()
