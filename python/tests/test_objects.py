@@ -117,7 +117,7 @@ class Lines(unittest.TestCase):
         with self.assertLogs("fezdrok", logging.INFO) as told:
             planarize(nx.complete_graph(7))
         self.assertRegex(told.output[0], r"INFO:fezdrok:order 1 of 2: \d+ crossings")
-        self.assertRegex(told.output[-1], r"<Planarization: 7 nodes, 21 edges, 9 crossings>, cost 9, after [0-9.]+ seconds")
+        self.assertRegex(told.output[-1], r"<Planarization: 7 nodes, 21 edges, 9 crossings>, cost 9, after [0-9.]+ sec")
 
 
 if __name__ == "__main__":
