@@ -4,17 +4,22 @@
 Prints a table in Markdown: `tools/measure.py numbers` beside known crossing numbers, `tools/measure.py ogdf` beside
 what OGDF found. Behind the crossings stand the time, and the time of a processor that Python and the program took,
 which depends less on other work. All numbers but the times are the same each time.
+
+`python/measure.py files FOLDER` writes 500 GraphML files of sparse graphs of 10 to 100 nodes, of sizes as those of the
+Rome graphs have, and `python/measure.py sizes FILE` makes a table by size of what `fezdrok stats --csv` said of them.
 """
 
 from __future__ import annotations
 
 import argparse
+import csv
 import random
 import resource
 import sys
 import time
+from collections.abc import Callable, Iterable, Iterator
 from pathlib import Path
-from typing import Any, Callable, Dict, Iterable, Iterator, NamedTuple, Optional, Tuple
+from typing import Any, NamedTuple
 
 sys.path.insert(0, str(Path(__file__).resolve().parent.parent / "python"))
 
@@ -28,7 +33,7 @@ class Case(NamedTuple):
 
     name: str
     graph: Any
-    number: Optional[int]
+    number: int | None
 
 
 def complete(n: int) -> int:
@@ -112,7 +117,7 @@ def processor_seconds() -> float:
     )
 
 
-def measured(graph: Any, options: Dict[str, Any]) -> Tuple[int, float, float]:
+def measured(graph: Any, options: dict[str, Any]) -> tuple[int, float, float]:
     """The crossings found with these options, the seconds that it took, and those of a processor."""
     begun, begun_processor = time.perf_counter(), processor_seconds()
     crossings = planarize(graph, **options).crossings
@@ -125,7 +130,7 @@ def worded(crossings: float, *seconds: float) -> str:
     return f"{crossings:.0f} ({spent})"
 
 
-def cell(case: Case, options: Dict[str, Any]) -> str:
+def cell(case: Case, options: dict[str, Any]) -> str:
     """What is found with these options; an error where there are fewer crossings than there can be."""
     crossings, *seconds = measured(case.graph, options)
     if case.number is not None and crossings < case.number:
@@ -140,8 +145,10 @@ def row(cells: Iterable[Any]) -> str:
 
 def known_numbers() -> None:
     """Print the table beside known crossing numbers."""
-    columns: Dict[str, Dict[str, Any]] = {
-        "quick": {"quick": True}, "quick, 20 orders, 5 rounds": {"quick": True, "tries": 20, "rounds": 5}, "default": {}
+    columns: dict[str, dict[str, Any]] = {
+        "quick": {"effort": "quick"},
+        "quick, 20 orders, 5 rounds": {"effort": "quick", "tries": 20, "rounds": 5},
+        "default": {},
     }
     headings = ["graph", "nodes", "edges", "crossing number", *columns]
     print(row(headings))
@@ -154,7 +161,7 @@ def known_numbers() -> None:
 
 def beside_ogdf(seeds: int) -> None:
     """Print the table beside OGDF. Of random graphs the mean over the seeds 1, 2, .. is taken."""
-    columns: Dict[str, Dict[str, Any]] = {"default": {}, "`tries=1, shakes=20`": {"tries": 1, "shakes": 20}}
+    columns: dict[str, dict[str, Any]] = {"default": {}, "`tries=1, shakes=20`": {"tries": 1, "shakes": 20}}
     headings = ["graph", "OGDF", *columns]
     print(row(headings))
     print(row("---" for _ in headings))
@@ -167,16 +174,60 @@ def beside_ogdf(seeds: int) -> None:
         print(row([case.name + (f", mean of {seeds}" if case.is_random else ""), *cells]), flush=True)
 
 
+def write_files(folder: Path, count: int = 500) -> None:
+    """Write GraphML files of connected graphs: of n nodes and from 1.1 n to 1.6 n edges, most between nodes that are
+    near each other along a walk."""
+    folder.mkdir(parents=True, exist_ok=True)
+    for number in range(count):
+        chance = random.Random(number)
+        size = chance.randint(10, 100)
+        graph = nx.Graph((node, chance.randrange(max(0, node - 12), node)) for node in range(1, size))
+        edges = round(size * chance.uniform(1.1, 1.6))
+        while graph.number_of_edges() < edges:
+            u, v = chance.randrange(size), chance.randrange(size)
+            if u != v and (abs(u - v) < 15 or chance.random() < 0.3):
+                graph.add_edge(u, v)
+        nx.write_graphml(graph, folder / f"grafo{number:03}.{size}.graphml")
+
+
+def by_size(file: Path) -> None:
+    """Print a table by tens of nodes of the rows that `fezdrok stats --csv` wrote."""
+    groups: dict[int, list[dict[str, str]]] = {}
+    with open(file, newline="") as lines:
+        for each in csv.DictReader(lines):
+            groups.setdefault(min(int(each["nodes"]), 99) // 10, []).append(each)
+    headings = ["nodes", "graphs", "edges", "planar", "crossings", "lower bound", "seconds"]
+    print(row(headings))
+    print(row("---" for _ in headings))
+    for tens, rows in sorted(groups.items()):
+        planar = sum(each["planar"] == "yes" for each in rows)
+        means = [
+            f"{sum(float(each[name]) for each in rows) / len(rows):.2f}"
+            for name in ("edges", "crossings", "lower_bound", "seconds")
+        ]
+        last = 100 if tens == 9 else 10 * tens + 9
+        print(row([f"{10 * tens} to {last}", len(rows), means[0], planar, *means[1:]]))
+
+
 def main() -> None:
     """Print the table that is asked for."""
     parser = argparse.ArgumentParser(description=__doc__.splitlines()[0])
-    parser.add_argument("table", choices=("numbers", "ogdf"), help="beside known crossing numbers, or beside OGDF")
+    parser.add_argument(
+        "table",
+        choices=("numbers", "ogdf", "files", "sizes"),
+        help="beside known crossing numbers, beside OGDF, of files that are written, or by the sizes of graphs",
+    )
+    parser.add_argument("place", type=Path, nargs="?", default=Path("graphs"), help="the folder, or the file of rows")
     parser.add_argument(
         "--seeds", type=int, default=5, help="how many random graphs of each kind are measured beside OGDF"
     )
     words = parser.parse_args()
     if words.table == "numbers":
         known_numbers()
+    elif words.table == "files":
+        write_files(words.place)
+    elif words.table == "sizes":
+        by_size(words.place)
     else:
         beside_ogdf(words.seeds)
 

@@ -1,9 +1,8 @@
 """Planarization of graphs by the proved program `planar`.
 
 `planarize` takes a networkx graph and gives a picture of it with few crossings; `planarize_many` takes many.
-`Planarizer` collects single commands, and a `Session` answers each at once. The package itself needs only Python;
-networkx is wanted for planar beginnings, which are the default, for embeddings, for edges that must not be crossed and
-for drawings, matplotlib for `draw`.
+`Planarizer` collects single commands, and a `Session` answers each at once. It needs networkx, which is
+imported when it is first used, and matplotlib for `draw` alone.
 """
 
 from .drawing.drawings import Drawing, FalseDrawing, draw, drawing_of, to_svg
@@ -11,8 +10,11 @@ from .drawing.orthogonal_layout import Box, OrthogonalDrawing, orthogonal_drawin
 from .drawing.straight_layout import chain, positions
 from .drawing.verification import Defect
 from .engine.faults import (
-    Fault, MemoryFault, ModuleMissing, NoReport, NotPlanarized, OtherReport, PlanarError, PlanarWarning, ProgramFailed,
-    ProgramNotFound, ProgramNotStarted, SessionClosed, Unfinished, UsageRefused,
+    Fault, FaultError, MemoryFault, MemoryFaultError, ModuleMissing, ModuleMissingError, NoReport, NoReportError,
+    NotPlanarized, NotPlanarizedError, OtherReport, OtherReportError, PlanarError, PlanarWarning, ProgramFailed,
+    ProgramFailedError, ProgramNotFound, ProgramNotFoundError, ProgramNotStarted, ProgramNotStartedError,
+    SessionClosed, SessionClosedError, Unfinished, UnfinishedError, UsageRefused, UsageRefusedError,
+    VerificationError,
 )
 from .engine.graph_pictures import Dummy, Segment
 from .engine.graph_session import GraphSession
@@ -20,11 +22,11 @@ from .engine.pictures import Counts, Crossing, Dart, Edge, Picture, Point
 from .engine.planarizer import Planarizer
 from .engine.program import Program, find_program
 from .engine.reports import Delete, Deleted, Entry, Grow, Grown, Insert, Inserted, Limits, Planned, Refused, Report
-from .engine.results import Planarization
+from .engine.results import Planarization, load
 from .engine.session import Renumbered, Session
 from .files.embeddings import from_networkx_embedding, to_networkx_embedding
 from .files.multigraphs import to_networkx_graph
-from .search.batches import Bar, planarize_many
+from .search.batches import Bar, iter_planarize, planarize_many
 from .search.planarization import Prepared, planarize, prepare, reinsert
 from .search.progress import Progress
 
@@ -43,6 +45,7 @@ __all__ = [
     "Entry",
     "FalseDrawing",
     "Fault",
+    "FaultError",
     "GraphSession",
     "Grow",
     "Grown",
@@ -50,11 +53,16 @@ __all__ = [
     "Inserted",
     "Limits",
     "MemoryFault",
+    "MemoryFaultError",
     "ModuleMissing",
+    "ModuleMissingError",
     "NoReport",
+    "NoReportError",
     "NotPlanarized",
+    "NotPlanarizedError",
     "OrthogonalDrawing",
     "OtherReport",
+    "OtherReportError",
     "Picture",
     "PlanarError",
     "PlanarWarning",
@@ -65,8 +73,11 @@ __all__ = [
     "Prepared",
     "Program",
     "ProgramFailed",
+    "ProgramFailedError",
     "ProgramNotFound",
+    "ProgramNotFoundError",
     "ProgramNotStarted",
+    "ProgramNotStartedError",
     "Progress",
     "Refused",
     "Renumbered",
@@ -74,13 +85,19 @@ __all__ = [
     "Segment",
     "Session",
     "SessionClosed",
+    "SessionClosedError",
     "Unfinished",
+    "UnfinishedError",
     "UsageRefused",
+    "UsageRefusedError",
+    "VerificationError",
     "chain",
     "draw",
     "drawing_of",
     "find_program",
     "from_networkx_embedding",
+    "iter_planarize",
+    "load",
     "orthogonal_drawing",
     "planarize",
     "planarize_many",
@@ -94,3 +111,5 @@ __all__ = [
 
 #: That of the program and of this package: it is what the file VERSION of the repository says.
 __version__ = "0.5.0"
+
+Planarization.painter = staticmethod(to_svg)

@@ -7,8 +7,9 @@ made first, so that a second process reads those of the first.
 from __future__ import annotations
 
 import sys
+from collections.abc import Iterator
 from pathlib import Path
-from typing import Any, Dict, Iterator, Tuple
+from typing import Any
 
 import networkx as nx
 
@@ -20,7 +21,7 @@ def worded(graph: Any) -> Any:
     return nx.relabel_nodes(graph, {node: f"node {node}" for node in graph})
 
 
-def cases() -> Iterator[Tuple[str, Any, Dict[str, Any]]]:
+def cases() -> Iterator[tuple[str, Any, dict[str, Any]]]:
     """Graphs and options, with a name for each."""
     parallel = nx.MultiGraph(list(nx.complete_graph(6).edges) * 2)
     graphs = {

@@ -6,8 +6,8 @@ The tests run the same scripts here and by the program, and compare whole report
 from __future__ import annotations
 
 import heapq
+from collections.abc import Iterable, Sequence
 from dataclasses import replace
-from typing import Dict, Iterable, List, Optional, Sequence, Set, Tuple
 
 from fezdrok import (
     Crossing, Dart, Delete, Deleted, Edge, Entry, Grow, Grown, Insert, Inserted, Limits, Picture, Point, Refused,
@@ -15,14 +15,14 @@ from fezdrok import (
 )
 from fezdrok.engine.reports import Call, Prices, Reply
 
-Heights = Dict[int, int]
+Heights = dict[int, int]
 
 
 def run(
-    start: Picture, calls: Iterable[Call], prices: Sequence[Optional[int]] = (), limits: Limits = Limits()
+    start: Picture, calls: Iterable[Call], prices: Sequence[int | None] = (), limits: Limits = Limits()
 ) -> Report:
     """The report of these calls, made one after another."""
-    history: List[Entry] = []
+    history: list[Entry] = []
     picture = start
     for call in calls:
         entered = Insert(call.u, call.v, call.kind) if isinstance(call, Insert) else call
@@ -32,7 +32,7 @@ def run(
     return Report(tuple(history), limits, picture, kept, start, 2 if None in kept else 1)
 
 
-def trimmed(prices: Sequence[Optional[int]]) -> Prices:
+def trimmed(prices: Sequence[int | None]) -> Prices:
     """The prices without the ones at their end."""
     kept = list(prices)
     while kept and kept[-1] == 1:
@@ -40,7 +40,7 @@ def trimmed(prices: Sequence[Optional[int]]) -> Prices:
     return tuple(kept)
 
 
-def step(picture: Picture, call: Call, prices: Sequence[Optional[int]], limits: Limits) -> Tuple[Reply, Picture]:
+def step(picture: Picture, call: Call, prices: Sequence[int | None], limits: Limits) -> tuple[Reply, Picture]:
     """The reply of a call, and the picture after it."""
     if isinstance(call, Grow):
         return grow(picture, call, limits)
@@ -49,7 +49,7 @@ def step(picture: Picture, call: Call, prices: Sequence[Optional[int]], limits: 
     return insert(picture, call, prices, limits)
 
 
-def put_in(around: Tuple[int, ...], position: int, edge: int) -> Tuple[int, ...]:
+def put_in(around: tuple[int, ...], position: int, edge: int) -> tuple[int, ...]:
     """A rotation with an edge in the corner at a position; position 0 is the end of the list."""
     return (*around, edge) if position == 0 else (*around[:position], edge, *around[position:])
 
@@ -57,7 +57,7 @@ def put_in(around: Tuple[int, ...], position: int, edge: int) -> Tuple[int, ...]
 # ---- Growth
 
 
-def grow(picture: Picture, call: Grow, limits: Limits) -> Tuple[Reply, Picture]:
+def grow(picture: Picture, call: Grow, limits: Limits) -> tuple[Reply, Picture]:
     vertices, edge = len(picture.rotations), picture.next_edge
     if call.u >= vertices:
         return Refused(1, "NoVertex"), picture
@@ -76,7 +76,7 @@ def grow(picture: Picture, call: Grow, limits: Limits) -> Tuple[Reply, Picture]:
 # ---- Insertion
 
 
-def insert(picture: Picture, call: Insert, prices: Sequence[Optional[int]], limits: Limits) -> Tuple[Reply, Picture]:
+def insert(picture: Picture, call: Insert, prices: Sequence[int | None], limits: Limits) -> tuple[Reply, Picture]:
     vertices = len(picture.rotations)
     if call.u >= vertices or call.v >= vertices:
         return Refused(1, "NoVertex"), picture
@@ -94,12 +94,12 @@ def insert(picture: Picture, call: Insert, prices: Sequence[Optional[int]], limi
     return route, shown(picture, call, route)
 
 
-def price_of(picture: Picture, dart: Dart, prices: Sequence[Optional[int]]) -> Optional[int]:
+def price_of(picture: Picture, dart: Dart, prices: Sequence[int | None]) -> int | None:
     kind = picture.edge(dart.edge).kind
     return prices[kind] if kind < len(prices) else 1
 
 
-def first_route(picture: Picture, u: int, v: int, prices: Sequence[Optional[int]]) -> Optional[Inserted]:
+def first_route(picture: Picture, u: int, v: int, prices: Sequence[int | None]) -> Inserted | None:
     """The first of the least routes: heights of faces, then the first tight dart of each face down to the target."""
     faces = picture.faces
     face_of = {dart: number for number, face in enumerate(faces) for dart in face}
@@ -117,7 +117,7 @@ def first_route(picture: Picture, u: int, v: int, prices: Sequence[Optional[int]
 
 
 def face_heights(
-    picture: Picture, face_of: Dict[Dart, int], targets: Set[int], prices: Sequence[Optional[int]]
+    picture: Picture, face_of: dict[Dart, int], targets: set[int], prices: Sequence[int | None]
 ) -> Heights:
     """For each face the least cost of a walk to one of the targets, where there is one."""
     heights: Heights = {}
@@ -135,7 +135,7 @@ def face_heights(
 
 
 def first_tight(
-    picture: Picture, face: Sequence[Dart], face_of: Dict[Dart, int], heights: Heights, prices: Sequence[Optional[int]]
+    picture: Picture, face: Sequence[Dart], face_of: dict[Dart, int], heights: Heights, prices: Sequence[int | None]
 ) -> Dart:
     """The first dart of a face, in canonical order, behind which the rest costs as much less as the dart costs."""
     height = heights[face_of[face[0]]]
@@ -161,9 +161,9 @@ def shown(picture: Picture, call: Insert, route: Inserted) -> Picture:
     return Picture(tuple(rotations), (*rows, row), (*picture.crossings, *crossings), *counters)
 
 
-def woven(row: Edge, numbered: Sequence[Tuple[int, Dart]]) -> Tuple[int, ...]:
+def woven(row: Edge, numbered: Sequence[tuple[int, Dart]]) -> tuple[int, ...]:
     """The path of an edge with the new crossings on each of its segments."""
-    path: List[int] = []
+    path: list[int] = []
     for segment in range(row.segments):
         path.extend(number for number, dart in numbered if (dart.edge, dart.segment) == (row.id, segment))
         path.extend(row.crossings[segment : segment + 1])
@@ -173,7 +173,7 @@ def woven(row: Edge, numbered: Sequence[Tuple[int, Dart]]) -> Tuple[int, ...]:
 # ---- Deletion
 
 
-def delete(picture: Picture, edge: int) -> Tuple[Reply, Picture]:
+def delete(picture: Picture, edge: int) -> tuple[Reply, Picture]:
     row = next((row for row in picture.edges if row.id == edge), None)
     if row is None:
         return Refused(4, "NoEdge"), picture
@@ -195,12 +195,12 @@ def without(picture: Picture, gone: Edge) -> Picture:
     return Picture(tuple(rotations), tuple(rows), crossings, picture.next_edge, picture.next_crossing)
 
 
-def from_least(around: List[int]) -> Tuple[int, ...]:
+def from_least(around: list[int]) -> tuple[int, ...]:
     place = around.index(min(around)) if around else 0
     return tuple(around[place:] + around[:place])
 
 
-def is_connected(picture: Picture, opened: Iterable[Tuple[int, int]]) -> bool:
+def is_connected(picture: Picture, opened: Iterable[tuple[int, int]]) -> bool:
     """Whether all points hang together by the segments that are not opened."""
     parts = {point: point for point in picture.points}
 

@@ -6,7 +6,6 @@ import subprocess
 import tempfile
 import unittest
 from pathlib import Path
-from typing import Tuple
 
 from fezdrok import find_program
 
@@ -29,7 +28,7 @@ class RefusedAllocationTest(unittest.TestCase):
             ["cc", "-shared", "-fPIC", "-O2", "-o", cls.library, ROOT / ".ci" / "refuse_allocation.c"], check=True
         )
 
-    def run_refusing(self, verb: str, text: bytes, number: int) -> Tuple[int, bytes, bytes, bool]:
+    def run_refusing(self, verb: str, text: bytes, number: int) -> tuple[int, bytes, bytes, bool]:
         """Runs a command that is refused its allocation of this number, or none where that is 0. Returns its status and
         output, what it told, and whether it came to that allocation."""
         environment = {"LD_PRELOAD": self.library, "REFUSED_ALLOCATION": str(number)}

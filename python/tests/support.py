@@ -8,7 +8,7 @@ import tempfile
 import unittest
 from importlib.util import find_spec
 from pathlib import Path
-from typing import Any, Dict, List, Tuple
+from typing import Any
 
 from fezdrok import ProgramNotFound, find_program
 
@@ -43,17 +43,17 @@ def fake(test: unittest.TestCase, body: str) -> str:
     return os.fspath(path)
 
 
-def report_files() -> List[Path]:
+def report_files() -> list[Path]:
     """All reports among the examples, also one that is only for readers and that no script leads to."""
     return sorted(EXAMPLES.glob("*.report.json"))
 
 
-def example_reports() -> List[Path]:
+def example_reports() -> list[Path]:
     """The reports of the example scripts."""
     return [path for path in report_files() if path.name != "each_field.report.json"]
 
 
-def example_scripts() -> List[Path]:
+def example_scripts() -> list[Path]:
     """The scripts among the examples."""
     return [path.with_name(path.name.replace(".report", "")) for path in example_reports()]
 
@@ -67,7 +67,7 @@ def straight(embedding: Any, before: Any, node: Any) -> Any:
     return around[(around.index(before) + len(around) // 2) % len(around)]
 
 
-def traced(embedding: Any) -> List[Tuple[Any, ...]]:
+def traced(embedding: Any) -> list[tuple[Any, ...]]:
     """The edges of a graph, read off its planarization: each is walked from a node that is no dummy straight through
     the dummies to the next that is none. Each edge stands there once from either end, with the dummies on it."""
     walks = []
@@ -82,18 +82,18 @@ def traced(embedding: Any) -> List[Tuple[Any, ...]]:
     return walks
 
 
-def pairs_of(walks: List[Tuple[Any, ...]]) -> Dict[frozenset, int]:
+def pairs_of(walks: list[tuple[Any, ...]]) -> dict[frozenset, int]:
     """How often each pair of nodes is joined, when every edge is walked from both ends."""
-    counts: Dict[frozenset, int] = {}
+    counts: dict[frozenset, int] = {}
     for walk in walks:
         pair = frozenset((walk[0], walk[-1]))
         counts[pair] = counts.get(pair, 0) + 1
     return {pair: count // 2 for pair, count in counts.items()}
 
 
-def graph_pairs(graph: Any) -> Dict[frozenset, int]:
+def graph_pairs(graph: Any) -> dict[frozenset, int]:
     """How often each pair of nodes is joined in a graph."""
-    counts: Dict[frozenset, int] = {}
+    counts: dict[frozenset, int] = {}
     for edge in graph.edges():
         counts[frozenset(edge)] = counts.get(frozenset(edge), 0) + 1
     return counts

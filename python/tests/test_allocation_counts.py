@@ -4,7 +4,7 @@ of values, whatever the order of its keys and the gaps between its tokens."""
 import json
 import subprocess
 import unittest
-from typing import Any, Dict
+from typing import Any
 
 from fezdrok import find_program
 
@@ -17,14 +17,14 @@ COUNT = 4_000
 SOME = 1_000
 
 
-def path_picture() -> Dict[str, Any]:
+def path_picture() -> dict[str, Any]:
     """A path of vertices."""
     edges = [{"a": i, "b": i + 1, "crossings": [], "id": i, "kind": 0} for i in range(COUNT - 1)]
     rotations = [[0], *([i - 1, i] for i in range(1, COUNT - 1)), [COUNT - 2]]
     return {"crossings": [], "edges": edges, "next_crossing": 0, "next_edge": COUNT - 1, "rotations": rotations}
 
 
-def crossed_picture() -> Dict[str, Any]:
+def crossed_picture() -> dict[str, Any]:
     """An edge that so many others cross, each between two vertices of its own."""
     others = range(1, COUNT + 1)
     edges = [{"a": 0, "b": 1, "crossings": list(range(COUNT)), "id": 0, "kind": 0}]
@@ -36,7 +36,7 @@ def crossed_picture() -> Dict[str, Any]:
     }
 
 
-def growths() -> Dict[str, Any]:
+def growths() -> dict[str, Any]:
     """A script that grows a star, and then has a command for each other kind of reply."""
     others = [
         ["insert", 1, 3, 0],
@@ -49,12 +49,12 @@ def growths() -> Dict[str, Any]:
     return {"prices": [1, 2, None], "version": 2, "workers": [[["grow", 0, 0, 0]] * COUNT + others]}
 
 
-def own_layout(form: Dict[str, Any]) -> bytes:
+def own_layout(form: dict[str, Any]) -> bytes:
     """The text with its keys in order, and nothing between its tokens."""
     return json.dumps(form, sort_keys=True, separators=(",", ":")).encode()
 
 
-def spaced_layout(form: Dict[str, Any]) -> bytes:
+def spaced_layout(form: dict[str, Any]) -> bytes:
     """The text with its keys in order, and all that may stand between tokens between them."""
     return json.dumps(form, sort_keys=True, indent=" \t", separators=("\r,", " : ")).encode() + b"\n"
 
@@ -66,12 +66,12 @@ def backwards(form: Any) -> Any:
     return [backwards(part) for part in form] if isinstance(form, list) else form
 
 
-def backward_layout(form: Dict[str, Any]) -> bytes:
+def backward_layout(form: dict[str, Any]) -> bytes:
     """The text with its keys in the opposite order."""
     return json.dumps(backwards(form), separators=(",", ":")).encode()
 
 
-def escaped_layout(form: Dict[str, Any]) -> bytes:
+def escaped_layout(form: dict[str, Any]) -> bytes:
     """The text with an escape in its last key."""
     key = max(form)
     return own_layout(form).replace(f'"{key}":'.encode(), f'"\\u{ord(key[0]):04x}{key[1:]}":'.encode())
@@ -84,7 +84,7 @@ class Allocations(RefusedAllocationTest):
         self.assertTrue(is_refused or (status, told) == (0, b""), told[:200])
         return is_refused
 
-    def check(self, verb: str, form: Dict[str, Any], for_each: int) -> None:
+    def check(self, verb: str, form: dict[str, Any], for_each: int) -> None:
         """A text takes at most so many allocations for each vertex or call, also with gaps between its tokens, and with
         its keys in another order. With an escape it takes more, so the bound tells the two ways to read apart."""
         most = for_each * COUNT + SOME

@@ -5,33 +5,27 @@ import os
 import signal
 import unittest
 import warnings
+from concurrent.futures import ProcessPoolExecutor, ThreadPoolExecutor
 from concurrent.futures.process import BrokenProcessPool
 from contextlib import nullcontext
 from unittest import mock
 
-from fezdrok import Bar, MemoryFault, Planarization, ProgramNotFound, planarize, planarize_many
+import networkx as nx
 
-from .support import fake, needs_networkx, needs_program
+from fezdrok import Bar, MemoryFault, Planarization, ProgramNotFound, iter_planarize, planarize, planarize_many
 
-try:
-    import networkx as nx
-except ImportError:
-    nx = None
+from .support import fake, needs_program
 
 PARENT = os.getpid()
 
 
-class KillingGraph:
-    """No graph: whoever reads it in a worker is killed."""
+class KillingGraph(nx.Graph):
+    """A graph without nodes: whoever copies it in a worker is killed."""
 
-    def is_multigraph(self):
-        return False
-
-    @property
-    def nodes(self):
+    def copy(self, as_view=False):
         if os.getpid() != PARENT:
             os.kill(os.getpid(), signal.SIGKILL)
-        return ()
+        return super().copy(as_view)
 
 
 class UnpicklableGraph:
@@ -41,20 +35,19 @@ class UnpicklableGraph:
         raise TypeError("sealed")
 
 
-@needs_networkx
 @needs_program
 class Batches(unittest.TestCase):
     def test_as_one_by_one(self):
         graphs = [nx.complete_graph(size) for size in range(2, 8)] + [nx.petersen_graph()]
-        results = planarize_many(graphs, processes=2, quick=True, tries=2, seed=5)
+        results = planarize_many(graphs, processes=2, effort="quick", tries=2, seed=5)
         self.assertEqual(
             [result.picture for result in results],
-            [planarize(graph, quick=True, tries=2, seed=5).picture for graph in graphs],
+            [planarize(graph, effort="quick", tries=2, seed=5).picture for graph in graphs],
         )
 
     def test_a_failure_stands_in_its_place(self):
         graphs = [
-            nx.complete_graph(3), nx.empty_graph(2), nx.Graph([(0, 0)]), None, nx.complete_graph(5), UnpicklableGraph()
+            nx.complete_graph(3), nx.Graph(), nx.Graph([(0, 0)]), None, nx.complete_graph(5), UnpicklableGraph()
         ]
         outcomes = planarize_many(iter(graphs), processes=2)
         self.assertEqual(
@@ -99,7 +92,7 @@ class Batches(unittest.TestCase):
             stream = io.StringIO()
             with mock.patch("sys.stderr", stream), warnings.catch_warnings(), self.assertRaises(raised) if raised else nullcontext():
                 warnings.simplefilter("always")
-                planarize_many(graphs, processes=1, progress=True, quick=True)
+                planarize_many(graphs, processes=1, progress=True, effort="quick")
             return stream.getvalue()
 
         self.assertRegex(printed(list(graphs(2))), r"2/2[^\n]*\n\Z")
@@ -112,10 +105,43 @@ class Batches(unittest.TestCase):
             self.assertRegex(printed(graphs(0, raised), raised), r"\A\r0 graphs[^\n]*\n\Z")
 
     def test_none(self):
-        self.assertEqual(planarize_many([]), [])
+        self.assertEqual((planarize_many([]), list(iter_planarize([], processes=1))), ([], []))
+
+    def test_executors(self):
+        """The outcomes are those of one process, whoever does the work; they carry no reports."""
+        graphs = [nx.complete_graph(3 + place % 5) for place in range(20)] + [nx.Graph(), UnpicklableGraph()]
+        due = planarize_many(graphs, processes=1)
+        with ThreadPoolExecutor(3) as threads, ProcessPoolExecutor(2) as processes:
+            for executor in (threads, processes):
+                outcomes = planarize_many(graphs, executor=executor)
+                self.assertEqual(outcomes[:20], due[:20])
+                self.assertEqual([type(outcome) for outcome in outcomes[20:]][0], ValueError)
+                self.assertEqual([len(outcome.reports) for outcome in outcomes[:20]], [0] * 20)
+            shown = dict(iter_planarize(iter(graphs), executor=threads, effort="quick"))
+            self.assertEqual((sorted(shown), shown[19].crossings), (list(range(22)), 9))
+        whole = planarize_many([nx.disjoint_union(nx.complete_graph(5), nx.path_graph(2))], processes=1)[0]
+        self.assertEqual([len(part.reports) for part in (whole, *whole.parts)], [0, 0, 0])
+
+    def test_outcomes_as_they_come(self):
+        found = []
+        for place, outcome in iter_planarize((nx.path_graph(3) for _ in iter(int, 1)), processes=2):
+            found.append(place)
+            if len(found) == 5:
+                break
+        self.assertEqual(len(set(found)), 5)
+        with ThreadPoolExecutor(1) as threads:
+            for place, outcome in iter_planarize([nx.path_graph(3)] * 500, executor=threads):
+                break
+        with self.assertRaisesRegex(ValueError, "executor is 5: it must have a method submit"):
+            iter_planarize([], executor=5)
+        with self.assertRaisesRegex(ValueError, "processes is 2: it counts for nothing beside an executor"):
+            planarize_many([], executor=threads, processes=2)
+        outcomes = planarize_many([nx.path_graph(3)] * 3, executor=threads)  # which is shut down
+        self.assertEqual([type(outcome) for outcome in outcomes], [RuntimeError] * 3)
+        with self.assertRaises(ProgramNotFound):
+            iter_planarize([], program="/nowhere/planar")
 
 
-@needs_networkx
 class Programs(unittest.TestCase):
     """With programs that are shell scripts, or none."""
 

@@ -1,4 +1,4 @@
-"""`python3 -m fezdrok`: a line of answer for each line."""
+"""`fezdrok lines`: a line of answer for each line."""
 
 import io
 import json
@@ -21,7 +21,7 @@ ENVIRONMENT = {**os.environ, "PYTHONPATH": str(Path(__file__).resolve().parent.p
 class CommandLine(unittest.TestCase):
     def answers(self, text, *words):
         target = io.StringIO()
-        status = main(list(words), io.BytesIO(text if isinstance(text, bytes) else text.encode()), target)
+        status = main(["lines", *words], io.BytesIO(text if isinstance(text, bytes) else text.encode()), target)
         return status, target.getvalue().splitlines()
 
     def test_failures_have_a_line_too(self):
@@ -65,12 +65,12 @@ class CommandLine(unittest.TestCase):
     def test_as_a_program(self):
         text = Planarizer().script_text() + "\n"
         done = subprocess.run(
-            [sys.executable, "-m", "fezdrok"], input=text * 2, capture_output=True, text=True, env=ENVIRONMENT
+            [sys.executable, "-m", "fezdrok", "lines"], input=text * 2, capture_output=True, text=True, env=ENVIRONMENT
         )
         self.assertEqual((done.returncode, done.stdout), (0, (Planarizer().run().to_text() + "\n") * 2))
 
     def test_a_closed_pipe_ends_it_quietly(self):
-        words = [sys.executable, "-m", "fezdrok", "--program", fake(self, "cat > /dev/null; echo '{\"history\":[]}'")]
+        words = [sys.executable, "-m", "fezdrok", "lines", "--program", fake(self, "cat > /dev/null; echo '{\"history\":[]}'")]
         reader, writer = os.pipe()
         os.close(reader)
         with os.fdopen(writer, "wb") as closed:

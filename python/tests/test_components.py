@@ -1,7 +1,8 @@
 """Graphs that are not connected, planarizations planarized again, and failures that say what was wrong."""
 
 import unittest
-from unittest import mock
+
+import networkx as nx
 
 from fezdrok import (
     Dummy, NoReport, Picture, PlanarError, Planarizer, ProgramFailed, ProgramNotStarted, Report,
@@ -9,15 +10,9 @@ from fezdrok import (
 )
 from fezdrok.drawing.drawings import positions
 
-from .support import crossings_of, fake, graph_pairs, needs_networkx, needs_program, pairs_of, traced
-
-try:
-    import networkx as nx
-except ImportError:
-    nx = None
+from .support import crossings_of, fake, graph_pairs, needs_program, pairs_of, traced
 
 
-@needs_networkx
 @needs_program
 class Components(unittest.TestCase):
     def graph(self):
@@ -40,8 +35,8 @@ class Components(unittest.TestCase):
         self.assertEqual(len(result.to_json()["nodes"]), len(graph))
 
     def test_each_part_is_lawful_and_as_by_itself(self):
-        result = planarize(self.graph(), quick=True)
-        self.assertEqual(result.parts[1].picture, planarize(nx.complete_graph(6), quick=True).picture)
+        result = planarize(self.graph(), effort="quick")
+        self.assertEqual(result.parts[1].picture, planarize(nx.complete_graph(6), effort="quick").picture)
         for part in result.parts:
             if part.picture.edges:
                 self.assertEqual(Planarizer().check(part.picture), part.picture.counts)
@@ -66,13 +61,13 @@ class Components(unittest.TestCase):
 
     def test_reinsert(self):
         graph = nx.disjoint_union(nx.petersen_graph(), nx.empty_graph(1))
-        result = planarize(graph, quick=True)
-        better = reinsert(result, 3)
+        result = planarize(graph, effort="quick")
+        better = reinsert(result, rounds=3)
         self.assertLess(better.crossings, result.crossings)
         self.assertEqual(set(better.id_of), set(graph.edges))
         self.assertEqual(better.crossings, sum(part.crossings for part in better.parts))
         with self.assertRaisesRegex(ValueError, "rounds is -2"):
-            reinsert(result, -2)
+            reinsert(result, rounds=-2)
 
     def test_drawings(self):
         graph = self.graph()
@@ -87,7 +82,6 @@ class Components(unittest.TestCase):
             self.assertEqual(to_svg(result, style=style).count("<use"), len(graph))
 
 
-@needs_networkx
 @needs_program
 class PlanarizedTwice(unittest.TestCase):
     def test_dummies_do_not_clash(self):
@@ -135,14 +129,6 @@ class Failures(unittest.TestCase):
             file.write(b"\x7fELF no program")
         with self.assertRaisesRegex(ProgramNotStarted, "planar cannot be run: Exec format error"):
             Planarizer(program=path).run()
-
-    @needs_networkx
-    def test_networkx_is_named(self):
-        with mock.patch.dict("sys.modules", {"networkx": None}):
-            with self.assertRaisesRegex(
-                PlanarError, "edges that must not be crossed and planar beginnings want the package networkx"
-            ):
-                planarize(nx.complete_graph(4), begin="planar")
 
 
 if __name__ == "__main__":

@@ -2,7 +2,7 @@
 
 import json
 import unittest
-from typing import Any, Dict, List, Tuple
+from typing import Any
 
 from fezdrok.engine.program import Program
 
@@ -12,7 +12,7 @@ LISTS = 16
 COMMANDS = 1000
 
 
-def start_rows() -> Dict[str, Any]:
+def start_rows() -> dict[str, Any]:
     """A hub, 0, with two neighbours for each list: list i has the vertices 2 i + 1 and 2 i + 2 to itself, which are
     joined, and one of which is joined to the hub."""
     commands = []
@@ -24,7 +24,7 @@ def start_rows() -> Dict[str, Any]:
     return json.loads(report)["picture"]
 
 
-def commands_of(i: int) -> List[List[Any]]:
+def commands_of(i: int) -> list[list[Any]]:
     """Growths at the vertices of list i, and edges between them, some with a plan; and some that are refused."""
     first, second = 2 * i + 1, 2 * i + 2
     kinds = [
@@ -41,11 +41,11 @@ class Names:
     """Names for the ids of one run that do not depend on the order of calls: the list, and how many it had made
     before."""
 
-    def __init__(self, start: Dict[str, Any]):
+    def __init__(self, start: dict[str, Any]):
         self.edges = {row["id"]: ("start", row["id"]) for row in start["edges"]}
         self.vertices = {vertex: ("start", vertex) for vertex in range(len(start["rotations"]))}
 
-    def reply(self, made: Tuple[int, int], reply: Dict[str, Any]) -> Any:
+    def reply(self, made: tuple[int, int], reply: dict[str, Any]) -> Any:
         """A reply with names in place of ids; what it made is given names."""
         if "vertex" in reply:
             self.vertices[reply["vertex"]] = made
@@ -54,7 +54,7 @@ class Names:
         crossed = [[self.edges[edge], segment, way] for edge, segment, way in reply.get("crossed", [])]
         return {**{key: value for key, value in reply.items() if key not in ("vertex", "edge")}, "crossed": crossed}
 
-    def picture(self, rows: Dict[str, Any]) -> Any:
+    def picture(self, rows: dict[str, Any]) -> Any:
         """The rotations and the edges of a picture, by names."""
         rotations = {self.vertices[place]: [self.edges[edge] for edge in around] for place, around in enumerate(rows["rotations"])}
         edges = {
@@ -66,7 +66,7 @@ class Names:
 
 @needs_program
 class ConcurrentLists(unittest.TestCase):
-    def run_lists(self, start: Dict[str, Any], lists: List[List[Any]]) -> Dict[str, Any]:
+    def run_lists(self, start: dict[str, Any], lists: list[list[Any]]) -> dict[str, Any]:
         text = Program().run(json.dumps({"version": 1, "workers": lists, "start": start}))
         self.assertEqual(Program().replay(text).strip(), f"replayed {LISTS * COMMANDS} calls")
         return json.loads(text)
@@ -79,7 +79,7 @@ class ConcurrentLists(unittest.TestCase):
         wanted = [
             wanted_names.reply(divmod(place, COMMANDS), entry["reply"]) for place, entry in enumerate(alone["history"])
         ]
-        given: List[List[Any]] = [[] for _ in range(LISTS)]
+        given: list[list[Any]] = [[] for _ in range(LISTS)]
         for entry in together["history"]:
             i = entry["caller"]
             given[i].append(names.reply((i, len(given[i])), entry["reply"]))

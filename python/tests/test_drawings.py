@@ -67,12 +67,8 @@ class Plane(DrawingTest):
             self.check_apart(spread(rotations, frozenset(), (first, rotations[first][0])), embedding)
             self.check_apart(positions(result), embedding)
 
-    def test_where_networkx_or_matplotlib_is_missing(self):
+    def test_where_matplotlib_is_missing(self):
         result = planar_result(nx.path_graph(3))
-        with mock.patch.dict("sys.modules", {"networkx": None}), self.assertRaisesRegex(
-            ModuleMissing, "want the package networkx"
-        ):
-            to_svg(result)
         with mock.patch.dict("sys.modules", {"matplotlib": None, "matplotlib.patches": None}), self.assertRaisesRegex(
             ModuleMissing, "drawings by draw want the package matplotlib"
         ):

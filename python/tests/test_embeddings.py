@@ -2,17 +2,14 @@
 
 import unittest
 
+import networkx as nx
+
 from fezdrok import (
     Crossing, Dart, Dummy, Edge, Picture, Planarization, Planarizer, Point, from_networkx_embedding, planarize,
     to_networkx_embedding,
 )
 
-from .support import crossings_of, euler, needs_networkx, needs_program, traced
-
-try:
-    import networkx as nx
-except ImportError:
-    nx = None
+from .support import crossings_of, euler, needs_program, traced
 
 
 def result_of(graph, picture, edge_of) -> Planarization:
@@ -28,7 +25,6 @@ def twice_crossed() -> Picture:
     return Picture(((0, 2), (0, 1), (1, 3, 2), (3,)), edges, crossings, 4, 2)
 
 
-@needs_networkx
 class ToNetworkx(unittest.TestCase):
     def test_a_crossing_is_marked(self):
         edges = (Edge(0, 0, 1, 0, (0,)), Edge(1, 2, 3, 0, (0,)))
@@ -75,7 +71,6 @@ class ToNetworkx(unittest.TestCase):
             self.assertEqual(tuple(found[place:] + found[:place]), around)
 
 
-@needs_networkx
 class FromNetworkx(unittest.TestCase):
     def embedding(self, graph):
         return nx.check_planarity(graph)[1]

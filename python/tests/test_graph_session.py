@@ -3,18 +3,15 @@
 import unittest
 from unittest import mock
 
+import networkx as nx
+
 from fezdrok import (
     Deleted, Fault, Grown, Inserted, NotPlanarized, Planarizer, SessionClosed, planarize, reinsert,
     to_networkx_embedding, to_svg,
 )
 from fezdrok.engine import line_process
 
-from .support import graph_pairs, needs_networkx, needs_program, pairs_of, traced
-
-try:
-    import networkx as nx
-except ImportError:
-    nx = None
+from .support import graph_pairs, needs_program, pairs_of, traced
 
 
 def named(graph):
@@ -22,12 +19,11 @@ def named(graph):
     return list(graph.edges(keys=True) if graph.is_multigraph() else graph.edges())
 
 
-@needs_networkx
 @needs_program
 class GraphSessions(unittest.TestCase):
     def setUp(self):
         self.graph = nx.Graph(["ab", "bc", "cd", "da", "ac"])
-        self.result = planarize(self.graph, quick=True)
+        self.result = planarize(self.graph, effort="quick")
 
     def judge(self, result):
         """The picture draws the graph, each edge of it has its name, and each report is true."""
@@ -75,16 +71,17 @@ class GraphSessions(unittest.TestCase):
 
     def test_what_cannot_be_named(self):
         with self.result.session() as session:
-            for call, words in (
-                (lambda: session.insert_edge("a", "x"), "'x' is no node"),
-                (lambda: session.insert_edge("b", "a"), "already"),
-                (lambda: session.insert_edge("b", "d", price=3), "price 3"),
-                (lambda: session.grow_edge("x", "y"), "'x' is no node"),
-                (lambda: session.grow_edge("a", "b"), "'b' is a node"),
-                (lambda: session.grow_edge("a", None), "None cannot be a node"),
-                (lambda: session.grow_edge(None, "x"), "None is no node"),
+            for call, kind, words in (
+                (lambda: session.insert_edge("a", "x"), nx.NodeNotFound, "'x' is no node"),
+                (lambda: session.insert_edge("b", "a"), ValueError, "already"),
+                (lambda: session.insert_edge("b", "d", price=3), ValueError, "price 3"),
+                (lambda: session.grow_edge("x", "y"), nx.NodeNotFound, "'x' is no node"),
+                (lambda: session.grow_edge("a", "b"), ValueError, "'b' is a node"),
+                (lambda: session.grow_edge("a", None), ValueError, "None cannot be a node"),
+                (lambda: session.grow_edge("a", float("nan")), ValueError, "nan is not equal to itself"),
+                (lambda: session.grow_edge(None, "x"), nx.NodeNotFound, "None is no node"),
             ):
-                with self.assertRaisesRegex(ValueError, words):
+                with self.assertRaisesRegex(kind, words):
                     call()
             for call in (lambda: session.grow_edge("a", ["x"]), lambda: session.insert_edge("a", ["x"])):
                 with self.assertRaises(TypeError):
@@ -128,6 +125,19 @@ class GraphSessions(unittest.TestCase):
                     session.insert_edge(4, node)
             self.judge(session.result())
             self.assertEqual((session.result().crossings, session.result().prices), (0, (None, 1)))
+    def test_an_edge_that_must_not_be_crossed_crosses_none(self):
+        result = planarize(nx.complete_graph(5).edge_subgraph(list(nx.complete_graph(5).edges)[:-1]))
+        with result.session(prices=[None]) as session:
+            with self.assertRaises(NotPlanarized) as caught:
+                session.insert_edge(3, 4, price=None)
+            self.assertEqual((caught.exception.edge, caught.exception.reply), ((3, 4), None))
+            self.assertFalse(session.graph.has_edge(3, 4))
+            session.result().verify()
+            session.insert_edge(3, 4)
+            self.assertEqual(session.result().crossings, 1)
+            self.judge(session.result())
+
+    def test_prices_of_sessions(self):
         with planarize(self.graph, price={edge: 5 for edge in self.graph.edges}).session() as session:
             self.assertEqual((session.prices, session.result().prices), ((5, 1), (5,)))
             session.insert_edge("b", "d")
@@ -164,7 +174,7 @@ class GraphSessions(unittest.TestCase):
             planarize(nx.Graph({"a": "b", "c": ""})).parts[1].session()
 
     def test_compacting(self):
-        with planarize(nx.complete_graph(6), quick=True).session() as session:
+        with planarize(nx.complete_graph(6), effort="quick").session() as session:
             for u, v in ((0, 1), (2, 3), (4, 5)):
                 session.delete_edge(u, v)
                 session.insert_edge(v, u)

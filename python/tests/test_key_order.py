@@ -5,7 +5,7 @@ import random
 import subprocess
 import unittest
 from pathlib import Path
-from typing import Any, Dict, List, Optional, Tuple
+from typing import Any
 
 from fezdrok import find_program
 
@@ -21,14 +21,14 @@ def shuffled(form: Any, chance: random.Random) -> Any:
     return [shuffled(part, chance) for part in form] if isinstance(form, list) else form
 
 
-def members(pairs: List[Tuple[str, Any]]) -> Dict[str, Any]:
+def members(pairs: list[tuple[str, Any]]) -> dict[str, Any]:
     """An object with each key once."""
     if len(dict(pairs)) < len(pairs):
         raise ValueError("a key comes twice")
     return dict(pairs)
 
 
-def example(path: Path) -> Optional[Dict[str, Any]]:
+def example(path: Path) -> dict[str, Any] | None:
     """The form in a file, if it is an object with each key once, and a script in it has one list."""
     try:
         form = json.loads(path.read_bytes(), object_pairs_hook=members)
@@ -42,7 +42,7 @@ def verb_for(form: Any) -> str:
     return "run" if "workers" in form else "replay" if "history" in form else "check"
 
 
-def answer(verb: str, text: bytes) -> Tuple[int, bytes, bytes]:
+def answer(verb: str, text: bytes) -> tuple[int, bytes, bytes]:
     """What a command answers to a text."""
     done = subprocess.run([find_program(), verb], input=text, capture_output=True, timeout=60)
     return done.returncode, done.stdout, done.stderr

@@ -4,25 +4,30 @@ import ast
 import re
 import unittest
 from pathlib import Path
-from typing import Dict, Set
 
 FOLDER = Path(__file__).resolve().parent.parent
 #: What the modules of each subpackage may import of the others.
-ALLOWED = {"engine": set(), "files": {"engine"}, "drawing": {"engine", "files"}, "search": {"engine", "files"}}
+ALLOWED = {
+    "engine": set(),
+    "files": {"engine"},
+    "drawing": {"engine", "files"},
+    "search": {"engine", "files"},
+    "command": {"engine", "files", "drawing", "search"},
+}
 #: The modules that may import all subpackages.
 TOP = {"fezdrok", "fezdrok.__main__"}
 
 
-def module_files() -> Dict[str, Path]:
+def module_files() -> dict[str, Path]:
     """The files of all modules by their names; that of a package is its `__init__`."""
     files = sorted((FOLDER / "fezdrok").rglob("*.py"))
     return {".".join(file.relative_to(FOLDER).with_suffix("").parts).replace(".__init__", ""): file for file in files}
 
 
-def imported_by(module: str, file: Path, known: Set[str]) -> Set[str]:
+def imported_by(module: str, file: Path, known: set[str]) -> set[str]:
     """The modules of the package that a module imports anywhere, also in functions and for type checkers alone."""
     package = module if file.stem == "__init__" else module.rpartition(".")[0]
-    names: Set[str] = set()
+    names: set[str] = set()
     for node in ast.walk(ast.parse(file.read_text())):
         if isinstance(node, ast.Import):
             names.update(alias.name for alias in node.names)
@@ -33,7 +38,7 @@ def imported_by(module: str, file: Path, known: Set[str]) -> Set[str]:
     return names & known
 
 
-def imports() -> Dict[str, Set[str]]:
+def imports() -> dict[str, set[str]]:
     """What each module imports."""
     files = module_files()
     return {module: imported_by(module, file, set(files)) for module, file in files.items()}
@@ -44,7 +49,7 @@ def subpackage(module: str) -> str:
     return module.partition(".")[2].partition(".")[0]
 
 
-def in_circles(graph: Dict[str, Set[str]]) -> Set[str]:
+def in_circles(graph: dict[str, set[str]]) -> set[str]:
     """The modules that import themselves by way of others, and those that import these."""
     left = dict(graph)
     while free := [module for module, others in left.items() if not others & set(left)]:
@@ -57,7 +62,7 @@ class Layout(unittest.TestCase):
     def test_imports_are_found(self):
         found = imports()
         self.assertIn("fezdrok.engine.session", found["fezdrok"])
-        self.assertIn("fezdrok.engine.faults", found["fezdrok.__main__"])
+        self.assertIn("fezdrok.command.words", found["fezdrok.__main__"])
         self.assertIn("fezdrok.engine.line_process", found["fezdrok.engine.session"])
         self.assertIn("fezdrok.engine.results", found["fezdrok.drawing.scenes"])
 

@@ -4,21 +4,17 @@ know what crosses what, and the same result each time."""
 import unittest
 from collections import Counter
 
+import networkx as nx
+
 from fezdrok import Picture, Planarizer, planarize, reinsert
 from fezdrok.files.graphs import read_graph
 from fezdrok.search.beginnings import beginning
 from fezdrok.search.search_picture import SearchPicture
 
-from .support import needs_networkx, needs_program
+from .support import needs_program
 from .test_planarization import PlanarizationTest
 
-try:
-    import networkx as nx
-except ImportError:
-    nx = None
 
-
-@needs_networkx
 @needs_program
 class Defaults(PlanarizationTest):
     def test_known_crossing_numbers(self):
@@ -71,8 +67,8 @@ class Defaults(PlanarizationTest):
         self.assertEqual(len(result.reports), sum(len(part.reports) for part in result.parts))
 
     def test_reinsert_goes_on(self):
-        before = planarize(nx.complete_graph(9), quick=True, order="random", seed=2)
-        after = reinsert(before, None, shakes=30, seed=1)
+        before = planarize(nx.complete_graph(9), effort="quick", order="random", seed=2)
+        after = reinsert(before, rounds=None, shakes=30, seed=1)
         self.judge(after)
         self.assertLess(after.crossings, before.crossings)
         self.assertEqual(after.reports[0], before.reports[0])
@@ -80,7 +76,6 @@ class Defaults(PlanarizationTest):
             self.assertEqual(report.picture, following.start)
 
 
-@needs_networkx
 @needs_program
 class SearchPictures(unittest.TestCase):
     def test_what_crosses_what(self):
@@ -97,8 +92,10 @@ class SearchPictures(unittest.TestCase):
         pairs = Counter((saved.place_of[row.newcomer], saved.place_of[row.crossed]) for row in picture.crossings)
         self.assertEqual(pairs, Counter((place, other) for place in range(21) for other in search_picture.over[place]))
         self.assertEqual(pairs, Counter((other, place) for place in range(21) for other in search_picture.under[place]))
-        cost = sum(source.price(saved.place_of[row.crossed]) for row in picture.crossings)
-        self.assertEqual((saved.score, search_picture.score), ((len(picture.crossings), cost),) * 2)
+        price_of = {edge_id: source.price(place) for edge_id, place in saved.place_of.items()}
+        cost = sum(price_of[row.crossed] * price_of[row.newcomer] for row in picture.crossings)
+        self.assertEqual((saved.score, search_picture.score), ((cost, len(picture.crossings)),) * 2)
+        self.assertEqual((saved.crossings, search_picture.crossings), (len(picture.crossings),) * 2)
         for edge_id, place in saved.place_of.items():
             row = picture.edge(edge_id)
             self.assertEqual({start.node_of[row.a], start.node_of[row.b]}, set(source.edges[place]))

@@ -21,6 +21,10 @@ class Refusals(unittest.TestCase):
         for name in ("package", "VERSION", "c/fezdrok.h", "python/fezdrok/__init__.py"):
             (self.root / name).parent.mkdir(parents=True, exist_ok=True)
             shutil.copy(ROOT / name, self.root / name)
+        self.sources = self.root / ".ci" / "sources"
+        self.sources.parent.mkdir()
+        self.sources.write_text("#!/bin/sh\necho 0123\n")
+        self.sources.chmod(0o755)
         self.prebuilt = self.root / "prebuilt" / "x86_64-linux"
         self.prebuilt.mkdir(parents=True)
         for name in NAMES:
@@ -50,6 +54,11 @@ class Refusals(unittest.TestCase):
     def test_a_file_that_the_list_does_not_name(self):
         (self.prebuilt / "MANIFEST").write_text("glibc 2.34\n")
         self.assertEqual(self.refused(), "package: prebuilt/x86_64-linux/planar is not the file that MANIFEST names\n")
+
+    def test_files_of_other_sources(self):
+        self.sources.write_text("#!/bin/sh\necho 4567\n")
+        due = "package: the sources are not those of prebuilt/x86_64-linux/planar: ./release makes it anew\n"
+        self.assertEqual(self.refused(), due)
 
     def test_another_version(self):
         (self.root / "VERSION").write_text("0.4.9\n")

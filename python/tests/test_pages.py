@@ -1,7 +1,5 @@
 """The examples of README.md, docs/USING.md and python/README.md, run as they are written there."""
 
-import ast
-import builtins
 import doctest
 import os
 import re
@@ -12,8 +10,6 @@ import tempfile
 import unittest
 from importlib.util import find_spec
 from pathlib import Path
-from typing import List, Tuple
-from unittest import mock
 from xml.etree import ElementTree
 
 from fezdrok import find_program
@@ -22,8 +18,6 @@ from .support import ROOT, needs_program
 
 PAGES = ("README.md", "docs/USING.md")
 MARK = "-- the next command --"
-#: From this heading on the commands of the page need networkx.
-FARM = "\n## A folder of scripts"
 
 #: What stands for GNU parallel where it is not there: it does what the two lines of the page want of it, one after
 #: another.
@@ -53,44 +47,23 @@ parallel() {
 
 
 def python_examples(page: str) -> doctest.DocTest:
-    """The examples in Python; without matplotlib those that draw are left out, and without networkx those that need
-    it."""
+    """The examples in Python; without matplotlib those that draw are left out."""
     found = doctest.DocTestParser().get_doctest((ROOT / page).read_text(), {}, page, page, 0)
     if find_spec("matplotlib") is None:
         found.examples = [example for example in found.examples if not re.search(r"\bdraw\b", example.source)]
-    if find_spec("networkx") is None:
-        found.examples = without_networkx(found.examples)
     return found
 
 
-def without_networkx(examples: List[doctest.Example]) -> List[doctest.Example]:
-    """The examples that do not import networkx, and use no variable that one that is left out sets or uses."""
-    words, variables, kept = set(dir(builtins)), set(), []
-    for example in examples:
-        nodes = list(ast.walk(ast.parse(example.source)))
-        imported = {it.asname or it.name for it in nodes if isinstance(it, ast.alias)}
-        names = [it for it in nodes if isinstance(it, ast.Name)]
-        new, used = {it.id for it in names if isinstance(it.ctx, ast.Store)}, {it.id for it in names}
-        if "import networkx" not in example.source and used <= words | variables | imported | new:
-            kept.append(example)
-            words |= imported
-            variables |= new
-        else:
-            variables -= used
-    return kept
-
-
-def commands(page: str) -> List[Tuple[str, str]]:
-    """The commands of a page, which begin with `$`, each with what it prints; `./test` itself is left out, without a C
-    compiler what is compiled, and without networkx all from the heading on below which scripts are made by it.
+def commands(page: str) -> list[tuple[str, str]]:
+    """The commands of a page, which begin with `$`, each with what it prints; `./test` itself is left out, and without
+    a C compiler what is compiled.
 
     Lines that begin with `>` go on with a command. The lines below it, up to an empty one, are what it prints; where
     there are none, nothing is said of what it prints.
     """
-    found: List[Tuple[List[str], List[str]]] = []
+    found: list[tuple[list[str], list[str]]] = []
     is_open = False
-    text = (ROOT / page).read_text()
-    for line in (text if find_spec("networkx") else text.partition(FARM)[0]).splitlines():
+    for line in (ROOT / page).read_text().splitlines():
         if line.startswith("    $ "):
             found.append(([line[6:]], []))
         elif is_open and (line.startswith("    > ") or line == "    >"):
@@ -122,11 +95,10 @@ class Pages(unittest.TestCase):
         for page in (*PAGES, "python/README.md"):
             told = []
             examples = python_examples(page)
-            self.assertTrue(examples.examples or (page == "README.md" and not find_spec("networkx")), page)
+            self.assertTrue(examples.examples, page)
             result = doctest.DocTestRunner(optionflags=doctest.ELLIPSIS, verbose=False).run(examples, out=told.append)
             self.assertEqual(result.failed, 0, "".join(told))
-        if find_spec("networkx"):
-            self.check_pictures(Path(self.folder))
+        self.check_pictures(Path(self.folder))
 
     def check_pictures(self, folder: Path):
         """The pictures that are shown are small, and are those that the examples wrote: with as many lines, nodes and
@@ -177,19 +149,6 @@ class Pages(unittest.TestCase):
         for (command, printed), text in zip(todo, told):
             if printed:
                 self.assertRegex(text.rstrip("\n"), re.compile(rf"\A{pattern_of(printed)}\Z", re.DOTALL), command)
-
-    def test_what_needs_no_networkx(self):
-        """Without networkx the sections of sessions and single commands are run all the same, and the lines before the
-        farm."""
-        with mock.patch.object(sys.modules[__name__], "find_spec", return_value=None):
-            left = "".join(example.source for example in python_examples("docs/USING.md").examples)
-            shorter = commands("docs/USING.md")
-        for words in ("Planarizer(prices=[0]).run()", "with Session(prices=[1, 5])", "session.compact()"):
-            self.assertIn(words, left)
-        self.assertNotRegex(left, r"\bnx\b|\bplanarize\(")
-        self.assertIn(FARM, (ROOT / "docs" / "USING.md").read_text())
-        self.assertTrue(shorter)
-        self.assertNotIn("networkx", str(shorter))
 
     def test_readme_commands(self):
         self.check_commands("README.md")

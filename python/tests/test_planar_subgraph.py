@@ -3,17 +3,12 @@
 import random
 import unittest
 
+import networkx as nx
+
 from fezdrok import prepare
 from fezdrok.search.planar_subgraph import planar_subgraph, short_cycles_first
 from fezdrok.search.planarity import is_planar
 from fezdrok.search.progress import Clock
-
-from .support import needs_networkx
-
-try:
-    import networkx as nx
-except ImportError:
-    nx = None
 
 
 def numbered(graph):
@@ -31,7 +26,6 @@ def grid_with_chords(size, chords, seed):
     return graph
 
 
-@needs_networkx
 class Planarity(unittest.TestCase):
     def test_random_graphs(self):
         chance = random.Random(1)
@@ -69,7 +63,6 @@ class Planarity(unittest.TestCase):
             self.assertEqual(is_planar(*numbered(graph)), due)
 
 
-@needs_networkx
 class PlanarSubgraphs(unittest.TestCase):
     def test_no_edge_can_be_added(self):
         for graph in (

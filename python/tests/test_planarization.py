@@ -1,9 +1,12 @@
 """Graphs planarized: crossings counted again, the graph read back from its planarization, known crossing numbers."""
 
+import math
 import random
 import unittest
 from collections import Counter
 from fractions import Fraction
+
+import networkx as nx
 
 from fezdrok import (
     Counts, Fault, Limits, NotPlanarized, Planarizer, Report, planarize, prepare, reinsert, to_networkx_embedding,
@@ -11,12 +14,7 @@ from fezdrok import (
 from fezdrok.files.graphs import read_graph
 from fezdrok.search.connectivity import bridges
 
-from .support import crossings_of, euler, graph_pairs, needs_networkx, needs_program, pairs_of, traced
-
-try:
-    import networkx as nx
-except ImportError:
-    nx = None
+from .support import crossings_of, euler, graph_pairs, needs_program, pairs_of, traced
 
 
 def named_graphs():
@@ -79,19 +77,23 @@ class WholeNumber:
         return 3
 
 
-@needs_networkx
 class Refusals(unittest.TestCase):
     """Graphs and words that are refused before the program is called."""
 
     def test_graphs(self):
         loop = nx.Graph([(0, 1), (1, 1)])
-        for graph, words in ((nx.empty_graph(3), "no edge"), (nx.Graph(), "no edge"), (loop, "loop at 1")):
+        for graph, words in ((nx.Graph(), "no edge"), ([], "no edge"), (loop, "loop at 1")):
             with self.subTest(words), self.assertRaisesRegex(ValueError, words):
                 planarize(graph)
+        with self.assertRaisesRegex(ValueError, "the node nan is not equal to itself"):
+            planarize(nx.Graph([(float("nan"), 1)]))
+        with self.assertRaisesRegex(ValueError, "no edge"):
+            prepare(nx.empty_graph(3))
         with self.assertRaisesRegex(ValueError, "not connected: 2 cannot be reached from 0"):
             prepare(nx.Graph([(0, 1), (2, 3)]))
-        with self.assertRaisesRegex(ValueError, r"\[\(0, 1\)\] is no graph of networkx"):
-            planarize([(0, 1)])
+        for other in (5, None, "ab", [(0, 1, 2)], [0, 1], [([], 1)]):
+            with self.subTest(other), self.assertRaisesRegex(ValueError, r"is no graph of networkx, and no list of pairs"):
+                planarize(other)
 
     def test_prices(self):
         graph = nx.path_graph(3)
@@ -171,9 +173,12 @@ class Refusals(unittest.TestCase):
         graph = nx.complete_graph(5)
         with self.assertRaisesRegex(ValueError, "without crossings"):
             planarize(graph, forbidden=graph.edges)
+        for call in (planarize, prepare):
+            with self.assertRaises(NotPlanarized) as caught:
+                call(nx.complete_graph(6), forbidden=[(5, 4), *graph.edges])
+            self.assertEqual((caught.exception.edge, caught.exception.reply), ((3, 4), None))
 
 
-@needs_networkx
 class PriceKinds(unittest.TestCase):
     """Prices become kinds, without the program."""
 
@@ -227,49 +232,48 @@ class PriceKinds(unittest.TestCase):
         self.assertNotEqual(prepare(graph, order="random", seed=1).asked, prepare(graph, order="random", seed=2).asked)
 
 
-@needs_networkx
 @needs_program
 class Planarizations(PlanarizationTest):
     def test_known_crossing_numbers_are_lower_bounds(self):
         for name, (graph, number) in named_graphs().items():
             with self.subTest(name):
-                result = planarize(graph, quick=True)
+                result = planarize(graph, effort="quick")
                 self.judge(result)
                 self.assertGreaterEqual(result.crossings, number)
 
     def test_some_are_met(self):
         for name in ("K4", "K5", "K33", "tree", "edge"):
             graph, number = named_graphs()[name]
-            self.assertEqual(planarize(graph, quick=True, tries=5).crossings, number, name)
+            self.assertEqual(planarize(graph, effort="quick", tries=5).crossings, number, name)
 
     def test_random_graphs(self):
         for seed in range(6):
             with self.subTest(seed):
                 graph = nx.random_regular_graph(3 + seed % 3, 14, seed=seed)
                 if nx.is_connected(graph):
-                    self.judge(planarize(graph, quick=True, order="random", seed=seed))
+                    self.judge(planarize(graph, effort="quick", order="random", seed=seed))
 
     def test_several_orders(self):
         graph = nx.complete_graph(7)
-        result = planarize(graph, quick=True, tries=6, seed=3)
+        result = planarize(graph, effort="quick", tries=6, seed=3)
         self.judge(result)
         self.assertEqual(len(result.tries), 6)
         self.assertEqual(result.crossings, min(result.tries))
-        self.assertEqual(result.tries[0], planarize(graph, quick=True).crossings)
-        again = planarize(graph, quick=True, tries=6, seed=3)
+        self.assertEqual(result.tries[0], planarize(graph, effort="quick").crossings)
+        again = planarize(graph, effort="quick", tries=6, seed=3)
         self.assertEqual((again.picture, again.tries), (result.picture, result.tries))
 
     def test_a_planar_beginning(self):
         """A planar graph has no crossing then, and others have no fewer than they must."""
         for name, (graph, number) in named_graphs().items():
             with self.subTest(name):
-                result = planarize(graph, quick=True, begin="planar")
+                result = planarize(graph, effort="quick", begin="planar")
                 self.judge(result)
                 if number == 0:
                     self.assertEqual(result.crossings, 0)
                 self.assertGreaterEqual(result.crossings, number)
         graph = nx.MultiGraph(list(nx.complete_graph(5).edges) * 2)
-        self.judge(planarize(graph, quick=True, begin="planar", forbidden=[(0, 1)], order="random", price=lambda u, v, data: 1 + u))
+        self.judge(planarize(graph, effort="quick", begin="planar", forbidden=[(0, 1)], order="random", price=lambda u, v, data: 1 + u))
 
     def test_a_planar_beginning_is_as_large_as_one_edge_after_another_makes_it(self):
         graph = nx.complete_graph(7)
@@ -280,12 +284,12 @@ class Planarizations(PlanarizationTest):
             self.assertFalse(nx.check_planarity(nx.Graph([*edges, prepared.source.edges[place]]))[0])
 
     def test_rounds_save_crossings_and_replay(self):
-        before = planarize(nx.complete_graph(8), quick=True)
-        after = reinsert(before, 5)
+        before = planarize(nx.complete_graph(8), effort="quick")
+        after = reinsert(before, rounds=5)
         self.judge(after)
         self.assertLess(after.crossings, before.crossings)
         self.assertGreaterEqual(after.crossings, 18)
-        self.assertEqual(planarize(nx.complete_graph(8), quick=True, rounds=5).picture, after.picture)
+        self.assertEqual(planarize(nx.complete_graph(8), effort="quick", rounds=5).picture, after.picture)
         for report, following in zip(after.reports, after.reports[1:]):
             self.assertEqual(report.picture, following.start)
         for report in after.reports:
@@ -304,18 +308,21 @@ class Planarizations(PlanarizationTest):
         graph = nx.complete_graph(5)
         for seed in range(4):
             doubled = nx.MultiGraph(list(graph.edges) * 2)
-            self.judge(planarize(doubled, quick=True, order="random", seed=seed))
+            self.judge(planarize(doubled, effort="quick", order="random", seed=seed))
 
     def test_prices_decide_what_is_crossed(self):
         graph = nx.complete_graph(5)
         dear = {edge: 1000 for edge in graph.edges if edge != (0, 1)}
         result = planarize(
-            graph, quick=True, price=dear, order=[edge for edge in graph.edges if 4 not in edge or edge[0] > 1]
+            graph, effort="quick", price=dear, order=[edge for edge in graph.edges if 4 not in edge or edge[0] > 1]
         )
         self.judge(result)
         self.assertEqual(
             result.cost,
-            sum(result.prices[result.picture.edge(result.id_of[pair[0]]).kind] for pair in result.crossing_pairs),
+            sum(
+                math.prod(result.prices[result.picture.edge(result.id_of[edge]).kind] for edge in pair)
+                for pair in result.crossing_pairs
+            ),
         )
 
     def test_forbidden_edges_have_no_crossing(self):
@@ -323,7 +330,7 @@ class Planarizations(PlanarizationTest):
             graph = nx.complete_graph(7)
             forbidden = random.Random(seed).sample(sorted(nx.maximal_matching(graph)) + [(0, 2), (2, 4)], 4)
             with self.subTest(seed):
-                result = planarize(graph, quick=True, forbidden=forbidden, order="random", seed=seed)
+                result = planarize(graph, effort="quick", forbidden=forbidden, order="random", seed=seed)
                 self.judge(result)
                 self.assertEqual(result.reports[0].version, 2)
                 for u, v in forbidden:
@@ -348,7 +355,7 @@ class Planarizations(PlanarizationTest):
             planarize(nx.complete_graph(5), limits=Limits(5, 10, 0))
         self.assertEqual(caught.exception.reply.name, "Full")
         twice = nx.disjoint_union(nx.complete_graph(5), nx.complete_graph(5))
-        self.assertEqual(planarize(twice, quick=True, limits=Limits(5, 10, 1)).crossings, 2)
+        self.assertEqual(planarize(twice, effort="quick", limits=Limits(5, 10, 1)).crossings, 2)
         for limits, due in ((Limits(4, 10, 1), "20 TooMany"), (Limits(65537, 10, 1), "11 BadLimits")):
             with self.assertRaisesRegex(Fault, due):
                 planarize(twice, limits=limits)
@@ -357,7 +364,7 @@ class Planarizations(PlanarizationTest):
         graph = nx.petersen_graph()
         prepared = prepare(graph)
         text = prepared.planarizer.program.run(prepared.script_text())
-        self.assertEqual(prepared.result(Report.from_text(text)), planarize(graph, quick=True))
+        self.assertEqual(prepared.result(Report.from_text(text)), planarize(graph, effort="quick"))
 
     def test_the_program_counts_the_same(self):
         result = planarize(nx.complete_graph(6))
@@ -367,7 +374,6 @@ class Planarizations(PlanarizationTest):
         )
 
 
-@needs_networkx
 @needs_program
 class Routes(unittest.TestCase):
     """No route is cheaper than the one that was taken: the dual graph is made here, and networkx looks in it."""
@@ -376,7 +382,7 @@ class Routes(unittest.TestCase):
         for graph, price in (
             (nx.complete_graph(6), None), (nx.complete_graph(5), lambda u, v, data: 1 + (3 * u + v) % 5)
         ):
-            report = planarize(graph, price, quick=True).reports[0]
+            report = planarize(graph, price, effort="quick").reports[0]
             planarizer = Planarizer(start=report.start, prices=report.prices)
             before = report.start
             for entry in report.history:

@@ -8,18 +8,14 @@ import tempfile
 import unittest
 from dataclasses import replace
 
+import networkx as nx
+
 from fezdrok import Delete, Insert, Limits, NotPlanarized, OtherReport, Planned, PlanarError, Refused, prepare
 
 from . import reference
-from .support import ROOT, needs_networkx, needs_program
-
-try:
-    import networkx as nx
-except ImportError:
-    nx = None
+from .support import ROOT, needs_program
 
 
-@needs_networkx
 @needs_program
 class OtherProcesses(unittest.TestCase):
     def printed(self, folder: str, seed: int) -> bytes:
@@ -43,7 +39,6 @@ class OtherProcesses(unittest.TestCase):
         self.assertNotIn(b"ends: False", first)
 
 
-@needs_networkx
 class ReportsOfScripts(unittest.TestCase):
     """Reports that are made by the second planarizer, so that no program is called."""
 

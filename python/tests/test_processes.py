@@ -12,12 +12,11 @@ import tempfile
 import time
 import unittest
 from pathlib import Path
-from typing import List
 
 from fezdrok import find_program
 from fezdrok.engine import processes
 
-from .support import ROOT, fake, needs_networkx, needs_program
+from .support import ROOT, fake, needs_program
 
 #: How many seconds a test waits for what takes a moment where processors are free.
 LIMIT = 120.0
@@ -65,7 +64,7 @@ if __name__ == "__main__":
 """
 
 
-def fields(process: int) -> List[str]:
+def fields(process: int) -> list[str]:
     """The state of a process, the numbers of its parent, its group and its session, and more; of none that it has
     ended."""
     try:
@@ -79,7 +78,7 @@ def has_ended(process: int) -> bool:
     return fields(process)[0] in "ZX"
 
 
-def session_of(leader: int) -> List[int]:
+def session_of(leader: int) -> list[int]:
     """The processes of a session that have not ended."""
     numbers = [int(name) for name in os.listdir("/proc") if name.isdigit()]
     return [it for it in numbers if fields(it)[3] == str(leader) and not has_ended(it)]
@@ -115,7 +114,7 @@ class Signals(unittest.TestCase):
             self.assertLess(time.monotonic(), end, why)
             time.sleep(0.02)
 
-    def noted_numbers(self) -> List[int]:
+    def noted_numbers(self) -> list[int]:
         return [int(line) for line in self.noted.read_text().splitlines()] if self.noted.exists() else []
 
     def begin(self, text: str, *words: str, count: int = 1) -> "subprocess.Popen[str]":
@@ -153,7 +152,6 @@ class Signals(unittest.TestCase):
         self.assertEqual(python.returncode, status, told)
         return printed + told
 
-    @needs_networkx
     def test_one_run(self):
         for number in KINDS:
             with self.subTest(number):
@@ -161,7 +159,6 @@ class Signals(unittest.TestCase):
                 python.send_signal(number)
                 self.assert_ends(python, -number)
 
-    @needs_networkx
     def test_a_pool(self):
         """With 40 graphs in the queue, each of which would sleep."""
         for method in ("fork", "spawn", "forkserver"):
@@ -171,7 +168,6 @@ class Signals(unittest.TestCase):
                     python.send_signal(number)
                     self.assert_ends(python, -number)
 
-    @needs_networkx
     def test_ctrl_c_on_a_terminal(self):
         """It comes to the whole group."""
         for text, words, count in ((ONE, (), 1), (MANY, ("fork",), 2)):
@@ -187,7 +183,6 @@ class Signals(unittest.TestCase):
                 python.send_signal(number)
                 self.assert_ends(python, -number)
 
-    @needs_networkx
     @needs_program
     def test_what_is_found_is_given(self):
         for text, calls, printed, why in (

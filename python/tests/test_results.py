@@ -4,17 +4,13 @@ import io
 import json
 import unittest
 
+import networkx as nx
+
 from fezdrok import Dummy, planarize, to_networkx_graph
 
-from .support import needs_networkx, needs_program
-
-try:
-    import networkx as nx
-except ImportError:
-    nx = None
+from .support import needs_program
 
 
-@needs_networkx
 @needs_program
 class Results(unittest.TestCase):
     def test_segments_lead_from_the_first_node_to_the_other(self):
@@ -93,7 +89,7 @@ class Results(unittest.TestCase):
                 )
 
     def test_the_object_is_whole(self):
-        result = planarize(nx.petersen_graph(), quick=True)
+        result = planarize(nx.petersen_graph(), effort="quick")
         value = result.to_json()
         darts = sorted(map(tuple, (dart for face in value["faces"] for dart in face)))
         self.assertEqual(

@@ -9,28 +9,24 @@ import warnings
 from pathlib import Path
 from unittest import mock
 
+import networkx as nx
+
 from fezdrok import (
     Fault, Limits, NotPlanarized, PlanarWarning, Planarizer, ProgramFailed, find_program, planarize, reinsert,
 )
 from fezdrok.search import local_search, search_picture
 
-from .support import fake, needs_networkx, needs_program
-
-try:
-    import networkx as nx
-except ImportError:
-    nx = None
+from .support import fake, needs_program
 
 TOO_LONG = "echo 'planar: 51 TooLong' >&2; exit 1"
 KILLED = "kill -9 $$"
 
 
-@needs_networkx
 @needs_program
 class SearchFailures(unittest.TestCase):
     def setUp(self):
         self.graph = nx.complete_graph(8)
-        self.once = planarize(self.graph, quick=True)
+        self.once = planarize(self.graph, effort="quick")
 
     def failing(self, calls: str, how: str) -> str:
         """A program that fails in this way in each process whose number is in this pattern of the shell."""
@@ -52,32 +48,32 @@ class SearchFailures(unittest.TestCase):
     def test_nothing_is_told_where_all_was_tried(self):
         with warnings.catch_warnings():
             warnings.simplefilter("error")
-            self.assertEqual(len(planarize(self.graph, quick=True, tries=3, rounds=2).tries), 3)
+            self.assertEqual(len(planarize(self.graph, effort="quick", tries=3, rounds=2).tries), 3)
 
     def test_a_round_in_which_the_program_ends(self):
         """21 edges come to the 7 of the tree, then each crossed edge is two lines more."""
-        first = planarize(self.graph, quick=True, rounds=1)
+        first = planarize(self.graph, effort="quick", rounds=1)
         self.assertLess(first.crossings, self.once.crossings)
         rows = sum(1 for row in self.once.picture.edges if row.crossings)
         for lines, due in ((28 + 3, self.once), (28 + 2 * rows + 4, first)):
             with self.warned("ProgramFailed"):
-                result = planarize(self.graph, quick=True, rounds=5, program=self.short(lines))
+                result = planarize(self.graph, effort="quick", rounds=5, program=self.short(lines))
             self.assertEqual(result.picture, due.picture)
             self.assertEqual(Planarizer().replay(result.reports[-1]), len(result.reports[-1].history))
 
     def test_an_order_that_fails(self):
-        whole = planarize(self.graph, quick=True, tries=4)
+        whole = planarize(self.graph, effort="quick", tries=4)
         with self.warned("order 2 of 4: Fault 51 TooLong; order 3 of 4: Fault 51"):
-            result = planarize(self.graph, quick=True, tries=4, program=self.failing("[23]", TOO_LONG))
+            result = planarize(self.graph, effort="quick", tries=4, program=self.failing("[23]", TOO_LONG))
         self.assertEqual(result.tries, (whole.tries[0], whole.tries[3]))
         with self.warned("order 1 of 4"):
-            result = planarize(self.graph, quick=True, tries=4, program=self.failing("1", TOO_LONG))
+            result = planarize(self.graph, effort="quick", tries=4, program=self.failing("1", TOO_LONG))
         self.assertEqual(result.tries, whole.tries[1:])
 
     def test_a_program_that_fails_ends_the_search(self):
         with self.warned("ProgramFailed"):
-            result = planarize(self.graph, quick=True, tries=4, program=self.failing("3", KILLED))
-        self.assertEqual(result.tries, planarize(self.graph, quick=True, tries=2).tries)
+            result = planarize(self.graph, effort="quick", tries=4, program=self.failing("3", KILLED))
+        self.assertEqual(result.tries, planarize(self.graph, effort="quick", tries=2).tries)
 
     def test_shakes_that_fail(self):
         whole = planarize(self.graph, tries=2, shakes=0)
@@ -93,21 +89,21 @@ class SearchFailures(unittest.TestCase):
     def test_limits(self):
         """Ids run out in a round, and crossings in some orders."""
         with self.warned("NotPlanarized .* 7 Full"):
-            result = planarize(self.graph, quick=True, rounds=5, limits=Limits(8, 28, 1000))
+            result = planarize(self.graph, effort="quick", rounds=5, limits=Limits(8, 28, 1000))
         self.assertEqual(result.picture, self.once.picture)
-        whole = planarize(self.graph, quick=True, tries=10, seed=1)
+        whole = planarize(self.graph, effort="quick", tries=10, seed=1)
         with self.warned("order 3 of 10: NotPlanarized .* 7 Full"):
-            result = planarize(self.graph, quick=True, tries=10, seed=1, limits=Limits(8, 28, 19))
+            result = planarize(self.graph, effort="quick", tries=10, seed=1, limits=Limits(8, 28, 19))
         self.assertEqual(result.tries, tuple(number for number in whole.tries if number <= 19))
         with self.assertRaises(NotPlanarized):
-            planarize(self.graph, quick=True, tries=10, seed=1, limits=Limits(8, 28, 5))
+            planarize(self.graph, effort="quick", tries=10, seed=1, limits=Limits(8, 28, 5))
 
     def test_ids_that_run_out_are_made_room_for(self):
         """With few ids the process begins anew again and again, and comes to the same as with many."""
-        many = planarize(self.graph, quick=True, rounds=5)
+        many = planarize(self.graph, effort="quick", rounds=5)
         for limits, turn in ((Limits(8, 31, 1000), 64), (Limits(8, 40, 1000), 64), (Limits(8, 1000, 45), 2)):
             with mock.patch.multiple(search_picture, _FIRST=turn, _MOST=turn, _LEAST=turn):
-                few = planarize(self.graph, quick=True, rounds=5, limits=limits)
+                few = planarize(self.graph, effort="quick", rounds=5, limits=limits)
             self.assertEqual((few.crossings, few.tries), (many.crossings, many.tries))
             self.assertGreater(len(few.reports), 1)
             for report in few.reports:
@@ -116,16 +112,16 @@ class SearchFailures(unittest.TestCase):
 
     def test_reinsert(self):
         with self.warned("ProgramFailed"):
-            self.assertIs(reinsert(self.once, 3, program=self.failing("1", KILLED)), self.once)
+            self.assertIs(reinsert(self.once, rounds=3, program=self.failing("1", KILLED)), self.once)
         with self.warned("TooLong"):
-            self.assertIs(reinsert(self.once, 3, program=self.failing("1", TOO_LONG)), self.once)
+            self.assertIs(reinsert(self.once, rounds=3, program=self.failing("1", TOO_LONG)), self.once)
 
     def test_a_picture_that_is_longer_than_a_script_may_be(self):
         graph = nx.barabasi_albert_graph(500, 2, seed=3)
-        first = planarize(graph, quick=True)
+        first = planarize(graph, effort="quick")
         with warnings.catch_warnings():
             warnings.simplefilter("error")
-            result = planarize(graph, quick=True, rounds=1)
+            result = planarize(graph, effort="quick", rounds=1)
         self.assertGreater(len(first.picture.to_text()), 1_048_576)
         self.assertLess(result.crossings, first.crossings)
         self.assertEqual(result.picture.counts.edges, graph.number_of_edges())
@@ -147,7 +143,6 @@ class Interrupted(Exception):
     """What a function raises that is told of the progress."""
 
 
-@needs_networkx
 @needs_program
 class ProgressCalls(unittest.TestCase):
     def test_progress(self):
@@ -196,7 +191,7 @@ class ProgressCalls(unittest.TestCase):
             if turns[-1] == "round 1" and turns.count("round 1") == 5:
                 raise KeyboardInterrupt
 
-        first = planarize(graph, quick=True)
+        first = planarize(graph, effort="quick")
         with mock.patch.multiple(local_search, _SPARE_SECONDS=0.0, _SPARE_TIMES=0):
             with mock.patch.multiple(search_picture, _FIRST=8, _MOST=8), self.assertWarns(PlanarWarning):
                 result = planarize(graph, begin="tree", tries=1, progress=interrupt)

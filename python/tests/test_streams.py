@@ -6,7 +6,7 @@ import os
 import resource
 import subprocess
 import unittest
-from typing import Any, Tuple
+from typing import Any
 
 from fezdrok import find_program
 
@@ -17,7 +17,7 @@ SCRIPT = (EXAMPLES / "across_the_cheap_side.json").read_bytes()
 
 @needs_program
 class Streams(unittest.TestCase):
-    def ended(self, words: Tuple[Any, ...], **streams: Any) -> Tuple[int, str]:
+    def ended(self, words: tuple[Any, ...], **streams: Any) -> tuple[int, str]:
         """The status of a run, and what is on standard error. A run that does not end within a minute fails."""
         done = subprocess.run([find_program(), *words], stderr=subprocess.PIPE, timeout=60, **streams)
         return done.returncode, done.stderr.decode()

@@ -3,10 +3,11 @@
 from __future__ import annotations
 
 import json
+from collections.abc import Callable
 from importlib import import_module
-from typing import Any, Callable, List, Optional, Tuple, Union
+from typing import Any, TypeVar
 
-Value = Union[int, str, Tuple[int, ...], None]
+Value = int | str | tuple[int, ...] | None
 
 
 class PlanarWarning(UserWarning):
@@ -22,11 +23,11 @@ class ProgramNotFound(PlanarError, FileNotFoundError):
     """There is no program `planar` where it was looked for; the message says where, and how to get one."""
 
 
-class UsageRefused(PlanarError):
+class UsageRefused(PlanarError, ValueError):
     """Status 2: the program refused the words of its command line."""
 
 
-class ProgramFailed(PlanarError):
+class ProgramFailed(PlanarError, RuntimeError):
     """The program ended in a way that its documents do not name, for example by a signal.
 
     `status` is its exit status (negative for a signal), `text` is what it wrote on standard error.
@@ -49,7 +50,10 @@ class NoReport(PlanarError, ValueError):
     """A text was to be read as a report or as a picture, and is none."""
 
 
-def read_as(name: str, text: str, read: Callable[[Any], Any]) -> Any:
+Read = TypeVar("Read")
+
+
+def read_as(name: str, text: str, read: Callable[[Any], Read]) -> Read:
     """What a text says that is to be a thing of this name, as this function reads it. NoReport where the text is no
     JSON, or is of another form."""
     try:
@@ -60,7 +64,7 @@ def read_as(name: str, text: str, read: Callable[[Any], Any]) -> Any:
         raise NoReport(f"the text is no {name}: {type(fault).__name__} {fault}") from fault
 
 
-class Fault(PlanarError):
+class Fault(PlanarError, ValueError):
     """Status 1: the first fault of the text that the program read, as `52 BadShape $/workers`.
 
     `number` and `name` are those of docs/FORMATS.md. `value` is what stands behind the name: a path as text,
@@ -76,7 +80,7 @@ class Fault(PlanarError):
         self.value = value
 
     @property
-    def words(self) -> List[Union[int, str]]:
+    def words(self) -> list[int | str]:
         """The number, the name and what stands behind it, one after another."""
         values = self.value if isinstance(self.value, tuple) else () if self.value is None else (self.value,)
         return [self.number, self.name, *values]
@@ -85,42 +89,55 @@ class Fault(PlanarError):
         return " ".join(map(str, self.words))
 
 
-class MemoryFault(Fault):
+class MemoryFault(Fault, MemoryError):
     """Status 3: the program could not get memory. The same call may succeed later."""
 
     status = 3
 
 
-class OtherReport(PlanarError):
+class OtherReport(PlanarError, ValueError):
     """A report was to be read as that of a script that it does not belong to."""
 
 
-class Unfinished(PlanarError):
+class VerificationError(PlanarError, ValueError):
+    """A planarization is not whole, or not true of its graph; the message says where."""
+
+
+class Unfinished(PlanarError, RuntimeError):
     """Stands for a graph that was not planarized, since `planarize_many` was interrupted before."""
 
 
-class NotPlanarized(PlanarError):
-    """A graph could not be planarized: the program refused one of its edges.
+class NotPlanarized(PlanarError, ValueError):
+    """A graph could not be planarized, since one of its edges could not be drawn as it has to be.
 
-    `edge` is the edge of the graph, `reply` the refusal, as 9 `NoRoute` where edges that must not be crossed part
-    its ends.
+    `edge` is the edge of the graph, `reply` the refusal of the program, as 9 `NoRoute` where edges that must not be
+    crossed part its ends. It is None where the edge itself must not be crossed, and would have crossings.
     """
 
-    def __init__(self, edge: Any, reply: Any):
+    def __init__(self, edge: Any, reply: Any = None):
         super().__init__(edge, reply)
         self.edge = edge
         self.reply = reply
 
     def __str__(self) -> str:
+        if self.reply is None:
+            return f"the edge {self.edge!r} must not be crossed, and cannot be drawn without crossings"
         return f"the edge {self.edge!r} was refused: {self.reply.number} {self.reply.name}"
 
 
-class SessionClosed(PlanarError):
+class SessionClosed(PlanarError, ValueError):
     """A session was called after its end: it was closed, or its program had ended."""
 
 
 class ModuleMissing(PlanarError, ImportError):
     """A package that is wanted for what was asked is not there; the message says which, and for what."""
+
+
+#: The same exceptions by names that end in Error.
+FaultError, MemoryFaultError, ModuleMissingError, NoReportError = Fault, MemoryFault, ModuleMissing, NoReport
+NotPlanarizedError, OtherReportError, ProgramFailedError = NotPlanarized, OtherReport, ProgramFailed
+ProgramNotFoundError, ProgramNotStartedError = ProgramNotFound, ProgramNotStarted
+SessionClosedError, UnfinishedError, UsageRefusedError = SessionClosed, Unfinished, UsageRefused
 
 
 def wanted(module: str, purpose: str) -> Any:
@@ -136,7 +153,7 @@ def wanted(module: str, purpose: str) -> Any:
         ) from missing
 
 
-def read_value(text: Optional[str]) -> Value:
+def read_value(text: str | None) -> Value:
     """The value of a fault line: a number if it is written in digits, a tuple if these are several, else the text
     itself."""
     if text is None or not text.replace(" ", "").isdecimal():

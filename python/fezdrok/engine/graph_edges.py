@@ -2,16 +2,18 @@
 
 from __future__ import annotations
 
-from typing import Any, Container, Hashable, Optional, Tuple
+from collections.abc import Container, Hashable
+from typing import Any
 
 Node = Hashable
 #: An edge of a graph as its `edges` gives it: two nodes, and in a multigraph a key.
-GraphEdge = Tuple[Any, ...]
+GraphEdge = tuple[Any, ...]
 #: None where the edge must not be crossed.
-Price = Optional[int]
+Price = int | None
 
-#: How many kinds of edges the program knows, one for each price.
+#: How many kinds of edges the program knows, one for each price, and what crossing an edge costs at most.
 KINDS = 64
+GREATEST_PRICE = 1000
 
 
 def name_among(names: Container[GraphEdge], graph: Any, edge: GraphEdge) -> GraphEdge:

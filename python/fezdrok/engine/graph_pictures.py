@@ -2,9 +2,10 @@
 
 from __future__ import annotations
 
-from dataclasses import dataclass, field
+from collections.abc import Sequence
+from dataclasses import dataclass
 from functools import cached_property
-from typing import Any, Dict, List, NamedTuple, Sequence, Tuple
+from typing import Any, NamedTuple
 
 from .graph_edges import GraphEdge, Node, Price, name_among
 from .pictures import Dart, Picture, Point
@@ -45,26 +46,44 @@ class Segment(NamedTuple):
     right: int
 
 
-@dataclass(frozen=True)
+@dataclass(frozen=True, eq=False, repr=False)
 class GraphPicture:
     """A graph with a picture of it. The fields are those of Planarization, which is what users have of it."""
 
     graph: Any
     picture: Picture
-    node_of: Tuple[Node, ...]
-    edge_of: Dict[int, GraphEdge]
-    prices: Tuple[Price, ...]
-    reports: Sequence[Report] = field(repr=False)
-    tries: Tuple[int, ...] = ()
-    parts: Tuple["GraphPicture", ...] = field(default=(), repr=False)
+    node_of: tuple[Node, ...]
+    edge_of: dict[int, GraphEdge]
+    prices: tuple[Price, ...]
+    reports: Sequence[Report]
+    tries: tuple[int, ...] = ()
+    parts: tuple["GraphPicture", ...] = ()
+
+    def __eq__(self, other: object) -> bool:
+        """Whether both are the same picture of the same graph, with the same names and prices. Reports, and what each
+        order came to, count for nothing."""
+        if not isinstance(other, GraphPicture):
+            return NotImplemented
+        mine, others = (
+            (it.picture, it.node_of, it.edge_of, it.prices, len(it.parts), *_graph_values(it.graph))
+            for it in (self, other)
+        )
+        return mine == others
+
+    def __hash__(self) -> int:
+        return hash((self.picture, self.node_of, self.prices))
+
+    def __repr__(self) -> str:
+        counts = f"{len(self.node_of)} nodes, {len(self.edge_of)} edges, {self.crossings} crossings"
+        return f"<{type(self).__name__}: {counts}>"
 
     @cached_property
-    def vertex_of(self) -> Dict[Node, int]:
+    def vertex_of(self) -> dict[Node, int]:
         """The vertex of each node."""
         return {node: vertex for vertex, node in enumerate(self.node_of)}
 
     @cached_property
-    def id_of(self) -> Dict[GraphEdge, int]:
+    def id_of(self) -> dict[GraphEdge, int]:
         """The id of each edge of the graph, which is named as the graph's `edges` names it."""
         return {edge: edge_id for edge_id, edge in self.edge_of.items()}
 
@@ -82,7 +101,7 @@ class GraphPicture:
         """The layer of the Dummy nodes: 0, or one more than that of the Dummy nodes that the graph itself has."""
         return max((node.layer + 1 for node in self.node_of if isinstance(node, Dummy)), default=0)
 
-    def segments(self, u: Node, v: Node, *key: Any) -> Tuple[Segment, ...]:
+    def segments(self, u: Node, v: Node, *key: Any) -> tuple[Segment, ...]:
         """The segments of an edge in order, from u to v, with their ends and the faces on either side. The edge is
         named as for `edge_id`, in a multigraph with its key; KeyError where there is none."""
         row = self.picture.edge(self.edge_id(u, v, *key))
@@ -110,9 +129,9 @@ class GraphPicture:
         return self.picture.outer_face
 
     @property
-    def outer_faces(self) -> Tuple[int, ...]:
+    def outer_faces(self) -> tuple[int, ...]:
         """The places in `picture.faces` of the outer faces of all parts that have an edge."""
-        found: List[int] = []
+        found: list[int] = []
         before = 0
         for part in self.parts or (self,):
             found += [before + part.outer_face] if part.picture.edges else []
@@ -127,16 +146,21 @@ class GraphPicture:
         return len(self.picture.crossings)
 
     @property
-    def crossing_pairs(self) -> List[Tuple[GraphEdge, GraphEdge]]:
+    def crossing_pairs(self) -> list[tuple[GraphEdge, GraphEdge]]:
         """For each crossing the two edges that cross there: the one that was there, and the one that crossed it."""
         return [(self.edge_of[row.crossed], self.edge_of[row.newcomer]) for row in self.picture.crossings]
 
     @property
     def cost(self) -> int:
-        """The sum of the prices of the crossings: each costs what its crossed edge costs."""
-        return sum(self.prices[self.picture.edge(row.crossed).kind] or 0 for row in self.picture.crossings)
+        """The sum of the costs of the crossings. One costs the product of the prices of both edges, whichever of them
+        was there first."""
+        return sum(self._price(row.crossed) * self._price(row.newcomer) for row in self.picture.crossings)
 
-    @property
-    def score(self) -> Tuple[int, int]:
-        """What is less in a better picture: the crossings, then their cost."""
-        return (self.crossings, self.cost)
+    def _price(self, edge_id: int) -> int:
+        """The price of an edge that has a crossing, and so a price."""
+        return self.prices[self.picture.edge(edge_id).kind] or 0
+
+
+def _graph_values(graph: Any) -> tuple[Any, ...]:
+    """What two equal graphs have in common: of which kind they are, their nodes, edges and attributes."""
+    return graph.is_directed(), graph.is_multigraph(), graph.graph, dict(graph.nodes(data=True)), graph.adj

@@ -2,9 +2,10 @@
 
 from __future__ import annotations
 
+from collections.abc import Callable, Sequence
 from dataclasses import replace
 from types import TracebackType
-from typing import Any, Callable, Dict, Generic, List, Optional, Sequence, Tuple, Type, TypeVar
+from typing import Any, Generic, TypeVar
 
 from .faults import NotPlanarized
 from .graph_edges import KINDS, GraphEdge, Node, Price, judge_kinds, name_among
@@ -27,14 +28,34 @@ class GraphSession(Generic[Result]):
     An edge that the program refuses is NotPlanarized, which changes nothing, and the session goes on. What ends it is
     as said of Session. A call that was interrupted, as by Ctrl-C, was carried out wholly or not at all; the next call
     finds out which.
+
+    Parameters
+    ----------
+    result : Planarization
+        Of a graph that is connected and has an edge, else ValueError.
+    prices : sequence of int or None, optional
+        Prices that new edges may have, beside those of the result and 1; ValueError for more than 64 in all.
+    limits : Limits, optional
+    program : str or os.PathLike, optional
+
+    Examples
+    --------
+    >>> from fezdrok import planarize
+    >>> with planarize([("a", "b"), ("b", "c"), ("c", "a")]).session() as session:
+    ...     reply = session.grow_edge("a", "d")
+    ...     reply = session.insert_edge("d", "b")
+    ...     session
+    ...     session.result()
+    <GraphSession: 4 nodes, 5 edges>
+    <Planarization: 4 nodes, 5 edges, 0 crossings>
     """
 
     def __init__(
         self,
         result: Result,
         prices: Sequence[Price] = (),
-        limits: Optional[Limits] = None,
-        program: Optional[PathLike] = None,
+        limits: Limits | None = None,
+        program: PathLike | None = None,
     ):
         if result.parts:
             raise ValueError("the graph is not connected: begin a session for each of the planarization's parts")
@@ -44,14 +65,18 @@ class GraphSession(Generic[Result]):
         self.graph = result.graph.copy()
         self._source = result
         self._reports: Sequence[Report] = result.reports
-        self._node_of: List[Node] = list(result.node_of)
-        self._vertex_of: Dict[Node, int] = dict(result.vertex_of)
-        self._place_of: Dict[Node, int] = {node: place for place, node in enumerate(self.graph)}
-        self.edge_of: Dict[int, GraphEdge] = {edge_id: self._name(*edge) for edge_id, edge in result.edge_of.items()}
-        self._id_of: Dict[GraphEdge, int] = {edge: edge_id for edge_id, edge in self.edge_of.items()}
-        self._asked: Optional[GraphEdge] = None
+        self._node_of: list[Node] = list(result.node_of)
+        self._vertex_of: dict[Node, int] = dict(result.vertex_of)
+        self._place_of: dict[Node, int] = {node: place for place, node in enumerate(self.graph)}
+        self.edge_of: dict[int, GraphEdge] = {edge_id: self._name(*edge) for edge_id, edge in result.edge_of.items()}
+        self._id_of: dict[GraphEdge, int] = {edge: edge_id for edge_id, edge in self.edge_of.items()}
+        self._asked: GraphEdge | None = None
         self._calls = 0
         self._session = Session(result.picture, limits, self.prices, program)
+
+    def __repr__(self) -> str:
+        words = "closed" if self.is_closed else f"{len(self._node_of)} nodes, {len(self.edge_of)} edges"
+        return f"<GraphSession: {words}>"
 
     # ---- Edges
 
@@ -59,31 +84,39 @@ class GraphSession(Generic[Result]):
         """A new edge between two nodes along the first of the cheapest routes. To cross it costs `price`, or it must
         not be crossed (None).
 
-        ValueError where one of them is no node, where they are joined already and the graph is no multigraph, or where
-        the price is none of `prices`; NotPlanarized where the program refuses the edge, as 9 NoRoute.
+        networkx.NodeNotFound where one of them is no node; ValueError where they are joined already and the graph is no
+        multigraph, or where the price is none of `prices`; NotPlanarized where the program refuses the edge, as 9
+        NoRoute, and where the edge must not be crossed and its route crosses others: it is taken out again.
         """
         self._settle()
         start, end, kind = self._vertex(u), self._vertex(v), self._kind(price)
         if not self.graph.is_multigraph() and self.graph.has_edge(u, v):
             raise ValueError(f"the graph has the edge {(u, v)!r} already, and is no multigraph")
         name = self._name(u, v, self.graph.new_edge_key(u, v)) if self.graph.is_multigraph() else self._name(u, v)
-        return self._made(name, lambda: self._session.insert(start, end, kind))
+        inserted: Inserted = self._made(name, lambda: self._session.insert(start, end, kind))
+        if price is None and inserted.crossed:
+            self._made(name, lambda: self._session.delete(inserted.edge))
+            raise NotPlanarized(name)
+        return inserted
 
     def grow_edge(self, u: Node, v: Node, price: Price = 1, position: int = 0) -> Grown:
         """A new node `v` on a new edge from the node `u`, which begins in the corner at this position of it.
 
-        ValueError where `u` is no node, `v` is one already or is None, which networkx takes for no node, or the price
-        is none of `prices`; TypeError where `v` has no hash; NotPlanarized where the program refuses the edge, as 7
-        Full.
+        networkx.NodeNotFound where `u` is no node; ValueError where `v` is one already or is None, which networkx takes
+        for no node, where it is not equal to itself, or where the price is none of `prices`; TypeError where `v` has no
+        hash; NotPlanarized where the program refuses the edge, as 7 Full.
         """
         self._settle()
         start, kind = self._vertex(u), self._kind(price)
         if v is None:
             raise ValueError("None cannot be a node of a graph")
+        if v != v:
+            raise ValueError(f"{v!r} is not equal to itself, so its edges could not be found")
         if v in self._vertex_of:
             raise ValueError(f"{v!r} is a node of the graph already")
         name = (u, v, 0) if self.graph.is_multigraph() else (u, v)
-        return self._made(name, lambda: self._session.grow(start, position, kind))
+        grown: Grown = self._made(name, lambda: self._session.grow(start, position, kind))
+        return grown
 
     def delete_edge(self, u: Node, v: Node, *key: Any) -> Deleted:
         """An edge taken out, which an undirected graph may name either way round. In a multigraph its key must be
@@ -94,11 +127,14 @@ class GraphSession(Generic[Result]):
         self._settle()
         name = name_among(self._id_of, self.graph, (u, v, *key))
         edge_id = self._id_of[name]
-        return self._made(name, lambda: self._session.delete(edge_id))
+        deleted: Deleted = self._made(name, lambda: self._session.delete(edge_id))
+        return deleted
 
     def _vertex(self, node: Node) -> int:
         if node not in self._vertex_of:
-            raise ValueError(f"{node!r} is no node of the graph")
+            from networkx import NodeNotFound
+
+            raise NodeNotFound(f"{node!r} is no node of the graph")
         return self._vertex_of[node]
 
     def _kind(self, price: Price) -> int:
@@ -198,7 +234,7 @@ class GraphSession(Generic[Result]):
         return self
 
     def __exit__(
-        self, kind: Optional[Type[BaseException]], raised: Optional[BaseException], trace: Optional[TracebackType]
+        self, kind: type[BaseException] | None, raised: BaseException | None, trace: TracebackType | None
     ) -> None:
         self.close()
 
@@ -207,7 +243,7 @@ class GraphSession(Generic[Result]):
         self._session.close()
 
 
-def _session_prices(known: Sequence[Price], more: Sequence[Price]) -> Tuple[Price, ...]:
+def _session_prices(known: Sequence[Price], more: Sequence[Price]) -> tuple[Price, ...]:
     """The prices that are known, those that come to them, and 1 if there is room; ValueError if they are too many."""
     table = tuple(dict.fromkeys((*known, *more)))
     judge_kinds(len(table))

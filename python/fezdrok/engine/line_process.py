@@ -5,7 +5,8 @@ from __future__ import annotations
 import os
 import subprocess
 import tempfile
-from typing import List, NoReturn, Optional, Sequence, Tuple
+from collections.abc import Sequence
+from typing import NoReturn
 
 from .faults import ProgramNotStarted
 from .processes import kill_when_closed
@@ -38,7 +39,7 @@ class LineProcess:
         self.path = path
         self._ahead = bytearray()
         self._owed = 0  # how many answers may still come to lines of a call that was interrupted, at most
-        self._ended: Optional[Tuple[int, str]] = None
+        self._ended: tuple[int, str] | None = None
         try:
             self._errors = tempfile.TemporaryFile()
             self._process = self._begun(path)
@@ -95,7 +96,7 @@ class LineProcess:
         """
         return self.ask_all([line])[0]
 
-    def ask_all(self, lines: Sequence[str]) -> List[bytes]:
+    def ask_all(self, lines: Sequence[str]) -> list[bytes]:
         """The answers to several lines, as `ask`. All lines are written before the first answer is read, so together
         they may have TOGETHER bytes: of more, the process could wait for its answers to be read, and this for the lines
         to be."""
@@ -161,7 +162,7 @@ class LineProcess:
         status, told = self.end()
         raise failure(status, told)
 
-    def end(self, patience: float = PATIENCE) -> Tuple[int, str]:
+    def end(self, patience: float = PATIENCE) -> tuple[int, str]:
         """Ends the process, if it has not ended, and gives its status and what it wrote on standard error.
 
         Its input is closed. If it has not ended so many seconds later, it is killed.

@@ -7,9 +7,10 @@ from the definitions, without the program. It expects a picture that the program
 from __future__ import annotations
 
 import json
+from collections.abc import Iterator
 from dataclasses import dataclass
 from functools import cached_property
-from typing import Any, Dict, Iterator, List, NamedTuple, Set, Tuple
+from typing import Any, NamedTuple
 
 from .faults import read_as
 
@@ -37,12 +38,12 @@ class Dart(NamedTuple):
         return "back" if self.back else "forward"
 
     @staticmethod
-    def from_json(value: List[Any]) -> "Dart":
+    def from_json(value: list[Any]) -> "Dart":
         """The dart of an element of `crossed` in a report, as `[3,0,"forward"]`."""
         edge, segment, way = value
         return Dart(edge, segment, way == "back")
 
-    def to_json(self) -> List[Any]:
+    def to_json(self) -> list[Any]:
         """The dart as it stands in a report."""
         return [self.edge, self.segment, self.way]
 
@@ -62,7 +63,7 @@ class Edge:
     a: int
     b: int
     kind: int = 0
-    crossings: Tuple[int, ...] = ()
+    crossings: tuple[int, ...] = ()
 
     @property
     def segments(self) -> int:
@@ -70,11 +71,11 @@ class Edge:
         return len(self.crossings) + 1
 
     @staticmethod
-    def from_json(value: Dict[str, Any]) -> "Edge":
+    def from_json(value: dict[str, Any]) -> "Edge":
         """The edge of a row of a picture, an object with `id`, `a`, `b`, `kind` and `crossings`."""
         return Edge(value["id"], value["a"], value["b"], value["kind"], tuple(value["crossings"]))
 
-    def to_json(self) -> Dict[str, Any]:
+    def to_json(self) -> dict[str, Any]:
         """The edge as that object."""
         return {"id": self.id, "a": self.a, "b": self.b, "kind": self.kind, "crossings": list(self.crossings)}
 
@@ -92,11 +93,11 @@ class Crossing:
     sign: str
 
     @staticmethod
-    def from_json(value: Dict[str, Any]) -> "Crossing":
+    def from_json(value: dict[str, Any]) -> "Crossing":
         """The crossing of a row of a picture, an object with `id`, `crossed`, `newcomer` and `sign`."""
         return Crossing(value["id"], value["crossed"], value["newcomer"], value["sign"])
 
-    def to_json(self) -> Dict[str, Any]:
+    def to_json(self) -> dict[str, Any]:
         """The crossing as that object."""
         return {"id": self.id, "crossed": self.crossed, "newcomer": self.newcomer, "sign": self.sign}
 
@@ -119,13 +120,26 @@ class Counts(NamedTuple):
 @dataclass(frozen=True)
 class Picture:
     """A picture as rows: the clockwise lists of edge ids round the vertices, the edges and the crossings in rising
-    order of their ids, and the ids that come next."""
+    order of their ids, and the ids that come next.
 
-    rotations: Tuple[Tuple[int, ...], ...]
-    edges: Tuple[Edge, ...]
-    crossings: Tuple[Crossing, ...] = ()
+    Examples
+    --------
+    >>> from fezdrok import Picture
+    >>> Picture.seed()
+    <Picture: 2 vertices, 1 edges, 0 crossings>
+    >>> Picture.seed().faces
+    ((Dart(edge=0, segment=0, back=False), Dart(edge=0, segment=0, back=True)),)
+    """
+
+    rotations: tuple[tuple[int, ...], ...]
+    edges: tuple[Edge, ...]
+    crossings: tuple[Crossing, ...] = ()
     next_edge: int = 0
     next_crossing: int = 0
+
+    def __repr__(self) -> str:
+        counts = f"{len(self.rotations)} vertices, {len(self.edges)} edges, {len(self.crossings)} crossings"
+        return f"<Picture: {counts}>"
 
     @staticmethod
     def seed() -> "Picture":
@@ -133,7 +147,7 @@ class Picture:
         return Picture(((0,), (0,)), (Edge(0, 0, 1),), (), 1, 0)
 
     @staticmethod
-    def from_json(value: Dict[str, Any]) -> "Picture":
+    def from_json(value: dict[str, Any]) -> "Picture":
         """The picture of a JSON object in the form of docs/FORMATS.md."""
         return Picture(
             tuple(tuple(around) for around in value["rotations"]),
@@ -148,7 +162,7 @@ class Picture:
         """The picture of a text that the program wrote. NoReport where the text is no JSON, or is of another form."""
         return read_as("picture", text, Picture.from_json)
 
-    def to_json(self) -> Dict[str, Any]:
+    def to_json(self) -> dict[str, Any]:
         """The picture as a JSON object in the form of docs/FORMATS.md."""
         return {
             "rotations": [list(around) for around in self.rotations],
@@ -165,11 +179,11 @@ class Picture:
     # ---- Rows by their ids
 
     @cached_property
-    def _edges(self) -> Dict[int, Edge]:
+    def _edges(self) -> dict[int, Edge]:
         return {row.id: row for row in self.edges}
 
     @cached_property
-    def _crossings(self) -> Dict[int, Crossing]:
+    def _crossings(self) -> dict[int, Crossing]:
         return {row.id: row for row in self.crossings}
 
     def edge(self, edge_id: int) -> Edge:
@@ -181,25 +195,25 @@ class Picture:
         return self._crossings[crossing_id]
 
     @cached_property
-    def _paths(self) -> Dict[int, Tuple[Point, ...]]:
+    def _paths(self) -> dict[int, tuple[Point, ...]]:
         return {
             row.id: (Point(False, row.a), *(Point(True, i) for i in row.crossings), Point(False, row.b))
             for row in self.edges
         }
 
-    def path(self, edge_id: int) -> Tuple[Point, ...]:
+    def path(self, edge_id: int) -> tuple[Point, ...]:
         """The points on an edge from its end `a` to its end `b`, both among them."""
         return self._paths[edge_id]
 
     @cached_property
-    def _places(self) -> Dict[Tuple[int, int], int]:
+    def _places(self) -> dict[tuple[int, int], int]:
         """For an edge and a crossing on its path, how many crossings stand before it."""
         return {(row.id, crossing): place for row in self.edges for place, crossing in enumerate(row.crossings)}
 
     # ---- Points and darts
 
     @property
-    def points(self) -> Tuple[Point, ...]:
+    def points(self) -> tuple[Point, ...]:
         """All vertices, then all crossings."""
         vertices = tuple(Point(False, vertex) for vertex in range(len(self.rotations)))
         return vertices + tuple(Point(True, row.id) for row in self.crossings)
@@ -222,16 +236,16 @@ class Picture:
         """The point where a dart ends: where its twin starts."""
         return self.start(dart.twin)
 
-    def around(self, point: Point) -> Tuple[Dart, ...]:
+    def around(self, point: Point) -> tuple[Dart, ...]:
         """The darts that start at a point, clockwise: at a vertex by its rotation, at a crossing from the crossed
         edge forward."""
         return self._around_crossing(point.id) if point.is_crossing else self._around_vertex(point.id)
 
-    def _around_vertex(self, vertex: int) -> Tuple[Dart, ...]:
+    def _around_vertex(self, vertex: int) -> tuple[Dart, ...]:
         rows = [self.edge(edge_id) for edge_id in self.rotations[vertex]]
         return tuple(Dart(row.id, 0) if row.a == vertex else Dart(row.id, row.segments - 1, True) for row in rows)
 
-    def _around_crossing(self, crossing_id: int) -> Tuple[Dart, ...]:
+    def _around_crossing(self, crossing_id: int) -> tuple[Dart, ...]:
         row = self.crossing(crossing_id)
         old, new = (self._places[edge_id, crossing_id] for edge_id in (row.crossed, row.newcomer))
         crossed_forward, crossed_back = Dart(row.crossed, old + 1), Dart(row.crossed, old, True)
@@ -241,8 +255,8 @@ class Picture:
         return (crossed_forward, new_back, crossed_back, new_forward)
 
     @cached_property
-    def _turns(self) -> Dict[Dart, Dart]:
-        turns: Dict[Dart, Dart] = {}
+    def _turns(self) -> dict[Dart, Dart]:
+        turns: dict[Dart, Dart] = {}
         for point in self.points:
             darts = self.around(point)
             turns.update(zip(darts, darts[1:] + darts[:1]))
@@ -262,7 +276,7 @@ class Picture:
 
     # ---- Faces
 
-    def face(self, dart: Dart) -> Tuple[Dart, ...]:
+    def face(self, dart: Dart) -> tuple[Dart, ...]:
         """The darts along the face on the left of a dart, from this dart on."""
         darts = [dart]
         while (following := self.face_step(darts[-1])) != dart:
@@ -270,10 +284,10 @@ class Picture:
         return tuple(darts)
 
     @cached_property
-    def faces(self) -> Tuple[Tuple[Dart, ...], ...]:
+    def faces(self) -> tuple[tuple[Dart, ...], ...]:
         """All faces, each from its first dart on, in the order of their first darts."""
-        faces: List[Tuple[Dart, ...]] = []
-        seen: Set[Dart] = set()
+        faces: list[tuple[Dart, ...]] = []
+        seen: set[Dart] = set()
         for dart in self.darts:
             if dart not in seen:
                 faces.append(self.face(dart))
@@ -281,7 +295,7 @@ class Picture:
         return tuple(faces)
 
     @cached_property
-    def _face_of(self) -> Dict[Dart, int]:
+    def _face_of(self) -> dict[Dart, int]:
         return {dart: place for place, face in enumerate(self.faces) for dart in face}
 
     def face_of(self, dart: Dart) -> int:
@@ -296,7 +310,7 @@ class Picture:
         if not self.faces:
             raise ValueError("the picture has no edge, and so no face")
 
-        def size(place: int) -> Tuple[int, int]:
+        def size(place: int) -> tuple[int, int]:
             face = self.faces[place]
             return sum(not self.start(dart).is_crossing for dart in face), len(face)
 

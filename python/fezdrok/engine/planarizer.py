@@ -3,8 +3,9 @@
 from __future__ import annotations
 
 import re
+from collections.abc import Sequence
 from operator import index
-from typing import Any, Dict, List, Optional, Sequence
+from typing import Any
 
 from .faults import NoReport, ProgramFailed
 from .pictures import Counts, Picture, json_text
@@ -24,20 +25,41 @@ class Planarizer:
 
     A command is not judged when it is collected. `run` carries all of them out; one that is refused changes
     nothing, and its reply says why.
+
+    Parameters
+    ----------
+    start : Picture, optional
+    limits : Limits, optional
+    prices : sequence of int or None, optional
+    program : str or os.PathLike, optional
+
+    Examples
+    --------
+    >>> from fezdrok import Planarizer
+    >>> planarizer = Planarizer()
+    >>> planarizer.grow(1), planarizer.insert(0, 2)
+    (0, 1)
+    >>> planarizer
+    <Planarizer: 2 commands>
+    >>> planarizer.run().picture
+    <Picture: 3 vertices, 3 edges, 0 crossings>
     """
 
     def __init__(
         self,
-        start: Optional[Picture] = None,
-        limits: Optional[Limits] = None,
-        prices: Optional[Sequence[Optional[int]]] = None,
-        program: Optional[PathLike] = None,
+        start: Picture | None = None,
+        limits: Limits | None = None,
+        prices: Sequence[int | None] | None = None,
+        program: PathLike | None = None,
     ):
         self.start = start
         self.limits = limits
         self.prices = None if prices is None else tuple(None if price is None else index(price) for price in prices)
         self.program = Program(program)
-        self.commands: List[Call] = []
+        self.commands: list[Call] = []
+
+    def __repr__(self) -> str:
+        return f"<Planarizer: {len(self.commands)} commands>"
 
     # ---- Commands
 
@@ -63,9 +85,9 @@ class Planarizer:
 
     # ---- Scripts and runs
 
-    def script(self) -> Dict[str, Any]:
+    def script(self) -> dict[str, Any]:
         """The script of all commands so far, in the form of docs/FORMATS.md."""
-        script: Dict[str, Any] = {
+        script: dict[str, Any] = {
             "version": version_of(self.prices or ()), "workers": [[command.to_json() for command in self.commands]]
         }
         if self.limits is not None:

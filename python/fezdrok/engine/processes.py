@@ -9,7 +9,7 @@ import os
 import signal
 import subprocess
 import sys
-from typing import Sequence, Tuple
+from collections.abc import Sequence
 
 if sys.platform == "linux":
     import fcntl
@@ -27,7 +27,7 @@ def kill_when_closed(reading: int, process: int) -> None:
         fcntl.fcntl(reading, fcntl.F_SETFL, fcntl.fcntl(reading, fcntl.F_GETFL) | os.O_ASYNC)
 
 
-def run(command: Sequence[str], text: bytes) -> Tuple[int, bytes, bytes]:
+def run(command: Sequence[str], text: bytes) -> tuple[int, bytes, bytes]:
     """The status of a command that is given this text, and what it wrote on standard output and on standard error.
 
     It is killed where an exception comes before its end, as KeyboardInterrupt does, and where this process ends.

@@ -7,17 +7,17 @@ import re
 import shutil
 import subprocess
 import warnings
+from collections.abc import Iterator
 from pathlib import Path
-from typing import Dict, Iterator, List, Optional, Tuple, Union
 
 from .faults import (
     Fault, MemoryFault, PlanarWarning, ProgramFailed, ProgramNotFound, ProgramNotStarted, UsageRefused, read_value,
 )
 from .processes import run
 
-PathLike = Union[str, "os.PathLike[str]"]
+PathLike = str | os.PathLike[str]
 #: A text, or its bytes, which the program gets as they are.
-Text = Union[str, bytes]
+Text = str | bytes
 
 VARIABLE = "FEZDROK_PLANAR"
 
@@ -35,7 +35,7 @@ def repository_script() -> Path:
     return Path(__file__).resolve().parents[3] / "planar"
 
 
-def _candidates(program: Optional[PathLike]) -> Iterator[Tuple[str, str]]:
+def _candidates(program: PathLike | None) -> Iterator[tuple[str, str]]:
     """Where to look, in order: each place with the words that name it in a message."""
     if program is not None:
         yield "the argument", os.fspath(program)
@@ -48,7 +48,7 @@ def _candidates(program: Optional[PathLike]) -> Iterator[Tuple[str, str]]:
         yield "the checkout that holds the package", str(script) if script.is_file() else ""
 
 
-def find_program(program: Optional[PathLike] = None) -> str:
+def find_program(program: PathLike | None = None) -> str:
     """The path of the program: the argument, else the program in this package, else what the environment variable
     FEZDROK_PLANAR names, else `planar` in PATH, else that of the checkout that holds this package.
 
@@ -58,6 +58,14 @@ def find_program(program: Optional[PathLike] = None) -> str:
     `prebuilt/`, wherever the script is named. It is not called, so nothing is built here: where there is no such
     program, that is as if nothing were named. Of the two the one is taken that was built from the sources that are
     there now. Where neither was, the first is taken, and a PlanarWarning, once in a process, says that it is old.
+
+    Examples
+    --------
+    >>> from fezdrok import find_program
+    >>> find_program("/nowhere/planar")
+    Traceback (most recent call last):
+        ...
+    fezdrok.engine.faults.ProgramNotFound: no program planar by the argument (/nowhere/planar). The wheel ...
     """
     looked = []
     for place, name in _candidates(program):
@@ -75,7 +83,7 @@ def find_program(program: Optional[PathLike] = None) -> str:
     raise ProgramNotFound(f"no program planar by {' or '.join(looked)}. {HOW_TO_GET_ONE}")
 
 
-def _places_of(path: str) -> List[Path]:
+def _places_of(path: str) -> list[Path]:
     """Where the programs lie that the script at this path stands for; none where it is not the script of a checkout."""
     script = Path(path).resolve()
     is_script = script.name == "planar" and (script.parent / ".ci" / "sources").is_file()
@@ -83,10 +91,10 @@ def _places_of(path: str) -> List[Path]:
     return [folder / "planar" for folder in folders]
 
 
-_chosen: Dict[Tuple[Path, ...], Path] = {}
+_chosen: dict[tuple[Path, ...], Path] = {}
 
 
-def _current(script: str, built: List[Path]) -> Path:
+def _current(script: str, built: list[Path]) -> Path:
     """The first of a checkout's programs that was built from the sources that are there now. Where none was, the first
     of all, with a warning. Where that cannot be found out, nothing is said. It is looked at once in a process."""
     key = tuple(built)
@@ -94,9 +102,8 @@ def _current(script: str, built: List[Path]) -> Path:
         _chosen[key] = built[0]
         sources = Path(script).resolve().parent / ".ci" / "sources"
         try:
-            done = subprocess.run(
-                [sources, "planar"], stdin=subprocess.DEVNULL, stdout=subprocess.PIPE, stderr=subprocess.DEVNULL, check=True
-            )
+            nothing, pipe = subprocess.DEVNULL, subprocess.PIPE
+            done = subprocess.run([sources, "planar"], stdin=nothing, stdout=pipe, stderr=nothing, check=True)
         except (OSError, subprocess.CalledProcessError):
             return built[0]
         current = [it for it in built if _sources_of(it) == done.stdout.decode().strip()]
@@ -112,7 +119,7 @@ def _current(script: str, built: List[Path]) -> Path:
     return _chosen[key]
 
 
-def _sources_of(built: Path) -> Optional[str]:
+def _sources_of(built: Path) -> str | None:
     """The checksum of the sources that a program was built from, as it was noted beside it; None where it was not."""
     noted, listed = Path(f"{built}.sources"), built.parent / "MANIFEST"
     if noted.is_file():
@@ -127,9 +134,12 @@ class Program:
     It is looked for at the first call, so scripts can be written where no program is.
     """
 
-    def __init__(self, program: Optional[PathLike] = None):
+    def __init__(self, program: PathLike | None = None):
         self._wanted = program
-        self._path: Optional[str] = None
+        self._path: str | None = None
+
+    def __repr__(self) -> str:
+        return f"<Program: {self._path or self._wanted or 'not looked for yet'}>"
 
     @property
     def path(self) -> str:

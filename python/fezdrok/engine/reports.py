@@ -2,13 +2,14 @@
 
 from __future__ import annotations
 
+from collections.abc import Callable, Iterable, Sequence
 from dataclasses import dataclass
-from typing import Any, Callable, Dict, Iterable, List, Optional, Sequence, Tuple, Union
+from typing import Any
 
 from .faults import read_as
 from .pictures import Dart, Picture, json_text
 
-Prices = Tuple[Optional[int], ...]
+Prices = tuple[int | None, ...]
 
 
 @dataclass(frozen=True)
@@ -21,6 +22,13 @@ class Limits:
     Nothing is tested here. Where the program is called, a number outside its range is the Fault 11 BadLimits, a
     negative one or one of 2**32 or more the Fault 54 BadNumber, and a start picture that is larger the Fault 20
     TooMany. A call that would go beyond is refused as 7 Full.
+
+    Examples
+    --------
+    >>> from fezdrok import Limits, Session
+    >>> with Session(limits=Limits(vertices=2)) as session:
+    ...     session.grow(0)
+    Refused(number=7, name='Full', segment=None)
     """
 
     vertices: int = 65536
@@ -28,11 +36,11 @@ class Limits:
     crossings: int = 1048576
 
     @staticmethod
-    def from_json(value: Dict[str, int]) -> "Limits":
+    def from_json(value: dict[str, int]) -> "Limits":
         """The limits of an object as `{"crossings":9,"edges":9,"vertices":9}`; KeyError where one is missing."""
         return Limits(value["vertices"], value["edges"], value["crossings"])
 
-    def to_json(self) -> Dict[str, int]:
+    def to_json(self) -> dict[str, int]:
         """The limits as that object."""
         return {"vertices": self.vertices, "edges": self.edges, "crossings": self.crossings}
 
@@ -48,7 +56,7 @@ class Grow:
     position: int
     kind: int
 
-    def to_json(self) -> List[Any]:
+    def to_json(self) -> list[Any]:
         """The command as it stands in a script: `["grow",U,POSITION,KIND]`."""
         return ["grow", self.u, self.position, self.kind]
 
@@ -61,7 +69,7 @@ class Insert:
     v: int
     kind: int
 
-    def to_json(self) -> List[Any]:
+    def to_json(self) -> list[Any]:
         """The command as it stands in a script: `["insert",U,V,KIND]`."""
         return ["insert", self.u, self.v, self.kind]
 
@@ -70,7 +78,7 @@ class Insert:
 class Planned(Insert):
     """An insertion whose route is looked for on a version of the picture, outside the lock."""
 
-    def to_json(self) -> List[Any]:
+    def to_json(self) -> list[Any]:
         """The command as it stands in a script: `["planned",U,V,KIND]`."""
         return ["planned", self.u, self.v, self.kind]
 
@@ -81,17 +89,17 @@ class Delete:
 
     edge: int
 
-    def to_json(self) -> List[Any]:
+    def to_json(self) -> list[Any]:
         """The command as it stands in a script: `["delete",EDGE]`."""
         return ["delete", self.edge]
 
 
-Call = Union[Grow, Insert, Planned, Delete]
+Call = Grow | Insert | Planned | Delete
 
-_CALLS: Dict[str, Callable[..., Call]] = {"grow": Grow, "insert": Insert, "planned": Planned, "delete": Delete}
+_CALLS: dict[str, Callable[..., Call]] = {"grow": Grow, "insert": Insert, "planned": Planned, "delete": Delete}
 
 
-def call_from_json(value: List[Any]) -> Call:
+def call_from_json(value: list[Any]) -> Call:
     """The call of an array as `["grow",1,0,0]`."""
     return _CALLS[value[0]](*value[1:])
 
@@ -106,7 +114,7 @@ class Grown:
     vertex: int
     edge: int
 
-    def to_json(self) -> Dict[str, Any]:
+    def to_json(self) -> dict[str, Any]:
         """The reply as it stands in a report: `{"edge":E,"vertex":V}`."""
         return {"vertex": self.vertex, "edge": self.edge}
 
@@ -117,12 +125,12 @@ class Inserted:
     corner at position `end` of its other end. `price` is the sum of the prices of what it crossed."""
 
     edge: int
-    crossed: Tuple[Dart, ...]
+    crossed: tuple[Dart, ...]
     start: int
     end: int
     price: int
 
-    def to_json(self) -> Dict[str, Any]:
+    def to_json(self) -> dict[str, Any]:
         """The reply as it stands in a report: an object with `crossed`, `edge`, `end`, `price` and `start`."""
         crossed = [dart.to_json() for dart in self.crossed]
         return {"edge": self.edge, "crossed": crossed, "start": self.start, "end": self.end, "price": self.price}
@@ -134,7 +142,7 @@ class Deleted:
 
     edge: int
 
-    def to_json(self) -> Dict[str, Any]:
+    def to_json(self) -> dict[str, Any]:
         """The reply as it stands in a report: `{"deleted":EDGE}`."""
         return {"deleted": self.edge}
 
@@ -145,19 +153,19 @@ class Refused:
 
     number: int
     name: str
-    segment: Optional[int] = None
+    segment: int | None = None
 
-    def to_json(self) -> Dict[str, Any]:
+    def to_json(self) -> dict[str, Any]:
         """The reply as it stands in a report: `{"refused":[NUMBER,NAME]}`, for 6 `Cut` with the segment as a third
         word."""
-        words: List[Any] = [self.number, self.name]
+        words: list[Any] = [self.number, self.name]
         return {"refused": words if self.segment is None else [*words, self.segment]}
 
 
-Reply = Union[Grown, Inserted, Deleted, Refused]
+Reply = Grown | Inserted | Deleted | Refused
 
 
-def reply_from_json(value: Dict[str, Any]) -> Reply:
+def reply_from_json(value: dict[str, Any]) -> Reply:
     """The reply of an object; its keys choose the form."""
     if "deleted" in value:
         return Deleted(value["deleted"])
@@ -181,11 +189,11 @@ class Entry:
     reply: Reply
 
     @staticmethod
-    def from_json(value: Dict[str, Any]) -> "Entry":
+    def from_json(value: dict[str, Any]) -> "Entry":
         """The entry of an object with `call`, `caller` and `reply`, as it stands in a history."""
         return Entry(call_from_json(value["call"]), value["caller"], reply_from_json(value["reply"]))
 
-    def to_json(self) -> Dict[str, Any]:
+    def to_json(self) -> dict[str, Any]:
         """The entry as that object."""
         return {"call": self.call.to_json(), "caller": self.caller, "reply": self.reply.to_json()}
 
@@ -194,20 +202,23 @@ class Entry:
 class Report:
     """What a run did: its start, limits and prices, each call with its reply, and the picture at the end."""
 
-    history: Tuple[Entry, ...]
+    history: tuple[Entry, ...]
     limits: Limits
     picture: Picture
     prices: Prices
     start: Picture
     version: int
 
+    def __repr__(self) -> str:
+        return f"<Report: {len(self.history)} calls, {len(self.refused)} refused, {self.picture!r}>"
+
     @property
-    def replies(self) -> Tuple[Reply, ...]:
+    def replies(self) -> tuple[Reply, ...]:
         """The replies in the order of the calls."""
         return tuple(entry.reply for entry in self.history)
 
     @property
-    def refused(self) -> Tuple[Entry, ...]:
+    def refused(self) -> tuple[Entry, ...]:
         """The calls that were refused."""
         return tuple(entry for entry in self.history if isinstance(entry.reply, Refused))
 
@@ -218,7 +229,7 @@ class Report:
         return read_as("report", text, Report.from_json)
 
     @staticmethod
-    def from_json(value: Dict[str, Any]) -> "Report":
+    def from_json(value: dict[str, Any]) -> "Report":
         """The report of a JSON object in the form of docs/FORMATS.md. Where it is of another form, that is KeyError or
         another exception of Python's; `from_text` has NoReport."""
         return Report(
@@ -230,7 +241,7 @@ class Report:
             value["version"],
         )
 
-    def to_json(self) -> Dict[str, Any]:
+    def to_json(self) -> dict[str, Any]:
         """The report as a JSON object in the form of docs/FORMATS.md."""
         return {
             "history": [entry.to_json() for entry in self.history],
@@ -249,8 +260,8 @@ class Report:
 class Reports(Sequence[Report]):
     """Reports, each of which may be given as its text, and is then read when it is first asked for."""
 
-    def __init__(self, given: Iterable[Union[str, Report]] = ()):
-        self._given: List[Union[str, Report]] = list(given)
+    def __init__(self, given: Iterable[str | Report] = ()):
+        self._given: list[str | Report] = list(given)
 
     @staticmethod
     def joined(several: Iterable[Sequence[Report]]) -> "Reports":
@@ -271,7 +282,9 @@ class Reports(Sequence[Report]):
         return report
 
     def __eq__(self, other: object) -> bool:
-        return tuple(self) == tuple(other) if isinstance(other, (Reports, tuple)) else NotImplemented
+        if not isinstance(other, (Reports, tuple)):
+            return NotImplemented
+        return tuple(self) == tuple(other)
 
     def __hash__(self) -> int:
         return hash(tuple(self))
@@ -282,11 +295,11 @@ class Reports(Sequence[Report]):
 
 def difference(
     report: Report,
-    start: Optional[Picture],
-    limits: Optional[Limits],
-    prices: Optional[Sequence[Optional[int]]],
+    start: Picture | None,
+    limits: Limits | None,
+    prices: Sequence[int | None] | None,
     calls: Sequence[Call],
-) -> Optional[str]:
+) -> str | None:
     """How a report differs from that of a script with one list of calls, in words, or None where it may be the
     script's.
 
@@ -326,7 +339,7 @@ def as_entered(call: Call) -> Call:
     return Insert(call.u, call.v, call.kind) if isinstance(call, Planned) else call
 
 
-def without_last_ones(prices: Sequence[Optional[int]]) -> Prices:
+def without_last_ones(prices: Sequence[int | None]) -> Prices:
     """The prices as a report has them: without the ones at their end, which say nothing."""
     kept = list(prices)
     while kept and kept[-1] == 1:
@@ -334,6 +347,6 @@ def without_last_ones(prices: Sequence[Optional[int]]) -> Prices:
     return tuple(kept)
 
 
-def version_of(prices: Sequence[Optional[int]]) -> int:
+def version_of(prices: Sequence[int | None]) -> int:
     """The version that a script with these prices has: 2 where an edge must not be crossed, else 1."""
     return 2 if None in prices else 1

@@ -3,9 +3,10 @@
 from __future__ import annotations
 
 import json
+from collections.abc import Callable, Sequence
 from operator import index
 from types import TracebackType
-from typing import Any, Callable, Dict, List, NamedTuple, Optional, Sequence, Tuple, Type, TypeVar, Union
+from typing import Any, NamedTuple, TypeVar
 
 from .faults import Fault, ProgramFailed, SessionClosed
 from .line_process import HASTE, TOGETHER, LineProcess
@@ -23,11 +24,11 @@ Own = TypeVar("Own", bound="Session")
 class Renumbered(NamedTuple):
     """What `compact` did: for each id of an edge and of a crossing before it, the id after it."""
 
-    edges: Dict[int, int]
-    crossings: Dict[int, int]
+    edges: dict[int, int]
+    crossings: dict[int, int]
 
 
-def renumbered(picture: Picture) -> Tuple[Picture, Renumbered]:
+def renumbered(picture: Picture) -> tuple[Picture, Renumbered]:
     """The same picture with the ids of edges and crossings from 0 on, in the order in which they were, and how they
     map."""
     new = Renumbered(
@@ -64,19 +65,40 @@ class Session:
     A call that was interrupted, as by Ctrl-C, may have been carried out; `report` says whether it was. The session goes
     on, but where the next call is interrupted while it waits for the end of that one; and it may be over where
     `compact` is interrupted, or `answers` to more than 512 bytes. A session is for one thread.
+
+    Parameters
+    ----------
+    start : Picture, optional
+    limits : Limits, optional
+    prices : sequence of int or None, optional
+    program : str or os.PathLike, optional
+
+    Examples
+    --------
+    >>> from fezdrok import Session
+    >>> with Session() as session:
+    ...     session.grow(1)
+    ...     session.insert(0, 2).crossed
+    ...     session.counts()
+    Grown(vertex=2, edge=1)
+    ()
+    Counts(vertices=3, crossings=0, edges=3, segments=3, faces=2)
     """
 
     def __init__(
         self,
-        start: Optional[Picture] = None,
-        limits: Optional[Limits] = None,
-        prices: Optional[Sequence[Optional[int]]] = None,
-        program: Optional[PathLike] = None,
+        start: Picture | None = None,
+        limits: Limits | None = None,
+        prices: Sequence[int | None] | None = None,
+        program: PathLike | None = None,
     ):
         self._program = Program(program)
         self._given = Planarizer(start, limits, prices)
-        self._process: Optional[LineProcess] = None
+        self._process: LineProcess | None = None
         self._process = self._begun(start)
+
+    def __repr__(self) -> str:
+        return "<Session: closed>" if self._process is None else f"<Session: process {self._process.process_id}>"
 
     @property
     def limits(self) -> Limits:
@@ -94,11 +116,11 @@ class Session:
         return self._process is None
 
     @property
-    def process_id(self) -> Optional[int]:
+    def process_id(self) -> int | None:
         """The number of the program's process, or None where the session is over."""
         return None if self._process is None else self._process.process_id
 
-    def _begun(self, start: Optional[Picture]) -> LineProcess:
+    def _begun(self, start: Picture | None) -> LineProcess:
         """A process that has begun with this picture."""
         opening = Planarizer(start, self._given.limits, self._given.prices).script()
         del opening["workers"]
@@ -112,17 +134,20 @@ class Session:
 
     # ---- Calls
 
-    def grow(self, u: int, position: int = 0, kind: int = 0) -> Union[Grown, Refused]:
+    def grow(self, u: int, position: int = 0, kind: int = 0) -> Grown | Refused:
         """A new vertex on a new edge, from the corner at this position of `u`."""
-        return self._call(Grow(index(u), index(position), index(kind)))
+        reply: Grown | Refused = self._call(Grow(index(u), index(position), index(kind)))
+        return reply
 
-    def insert(self, u: int, v: int, kind: int = 0) -> Union[Inserted, Refused]:
+    def insert(self, u: int, v: int, kind: int = 0) -> Inserted | Refused:
         """A new edge from `u` to `v` along the first of the cheapest routes."""
-        return self._call(Insert(index(u), index(v), index(kind)))
+        reply: Inserted | Refused = self._call(Insert(index(u), index(v), index(kind)))
+        return reply
 
-    def delete(self, edge: int) -> Union[Deleted, Refused]:
+    def delete(self, edge: int) -> Deleted | Refused:
         """An edge taken out."""
-        return self._call(Delete(index(edge)))
+        reply: Deleted | Refused = self._call(Delete(index(edge)))
+        return reply
 
     def _call(self, call: Call) -> Any:
         return self._ask(call.to_json(), reply_from_json)
@@ -159,7 +184,7 @@ class Session:
         """The picture now, as the program writes it."""
         return self._asked(['"picture"'], lambda process, answers: answers[0].decode())
 
-    def answers(self, requests: Sequence[str]) -> List[str]:
+    def answers(self, requests: Sequence[str]) -> list[str]:
         """The answers to several lines of docs/FORMATS.md in order, as the program writes them, also where they are
         faults.
 
@@ -177,7 +202,7 @@ class Session:
         """The answer to a request, read by this function; Fault where the program refuses the line."""
         return self._asked([json_text(request)], lambda process, answers: _understood(process, answers[0], read))
 
-    def _asked(self, requests: Sequence[str], read: Callable[[LineProcess, List[bytes]], Value]) -> Value:
+    def _asked(self, requests: Sequence[str], read: Callable[[LineProcess, list[bytes]], Value]) -> Value:
         """The answers to some lines, read by this function."""
         process = self._process
         if process is None:
@@ -194,7 +219,7 @@ class Session:
         return self
 
     def __exit__(
-        self, kind: Optional[Type[BaseException]], raised: Optional[BaseException], trace: Optional[TracebackType]
+        self, kind: type[BaseException] | None, raised: BaseException | None, trace: TracebackType | None
     ) -> None:
         self.close()
 
@@ -222,5 +247,5 @@ def _understood(process: LineProcess, answer: bytes, read: Callable[[Any], Value
     raise Fault(*fault)
 
 
-def _counts(value: Dict[str, int]) -> Counts:
+def _counts(value: dict[str, int]) -> Counts:
     return Counts(value["vertices"], value["crossings"], value["edges"], value["segments"], value["faces"])

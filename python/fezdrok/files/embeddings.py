@@ -1,34 +1,52 @@
 """Pictures as networkx embeddings, and networkx embeddings as start pictures.
 
-networkx is imported where it is used, so the rest of the package does not want it.
+networkx is imported where it is used: whoever runs single commands does not wait for it.
 """
 
 from __future__ import annotations
 
-from typing import TYPE_CHECKING, Any, Callable, Dict, FrozenSet, List, Mapping, Sequence, Tuple
+from collections.abc import Callable, Mapping, Sequence
+from typing import TYPE_CHECKING, Any
 
-from ..engine.faults import wanted
 from ..engine.graph_edges import Node
 from ..engine.graph_pictures import Dummy
 from ..engine.pictures import Dart, Edge, Picture, Point
 from ..engine.results import Planarization
-from .graphs import reach
 
 if TYPE_CHECKING:
-    import networkx
+    from networkx import PlanarEmbedding
+else:
+    PlanarEmbedding = Any
 
 
 # ---- From a picture to an embedding
 
 
-def to_networkx_embedding(result: Planarization) -> "networkx.PlanarEmbedding":
-    """The planarization as a networkx PlanarEmbedding, which passes `check_structure`.
+def to_networkx_embedding(result: Planarization) -> PlanarEmbedding:
+    """Make a networkx PlanarEmbedding of a planarization, which passes `check_structure`.
 
     Its nodes are the nodes of the graph and a Dummy for each crossing. Each node has the attribute `dummy`; a
     crossing has `crossing`, its id, and `edges`, the two edges of the graph that cross there. Each half-edge has
     `edge`, the edge of the graph that it is a part of.
+
+    Parameters
+    ----------
+    result : Planarization
+
+    Returns
+    -------
+    networkx.PlanarEmbedding
+
+    Examples
+    --------
+    >>> import networkx as nx
+    >>> from fezdrok import planarize, to_networkx_embedding
+    >>> embedding = to_networkx_embedding(planarize(nx.complete_graph(5)))
+    >>> [node for node, data in embedding.nodes(data=True) if data["dummy"]]
+    [x0]
     """
-    networkx = wanted("networkx", "embeddings")
+    import networkx
+
     picture = result.picture
     names = _names(result)
     bends = _bends(picture, result.layer)
@@ -47,15 +65,15 @@ def to_networkx_embedding(result: Planarization) -> "networkx.PlanarEmbedding":
     return embedding
 
 
-def _names(result: Planarization) -> Dict[Point, Any]:
+def _names(result: Planarization) -> dict[Point, Any]:
     """The node of the embedding for each point of the picture."""
     return {point: result.name_of(point) for point in result.picture.points}
 
 
-def _bends(picture: Picture, layer: int) -> Dict[Dart, Dummy]:
+def _bends(picture: Picture, layer: int) -> dict[Dart, Dummy]:
     """For both darts of each segment that has an earlier one between the same points, the point put into it."""
     joined = set()
-    bends: Dict[Dart, Dummy] = {}
+    bends: dict[Dart, Dummy] = {}
     for dart in picture.darts:
         ends = frozenset((picture.start(dart), picture.end(dart)))
         if not dart.back and ends in joined:
@@ -69,7 +87,7 @@ def _neighbour(picture: Picture, names: Mapping[Point, Any], bends: Mapping[Dart
     return bends.get(dart, names[picture.end(dart)])
 
 
-def _neighbours(picture: Picture, names: Mapping[Point, Any], bends: Mapping[Dart, Dummy]) -> Dict[Any, List[Any]]:
+def _neighbours(picture: Picture, names: Mapping[Point, Any], bends: Mapping[Dart, Dummy]) -> dict[Any, list[Any]]:
     """For each node of the embedding its neighbours, clockwise."""
     data = {
         name: [_neighbour(picture, names, bends, dart) for dart in picture.around(point)]
@@ -80,7 +98,7 @@ def _neighbours(picture: Picture, names: Mapping[Point, Any], bends: Mapping[Dar
     return data
 
 
-def _point_data(result: Planarization, point: Point) -> Dict[str, Any]:
+def _point_data(result: Planarization, point: Point) -> dict[str, Any]:
     """The attributes of a node of the embedding."""
     if not point.is_crossing:
         return {"dummy": False, "vertex": point.id}
@@ -92,13 +110,36 @@ def _point_data(result: Planarization, point: Point) -> Dict[str, Any]:
 
 
 def from_networkx_embedding(
-    embedding: "networkx.PlanarEmbedding", kind: Callable[[Any, Any], int] = lambda u, v: 0
+    embedding: PlanarEmbedding, kind: Callable[[Any, Any], int] = lambda u, v: 0
 ) -> Picture:
-    """The picture of a networkx PlanarEmbedding, to start a Planarizer with.
+    """Make the picture of a networkx PlanarEmbedding, to start a Planarizer with.
 
     Vertex i is the node number i of `list(embedding)`. The edges are numbered in the order in which they are met
-    round vertex 0, 1, .. clockwise; `kind(u, v)` gives the kind of each. All nodes become vertices, also dummies.
-    ValueError where it has no edge or is not connected; networkx.NetworkXException where it is no embedding.
+    round vertex 0, 1, .. clockwise. All nodes become vertices, also dummies.
+
+    Parameters
+    ----------
+    embedding : networkx.PlanarEmbedding
+    kind : callable, optional
+        Gives the kind of the edge between two nodes, from 0 to 63; 0 for all unless given.
+
+    Returns
+    -------
+    Picture
+
+    Raises
+    ------
+    ValueError
+        Where the embedding has no edge or is not connected.
+    networkx.NetworkXException
+        Where it is no embedding.
+
+    Examples
+    --------
+    >>> import networkx as nx
+    >>> from fezdrok import from_networkx_embedding
+    >>> from_networkx_embedding(nx.check_planarity(nx.icosahedral_graph())[1])
+    <Picture: 12 vertices, 30 edges, 0 crossings>
     """
     embedding.check_structure()
     rotations = {node: list(embedding.neighbors_cw_order(node)) for node in embedding}
@@ -107,11 +148,11 @@ def from_networkx_embedding(
 
 def picture_of(
     rotations: Mapping[Node, Sequence[Node]], kind: Callable[[Any, Any], int]
-) -> Tuple[Picture, List[Tuple[Node, Node]]]:
+) -> tuple[Picture, list[tuple[Node, Node]]]:
     """The picture with these neighbours, clockwise, and its edges by their ids."""
     vertex = {node: number for number, node in enumerate(rotations)}
-    ids: Dict[FrozenSet[Node], int] = {}
-    edges: List[Tuple[Node, Node]] = []
+    ids: dict[frozenset[Node], int] = {}
+    edges: list[tuple[Node, Node]] = []
     for node, around in rotations.items():
         fresh = [(node, other) for other in around if frozenset((node, other)) not in ids]
         ids.update((frozenset(pair), len(edges) + place) for place, pair in enumerate(fresh))
@@ -124,13 +165,15 @@ def picture_of(
 
 def _judge_connected(rotations: Mapping[Node, Sequence[Node]]) -> None:
     """ValueError unless there is an edge and every node hangs together with every other."""
+    import networkx
+
     if not any(rotations.values()):
         raise ValueError("the embedding has no edge: the smallest picture is one edge between two vertices")
-    if len(reach(next(iter(rotations)), rotations.__getitem__)) < len(rotations):
+    if not networkx.is_connected(networkx.Graph(rotations)):
         raise ValueError("the embedding is not connected")
 
 
-def _from_least(around: List[int]) -> Tuple[int, ...]:
+def _from_least(around: list[int]) -> tuple[int, ...]:
     """The same cycle, listed from its least id on."""
     place = around.index(min(around))
     return tuple(around[place:] + around[:place])

@@ -1,36 +1,44 @@
 """A networkx graph read for planarization: its edges in order, and a kind for each by what it costs to cross.
 
-Nothing here imports networkx: a graph is asked by its own methods.
+networkx is imported where it is used: whoever runs single commands does not wait for it.
 """
 
 from __future__ import annotations
 
 import math
+from collections.abc import Callable, Iterable, Mapping, Sequence
 from dataclasses import dataclass
 from numbers import Real
 from operator import index
-from typing import Any, Callable, Dict, Iterable, List, Mapping, Optional, Sequence, Set, Tuple, Union
+from typing import Any, Literal
 
-from ..engine.graph_edges import KINDS, GraphEdge, Node, Price, judge_kinds
+from ..engine.graph_edges import GREATEST_PRICE, KINDS, GraphEdge, Node, Price, judge_kinds
 
 #: How prices are given: the name of an edge attribute, a mapping from edges, or a function of both nodes and the data.
-Pricing = Union[None, str, Mapping[GraphEdge, Price], Callable[[Any, Any, Dict[str, Any]], Price]]
+Pricing = None | str | Mapping[GraphEdge, Price] | Callable[[Any, Any, dict[str, Any]], Price]
 
-GREATEST_PRICE = 1000
+#: What is to be as small as can be: the number of crossings, or the sum of their costs.
+Objective = Literal["crossings", "cost"]
+
 #: How often the factor by which prices are rounded is halved, till it is known.
 _HALVINGS = 40
 
 
-@dataclass(frozen=True)
+@dataclass(frozen=True, eq=False)
 class PricedGraph:
     """A graph whose edges have kinds: `kinds[i]` belongs to `edges[i]`, and `prices[k]` is what crossing an edge of
-    kind k costs."""
+    kind k costs. `objective` says what is less in a better picture."""
 
     graph: Any
-    nodes: Tuple[Node, ...]
-    edges: Tuple[GraphEdge, ...]
-    kinds: Tuple[int, ...]
-    prices: Tuple[Price, ...]
+    nodes: tuple[Node, ...]
+    edges: tuple[GraphEdge, ...]
+    kinds: tuple[int, ...]
+    prices: tuple[Price, ...]
+    objective: Objective = "crossings"
+
+    def score(self, crossings: int, cost: int) -> tuple[int, int]:
+        """What is less in a better picture: first what the objective says, then the other."""
+        return (cost, crossings) if self.objective == "cost" else (crossings, cost)
 
     def price(self, place: int) -> Price:
         """The price of the edge at this place of `edges`."""
@@ -38,41 +46,71 @@ class PricedGraph:
 
 
 def read_graph(
-    graph: Any, price: Pricing = None, forbidden: Optional[Iterable[GraphEdge]] = None, round_prices: bool = False
+    graph: Any,
+    price: Pricing = None,
+    forbidden: Iterable[GraphEdge] | None = None,
+    round_prices: bool = False,
+    objective: Objective | None = None,
 ) -> PricedGraph:
-    """The graph with its kinds, or a ValueError that says why it cannot be planarized. It need not be connected. Where
-    there are more prices than kinds, `round_prices` has those that are near each other share one."""
-    if not hasattr(graph, "is_multigraph"):
-        raise ValueError(f"{graph!r:.80} is no graph of networkx")
+    """A copy of the graph with its kinds, or a ValueError that says why it cannot be planarized. It need not be
+    connected, nor have an edge. Where there are more prices than kinds, `round_prices` has those that are near each
+    other share one. Without an objective it is the cost where a price is not 1, and else the crossings."""
+    if not isinstance(round_prices, bool):
+        raise ValueError(f"round_prices is {round_prices!r}: it must be True or False")
+    graph = copied(graph)
     nodes = tuple(graph.nodes)
     multi = graph.is_multigraph()
     rows = list(graph.edges(keys=True, data=True)) if multi else list(graph.edges(data=True))
     edges = tuple(tuple(row[:-1]) for row in rows)
-    _judge_form(edges)
+    _judge_form(nodes, edges)
     if isinstance(price, str):
         _judge_attribute(price, [row[-1] for row in rows])
     price_of = _price_function(price, graph.is_directed())
     prices = [_judge_price(edge, price_of(edge, row[-1])) for edge, row in zip(edges, rows)]
-    for place in _places(edges, forbidden or (), graph.is_directed()):
+    for place in places_of("forbidden", edges, () if forbidden is None else forbidden, graph.is_directed()):
         prices[place] = None
     if round_prices:
         near = _rounded(prices)
         prices = [near[price] for price in prices]
     table = _price_table(prices)
     kind_of = {price: kind for kind, price in enumerate(table)}
-    return PricedGraph(graph, nodes, edges, tuple(kind_of[price] for price in prices), table)
+    kinds = tuple(kind_of[price] for price in prices)
+    return PricedGraph(graph, nodes, edges, kinds, table, objective or objective_for(table))
 
 
-def _judge_form(edges: Sequence[GraphEdge]) -> None:
-    """ValueError unless the graph has an edge and no loop."""
-    if not edges:
-        raise ValueError("the graph has no edge: the smallest picture is one edge between two vertices")
+def objective_for(prices: Iterable[Price]) -> Objective:
+    """What is to be as small as can be where it is not said: the cost where some price is not 1."""
+    return "cost" if any(price not in (1, None) for price in prices) else "crossings"
+
+
+def copied(graph: Any) -> Any:
+    """A copy of a networkx graph, or the graph of pairs of nodes; ValueError where it is neither."""
+    import networkx
+
+    if isinstance(graph, networkx.Graph):
+        return graph.copy()
+    try:
+        pairs = [tuple(pair) for pair in graph]
+        if not isinstance(graph, (str, bytes)) and all(len(pair) == 2 for pair in pairs):
+            return networkx.Graph(pairs)
+    except (TypeError, ValueError, networkx.NetworkXException):
+        pass
+    raise ValueError(f"{graph!r:.80} is no graph of networkx, and no list of pairs of nodes")
+
+
+def _judge_form(nodes: Sequence[Node], edges: Sequence[GraphEdge]) -> None:
+    """ValueError unless the graph has a node, each is equal to itself, and there is no loop."""
+    if not nodes:
+        raise ValueError("the graph has no edge and no node: the smallest picture is one node")
+    for node in nodes:
+        if node != node:
+            raise ValueError(f"the node {node!r} is not equal to itself, so its edges cannot be found")
     loop = next((edge for edge in edges if edge[0] == edge[1]), None)
     if loop is not None:
         raise ValueError(f"the graph has a loop at {loop[0]!r}: a picture has none")
 
 
-def _judge_attribute(name: str, data: Sequence[Dict[str, Any]]) -> None:
+def _judge_attribute(name: str, data: Sequence[dict[str, Any]]) -> None:
     """ValueError where no edge has the attribute that prices are to be taken from."""
     if not any(name in row for row in data):
         known = sorted({repr(key) for row in data for key in row})
@@ -80,17 +118,7 @@ def _judge_attribute(name: str, data: Sequence[Dict[str, Any]]) -> None:
         raise ValueError(f"no edge has the attribute {name!r} for its price: {there_are}")
 
 
-def reach(root: Node, near: Callable[[Node], Iterable[Node]]) -> Set[Node]:
-    """The nodes that can be reached from the root, by steps from a node to those near it."""
-    reached, waiting = {root}, [root]
-    while waiting:
-        fresh = set(near(waiting.pop())) - reached
-        reached |= fresh
-        waiting.extend(fresh)
-    return reached
-
-
-def _price_function(price: Pricing, directed: bool) -> Callable[[GraphEdge, Dict[str, Any]], Price]:
+def _price_function(price: Pricing, directed: bool) -> Callable[[GraphEdge, dict[str, Any]], Price]:
     """How much an edge with its data costs; an edge that is not named costs 1."""
     if price is None:
         return lambda edge, data: 1
@@ -100,11 +128,16 @@ def _price_function(price: Pricing, directed: bool) -> Callable[[GraphEdge, Dict
     if isinstance(price, Mapping):
         table = price
         return lambda edge, data: next((table[name] for name in _names(edge, directed) if name in table), 1)
+    if not callable(price):
+        raise ValueError(
+            f"price is {price!r}: it must be the name of an edge attribute, a mapping from edges, or a function of "
+            "both nodes and the data"
+        )
     function = price
     return lambda edge, data: function(edge[0], edge[1], data)
 
 
-def _names(edge: GraphEdge, directed: bool) -> List[GraphEdge]:
+def _names(edge: GraphEdge, directed: bool) -> list[GraphEdge]:
     """What an edge may be called: with or without its key, and in an undirected graph either way round."""
     u, v, key = edge[0], edge[1], edge[2:]
     names = [(u, v, *key)] if directed else [(u, v, *key), (v, u, *key)]
@@ -124,7 +157,7 @@ def _judge_price(edge: GraphEdge, price: Any) -> Price:
     return number
 
 
-def _whole(value: Any) -> Optional[int]:
+def _whole(value: Any) -> int | None:
     """A number as an integer if it is one, also where it is written as a float; else None."""
     try:
         return index(value)
@@ -132,42 +165,41 @@ def _whole(value: Any) -> Optional[int]:
         return int(value) if isinstance(value, Real) and float(value).is_integer() else None
 
 
-def _places(edges: Sequence[GraphEdge], wanted: Iterable[GraphEdge], directed: bool) -> Set[int]:
-    """The places of the edges that are named; without a key all edges between both nodes are meant."""
-    by_name: Dict[GraphEdge, List[int]] = {}
+def places_of(option: str, edges: Sequence[GraphEdge], wanted: Any, directed: bool) -> list[int]:
+    """The places of the edges that an option names, in the order in which they are named, each once. Without a key all
+    edges between both nodes are meant. ValueError where it names none."""
+    by_name: dict[GraphEdge, list[int]] = {}
     for place, edge in enumerate(edges):
         for name in _names(edge, directed):
             by_name.setdefault(name, []).append(place)
-    places: Set[int] = set()
-    for edge in wanted:
-        if tuple(edge) not in by_name:
-            raise ValueError(f"{tuple(edge)!r} is no edge of the graph")
-        places.update(by_name[tuple(edge)])
-    return places
-
-
-def places_of(edges: Sequence[GraphEdge], wanted: Iterable[GraphEdge], directed: bool) -> List[int]:
-    """The places of the edges that are named, in the order in which they are named, each once."""
-    ordered: Dict[int, None] = {}
-    for edge in wanted:
-        ordered.update(dict.fromkeys(sorted(_places(edges, [edge], directed))))
+    try:
+        rows = list(wanted)
+    except TypeError:
+        raise ValueError(f"{option} is {wanted!r}: it must be a list of edges") from None
+    ordered: dict[int, None] = {}
+    for edge in rows:
+        try:
+            places = by_name[tuple(edge)]
+        except (KeyError, TypeError):
+            raise ValueError(f"{option} names {edge!r}, which is no edge of the graph") from None
+        ordered.update(dict.fromkeys(sorted(places)))
     return list(ordered)
 
 
-def _price_table(prices: Iterable[Price]) -> Tuple[Price, ...]:
+def _price_table(prices: Iterable[Price]) -> tuple[Price, ...]:
     """The different prices, the dearest first, or a ValueError if there are more than kinds."""
     different = sorted(set(prices), key=lambda price: -rank(price))
     judge_kinds(len(different), "; round_prices=True has near ones share a kind")
     return tuple(different)
 
 
-def _rounded(prices: Iterable[Price]) -> Dict[Price, Price]:
+def _rounded(prices: Iterable[Price]) -> dict[Price, Price]:
     """For each price the one that is taken for it, so that there are no more than kinds.
 
     Neighbours share one where that is needed, such that the greatest factor by which a price is changed is as small as
     can be, but for the rounding to whole numbers. A price of None stays.
     """
-    near: Dict[Price, Price] = {price: price for price in prices}
+    near: dict[Price, Price] = {price: price for price in prices}
     numbers = sorted(price for price in near if price is not None)
     most = KINDS - (None in near)
     factor, too_little = float(GREATEST_PRICE), 1.0
@@ -184,10 +216,10 @@ def _rounded(prices: Iterable[Price]) -> Dict[Price, Price]:
     return near
 
 
-def _runs(numbers: Sequence[int], factor: float) -> List[List[int]]:
+def _runs(numbers: Sequence[int], factor: float) -> list[list[int]]:
     """Rising numbers cut into as few runs as can be, in each of which the last is at most the first times the
     factor."""
-    runs: List[List[int]] = []
+    runs: list[list[int]] = []
     for number in numbers:
         if runs and number <= factor * runs[-1][0]:
             runs[-1].append(number)

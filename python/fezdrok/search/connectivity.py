@@ -1,51 +1,71 @@
-"""What hangs together in a graph: its connected parts, its bridges, and nodes that are joined one by one."""
+"""What hangs together in a graph: its connected parts and its bridges, as networkx finds them.
+
+networkx is imported where it is used: whoever runs single commands does not wait for it.
+"""
 
 from __future__ import annotations
 
-from typing import Callable, Dict, Iterable, Iterator, List, Sequence, Set, Tuple
+from collections import Counter
+from collections.abc import Iterable, Sequence
+from typing import Any
 
 from ..engine.graph_edges import GraphEdge, Node
-from ..files.graphs import PricedGraph, reach
+from ..files.graphs import PricedGraph
+
+
+def undirected(edges: Iterable[GraphEdge], nodes: Iterable[Node] = ()) -> Any:
+    """The networkx.Graph with these nodes, and with an edge for each pair of nodes that one of these edges joins."""
+    import networkx
+
+    graph = networkx.Graph()
+    graph.add_nodes_from(nodes)
+    graph.add_edges_from(edge[:2] for edge in edges)
+    return graph
 
 
 def judge_connected(source: PricedGraph) -> None:
-    """ValueError unless the graph is connected."""
-    reached = reach(source.edges[0][0], neighbours(source.edges))
+    """ValueError unless the graph has an edge and is connected."""
+    if not source.edges:
+        raise ValueError("the graph has no edge: the smallest picture that the program knows is one edge")
+    root = source.edges[0][0]
+    reached = next(part for part in parts_of(source) if root in part)
     if len(reached) < len(source.nodes):
         outside = next(node for node in source.nodes if node not in reached)
-        raise ValueError(f"the graph is not connected: {outside!r} cannot be reached from {source.edges[0][0]!r}")
+        raise ValueError(f"the graph is not connected: {outside!r} cannot be reached from {root!r}")
 
 
-def components(source: PricedGraph) -> List[PricedGraph]:
+def parts_of(source: PricedGraph) -> list[set[Node]]:
+    """The nodes of each connected part of a graph, in the order of their first nodes."""
+    import networkx
+
+    return list(networkx.connected_components(undirected(source.edges, source.nodes)))
+
+
+def components(source: PricedGraph) -> list[PricedGraph]:
     """The connected parts of a graph, in the order of their first nodes, with the kinds and prices of the whole. A node
     without edges is a part."""
-    near = neighbours(source.edges)
-    part_of: Dict[Node, int] = {}
-    count = 0
-    for node in source.nodes:
-        if node not in part_of:
-            part_of.update(dict.fromkeys(reach(node, near), count))
-            count += 1
-    if count == 1:
+    parts = parts_of(source)
+    if len(parts) == 1:
         return [source]
-    nodes: List[List[Node]] = [[] for _ in range(count)]
-    places: List[List[int]] = [[] for _ in range(count)]
+    part_of = {node: number for number, part in enumerate(parts) for node in part}
+    nodes: list[list[Node]] = [[] for _ in parts]
+    places: list[list[int]] = [[] for _ in parts]
     for node in source.nodes:
         nodes[part_of[node]].append(node)
     for place, edge in enumerate(source.edges):
         places[part_of[edge[0]]].append(place)
-    return [_part(source, nodes[part], places[part]) for part in range(count)]
+    return [_part(source, nodes[part], places[part]) for part in range(len(parts))]
 
 
 def _part(source: PricedGraph, nodes: Sequence[Node], places: Sequence[int]) -> PricedGraph:
     """The part of a graph with these nodes and with the edges at these places."""
-    edges, kinds = (tuple(rows[place] for place in places) for rows in (source.edges, source.kinds))
-    return PricedGraph(source.graph.subgraph(nodes), tuple(nodes), edges, kinds, source.prices)
+    edges, kinds = tuple(source.edges[place] for place in places), tuple(source.kinds[place] for place in places)
+    return PricedGraph(source.graph.subgraph(nodes), tuple(nodes), edges, kinds, source.prices, source.objective)
 
 
-def incidence(edges: Sequence[GraphEdge], places: Iterable[int]) -> Dict[Node, List[Tuple[int, Node]]]:
+def incidence(edges: Sequence[GraphEdge], places: Iterable[int]) -> dict[Node, list[tuple[int, Node]]]:
     """For each node the edges at it, in the order of `places`: their places and their other ends."""
-    found: Dict[Node, List[Tuple[int, Node]]] = {}
+    found: dict[Node, list[tuple[int, Node]]] = {}
     for place in places:
         u, v = edges[place][:2]
         found.setdefault(u, []).append((place, v))
@@ -53,56 +73,11 @@ def incidence(edges: Sequence[GraphEdge], places: Iterable[int]) -> Dict[Node, L
     return found
 
 
-def neighbours(edges: Sequence[GraphEdge]) -> Callable[[Node], Iterable[Node]]:
-    """What gives the nodes that edges join with a node, in whatever direction they go."""
-    at = incidence(edges, range(len(edges)))
-    return lambda node: (other for _, other in at.get(node, ()))
+def bridges(edges: Sequence[GraphEdge]) -> set[int]:
+    """The places of the edges without which a connected graph falls apart. Of parallel edges none is."""
+    import networkx
 
-
-class UnionFind:
-    """Nodes that are joined one by one, and which of them hang together so far."""
-
-    def __init__(self, nodes: Iterable[Node]):
-        self._above = {node: node for node in nodes}
-
-    def _top(self, node: Node) -> Node:
-        """The node that stands for all that hang together with this one."""
-        above = self._above
-        while above[node] != node:
-            above[node] = node = above[above[node]]
-        return node
-
-    def join(self, u: Node, v: Node) -> bool:
-        """Joins two nodes. Whether they did not hang together before."""
-        u, v = self._top(u), self._top(v)
-        self._above[u] = v
-        return u != v
-
-
-def bridges(edges: Sequence[GraphEdge]) -> Set[int]:
-    """The places of the edges without which a connected graph falls apart.
-
-    A walk in depth numbers the nodes as it meets them. An edge down to a new node is a bridge where no edge leads
-    from that node or from below it to a node with the number of the edge's upper end, or less.
-    """
-    at = incidence(edges, range(len(edges)))
-    root = edges[0][0]
-    number = {root: 0}
-    lowest = {root: 0}
-    found: Set[int] = set()
-    walk: List[Tuple[int, Node, Iterator[Tuple[int, Node]]]] = [(-1, root, iter(at[root]))]
-    while walk:
-        place, node, left = walk[-1]
-        following, other = next(left, (-1, node))
-        if following == -1:
-            walk.pop()
-            upper = walk[-1][1] if walk else node
-            lowest[upper] = min(lowest[upper], lowest[node])
-            if walk and lowest[node] > number[upper]:
-                found.add(place)
-        elif other not in number:
-            number[other] = lowest[other] = len(number)
-            walk.append((following, other, iter(at[other])))
-        elif following != place:
-            lowest[node] = min(lowest[node], number[other])
-    return found
+    pairs = [frozenset(edge[:2]) for edge in edges]
+    count = Counter(pairs)
+    held = {pair for pair in map(frozenset, networkx.bridges(undirected(edges))) if count[pair] == 1}
+    return {place for place, pair in enumerate(pairs) if pair in held}

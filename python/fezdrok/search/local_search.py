@@ -8,8 +8,10 @@ local search (Lourenço, Martin and Stützle, 2003).
 
 from __future__ import annotations
 
+import logging
 import random
-from typing import Any, Callable, Dict, List, NamedTuple, Optional, Set, Tuple
+from collections.abc import Callable
+from typing import Any
 
 from ..engine.faults import Fault, NotPlanarized, PlanarError
 from ..engine.graph_edges import Node
@@ -17,20 +19,21 @@ from ..engine.pictures import Picture
 from ..engine.program import PathLike
 from ..engine.reports import Limits
 from ..files.graphs import PricedGraph
-from .beginnings import Order, beginning
+from .beginnings import beginning
 from .connectivity import bridges, incidence
+from .options import Begin, Effort, Order
 from .progress import Clock, Progress
 from .search_picture import SavedPicture, SearchPicture
+
+logger = logging.getLogger("fezdrok")
 
 #: What ends a search, while what was found so far is given.
 ENDS = (KeyboardInterrupt, PlanarError, OSError, MemoryError)
 
-#: How many shakes in a row may save nothing, at least and at most, where it is not said.
-_SHAKES = (40, 200)
 #: How many edges a shake takes out at most: one for so many crossings, but not fewer and not more than these. Where
 #: there are very many crossings, few edges save little.
 _CROSSINGS_EACH, _SHAKEN = 8, (32, 128)
-#: By which part of the crossings a picture may be worse than the best, so that the shakes go on from it.
+#: By which part of its crossings or its cost a picture may be worse than the best, so that the shakes go on from it.
 _SLACK = 0.03
 #: How many edges are inserted again between two looks at what was saved, and how often it is gone over them.
 _STRETCH, _PASSES = 16, 20
@@ -42,20 +45,6 @@ _SPARE_SECONDS, _SPARE_TIMES = 2.0, 20
 def words_of(end: BaseException) -> str:
     """What ended a search, in words."""
     return f"{type(end).__name__} {end}".strip()
-
-
-class Effort(NamedTuple):
-    """How much is tried: how many orders, how many rounds at most for each (None: until one saves nothing), and how
-    many shakes in a row may save nothing before the search ends (None: by the crossings)."""
-
-    tries: int
-    rounds: Optional[int]
-    shakes: Optional[int]
-
-    def shakes_for(self, crossings: int) -> int:
-        """How many shakes in a row may save nothing, if the best picture has so many crossings."""
-        least, most = _SHAKES
-        return min(most, max(least, crossings // 10)) if self.shakes is None else self.shakes
 
 
 class Search:
@@ -70,23 +59,23 @@ class Search:
         self,
         source: PricedGraph,
         effort: Effort,
-        limits: Optional[Limits],
-        program: Optional[PathLike],
+        limits: Limits | None,
+        program: PathLike | None,
         clock: Clock,
         tell: Callable[[Progress], Any],
     ):
         self.source = source
-        self.best: Optional[SavedPicture] = None
-        self.tries: Dict[int, int] = {}
-        self.failures: List[str] = []
-        self.first: Optional[BaseException] = None
+        self.best: SavedPicture | None = None
+        self.tries: dict[int, int] = {}
+        self.failures: list[str] = []
+        self.first: BaseException | None = None
         self.is_ended = False
         self._effort = effort
         self._limits = limits
         self._program = program
         self._clock = clock
         self._tell = tell
-        self._spare: Optional[SavedPicture] = None
+        self._spare: SavedPicture | None = None
         self._spare_due = _SPARE_SECONDS
         self._attempt = 0
         held = bridges(source.edges)
@@ -94,7 +83,7 @@ class Search:
             place for place in range(len(source.edges)) if source.price(place) is not None and place not in held
         ]
 
-    def run(self, begin: str, order: Order, seed: int) -> None:
+    def run(self, begin: Begin, order: Order, seed: int) -> None:
         """Tries the orders, all but the first at random, and goes on from the best picture."""
         self._until_it_ends(lambda: self._run(begin, order, seed))
 
@@ -119,7 +108,7 @@ class Search:
         self.first = self.first or end
         self.failures.append(words)
 
-    def _run(self, begin: str, order: Order, seed: int) -> None:
+    def _run(self, begin: Begin, order: Order, seed: int) -> None:
         for self._attempt in range(self._effort.tries):
             if self._attempt > 0 and (self._clock.is_over or self._is_done):
                 break
@@ -140,7 +129,7 @@ class Search:
         """Whether no picture can be better, and several were to be found only to find the best."""
         return self._effort.rounds is None and self.best is not None and self.best.score == (0, 0)
 
-    def _try_ways(self, begin: str, order: Order, seed: str) -> None:
+    def _try_ways(self, begin: Begin, order: Order, seed: str) -> None:
         """One order of the edges. Where a planar part parts the ends of another edge by edges that must not be crossed,
         the order is tried from a tree."""
         try:
@@ -150,7 +139,7 @@ class Search:
                 raise
             self._try("tree", order, seed)
 
-    def _try(self, begin: str, order: Order, seed: str) -> None:
+    def _try(self, begin: Begin, order: Order, seed: str) -> None:
         """One order of the edges: the beginning, then all other edges, then the rounds."""
         self._tell_progress("begins", None)
         start = beginning(self.source, begin, order, seed, self._clock)
@@ -164,6 +153,7 @@ class Search:
     def _note(self, picture: SearchPicture) -> None:
         """Notes what the order has come to so far, and saves it."""
         self.tries[self._attempt] = min(picture.crossings, self.tries.get(self._attempt, picture.crossings))
+        logger.info("order %d of %d: %d crossings", self._attempt + 1, self._effort.tries, picture.crossings)
         self._save(picture)
 
     # ---- Pictures that are saved
@@ -193,14 +183,14 @@ class Search:
             self._spare_due = self._clock.spent + max(_SPARE_SECONDS, _SPARE_TIMES * (self._clock.spent - begun))
         return self._clock.is_over
 
-    def _tell_progress(self, step: str, picture: Optional[SearchPicture]) -> None:
-        best = None if self.best is None else self.best.score[0]
+    def _tell_progress(self, step: str, picture: SearchPicture | None) -> None:
+        best = None if self.best is None else self.best.crossings
         crossings = (best or 0) if picture is None else picture.crossings
         self._tell(Progress(step, self._attempt + 1, self._effort.tries, crossings, best, self._clock.spent))
 
     # ---- Rounds and shakes
 
-    def _heaviest_first(self, picture: SearchPicture, places: Any) -> List[int]:
+    def _heaviest_first(self, picture: SearchPicture, places: Any) -> list[int]:
         """Those of these edges that have crossings, the most crossed first, then those that have been there the
         longest."""
         return sorted(
@@ -230,18 +220,19 @@ class Search:
         try:
             idle = 0
             assert self.best is not None
-            while idle < self._effort.shakes_for(self.best.score[0]) and picture.crossings and not self._clock.is_over:
+            while idle < self._effort.shakes_for(self.best.crossings) and picture.crossings and not self._clock.is_over:
                 idle += 1
                 self._shake(picture, chance, at)
                 if self._save(picture):
                     idle = 0
-                elif picture.crossings > self.best.score[0] * (1 + _SLACK) + 0.5:
+                    logger.info("shakes: %d crossings", picture.crossings)
+                elif picture.score[0] > self.best.score[0] * (1 + _SLACK) + 0.5:
                     picture.close()
                     picture = self._again()
         finally:
             picture.close()
 
-    def _shake(self, picture: SearchPicture, chance: random.Random, at: Dict[Node, List[Tuple[int, Node]]]) -> None:
+    def _shake(self, picture: SearchPicture, chance: random.Random, at: dict[Node, list[tuple[int, Node]]]) -> None:
         """One shake, and then the edges about it one by one, as long as that saves something."""
         places = self._near_each_other(picture, chance, at)
         todo = picture.crossing(places)
@@ -261,8 +252,8 @@ class Search:
                 return
 
     def _near_each_other(
-        self, picture: SearchPicture, chance: random.Random, at: Dict[Node, List[Tuple[int, Node]]]
-    ) -> List[int]:
+        self, picture: SearchPicture, chance: random.Random, at: dict[Node, list[tuple[int, Node]]]
+    ) -> list[int]:
         """Some edges: a crossed one, and then always one that crosses or touches one of those before."""
         crossed = [place for place in self._movable if picture.load(place)]
         if not crossed:
@@ -272,7 +263,7 @@ class Search:
         count = chance.randint(2, max(3, min(limit, len(self.source.edges) // 4)))
         movable = set(self._movable)
         chosen = [chance.choice(crossed)]
-        seen: Set[int] = set(chosen)
+        seen: set[int] = set(chosen)
         waiting = list(chosen)
         while waiting and len(chosen) < count:
             place = waiting.pop(chance.randrange(len(waiting)))

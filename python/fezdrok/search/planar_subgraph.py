@@ -2,9 +2,8 @@
 
 from __future__ import annotations
 
-from typing import Dict, FrozenSet, Iterable, List, Optional, Sequence, Set, Tuple
+from collections.abc import Iterable, Sequence
 
-from .connectivity import UnionFind
 from .planarity import is_planar
 from .progress import Clock
 
@@ -19,29 +18,35 @@ _WORK = 2_000_000
 
 
 def planar_subgraph(
-    count: int, ends: Sequence[Tuple[int, int]], places: Sequence[int], clock: Optional[Clock] = None
-) -> List[int]:
-    """Of the edges at these places, as many as can be drawn together without crossings: those that are taken when each
-    is taken that can be drawn with those before it. Of parallel edges the first alone is taken.
+    count: int,
+    ends: Sequence[tuple[int, int]],
+    places: Sequence[int],
+    clock: Clock | None = None,
+    held: Sequence[int] = (),
+) -> list[int]:
+    """The edges `held`, which can be drawn together without crossings, and of those at these places as many as can be
+    drawn with them: those that are taken when each is taken that can be drawn with those before it. Of parallel edges
+    the first alone is taken.
 
     Several are tried at once, and halves of them where they do not go together. In a graph of more than 1,200 edges,
     and where the time of the clock is over, some are left out together of which one or the other could have been taken;
     where they fit, they cross nothing when they are inserted later. What is taken connects what the edges connect all
     the same.
     """
-    first: Dict[FrozenSet[int], int] = {}
-    for place in places:
+    first: dict[frozenset[int], int] = {}
+    for place in (*held, *places):
         first.setdefault(frozenset(ends[place]), place)
-    found = _PlanarSubgraph(count, ends, clock or Clock())
-    found.add(list(first.values()))
+    known = set(held)
+    found = _PlanarSubgraph(count, ends, clock or Clock(), [place for place in first.values() if place in known])
+    found.add([place for place in first.values() if place not in known])
     return found.taken + _connecting(count, ends, found.taken, places)
 
 
 class _PlanarSubgraph:
     """A part that grows: `taken` are the places of its edges."""
 
-    def __init__(self, count: int, ends: Sequence[Tuple[int, int]], clock: Clock):
-        self.taken: List[int] = []
+    def __init__(self, count: int, ends: Sequence[tuple[int, int]], clock: Clock, taken: list[int]):
+        self.taken = taken
         self._count = count
         self._ends = ends
         self._clock = clock
@@ -67,38 +72,45 @@ class _PlanarSubgraph:
         return is_planar(self._count, both)
 
 
-def _connecting(count: int, ends: Sequence[Tuple[int, int]], taken: Sequence[int], places: Sequence[int]) -> List[int]:
+def _connecting(count: int, ends: Sequence[tuple[int, int]], taken: Sequence[int], places: Sequence[int]) -> list[int]:
     """Edges that connect what those that were taken leave apart. They can be drawn with them without crossings."""
+    from networkx.utils import UnionFind
+
     parts, known = UnionFind(range(count)), set(taken)
-    found = [place for place in (*taken, *places) if parts.join(*ends[place])]
+    found: list[int] = []
+    for place in (*taken, *places):
+        u, v = ends[place]
+        if parts[u] != parts[v]:
+            parts.union(u, v)
+            found.append(place)
     return [place for place in found if place not in known]
 
 
-def short_cycles_first(count: int, ends: Sequence[Tuple[int, int]], places: Iterable[int]) -> List[int]:
+def short_cycles_first(count: int, ends: Sequence[tuple[int, int]], places: Iterable[int]) -> list[int]:
     """The places by the length of the shortest cycle through each edge, those of one length in the order in which they
     stand. An edge whose ends are far apart without it hinders many others in a planar drawing, and so it comes late. In
     a planar graph none hinders another, and the places are given as they are."""
     if is_planar(count, list({(min(pair), max(pair)) for pair in ends})):
         return list(places)
-    near: List[Set[int]] = [set() for _ in range(count)]
+    near: list[set[int]] = [set() for _ in range(count)]
     for u, v in ends:
         near[u].add(v)
         near[v].add(u)
-    known: Dict[Tuple[int, int], int] = {}
+    known: dict[tuple[int, int], int] = {}
     for pair in ends:
         if pair not in known:
             known[pair] = _way_round(near, *pair)
     return sorted(places, key=lambda place: known[ends[place]])
 
 
-def _way_round(near: Sequence[Set[int]], u: int, v: int) -> int:
+def _way_round(near: Sequence[set[int]], u: int, v: int) -> int:
     """How many edges the shortest way from u to v has that is not the edge between them."""
     here, there = {u}, {v}
     edge_here, edge_there = [u], [v]
     length = 0
     while edge_here and len(here) + len(there) <= _NEAR:
         length += 1
-        fresh: List[int] = []
+        fresh: list[int] = []
         for x in edge_here:
             for y in near[x]:
                 if y in there:

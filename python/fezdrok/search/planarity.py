@@ -7,10 +7,10 @@ those which would cross on the same side lie on different ones; the test finds o
 
 from __future__ import annotations
 
-from typing import Dict, List, Sequence, Tuple
+from collections.abc import Sequence
 
 
-def is_planar(count: int, ends: Sequence[Tuple[int, int]]) -> bool:
+def is_planar(count: int, ends: Sequence[tuple[int, int]]) -> bool:
     """Whether a graph with this many vertices and these edges, without loops, can be drawn without crossings."""
     if count > 2 and len(ends) > 3 * count - 6:
         return False
@@ -27,7 +27,7 @@ class _OrientedGraph:
     walk.
     """
 
-    def __init__(self, count: int, ends: Sequence[Tuple[int, int]]):
+    def __init__(self, count: int, ends: Sequence[tuple[int, int]]):
         self.height = [-1] * count
         self.parent = [-1] * count
         self.source = [-1] * len(ends)
@@ -35,9 +35,9 @@ class _OrientedGraph:
         self.lowest = [0] * len(ends)
         self._second = [0] * len(ends)
         self._depth = [0] * len(ends)
-        self.below: List[List[int]] = [[] for _ in range(count)]
-        self.roots: List[int] = []
-        at: List[List[int]] = [[] for _ in range(count)]
+        self.below: list[list[int]] = [[] for _ in range(count)]
+        self.roots: list[int] = []
+        at: list[list[int]] = [[] for _ in range(count)]
         for edge, (u, v) in enumerate(ends):
             at[u].append(edge)
             at[v].append(edge)
@@ -49,7 +49,7 @@ class _OrientedGraph:
         for edges in self.below:
             edges.sort(key=self._depth.__getitem__)
 
-    def _walk(self, root: int, at: List[List[int]], ends: Sequence[Tuple[int, int]]) -> None:
+    def _walk(self, root: int, at: list[list[int]], ends: Sequence[tuple[int, int]]) -> None:
         height, source = self.height, self.source
         stack = [root]
         while stack:
@@ -106,13 +106,13 @@ class _Sides:
         self._graph = graph
         self._next = [-1] * len(graph.source)
         self._bottom = [0] * len(graph.source)
-        self._stack: List[List[int]] = []
+        self._stack: list[list[int]] = []
 
     def can_be_chosen(self, root: int) -> bool:
         """Whether the sides can be chosen for the part of the graph that was walked from this vertex."""
         graph, stack = self._graph, self._stack
         height, parent, target, lowest = graph.height, graph.parent, graph.target, graph.lowest
-        place: Dict[int, int] = {root: 0}
+        place: dict[int, int] = {root: 0}
         walk = [root]
         while walk:
             v = walk[-1]
@@ -168,7 +168,7 @@ class _Sides:
     def _is_above(self, back_edge: int, limit: int) -> bool:
         return back_edge >= 0 and self._graph.lowest[back_edge] > limit
 
-    def _join(self, pair: List[int], side: int, low: int, high: int) -> None:
+    def _join(self, pair: list[int], side: int, low: int, high: int) -> None:
         """Puts an interval below the one that the pair has on a side."""
         if pair[side] < 0:
             pair[side + 1] = high

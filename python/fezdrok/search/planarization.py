@@ -2,12 +2,11 @@
 
 from __future__ import annotations
 
-import math
+import logging
 import warnings
+from collections.abc import Iterable, Sequence
 from dataclasses import dataclass, replace
-from numbers import Real
-from operator import index
-from typing import Any, Dict, Iterable, List, Optional, Sequence, Tuple
+from typing import Any
 
 from ..engine.faults import NotPlanarized, OtherReport, PlanarWarning
 from ..engine.graph_edges import GraphEdge, Node
@@ -16,18 +15,20 @@ from ..engine.planarizer import Planarizer
 from ..engine.program import PathLike
 from ..engine.reports import Limits, Refused, Report, Reports, difference
 from ..engine.results import Planarization, joined_parts, single
-from ..files.graphs import PricedGraph, Pricing, places_of, read_graph
-from .beginnings import Order, beginning
+from ..files.graphs import Objective, PricedGraph, Pricing, objective_for, places_of, read_graph
+from .beginnings import beginning, judge_forbidden
 from .connectivity import components, judge_connected
-from .local_search import Effort, Search
-from .progress import Clock, ProgressOption, line_ended, progress_function
+from .local_search import Search
+from .options import (
+    Begin, Effort, EffortName, Order, judge_call, judged_effort, judged_order, judged_seconds, most, one_of, whole,
+)
+from .progress import Clock, Progress, ProgressOption, line_ended, progress_function
 from .search_picture import SavedPicture
 
-#: How many orders are tried, unless it is said.
-TRIES = 2
+logger = logging.getLogger("fezdrok")
 
 
-@dataclass(frozen=True)
+@dataclass(frozen=True, eq=False)
 class Prepared:
     """A graph made ready for one run: the commands, and what their replies will mean.
 
@@ -37,9 +38,13 @@ class Prepared:
 
     source: PricedGraph
     planarizer: Planarizer
-    node_of: Tuple[Node, ...]
-    drawn: Tuple[int, ...]
-    asked: Tuple[int, ...]
+    node_of: tuple[Node, ...]
+    drawn: tuple[int, ...]
+    asked: tuple[int, ...]
+
+    def __repr__(self) -> str:
+        counts = f"{len(self.source.nodes)} nodes, {len(self.source.edges)} edges, {len(self.asked)} commands"
+        return f"<Prepared: {counts}>"
 
     def script_text(self) -> str:
         """The script, to be run elsewhere by `planar run`."""
@@ -71,119 +76,146 @@ class Prepared:
 def planarize(
     graph: Any,
     price: Pricing = None,
-    forbidden: Optional[Iterable[GraphEdge]] = None,
+    forbidden: Iterable[GraphEdge] | None = None,
     *,
-    quick: bool = False,
-    begin: Optional[str] = None,
+    objective: Objective | None = None,
+    effort: EffortName = "default",
+    begin: Begin | None = None,
     order: Order = "given",
-    tries: Optional[int] = None,
-    rounds: Optional[int] = None,
-    shakes: Optional[int] = None,
+    tries: int | None = None,
+    rounds: int | None = None,
+    shakes: int | None = None,
     seed: int = 0,
-    seconds: Optional[float] = None,
+    seconds: float | None = None,
     progress: ProgressOption = None,
     round_prices: bool = False,
-    limits: Optional[Limits] = None,
-    program: Optional[PathLike] = None,
+    limits: Limits | None = None,
+    program: PathLike | None = None,
 ) -> Planarization:
-    """A picture of a networkx graph, which must have an edge and no loop (else ValueError).
+    """Draw a graph in the plane with few crossings.
 
     A graph that is not connected is planarized part by part; see `Planarization.parts`. What follows is done for each.
 
     First a large part of the graph is drawn without crossings, and every other edge is inserted along a cheapest route,
-    those that are cheap to cross last (`begin="planar"`). With `begin="tree"` the first edge is the start instead, and
-    a breadth-first tree is grown from it. This is done in `tries` orders, 2 unless given, all but the first at random
-    by `seed`. After each there are up to `rounds` rounds in which every crossed edge is taken out and inserted again;
-    unless given, until one saves nothing. Then the best picture is shaken: some edges that are near each other are
-    taken out together and inserted again, and those about them one by one. It ends when `shakes` shakes in a row have
-    saved nothing; unless given, a tenth of the crossings, but 40 at least and 200 at most. `quick=True` stands for
-    `begin="tree", tries=1, rounds=0, shakes=0`, of which each may be given otherwise.
+    those that are cheap to cross last. This is done in several orders of the edges. After each there are rounds in
+    which every crossed edge is taken out and inserted again. Then the best picture is shaken: some edges that are near
+    each other are taken out together and inserted again, and those about them one by one.
 
-    The picture with the fewest crossings is the result, of equal ones the one that costs least, then the first. It is
-    the same for the same graph and the same words, unless time ends the search.
+    Of the pictures that were found the one is the result that is best by the objective, of equal ones the first. It is
+    the same for the same graph and the same words, unless time ends the search. The graph is copied: what is done to
+    it later does not change the result.
 
-    `price` says what crossing an edge costs, from 1 to 1000: the name of an edge attribute, a mapping from edges, or a
-    function of both nodes and the data; without it, and for edges that it does not name, 1. A price of None, and an
-    edge of `forbidden`, has no crossing. Such edges are in the start (ValueError where they cannot be drawn without
-    crossings). At most 64 prices may differ (else ValueError); where there are more, `round_prices=True` has prices
-    that are near each other share one, which then counts as theirs, also in `cost`: so that the greatest factor by
-    which one is changed is as small as can be.
+    Parameters
+    ----------
+    graph : networkx.Graph or list of pairs
+        A graph with at least one node, and without loops. It may be directed, which counts for nothing, and may have
+        parallel edges. Pairs of nodes are the edges of a graph.
+    price : str, mapping or callable, optional
+        What crossing an edge costs, a whole number from 1 to 1000: the name of an edge attribute, a mapping from edges,
+        or a function of both nodes and the data; without it, and for edges that it does not name, 1. A crossing costs
+        the product of the prices of both edges. None is as `forbidden`. At most 64 prices may differ.
+    forbidden : list of edges, optional
+        Edges that have no crossing.
+    objective : {"crossings", "cost"}, optional
+        What is to be as small as can be, then the other; without it the cost where a price is not 1, and else the
+        number of crossings.
+    effort : {"quick", "default", "thorough"}
+        How much is tried. "quick" makes one picture and no more; it stands for `begin="tree", tries=1, rounds=0,
+        shakes=0`. "default" stands for `begin="planar", tries=2`, with rounds until one saves nothing, and with shakes
+        until as many in a row as a tenth of the crossings have saved nothing, but 40 at least and 200 at most.
+        "thorough" stands for `tries=8, shakes=1000`. Each of these may be given in its place.
+    begin : {"tree", "planar"}, optional
+        With what is begun: a breadth-first tree that is grown from the first edge, or a large planar part.
+    order : {"given", "random"} or list of edges
+        The order of the edges, of which the listed ones come first and in this order, whatever they cost.
+    tries : int, optional
+        How many orders are tried, all but the first at random.
+    rounds : int, optional
+        How many rounds are made at most for each order; none is made after one that saves nothing.
+    shakes : int, optional
+        How many shakes in a row may save nothing before the search ends.
+    seed : int
+        What the random orders and the shakes are made from.
+    seconds : float, optional
+        When they are over, the best picture so far is the result; the first picture is made in any case.
+    progress : bool or callable, optional
+        True for a line on the terminal, or a function that is called with a Progress now and then. What it raises ends
+        the search and is raised here.
+    round_prices : bool
+        Where there are more than 64 prices, those that are near each other share one, which then counts as theirs, so
+        that the greatest factor by which one is changed is as small as can be.
+    limits : Limits, optional
+        How large the picture may grow (unless given, as large as the program allows), for each part by itself. Where
+        ids run out, they begin anew from 0, if that makes room.
+    program : str or os.PathLike, optional
+        The path of `planar`; see `find_program`.
 
-    `order` is the order of the edges: `given`, `random`, or a list of edges that come first and in this order,
-    whatever they cost.
+    Returns
+    -------
+    Planarization
+        The picture with the names of the graph's nodes and edges.
 
-    `limits` say how large the picture may grow (see Limits; unless given, they are the greatest that there are). They
-    count for each connected part by itself. Where ids run out, they begin anew from 0, if that makes room. Where an
-    order needs more than the limits, the program refuses an edge (NotPlanarized with 7 Full), or the picture that the
-    order begins with (Fault 20 TooMany). Limits out of their ranges are Fault 11 BadLimits. `program` is the path of
-    `planar` (see `find_program`; ProgramNotFound where there is none).
+    Raises
+    ------
+    ValueError
+        Where the graph has no node or a loop, and where an option cannot be used; the message names it.
+    NotPlanarized
+        Where edges that must not be crossed cannot be drawn without crossings, where they part the ends of another, or
+        where the limits do not suffice; it names the edge.
+    Fault
+        Where the limits are out of their ranges (11 BadLimits), or the start is larger (20 TooMany).
+    ProgramNotFound
+        Where there is no program; see `find_program`. Other failures of it are raised as by Session.
 
-    When `seconds` are over, the best picture so far is the result; the first picture is made in any case. `progress` is
-    True for a line on the terminal, or a function that is called with a Progress now and then. What it raises ends the
-    search and is raised here.
+    Warns
+    -----
+    PlanarWarning
+        Where not all was tried. An order that comes to no picture is passed over where another comes to one; any other
+        failure of the program and Ctrl-C (KeyboardInterrupt) end the search. The best picture so far is the result;
+        where there is none yet, the first failure is raised.
 
-    What was found is never lost. An order that comes to no picture, since the program refuses an edge or has a fault,
-    is passed over where another comes to one. Any other failure of the program and Ctrl-C (KeyboardInterrupt) end the
-    search. In each of these cases the best picture so far is the result, and a PlanarWarning says what happened; where
-    there is no picture yet, the first failure is raised: NotPlanarized where the program refuses an edge; Fault and
-    other PlanarErrors as Session; KeyboardInterrupt. Numbers that make no sense, as negative ones, are a ValueError.
+    Examples
+    --------
+    >>> import networkx as nx
+    >>> from fezdrok import planarize
+    >>> planarize(nx.complete_graph(6))
+    <Planarization: 6 nodes, 15 edges, 3 crossings>
+    >>> planarize([("a", "b"), ("b", "c"), ("c", "a")], forbidden=[("a", "b")]).crossings
+    0
     """
-    begin = begin if begin is not None else "tree" if quick else "planar"
-    effort = Effort(
-        _whole("tries", 1 if quick else TRIES, tries, 1),
-        0 if quick and rounds is None else _most("rounds", rounds),
-        0 if quick and shakes is None else _most("shakes", shakes),
-    )
-    clock, tell = Clock(_judged(seconds)), progress_function(progress)
-    source = read_graph(graph, price, forbidden, round_prices)
-    if not isinstance(order, (str, set, frozenset)):
-        order = [source.edges[place] for place in places_of(source.edges, order, graph.is_directed())]
-    results: List[Planarization] = []
-    failures: List[str] = []
+    begin, numbers = judged_effort(effort, begin, tries, rounds, shakes)
+    order, seed, clock = judged_order(order), whole("seed", seed), Clock(judged_seconds(seconds))
+    judge_call(limits, program)
+    if objective is not None:
+        one_of("objective", objective, Objective)
+    tell = progress_function(progress)
+    source = read_graph(graph, price, forbidden, round_prices, objective)
+    judge_forbidden(source)
+    if not isinstance(order, str):
+        order = [source.edges[place] for place in places_of("order", source.edges, order, source.graph.is_directed())]
+    results: list[Planarization] = []
+    failures: list[str] = []
     sources = components(source)
     with line_ended(tell):
         for part in sources:
             if not part.edges:
                 results.append(single(part.graph, part.nodes[0], part.prices))
                 continue
-            search = Search(part, effort, limits, program, clock, tell)
+            search = Search(part, numbers, limits, program, clock, tell)
             search.run(begin, _order_in(part, order, len(sources)), seed)
             results.append(_result(search))
             failures += search.failures
             if search.is_ended:
-                effort = Effort(1, 0, 0)
+                numbers = Effort(1, 0, 0)
     _warn(failures)
-    return results[0] if len(results) == 1 else joined_parts(graph, source.prices, results)
-
-
-def _whole(name: str, otherwise: int, value: Any, least: int) -> int:
-    """A number that is at least so much, or what stands for None; ValueError where it is none."""
-    try:
-        number = index(otherwise if value is None else value)
-    except TypeError:
-        raise ValueError(f"{name} is {value!r}: it must be a whole number") from None
-    if number < least:
-        raise ValueError(f"{name} is {number}: it must be {least} or more")
-    return number
-
-
-def _most(name: str, value: Any) -> Optional[int]:
-    """A number that is 0 or more, or None where it is left to the search; ValueError where it is none."""
-    return None if value is None else _whole(name, 0, value, 0)
-
-
-def _judged(seconds: Any) -> Optional[float]:
-    """The seconds that a search has, or None for as many as it takes; ValueError where they are no time."""
-    if seconds is None:
-        return None
-    if not isinstance(seconds, Real) or math.isnan(seconds) or seconds < 0:
-        raise ValueError(f"seconds is {seconds!r}: it must be a number that is 0 or more, or None for no limit")
-    return float(seconds)
+    result = results[0] if len(results) == 1 else joined_parts(source.graph, source.prices, results)
+    logger.info("%r, cost %d, after %.1f seconds", result, result.cost, clock.spent)
+    return result
 
 
 def _order_in(part: PricedGraph, order: Order, count: int) -> Order:
     """The order of the edges within one of so many parts."""
-    if count == 1 or isinstance(order, (str, set, frozenset)):
+    if count == 1 or isinstance(order, str):
         return order
     nodes = set(part.nodes)
     return [edge for edge in order if edge[0] in nodes]
@@ -199,7 +231,7 @@ def _result(search: Search) -> Planarization:
     return Planarization(source.graph, picture, best.node_of, _edge_of(source, best), source.prices, reports, tries)
 
 
-def _edge_of(source: PricedGraph, saved: SavedPicture) -> Dict[int, GraphEdge]:
+def _edge_of(source: PricedGraph, saved: SavedPicture) -> dict[int, GraphEdge]:
     """The edge of each id in a picture that was saved."""
     return {edge_id: source.edges[place] for edge_id, place in sorted(saved.place_of.items())}
 
@@ -217,26 +249,56 @@ def _warn(failures: Sequence[str]) -> None:
 def prepare(
     graph: Any,
     price: Pricing = None,
-    forbidden: Optional[Iterable[GraphEdge]] = None,
+    forbidden: Iterable[GraphEdge] | None = None,
     *,
-    begin: str = "tree",
+    begin: Begin = "tree",
     order: Order = "given",
     seed: int = 0,
     round_prices: bool = False,
-    limits: Optional[Limits] = None,
-    program: Optional[PathLike] = None,
+    limits: Limits | None = None,
+    program: PathLike | None = None,
 ) -> Prepared:
-    """The one run that `planarize` with the same words and `quick=True` makes, to write its script and to read its
-    report elsewhere. ValueError where the graph is not connected: then prepare each part.
+    """Make the script of the one run that `planarize` with the same words and `effort="quick"` makes, to be run
+    elsewhere.
 
-    `limits` say how large the picture may grow (see Limits), and go into the script. They are judged when it is run:
-    Fault 11 BadLimits where they are out of their ranges, Fault 20 TooMany where the picture that it begins with is
-    larger. An edge for which they do not suffice is refused in the report as 7 Full, which `Prepared.result` raises as
-    NotPlanarized. `program` is the path of `planar` that `Prepared.run` calls (see `find_program`); here no program is
-    called or looked for.
+    Parameters
+    ----------
+    graph, price, forbidden, begin, order, seed, round_prices
+        As for `planarize`; the graph has an edge and is connected.
+    limits : Limits, optional
+        How large the picture may grow. They go into the script, and are judged when it is run: Fault 11 BadLimits where
+        they are out of their ranges, 20 TooMany where the picture that it begins with is larger. An edge for which they
+        do not suffice is refused in the report as 7 Full, which `Prepared.result` raises as NotPlanarized.
+    program : str or os.PathLike, optional
+        The path of `planar` that `Prepared.run` calls; here no program is called or looked for.
+
+    Returns
+    -------
+    Prepared
+        The script, and what reads its report.
+
+    Raises
+    ------
+    ValueError
+        Where the graph has no edge or is not connected (then prepare each part), and as `planarize`.
+    NotPlanarized
+        Where edges that must not be crossed cannot be drawn without crossings.
+
+    Examples
+    --------
+    >>> import networkx as nx
+    >>> from fezdrok import Report, prepare
+    >>> prepared = prepare(nx.complete_graph(3))
+    >>> prepared.script_text()[-46:]
+    '"workers":[[["grow",0,0,0],["insert",1,2,0]]]}'
+    >>> prepared.run().crossings
+    0
     """
+    begin, order, seed = one_of("begin", begin, Begin), judged_order(order), whole("seed", seed)
+    judge_call(limits, program)
     source = read_graph(graph, price, forbidden, round_prices)
     judge_connected(source)
+    judge_forbidden(source)
     start = beginning(source, begin, order, f"{seed}/0")
     planarizer = Planarizer(start.picture, limits, source.prices, program)
     vertex_of = {node: vertex for vertex, node in enumerate(start.node_of)}
@@ -250,35 +312,68 @@ def prepare(
 
 def reinsert(
     result: Planarization,
-    rounds: Optional[int] = 1,
-    limits: Optional[Limits] = None,
-    program: Optional[PathLike] = None,
     *,
-    shakes: Optional[int] = 0,
+    rounds: int | None = 1,
+    shakes: int | None = 0,
+    objective: Objective | None = None,
     seed: int = 0,
-    seconds: Optional[float] = None,
+    seconds: float | None = None,
     progress: ProgressOption = None,
+    limits: Limits | None = None,
+    program: PathLike | None = None,
 ) -> Planarization:
-    """A picture of the same graph with as many crossings or fewer.
+    """Go on from a planarization to one of the same graph that is as good or better.
 
-    In a round each crossed edge that has a price is taken out and inserted again, the most crossed first. At most this
-    many rounds are made (None: no limit), and none after one that saves nothing. Then come shakes, as those of
-    `planarize`, until so many in a row have saved nothing (None: as many as there). The other words are those of
-    `planarize`. `limits` and `program` too: those that the result was made with count for nothing here.
+    Parameters
+    ----------
+    result : Planarization
+        Where to go on from.
+    rounds : int or None
+        How many rounds are made at most (None: no limit), and none after one that saves nothing. In a round each
+        crossed edge that has a price is taken out and inserted again, the most crossed first.
+    shakes : int or None
+        How many shakes in a row may save nothing before the search ends (None: as many as for `planarize`).
+    objective, seed, seconds, progress, limits, program
+        As for `planarize`; the limits that the result was made with count for nothing here.
 
-    What was found is never lost: where the program fails or is not found, where the limits do not suffice or are out of
-    their ranges, and at Ctrl-C (KeyboardInterrupt), the best picture so far is given, at least the one that was given,
-    with a PlanarWarning that says what happened.
+    Returns
+    -------
+    Planarization
+        The best that was found; the one that was given, where nothing was.
+
+    Raises
+    ------
+    ValueError
+        Where an option cannot be used; the message names it.
+
+    Warns
+    -----
+    PlanarWarning
+        Where the program fails or is not found, where the limits do not suffice or are out of their ranges, and at
+        Ctrl-C (KeyboardInterrupt): what was found is never lost.
+
+    Examples
+    --------
+    >>> import networkx as nx
+    >>> from fezdrok import planarize, reinsert
+    >>> result = planarize(nx.complete_graph(8), effort="quick")
+    >>> result.crossings, reinsert(result, rounds=5).crossings
+    (19, 18)
     """
-    effort = Effort(1, _most("rounds", rounds), _most("shakes", shakes))
-    clock, tell = Clock(_judged(seconds)), progress_function(progress)
-    failures: List[str] = []
+    if not isinstance(result, Planarization):
+        raise ValueError(f"result is {result!r:.80}: it must be a Planarization")
+    effort, seed = Effort(1, most("rounds", rounds), most("shakes", shakes)), whole("seed", seed)
+    clock, tell = Clock(judged_seconds(seconds)), progress_function(progress)
+    judge_call(limits, program)
+    if objective is not None:
+        one_of("objective", objective, Objective)
+    failures: list[str] = []
     parts = list(result.parts or (result,))
     with line_ended(tell):
         for place, part in enumerate(parts):
             if part.picture.edges:
-                search = Search(_source_of(part), effort, limits, program, clock, tell)
-                search.go_on(_saved(part), seed)
+                search = Search(_source_of(part, objective), effort, limits, program, clock, tell)
+                search.go_on(_saved(part, search.source), seed)
                 parts[place] = _better(part, search)
                 failures += search.failures
                 if search.is_ended:
@@ -289,17 +384,19 @@ def reinsert(
     return replace(joined_parts(result.graph, result.prices, parts), tries=result.tries)
 
 
-def _source_of(result: Planarization) -> PricedGraph:
+def _source_of(result: Planarization, objective: Objective | None) -> PricedGraph:
     """The graph of a planarization with its kinds, its edges in the order of their ids."""
     rows = result.picture.edges
-    edges = tuple(result.edge_of[row.id] for row in rows)
-    return PricedGraph(result.graph, result.node_of, edges, tuple(row.kind for row in rows), result.prices)
+    edges, kinds = tuple(result.edge_of[row.id] for row in rows), tuple(row.kind for row in rows)
+    wanted = objective or objective_for(result.prices)
+    return PricedGraph(result.graph, result.node_of, edges, kinds, result.prices, wanted)
 
 
-def _saved(result: Planarization) -> SavedPicture:
+def _saved(result: Planarization, source: PricedGraph) -> SavedPicture:
     """The picture of a planarization as one that a search has saved, by no call yet."""
     place_of = {row.id: place for place, row in enumerate(result.picture.edges)}
-    return SavedPicture(result.picture.to_text(), result.node_of, place_of, result.score, result.picture)
+    score = source.score(result.crossings, result.cost)
+    return SavedPicture(result.picture.to_text(), result.node_of, place_of, score, result.crossings, result.picture)
 
 
 def _better(result: Planarization, search: Search) -> Planarization:

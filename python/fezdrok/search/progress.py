@@ -4,8 +4,9 @@ from __future__ import annotations
 
 import sys
 import time
-from contextlib import closing, nullcontext
-from typing import Any, Callable, ContextManager, NamedTuple, Optional, TextIO, Union
+from collections.abc import Callable
+from contextlib import AbstractContextManager, closing, nullcontext
+from typing import Any, NamedTuple, TextIO
 
 
 class Progress(NamedTuple):
@@ -21,12 +22,12 @@ class Progress(NamedTuple):
     order: int
     tries: int
     crossings: int
-    best: Optional[int]
+    best: int | None
     seconds: float
 
 
 #: True for a line on the terminal, None or False for nothing, or a function that is called with each Progress.
-ProgressOption = Union[None, bool, Callable[[Progress], Any]]
+ProgressOption = None | bool | Callable[[Progress], Any]
 
 
 def progress_function(progress: ProgressOption) -> Callable[[Progress], Any]:
@@ -35,7 +36,9 @@ def progress_function(progress: ProgressOption) -> Callable[[Progress], Any]:
         return progress
     if progress is not None and not isinstance(progress, bool):
         raise ValueError(f"progress is {progress!r}: it must be True, False, None, or a function that takes a Progress")
-    return ProgressLine(sys.stderr) if progress else lambda told: None
+    if progress:
+        return ProgressLine(sys.stderr)
+    return lambda told: None
 
 
 class StatusLine:
@@ -61,7 +64,7 @@ class StatusLine:
             self._stream.flush()
 
 
-def line_ended(tell: Any) -> ContextManager[Any]:
+def line_ended(tell: Any) -> AbstractContextManager[Any]:
     """Ends the line that this writes, if it writes one, however what is done meanwhile ends."""
     return closing(tell) if isinstance(tell, StatusLine) else nullcontext()
 
@@ -90,7 +93,7 @@ class ProgressLine(StatusLine):
 class Clock:
     """The time since it was made, and whether that which was given is over. Without seconds it never is."""
 
-    def __init__(self, seconds: Optional[float] = None):
+    def __init__(self, seconds: float | None = None):
         self._begun = time.monotonic()
         self._seconds = seconds
 

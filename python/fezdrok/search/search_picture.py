@@ -4,8 +4,9 @@ from __future__ import annotations
 
 import json
 import time
+from collections.abc import Callable, Iterable, Mapping, Sequence
 from dataclasses import dataclass, field
-from typing import Any, Callable, Dict, Iterable, List, Mapping, Optional, Sequence, Set, Tuple
+from typing import Any
 
 from ..engine.faults import NotPlanarized
 from ..engine.graph_edges import Node
@@ -24,37 +25,38 @@ _ROOM = 64
 _PACE = 0.05
 
 
-@dataclass(frozen=True)
+@dataclass(frozen=True, eq=False)
 class SavedPicture:
     """A picture that a search saved, to give it as the result or to go on from it.
 
     `text` is the picture as the program writes it, `node_of` has the nodes of its vertices, `place_of` the places of
-    its edges by their ids, and `score` is what SearchPicture has. The process had begun with `start`, which came from
-    `before`, and had answered the first `calls` lines of `history`; `settings` are those of its report, or None where
-    the picture comes from elsewhere.
+    its edges by their ids, and `score` and `crossings` are what SearchPicture has. The process had begun with `start`,
+    which came from `before`, and had answered the first `calls` lines of `history`; `settings` are those of its report,
+    or None where the picture comes from elsewhere.
     """
 
     text: str
-    node_of: Tuple[Node, ...]
-    place_of: Dict[int, int]
-    score: Tuple[int, int]
+    node_of: tuple[Node, ...]
+    place_of: dict[int, int]
+    score: tuple[int, int]
+    crossings: int
     start: Picture
-    history: List[Tuple[str, str]] = field(default_factory=list, repr=False)
+    history: list[tuple[str, str]] = field(default_factory=list, repr=False)
     calls: int = 0
-    settings: Optional[Dict[str, Any]] = None
-    before: Optional[SavedPicture] = field(default=None, repr=False)
+    settings: dict[str, Any] | None = None
+    before: SavedPicture | None = field(default=None, repr=False)
 
-    def report_texts(self) -> List[str]:
+    def report_texts(self) -> list[str]:
         """The reports that lead to this picture, as the program would write them. They are made of its answers, so that
         they are there also where it failed later."""
-        texts: List[str] = []
-        saved: Optional[SavedPicture] = self
+        texts: list[str] = []
+        saved: SavedPicture | None = self
         while saved is not None and saved.settings is not None:
             texts.append(saved._report_text(saved.settings))
             saved = saved.before
         return texts[::-1]
 
-    def _report_text(self, settings: Dict[str, Any]) -> str:
+    def _report_text(self, settings: dict[str, Any]) -> str:
         entries = [
             f'{{"call":{call},"caller":0,"reply":{reply}}}' for call, reply in self.history[: self.calls]
         ]
@@ -78,11 +80,11 @@ class SearchPicture:
         self,
         source: PricedGraph,
         start: Picture,
-        node_of: Tuple[Node, ...],
+        node_of: tuple[Node, ...],
         place_of: Mapping[int, int],
-        limits: Optional[Limits] = None,
-        program: Optional[PathLike] = None,
-        before: Optional[SavedPicture] = None,
+        limits: Limits | None = None,
+        program: PathLike | None = None,
+        before: SavedPicture | None = None,
     ):
         self.source = source
         self.node_of = node_of
@@ -96,15 +98,15 @@ class SearchPicture:
         self._session = Session(start, limits, source.prices, program)
         self._begin(start, place_of, before)
 
-    def _begin(self, start: Picture, place_of: Mapping[int, int], before: Optional[SavedPicture]) -> None:
+    def _begin(self, start: Picture, place_of: Mapping[int, int], before: SavedPicture | None) -> None:
         """Notes what the start picture has, with which the process has begun."""
-        self.over: List[List[int]] = [[] for _ in self.source.edges]
-        self.under: List[List[int]] = [[] for _ in self.source.edges]
+        self.over: list[list[int]] = [[] for _ in self.source.edges]
+        self.under: list[list[int]] = [[] for _ in self.source.edges]
         self.crossings = len(start.crossings)
         self.cost = 0
         self._start = start
         self._before = before
-        self._history: List[Tuple[str, str]] = []
+        self._history: list[tuple[str, str]] = []
         self._ids = [-1] * len(self.source.edges)
         self._place_of = dict(place_of)
         self._next_edge, self._next_crossing = start.next_edge, start.next_crossing
@@ -114,12 +116,12 @@ class SearchPicture:
             crossed, newcomer = place_of[row.crossed], place_of[row.newcomer]
             self.over[newcomer].append(crossed)
             self.under[crossed].append(newcomer)
-            self.cost += self._prices[crossed]
+            self.cost += self._prices[crossed] * self._prices[newcomer]
 
     @property
-    def score(self) -> Tuple[int, int]:
-        """What is less in a better picture: the crossings, then their cost."""
-        return (self.crossings, self.cost)
+    def score(self) -> tuple[int, int]:
+        """What is less in a better picture: first what the objective of the graph says."""
+        return self.source.score(self.crossings, self.cost)
 
     def id_of(self, place: int) -> int:
         """The id that an edge has now."""
@@ -129,9 +131,9 @@ class SearchPicture:
         """How many crossings an edge has."""
         return len(self.over[place]) + len(self.under[place])
 
-    def crossing(self, places: Iterable[int]) -> Set[int]:
+    def crossing(self, places: Iterable[int]) -> set[int]:
         """The edges that cross one of these."""
-        found: Set[int] = set()
+        found: set[int] = set()
         for place in places:
             found.update(self.over[place], self.under[place])
         return found
@@ -150,7 +152,7 @@ class SearchPicture:
         """Inserts edges one after another, each along a cheapest route. `tell` is called now and then."""
         self._enter_all([(place, self._insertion[place]) for place in places], tell)
 
-    def _enter_all(self, calls: Sequence[Tuple[int, str]], tell: Callable[[], Any] = lambda: None) -> None:
+    def _enter_all(self, calls: Sequence[tuple[int, str]], tell: Callable[[], Any] = lambda: None) -> None:
         done = 0
         while done < len(calls):
             part = calls[done : done + self._turn]
@@ -173,7 +175,7 @@ class SearchPicture:
                 self._leave(place, deleted)
                 self._enter(place, inserted)
 
-    def shuffle(self, places: Sequence[int], random_order: Callable[[List[int]], None]) -> List[int]:
+    def shuffle(self, places: Sequence[int], random_order: Callable[[list[int]], None]) -> list[int]:
         """Takes these edges out together, but those that the rest would fall apart without, and inserts them again in a
         random order; gives those that were taken out."""
         self._make_room(places)
@@ -187,7 +189,7 @@ class SearchPicture:
         self.insert(again)
         return out
 
-    def _answers(self, lines: Sequence[str]) -> List[Any]:
+    def _answers(self, lines: Sequence[str]) -> list[Any]:
         """The answers to commands of one turn. How many come in the next depends on how long they took."""
         begun = time.monotonic()
         answers = self._session.answers(lines)
@@ -195,27 +197,26 @@ class SearchPicture:
         self._history += zip(lines, answers)
         return [json.loads(answer) for answer in answers]
 
-    def _leave(self, place: int, reply: Dict[str, Any]) -> None:
+    def _leave(self, place: int, reply: dict[str, Any]) -> None:
         """Notes that an edge was taken out."""
         self._judge(place, reply)
         over, under = self.over[place], self.under[place]
         for other in over:
             self.under[other].remove(place)
-            self.cost -= self._prices[other]
         for other in under:
             self.over[other].remove(place)
-        self.cost -= self._prices[place] * len(under)
+        self.cost -= self._prices[place] * sum(self._prices[other] for other in (*over, *under))
         self.crossings -= len(over) + len(under)
         self.over[place], self.under[place] = [], []
         del self._place_of[self._ids[place]]
 
-    def _enter(self, place: int, reply: Dict[str, Any]) -> None:
+    def _enter(self, place: int, reply: dict[str, Any]) -> None:
         """Notes that an edge is there."""
         self._judge(place, reply)
         over = [self._place_of[dart[0]] for dart in reply.get("crossed", ())]
         for other in over:
             self.under[other].append(place)
-            self.cost += self._prices[other]
+        self.cost += self._prices[place] * sum(self._prices[other] for other in over)
         self.over[place] = over
         self.crossings += len(over)
         self._ids[place] = reply["edge"]
@@ -223,7 +224,7 @@ class SearchPicture:
         self._next_edge = reply["edge"] + 1
         self._next_crossing += len(over)
 
-    def _judge(self, place: int, reply: Dict[str, Any]) -> None:
+    def _judge(self, place: int, reply: dict[str, Any]) -> None:
         if "refused" in reply:
             raise NotPlanarized(self.source.edges[place], Refused(*reply["refused"]))
 
@@ -255,6 +256,7 @@ class SearchPicture:
             self.node_of,
             dict(self._place_of),
             self.score,
+            self.crossings,
             self._start,
             self._history,
             len(self._history),

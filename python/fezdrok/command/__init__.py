@@ -1,0 +1,1 @@
+"""The command `fezdrok`: graph files are planarized, drawn, measured, judged and converted."""
