@@ -5,8 +5,8 @@ Prints a table in Markdown: `tools/measure.py numbers` beside known crossing num
 what OGDF found. Behind the crossings stand the time, and the time of a processor that Python and the program took,
 which depends less on other work. All numbers but the times are the same each time.
 
-`python/measure.py files FOLDER` writes 500 GraphML files of sparse graphs of 10 to 100 nodes, of sizes as those of the
-Rome graphs have, and `python/measure.py sizes FILE` makes a table by size of what `fezdrok stats --csv` said of them.
+`tools/measure.py files FOLDER` writes 500 GraphML files of sparse graphs of 10 to 100 nodes, of sizes as those of the
+Rome graphs have, and `tools/measure.py sizes FILE` makes a table by size of what `fezdrok stats --csv` said of them.
 """
 
 from __future__ import annotations
