@@ -84,6 +84,13 @@ class TrueDrawings(DrawnTest):
                 with self.subTest(seed=seed, style=style):
                     self.check(result, style, seed % 4 == 0 or COUNT > 100)
 
+    def test_graphs_with_few_edges(self):
+        for graph in (nx.empty_graph(1), nx.empty_graph(5), nx.path_graph(2), nx.star_graph(3)):
+            result = planarize(graph)
+            for style in STYLES:
+                with self.subTest(nodes=len(graph), style=style):
+                    self.check(result, style)
+
     def test_named_graphs(self):
         graphs = named_graphs()
         for name in graphs if COUNT > 100 else ("k5", "k8", "karate_club", "heawood"):

@@ -4,7 +4,7 @@ all pairs."""
 from __future__ import annotations
 
 from math import sqrt
-from typing import Dict, Iterator, List, Sequence, Set, Tuple
+from typing import Dict, Iterable, Iterator, List, Sequence, Set, Tuple
 
 #: A square of the grid: its column and its row.
 Square = Tuple[int, int]
@@ -60,12 +60,13 @@ class SegmentGrid:
 
     def near(self, left: float, bottom: float, right: float, top: float) -> Set[int]:
         """The places of all segments that come into a rectangle, and of some near it."""
-        found: Set[int] = set()
+        columns = range(int(left // self.size), int(right // self.size) + 1)
         rows = range(int(bottom // self.size), int(top // self.size) + 1)
-        for column in range(int(left // self.size), int(right // self.size) + 1):
-            for row in rows:
-                found.update(self.squares.get((column, row), ()))
-        return found
+        if len(columns) * len(rows) <= len(self.squares):
+            squares: Iterable[Square] = ((column, row) for column in columns for row in rows)
+        else:
+            squares = [it for it in self.squares if it[0] in columns and it[1] in rows]
+        return {place for square in squares for place in self.squares.get(square, ())}
 
 
 def _square_size(segments: Sequence[Tuple]) -> float:
