@@ -123,7 +123,7 @@ class Commands(Files):
         self.assertEqual({it.text for it in drawn.iter() if it.tag.endswith("text")}, {"first node", "第二"})
         colors = [it.get("fill") for it in drawn.iter() if it.tag.endswith("use")]
         self.assertEqual((len(set(colors)), len(colors)), (2, 2))
-        for style in ("straight", "orthogonal"):
+        for style in ("straight", "curved", "orthogonal"):
             self.assertEqual(self.ran("draw", "k6.gml", "petersen.graphml", "-o", style, "--style", style)[0], 0)
         self.assertEqual(sorted(os.listdir("orthogonal")), ["k6.svg", "petersen.svg"])
         self.assertEqual(self.ran("draw", "k6.gml", "--style", "round")[0], 2)
@@ -131,13 +131,13 @@ class Commands(Files):
         self.assertEqual(told, ["fezdrok: k6.gml: no node has the attribute 'nix'"])
         self.ran("planarize", "k6.gml", "-o", "k6.planar.json")
         self.assertEqual(self.ran("draw", "k6.planar.json", "-o", "again.svg")[0], 0)
-        self.assertEqual(Path("again.svg").read_bytes(), Path("straight/k6.svg").read_bytes())
+        self.assertEqual(Path("again.svg").read_bytes(), Path("curved/k6.svg").read_bytes())
 
     def test_colours_stand_at_their_nodes(self):
         graph = nx.Graph([(letter, other) for letter in "abcd" for other in "wxyz"])
         nx.set_node_attributes(graph, {node: f"#0000{ord(node):02x}" for node in graph}, "color")
         nx.write_gml(graph, "k44.gml")
-        for style in ("straight", "orthogonal"):
+        for style in ("straight", "curved", "orthogonal"):
             self.assertEqual(self.ran("draw", "k44.gml", "--color", "color", "--style", style, "-o", "k.svg")[0], 0)
             drawn = list(ElementTree.parse("k.svg").getroot().iter())
             texts = [it.text for it in drawn if it.tag.endswith("text")]

@@ -114,7 +114,7 @@ def _add_planarize(parser: argparse.ArgumentParser) -> None:
 
 def _add_draw(parser: argparse.ArgumentParser) -> None:
     _add_files(parser, "a file as g.svg, a folder, or - for standard output")
-    parser.add_argument("--style", help="the style of the drawing, as straight or orthogonal")
+    parser.add_argument("--style", help="the style of the drawing: straight, curved (the default) or orthogonal")
     parser.add_argument("--labels", metavar="ATTR", help="the attribute of nodes that is their label")
     parser.add_argument("--color", metavar="ATTR", help="the attribute of nodes by which they are coloured")
     _add_search(parser)
