@@ -6,8 +6,10 @@ networkx is wanted for planar beginnings, which are the default, for embeddings,
 for drawings, matplotlib for `draw`.
 """
 
-from .drawing.drawings import chain, draw, positions, to_svg
+from .drawing.drawings import Drawing, FalseDrawing, draw, drawing_of, to_svg
 from .drawing.orthogonal_layout import Box, OrthogonalDrawing, orthogonal_drawing
+from .drawing.straight_layout import chain, positions
+from .drawing.verification import Defect
 from .engine.faults import (
     Fault, MemoryFault, ModuleMissing, NoReport, NotPlanarized, OtherReport, PlanarError, PlanarWarning, ProgramFailed,
     ProgramNotFound, ProgramNotStarted, SessionClosed, Unfinished, UsageRefused,
@@ -32,11 +34,14 @@ __all__ = [
     "Counts",
     "Crossing",
     "Dart",
+    "Defect",
     "Delete",
     "Deleted",
+    "Drawing",
     "Dummy",
     "Edge",
     "Entry",
+    "FalseDrawing",
     "Fault",
     "GraphSession",
     "Grow",
@@ -73,6 +78,7 @@ __all__ = [
     "UsageRefused",
     "chain",
     "draw",
+    "drawing_of",
     "find_program",
     "from_networkx_embedding",
     "orthogonal_drawing",

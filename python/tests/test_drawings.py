@@ -8,7 +8,9 @@ from pathlib import Path
 from unittest import mock
 from xml.etree import ElementTree
 
-from fezdrok import ModuleMissing, chain, draw, planarize, positions, to_networkx_embedding, to_svg
+from fezdrok import (
+    FalseDrawing, ModuleMissing, PlanarWarning, chain, draw, planarize, positions, to_networkx_embedding, to_svg,
+)
 from fezdrok.drawing.drawings import scene_of
 from fezdrok.drawing.relaxation import spread
 from fezdrok.drawing.scenes import flat
@@ -140,8 +142,15 @@ class Scenes(unittest.TestCase):
                     first, second = ways[place]
                     self.assertGreater(abs((first * second.conjugate()).imag), 0.3)
 
+    def test_straight_lines_from_crossing_to_crossing(self):
+        for result in pictured().values():
+            place = positions(result)
+            for stroke in scene_of(result, "straight").strokes:
+                path = [place[result.name_of(point)] for point in result.picture.path(stroke.edge_id)]
+                self.assertEqual((stroke.curved, list(stroke.points)), (False, path))
+
     def test_no_node_lies_on_another(self):
-        for result, style in itertools.product(pictured().values(), ("straight", "orthogonal")):
+        for result, style in itertools.product(pictured().values(), ("straight", "curved", "orthogonal")):
             for first, second in itertools.combinations(scene_of(result, style).nodes, 2):
                 across, up = abs(first.middle[0] - second.middle[0]), abs(first.middle[1] - second.middle[1])
                 self.assertTrue(
@@ -152,7 +161,7 @@ class Scenes(unittest.TestCase):
     def test_labels_fit(self):
         names = ["A", "Amsterdam", "Rio de Janeiro", "B", "100"]
         result = planarize(nx.relabel_nodes(nx.complete_graph(5), dict(enumerate(names))))
-        for style in ("straight", "orthogonal"):
+        for style in ("straight", "curved", "orthogonal"):
             scene = scene_of(result, style)
             for node in scene.nodes:
                 self.assertGreater(node.width * scene.unit, 5 * len(node.label), (style, node.label))
@@ -172,7 +181,7 @@ class Scenes(unittest.TestCase):
 
     def test_arrows_lead_to_the_second_node(self):
         graph = nx.DiGraph([(0, 1), (2, 1), (2, 0), (1, 3), (3, 0), (2, 3)])
-        for style in ("straight", "orthogonal"):
+        for style in ("straight", "curved", "orthogonal"):
             result = planarize(graph)
             scene = scene_of(result, style)
             middle = {node.node: node.middle for node in scene.nodes}
@@ -186,7 +195,11 @@ class Scenes(unittest.TestCase):
     def test_places_of_nodes_alone(self):
         result = planarize(nx.complete_graph(5))
         place = {0: (0, 0), 1: (4, 0), 2: (5, 4), 3: (2, 6), 4: (-1, 4)}
-        scene = scene_of(result, pos=place)
+        words = r"false with these points: .* at \d+\.\d, \d+\.\d, and \d+ defects more"
+        with self.assertRaisesRegex(FalseDrawing, words):
+            scene_of(result, pos=place)
+        with self.assertWarnsRegex(PlanarWarning, "false with these points"):
+            scene = scene_of(result, pos=place, keep_pos=True)
         self.assertEqual({node.node: node.middle for node in scene.nodes}, place)
         self.assertEqual(len(scene.dots), 1)
         with self.assertRaises(KeyError):
@@ -207,7 +220,7 @@ class Scenes(unittest.TestCase):
 @needs_program
 class Documents(unittest.TestCase):
     def test_svg(self):
-        for result, style in itertools.product(pictured().values(), ("straight", "orthogonal")):
+        for result, style in itertools.product(pictured().values(), ("straight", "curved", "orthogonal")):
             text = to_svg(result, style=style)
             self.assertLess(len(text), 20000)
             root = ElementTree.fromstring(text)
@@ -238,10 +251,11 @@ class Drawings(unittest.TestCase):
         from matplotlib.figure import Figure
 
         result = planarize(nx.complete_graph(6))
-        for style in ("straight", "orthogonal"):
+        for style in ("straight", "curved", "orthogonal"):
             axes = draw(result, Figure().subplots(), style=style)
             self.assertEqual({line.get_gid() for line in axes.lines}, {f"edge {edge_id}" for edge_id in result.edge_of})
-            self.assertEqual([len(points.get_offsets()) for points in axes.collections], [result.crossings] if style == "straight" else [])
+            marks = [len(points.get_offsets()) for points in axes.collections]
+            self.assertEqual(marks, [] if style == "orthogonal" else [result.crossings])
             self.assertEqual(len(axes.patches), 6)
             self.assertEqual(sorted(text.get_text() for text in axes.texts), list("012345"))
 
@@ -262,7 +276,8 @@ class Drawings(unittest.TestCase):
 
         result = planarize(nx.complete_graph(4))
         place = {node: (7 * node, node * node) for node in range(4)}
-        axes = draw(result, Figure().subplots(), pos=place)
+        with self.assertWarnsRegex(PlanarWarning, "false with these points"):
+            axes = draw(result, Figure().subplots(), pos=place, keep_pos=True)
         self.assertEqual([tuple(text.xy) for text in axes.texts], [place[node] for node in result.node_of])
 
 

@@ -4,7 +4,7 @@ import itertools
 import unittest
 from unittest import mock
 
-from fezdrok import Dart, ModuleMissing, Planarization, Picture, orthogonal_drawing, planarize
+from fezdrok import Dart, Planarization, Picture, orthogonal_drawing, planarize
 from fezdrok.drawing.bends import least_bends
 
 from .drawing_support import pictured, planar_result, touch
@@ -181,11 +181,19 @@ class Planar(OrthogonalTest):
             orthogonal_drawing(result, outer=5)
 
     def test_without_networkx(self):
-        result = planar_result(nx.path_graph(3))
-        with mock.patch.dict("sys.modules", {"networkx": None}), self.assertRaisesRegex(
-            ModuleMissing, "orthogonal drawings want the package networkx"
-        ):
-            orthogonal_drawing(result)
+        """An orthogonal drawing wants no package at all."""
+        result = planar_result(nx.cycle_graph(3))
+        with mock.patch.dict("sys.modules", {"networkx": None}):
+            self.assertEqual(orthogonal_drawing(result).bends, 1)
+
+    def test_a_long_path_is_a_spiral(self):
+        drawing = self.check(planar_result(nx.path_graph(100)))
+        self.assertEqual((drawing.size, drawing.length), ((9, 9), 99))
+
+    def test_the_edges_of_a_box_leave_all_sides(self):
+        drawing = orthogonal_drawing(planar_result(nx.star_graph(100)))
+        box = drawing.boxes[0]
+        self.assertEqual((box.right - box.left, box.top - box.bottom), (26, 26))
 
 
 def nx_free_triple():

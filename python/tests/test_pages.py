@@ -135,7 +135,7 @@ class Pages(unittest.TestCase):
         self.assertEqual(
             sorted(shown), sorted(f"pictures/{file.name}" for file in (ROOT / "docs" / "pictures").iterdir())
         )
-        self.assertEqual(len(shown), 8)
+        self.assertEqual(len(shown), 12)
         for name in shown:
             kept, written = ROOT / "docs" / name, folder / Path(name).name
             self.assertLess(kept.stat().st_size, 20000)

@@ -4,8 +4,6 @@ The method is that of Tamassia, On Embedding a Graph in the Grid with the Minimu
 Computing 16, 1987): each vertex sends four right angles to the corners round it, each face takes as many as its
 length wants, and what is sent across a segment from one face to another is a bend. A vertex of more than four edges
 is a box: an angle between two of its edges may be 0, and then both leave the same side. At a crossing each angle is 1.
-
-networkx is imported where it is used.
 """
 
 from __future__ import annotations
@@ -13,8 +11,8 @@ from __future__ import annotations
 from dataclasses import dataclass
 from typing import Any, Dict, Iterator, List, Tuple
 
-from ..engine.faults import wanted
 from ..engine.pictures import Dart, Picture, Point
+from .flows import Arc, least_cost_flow
 
 #: The four directions, counterclockwise.
 EAST, NORTH, WEST, SOUTH = range(4)
@@ -57,28 +55,25 @@ def least_bends(picture: Picture, outer: int) -> Shape:
     """The orthogonal representation of a connected picture with the fewest bends.
 
     `outer` is the place in `picture.faces` of the face that lies outside. Of all that have the fewest bends it is one
-    in which few corners of a vertex take many of its right angles. ModuleMissing where networkx is not there;
-    ValueError where there is no such face.
+    in which few corners of a vertex take many of its right angles. ValueError where there is no such face.
     """
     if not 0 <= outer < len(picture.faces):
         raise ValueError(f"there is no face {outer}: the picture has {len(picture.faces)}")
-    networkx = wanted("networkx", "orthogonal drawings")
-    network = networkx.MultiDiGraph()
     demand = {("face", place): _due(picture, place, outer) for place in range(len(picture.faces))}
     for point in picture.points:
         spare = 4 - sum(_least(picture, point) for _ in picture.around(point))
         if spare > 0:
             demand["point", point] = -spare
-    for node, number in demand.items():
-        network.add_node(node, demand=number)
+    number_of = {node: number for number, node in enumerate(demand)}
     arcs = list(_arcs(picture))
-    for start, end, key, capacity, weight in arcs:
-        network.add_edge(start, end, key, capacity=capacity, weight=weight)
-    flow = networkx.network_simplex(network)[1]
+    flow = least_cost_flow(
+        list(demand.values()),
+        [Arc(number_of[start], number_of[end], capacity, cost) for start, end, _, capacity, cost in arcs],
+    )
     angles = {dart: _least(picture, picture.start(dart)) for dart in picture.darts}
     bends = dict.fromkeys(picture.darts, 0)
-    for start, end, key, _, _ in arcs:
-        (bends if key[0] == "bend" else angles)[key[1]] += flow[start][end][key]
+    for (_, _, key, _, _), amount in zip(arcs, flow):
+        (bends if key[0] == "bend" else angles)[key[1]] += amount
     return Shape(picture, angles, bends, _headings(picture, angles, bends))
 
 
@@ -99,15 +94,18 @@ def _arcs(picture: Picture) -> Iterator[Tuple[Any, Any, Any, int, int]]:
     """The arcs of the network: start, end, key, capacity, cost of a unit.
 
     A bend costs more than all angles together can, so bends are the fewest. The first right angle that a corner takes
-    beyond its least costs 0, the second 1, and so on.
+    beyond its least costs 0, the second 1, and so on; at a box one more, but for four corners that part its edges into
+    four like shares, so that about as many leave each side.
     """
-    bend = 1 + 6 * len(picture.rotations)
+    bend = 1 + 10 * len(picture.rotations)
     for point in picture.points:
         around = picture.around(point)
         spare = 4 - sum(_least(picture, point) for _ in around)
-        for dart in around if spare > 0 else ():
+        even = {quarter * len(around) // 4 for quarter in range(4)} if is_box(picture, point) else range(len(around))
+        for place, dart in enumerate(around if spare > 0 else ()):
             for unit in range(spare):
-                yield ("point", point), ("face", picture.face_of(dart)), ("angle", dart, unit), 1, unit
+                cost = unit + (place not in even)
+                yield ("point", point), ("face", picture.face_of(dart)), ("angle", dart, unit), 1, cost
     room = 4 * (len(picture.faces) + len(picture.points)) + 2 * sum(1 for _ in picture.darts)
     for dart in picture.darts:
         left, right = picture.face_of(dart), picture.face_of(dart.twin)

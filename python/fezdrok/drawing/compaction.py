@@ -6,15 +6,13 @@ these links give a drawing without crossings (Tamassia 1987). That drawing is th
 other keep their order, and of all coordinates with these orders those are taken for which the links have the least
 total length. This is the dual of a flow of least cost (as in Klau and Mutzel, Optimal Compaction of Orthogonal Grid
 Drawings, 1999, where the orders are given). It is done for one axis and then the other, until nothing gets shorter.
-
-networkx is imported where it is used.
 """
 
 from __future__ import annotations
 
 from typing import Container, Dict, List, Mapping, Sequence, Tuple
 
-from ..engine.faults import wanted
+from .flows import Arc, least_cost_flow
 from .meshes import Mesh, rectangles
 
 #: For two bars the least distance from the first to the second.
@@ -26,6 +24,8 @@ Places = List[Tuple[int, int]]
 #: How many times each axis is made shorter at most, and how much a side of a box counts beside other links.
 ROUNDS = 4
 SIDE = 3
+#: The greatest number of nodes of a mesh whose axes are made shorter more than once each.
+MANY = 3000
 
 
 def compact_mesh(
@@ -36,14 +36,14 @@ def compact_mesh(
     `sides` are the links, as start and end to the east or north, that are sides of boxes: they count SIDE times, so
     that boxes are small. `room[axis]` says of two nodes, of which the second lies further along the axis, how far apart
     they have to be; what is not named is at least 1 apart. With `by_flow` False the links have the lengths that longest
-    paths give them. The least coordinates are 0. ModuleMissing where networkx is not there and `by_flow` asks for it.
+    paths give them. The least coordinates are 0. 
     """
     cut = rectangles(mesh)
     axes = [_first_axis(cut, axis)[: len(mesh.links)] for axis in (0, 1)]
     bars = [_bars(mesh, axis) for axis in (0, 1)]
     pulls = [_pull(mesh, axis, bars[axis], sides) for axis in (0, 1)]
     length = None
-    for _ in range(ROUNDS):
+    for _ in range(ROUNDS if len(mesh.links) <= MANY else 1):
         for axis in (0, 1):
             gaps = _gaps_seen(bars[axis], axes[axis], axes[1 - axis], room[axis])
             axes[axis] = _shorter(pulls[axis], bars[axis], gaps, by_flow)
@@ -157,15 +157,10 @@ def _least_length(place: Sequence[int], gaps: Gaps, pull: Sequence[int]) -> List
     In the dual, a bar takes as much flow as its pull says, and a gap carries flow at the cost of what is to spare in
     it. In the best coordinates the gaps that carry flow are exact. `place` are any coordinates with these gaps.
     """
-    networkx = wanted("networkx", "orthogonal drawings")
-    network = networkx.DiGraph()
-    for it, number in enumerate(pull):
-        network.add_node(it, demand=number)
     room = sum(map(abs, pull))
-    for (start, end), gap in gaps.items():
-        network.add_edge(start, end, weight=place[end] - place[start] - gap, capacity=room)
-    flow = networkx.network_simplex(network)[1]
-    tight = {(end, start): -gap for (start, end), gap in gaps.items() if flow[start][end] > 0}
+    arcs = [Arc(start, end, room, place[end] - place[start] - gap) for (start, end), gap in gaps.items()]
+    flow = least_cost_flow(pull, arcs)
+    tight = {(end, start): -gap for ((start, end), gap), amount in zip(gaps.items(), flow) if amount > 0}
     return _settled(len(pull), {**gaps, **tight})
 
 

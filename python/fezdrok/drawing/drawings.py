@@ -1,177 +1,138 @@
-"""Drawings of a planarization: points, scenes, and pictures as SVG or by matplotlib.
+"""Drawings of a planarization: `Drawing`, and pictures as SVG or by matplotlib.
 
-In a straight drawing each edge leads from crossing to crossing and passes each of them without a corner. In an
-orthogonal one it runs along a grid (see `orthogonal`). Lines meet at points of the planarization alone, but where
-`pos` gives points of one's own.
+In a straight drawing each edge leads in straight lines from crossing to crossing; in a curved one it passes each of
+them without a corner; in an orthogonal one it runs along a grid (see `orthogonal_layout`). Lines meet at points of the
+planarization alone, as they stand in the file (see `verification`), but where `pos` gives points that do not allow it.
 """
 
 from __future__ import annotations
 
-from math import sqrt
-from typing import TYPE_CHECKING, Any, Dict, Iterable, List, Mapping, Optional, Sequence
+import warnings
+from dataclasses import dataclass, replace
+from typing import TYPE_CHECKING, Any, List, Mapping, Optional
 
-from ..engine.faults import wanted
-from ..engine.graph_edges import GraphEdge
-from ..engine.graph_pictures import Dummy
+from ..engine.faults import PlanarError, PlanarWarning, wanted
 from ..engine.results import Planarization
 from ..files.embeddings import to_networkx_embedding
 from .orthogonal_layout import orthogonal_drawing
-from .relaxation import between, spread
-from .scenes import (
-    LETTER_HEIGHT, PLAIN, Position, Scene, flat, grid_sizes, label_size, orthogonal_scene, straight_scene,
-)
-from .shelf_packing import shelf_packing
+from .pages import Page
+from .scenes import LETTER_HEIGHT, PLAIN, Position, Scene, flat, grid_sizes, orthogonal_scene
+from .straight_layout import chain, grid_positions, places_between, positions
+from .straight_scenes import Chains, true_scene
 from .svg import svg_of
+from .verification import Defect, defects
 
 if TYPE_CHECKING:
-    import networkx
     from matplotlib.axes import Axes
 
-STYLES = ("straight", "orthogonal")
-MANY = 600
+STYLES = ("straight", "curved", "orthogonal")
 
 
-def positions(result: Planarization, embedding: Optional["networkx.PlanarEmbedding"] = None) -> Dict[Any, Position]:
-    """A point for each node of the embedding, such that straight lines between neighbours do not cross.
+class FalseDrawing(PlanarError, ValueError):
+    """With the points that were given a drawing would show what is not in the picture.
 
-    The points lie in the unit disk, spread so that faces are of like size and edges pass their crossings as straight as
-    they can (see `relaxation`). Where that comes to no drawing without crossings, they are those of
-    `networkx.combinatorial_embedding_to_pos`, on a grid. The parts of a graph that is not connected lie side by side,
-    each in a disk whose area grows with its number of points. ModuleMissing where networkx is not there.
+    `defects` says what, and where; see `Defect`.
     """
-    if result.parts:
-        return _side_by_side(result, [positions(part) for part in result.parts])
-    networkx = wanted("networkx", "drawings")
-    embedding = to_networkx_embedding(result) if embedding is None else embedding
-    rotations = {node: list(embedding.neighbors_cw_order(node)) for node in embedding}
-    crossings = frozenset(result.name_of(point) for point in result.picture.points if point.is_crossing)
-    if not result.picture.edges:
-        return dict.fromkeys(rotations, (0.0, 0.0))
-    first = result.picture.faces[result.outer_face][0]
-    nodes = chain(result, embedding, first.edge)
-    place = nodes.index(result.name_of(result.picture.start(first)))
-    found = spread(rotations, crossings, (nodes[place], nodes[place - 1 if first.back else place + 1]))
-    if found is None:
-        found = {
-            node: (float(x), float(y)) for node, (x, y) in networkx.combinatorial_embedding_to_pos(embedding).items()
-        }
-    return found
+
+    def __init__(self, false: List[Defect]):
+        super().__init__(false)
+        self.defects = false
+
+    def __str__(self) -> str:
+        more = f", and {len(self.defects) - 1} defects more" if len(self.defects) > 1 else ""
+        return f"the drawing would be false with these points: {self.defects[0]}{more}"
 
 
-def _side_by_side(result: Planarization, places: Sequence[Mapping[Any, Position]]) -> Dict[Any, Position]:
-    """The points of all parts, by the names that they have in the whole."""
-    scales = [sqrt(len(part)) for part in places]
-    least = [tuple(min(place[axis] for place in part.values()) for axis in (0, 1)) for part in places]
-    most = [tuple(max(place[axis] for place in part.values()) for axis in (0, 1)) for part in places]
-    sizes = [(scale * (far[0] - near[0]), scale * (far[1] - near[1])) for scale, near, far in zip(scales, least, most)]
-    found: Dict[Any, Position] = {}
-    for part, scale, (left, bottom), (x, y), (_, edge, crossing) in zip(
-        places, scales, least, shelf_packing(sizes, 1.0), result.offsets
-    ):
-        for name, (u, v) in part.items():
-            found[_name_in_whole(result, name, edge, crossing)] = (x + scale * (u - left), y + scale * (v - bottom))
-    return found
+@dataclass(frozen=True)
+class Drawing:
+    """A planarization drawn in one of the STYLES; `scene` is what it shows."""
+
+    result: Planarization
+    style: str
+    scene: Scene
+
+    def verify(self) -> List[Defect]:
+        """What is false in the drawing, as it stands in its file: where lines meet that do not cross there in the
+        picture, edges do not lie in their order round a node or a crossing, or a node lies on what is not its own. The
+        list is empty but where the points were the caller's and kept."""
+        return defects(self.result, Page(self.scene))
+
+    def to_svg(self, *, node_color: str = "#d9e8f6", crossing_color: str = "#777777") -> str:
+        """The drawing as an SVG document."""
+        return svg_of(self.scene, node_color, crossing_color)
 
 
-def _name_in_whole(result: Planarization, name: Any, edge: int, crossing: int) -> Any:
-    """The name that a node of a part's embedding has in that of the whole, where edge and crossing ids are so much
-    larger."""
-    if name in result.vertex_of:
-        return name
-    of = name.of + crossing if name.kind == "crossing" else name.of._replace(edge=name.of.edge + edge)
-    return Dummy(name.kind, of, result.layer)
-
-
-def places_between(embedding: "networkx.PlanarEmbedding", pos: Mapping[Any, Position]) -> Dict[Any, Position]:
-    """A point for each node of the embedding, those of `pos` among them: each other one at the mean of its neighbours,
-    a crossing where the lines between opposite neighbours meet. KeyError where a node of the graph has no point."""
-    places = {node: pos[node] for node in embedding if node in pos or not embedding.nodes[node]["dummy"]}
-    left = {node: list(embedding.neighbors_cw_order(node)) for node in embedding if node not in places}
-    places.update(between(left, places))
-    beside: Dict[Any, int] = {}
-    for node in left:
-        if "bend" in embedding.nodes[node]:
-            first, second = left[node]
-            number = beside[frozenset((first, second))] = beside.get(frozenset((first, second)), 0) + 1
-            (x, y), (u, v) = places[first], places[second]
-            aside = 0.12 * ((number + 1) // 2) * (-1) ** number
-            places[node] = ((x + u) / 2 - aside * (v - y), (y + v) / 2 + aside * (u - x))
-    return places
-
-
-def chain(result: Planarization, embedding: "networkx.PlanarEmbedding", edge_id: int) -> List[Any]:
-    """The nodes of the embedding along an edge, from the node of its end `a` to that of its end `b`."""
-    edge = result.edge_of[edge_id]
-    names = [result.name_of(point) for point in result.picture.path(edge_id)]
-    nodes = names[:1]
-    for following in names[1:]:
-        if embedding.get_edge_data(nodes[-1], following, {}).get("edge") != edge:
-            nodes.append(_bend_between(embedding, nodes[-1], following, edge))
-        nodes.append(following)
-    return nodes
-
-
-def _bend_between(embedding: "networkx.PlanarEmbedding", start: Any, end: Any, edge: GraphEdge) -> Dummy:
-    """The point that was put into this edge's segment between two nodes."""
-    bends: Iterable[Dummy] = (node for node in embedding[start] if embedding.nodes[node].get("bend") == edge)
-    return next(node for node in bends if embedding.has_edge(node, end))
-
-
-# ---- Scenes
-
-
-def scene_of(
+def drawing_of(
     result: Planarization,
-    style: str = "straight",
+    *,
+    style: str = "curved",
     pos: Optional[Mapping[Any, Position]] = None,
+    keep_pos: bool = False,
     labels: bool = True,
-    color: str = PLAIN,
-) -> Scene:
-    """What a drawing of a planarization shows; see `draw` for the words. ValueError for a style that is not known, and
-    for `pos` with the style `orthogonal`, which has points of its own."""
+    edge_color: str = PLAIN,
+) -> Drawing:
+    """A drawing of a planarization, which is true; the words are those of `draw`.
+
+    ValueError for a style that is not known, and for `pos` with the style `orthogonal`, which has points of its own;
+    FalseDrawing where the points of `pos` allow no true drawing, or with `keep_pos` a PlanarWarning.
+    """
     if style not in STYLES:
-        raise ValueError(f"the style {style!r} is not known: it is 'straight' or 'orthogonal'")
+        raise ValueError(f"the style {style!r} is not known: it is 'straight', 'curved' or 'orthogonal'")
     if style == "orthogonal":
         if pos is not None:
             raise ValueError("an orthogonal drawing has points of its own: leave pos out")
-        return orthogonal_scene(
-            result, orthogonal_drawing(result, grid_sizes(result.node_of) if labels else None), labels, color
-        )
+        sizes = grid_sizes(result.node_of) if labels else None
+        scene = orthogonal_scene(result, orthogonal_drawing(result, sizes), labels, edge_color)
+        false = defects(result, Page(scene))
+        if false:
+            raise AssertionError(f"an orthogonal drawing is false: {false[0]}")
+        return Drawing(result, style, scene)
+    return Drawing(result, style, _scene(result, style == "curved", pos, keep_pos, labels, edge_color))
+
+
+def _scene(
+    result: Planarization,
+    is_curved: bool,
+    pos: Optional[Mapping[Any, Position]],
+    keep_pos: bool,
+    labels: bool,
+    color: str,
+) -> Scene:
+    """The scene of a straight or a curved drawing; without `pos`, the points lie on a grid where there is no other
+    way."""
     embedding = to_networkx_embedding(result)
     places = positions(result, embedding) if pos is None else places_between(embedding, pos)
-    chains = {edge_id: chain(result, embedding, edge_id) for edge_id in result.edge_of}
-    return straight_scene(result, chains, places, _unit(result, places, labels), labels, color)
+    chains = Chains(result, {edge_id: chain(result, embedding, edge_id) for edge_id in result.edge_of}, places)
+    scene, false = true_scene(chains, is_curved, labels, color)
+    if false and pos is None:
+        warnings.warn("the points of the drawing lie too near to each other: it is drawn on a grid", PlanarWarning)
+        scene, false = true_scene(replace(chains, places=grid_positions(result, embedding)), is_curved, labels, color)
+    if false and not keep_pos:
+        raise FalseDrawing(false)
+    if false:
+        warnings.warn(str(FalseDrawing(false)), PlanarWarning)
+    return scene
 
 
-def _unit(result: Planarization, places: Mapping[Any, Position], labels: bool) -> float:
-    """How many pixels a step of the points is: so many that the drawing has room for its points, and up to twice as
-    many where labels would lie on others, which is not looked at for more than MANY nodes."""
-    xs, ys = [x for x, _ in places.values()], [y for _, y in places.values()]
-    extent = max(max(xs) - min(xs), max(ys) - min(ys)) or 1.0
-    least = min(900.0, max(200.0, 80.0 * sqrt(len(places)))) / extent
-    sizes = [(*places[node], label_size(str(node) if labels else "")) for node in result.node_of]
-    wanted_unit = least
-    for place, (x, y, (width, height)) in enumerate(sizes if len(sizes) <= MANY else ()):
-        for u, v, (other_width, other_height) in sizes[:place]:
-            across, up = abs(x - u) or 1e-9, abs(y - v) or 1e-9
-            wanted_unit = max(
-                wanted_unit, min((width + other_width + 4) / 2 / across, (height + other_height + 4) / 2 / up)
-            )
-    return min(wanted_unit, 2 * least)
+def scene_of(result: Planarization, style: str = "curved", **words: Any) -> Scene:
+    """What a drawing of a planarization shows; the words are those of `drawing_of`."""
+    return drawing_of(result, style=style, **words).scene
 
 
 def to_svg(
     result: Planarization,
     *,
-    style: str = "straight",
+    style: str = "curved",
     pos: Optional[Mapping[Any, Position]] = None,
+    keep_pos: bool = False,
     labels: bool = True,
     node_color: str = "#d9e8f6",
     edge_color: str = PLAIN,
     crossing_color: str = "#777777",
 ) -> str:
     """A planarization drawn as an SVG document, without matplotlib. The words are those of `draw`."""
-    return svg_of(scene_of(result, style, pos, labels, edge_color), node_color, crossing_color)
+    drawing = drawing_of(result, style=style, pos=pos, keep_pos=keep_pos, labels=labels, edge_color=edge_color)
+    return drawing.to_svg(node_color=node_color, crossing_color=crossing_color)
 
 
 # ---- matplotlib
@@ -181,8 +142,9 @@ def draw(
     result: Planarization,
     ax: Optional["Axes"] = None,
     *,
-    style: str = "straight",
+    style: str = "curved",
     pos: Optional[Mapping[Any, Position]] = None,
+    keep_pos: bool = False,
     labels: bool = True,
     node_color: Any = "#d9e8f6",
     edge_color: Any = PLAIN,
@@ -190,15 +152,18 @@ def draw(
 ) -> "Axes":
     """Draw a planarization by matplotlib and give the axes.
 
-    `style` is `straight` or `orthogonal`. Nodes have their names if `labels`, and are as wide as these. Edges of
-    different prices have colours of their own, those that must not be crossed are dark and broad, and a legend says so;
-    where all cost the same they have `edge_color`. Directed edges have arrows. `pos` gives points for the nodes of the
-    graph, and if you like for those of `to_networkx_embedding(result)`; crossings without a point are put between
-    their neighbours. Without `pos` the points are those of `positions`. ModuleMissing where networkx or matplotlib is
-    not there.
+    `style` is `straight`, `curved` or `orthogonal`. Nodes have their names if `labels`, and are as wide as these. Edges
+    of different prices have colours of their own, those that must not be crossed are dark and broad, and a legend says
+    so; where all cost the same they have `edge_color`. Directed edges have arrows. `pos` gives points for the nodes of
+    the graph, and if you like for those of `to_networkx_embedding(result)`; crossings without a point are put between
+    their neighbours. Where these points show what is not in the picture, that is FalseDrawing, and with `keep_pos` a
+    PlanarWarning. Without `pos` the points are those of `positions`, and the drawing is true. ModuleMissing where
+    networkx or matplotlib is not there.
     """
     patches = wanted("matplotlib.patches", "drawings by draw")
-    scene = scene_of(result, style, pos, labels, edge_color)
+    scene = drawing_of(
+        result, style=style, pos=pos, keep_pos=keep_pos, labels=labels, edge_color=edge_color
+    ).scene
     ax = _fresh_axes(scene) if ax is None else ax
     for stroke in scene.strokes:
         xs, ys = zip(*flat(stroke))
@@ -216,7 +181,8 @@ def draw(
         looks = {"facecolor": node_color, "edgecolor": "#333333", "linewidth": 0.8, "zorder": 3}
         ax.add_patch(patches.FancyBboxPatch(corner, node.width, node.height, boxstyle=style_of, **looks))
         if node.label:
-            ax.annotate(node.label, node.middle, ha="center", va="center", fontsize=0.9 * LETTER_HEIGHT, zorder=4)
+            size = 0.9 * LETTER_HEIGHT * node.scale
+            ax.annotate(node.label, node.middle, ha="center", va="center", fontsize=size, zorder=4)
     _finish(ax, scene)
     return ax
 

@@ -19,6 +19,9 @@ from .shelf_packing import shelf_packing
 
 GridPoint = Tuple[int, int]
 
+#: The greatest number of nodes of a path that is drawn without a turn.
+SHORT = 40
+
 
 class Box(NamedTuple):
     """A rectangle on the grid; a point where both its width and its height are 0."""
@@ -83,8 +86,8 @@ def orthogonal_drawing(
     not connected lie side by side, each with its own outer face (ValueError where `outer` is given).
 
     `sizes` gives the least width and height of nodes, in steps of the grid, as for their labels; such nodes are boxes.
-    With `by_flow` False the lines are as long as longest paths make them, which takes less time. ModuleMissing where
-    networkx is not there.
+    With `by_flow` False the lines are as long as longest paths make them, which takes less time. A long path is a
+    spiral.
     """
     picture = result.picture
     if result.parts:
@@ -96,11 +99,46 @@ def orthogonal_drawing(
     if not picture.edges:
         width, height = (sizes or {}).get(result.node_of[0], (0, 0))
         return OrthogonalDrawing({result.node_of[0]: Box(0, 0, width, height)}, {}, {}, 0)
+    order = path_order(picture)
+    if order is not None and len(order) > SHORT and not sizes:
+        return _spiral(result, order)
     wide = {Point(False, result.vertex_of[node]): size for node, size in (sizes or {}).items()}
     shape = least_bends(picture, picture.outer_face if outer is None else outer)
     expansion = expand(shape, wide)
     places = compact_mesh(expansion.mesh, expansion.sides, _room(expansion, wide), by_flow)
     return _drawing(result, shape, expansion, places)
+
+
+def path_order(picture: Picture) -> Optional[List[int]]:
+    """The vertices of a picture along it, if it is a path of at least one edge; else None."""
+    degrees = list(map(len, picture.rotations))
+    if not picture.edges or len(picture.edges) != len(degrees) - 1 or max(degrees) > 2 or picture.crossings:
+        return None
+    order, last = [degrees.index(1)], -1
+    while len(order) < len(degrees):
+        edge = picture.edge(next(it for it in picture.rotations[order[-1]] if it != last))
+        order.append(edge.a + edge.b - order[-1])
+        last = edge.id
+    return order
+
+
+def _spiral(result: Planarization, order: Sequence[int]) -> OrthogonalDrawing:
+    """A path as a spiral on the grid, from its middle out: after each two arms they are a step longer."""
+    x = y = heading = 0
+    places = {order[0]: (0, 0)}
+    arm, left = 1, 1
+    for vertex in order[1:]:
+        x, y = x + (1, 0, -1, 0)[heading], y + (0, 1, 0, -1)[heading]
+        places[vertex] = (x, y)
+        left -= 1
+        if left == 0:
+            heading = (heading + 1) % 4
+            arm += heading % 2 == 0
+            left = arm
+    least = tuple(min(place[axis] for place in places.values()) for axis in (0, 1))
+    at = {vertex: (x - least[0], y - least[1]) for vertex, (x, y) in places.items()}
+    boxes = {node: Box(*at[vertex], *at[vertex]) for vertex, node in enumerate(result.node_of)}
+    return OrthogonalDrawing(boxes, {}, {row.id: (at[row.a], at[row.b]) for row in result.picture.edges}, 0)
 
 
 def _sizes_in(part: Planarization, sizes: Optional[Mapping[Node, Tuple[int, int]]]) -> Dict[Node, Tuple[int, int]]:

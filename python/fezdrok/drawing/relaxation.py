@@ -2,65 +2,46 @@
 crossings as straight as they can.
 
 The faces are filled with further nodes, so that all of them are triangles, and a ring of nodes round the graph is fixed
-on a circle. First each other node is put, again and again, at the mean of its neighbours; at rest that drawing has no
-crossings (Tutte, How to Draw a Graph, 1963). Then the nodes are moved one by one so that an energy gets less, as meshes
-are smoothed (Freitag and Plassmann, Local Optimization-Based Simplicial Mesh Untangling and Improvement, 2000): links
-pull their ends together, triangles push the more the smaller and the thinner they are, the two halves of an edge at a
-crossing pull each other into one line, and two edges that cross into a right angle, which is easier to read (Huang,
-Eades and Hong, Larger Crossing Angles Make Graphs Easier to Read, 2014). A node goes only where each triangle round it
-still goes counterclockwise, so no step makes a crossing.
+on a circle (see `filled_graphs`). The nodes come to their places from few to many (see `contraction`); at each step
+they are moved one by one so that an energy gets less, as meshes are smoothed (Freitag and Plassmann, Local
+Optimization-Based Simplicial Mesh Untangling and Improvement, 2000): links pull their ends together, triangles push the
+more the smaller and the thinner they are. With all nodes there, the two halves of an edge at a crossing pull each other
+into one line, and two edges that cross into a right angle, which is easier to read (Huang, Eades and Hong, Larger
+Crossing Angles Make Graphs Easier to Read, 2014). A node goes only where each triangle round it still goes
+counterclockwise, so no step makes a crossing.
 """
 
 from __future__ import annotations
 
-from dataclasses import dataclass, field
-from math import cos, hypot, pi, sin
-from typing import Any, Dict, FrozenSet, List, Mapping, Optional, Sequence, Set, Tuple
+from math import cos, pi, sin
+from typing import Any, Dict, FrozenSet, Iterable, List, Mapping, Optional, Sequence, Tuple
+
+from .contraction import Triangulation, middle_of_sight
+from .filled_graphs import FilledGraph, fill
 
 Position = Tuple[float, float]
 
-#: How often, at least and at most, all nodes are put at the mean of their neighbours until no two triangles overlap: by
-#: equal weights, each node half as far again, and then by weights that grow with the lengths of the links.
-LEAST_SWEEPS = 100
-FIRST_SWEEPS = 150
-MORE_SWEEPS = 400
-#: How often, at most, all nodes are moved after that, and how many moves that may be; and the way of a node below which
-#: it is enough.
-SWEEPS = 140
-MOVES = 400_000
-STILL = 2e-3
-#: What a link that fills a face weighs beside an edge; how much triangles push, those at the ring beside others, and
-#: how much more where they are thin; how much the halves of an edge pull each other into one line, and the two edges of
-#: a crossing into a right angle.
-FILL = 0.5
+#: The greatest number of nodes that are few.
+#: How often all nodes are moved after each round in which some came, while they are few; else that is once.
+#: How often, at most and at least, they are moved when all are there; how often each is put at the mean of its
+#: neighbours before that, where they are few; how many moves there may be, half as many where they are not few; and the
+#: way of a node below which it is enough.
+FEW = 1000
+ROUND_SWEEPS = 2
+SWEEPS = 250
+LEAST_SWEEPS = 5
+MEANS = 60
+MOVES = 60_000
+STILL = 1e-3
+#: How much triangles push, those at the ring beside others, and how much more where they are thin; how much the halves
+#: of an edge pull each other into one line, and the two edges of a crossing into a right angle.
 PUSH = 20.0
 PUSH_AT_RING = 0.5
 SHAPE = 0.4
 STRAIGHTEN = 0.5
-SQUARE = 0.5
+SQUARE = 0.7
 #: Twice the area that a triangle has at least; less cannot be told from nothing.
 LEAST_AREA = 1e-14
-#: The least number of nodes of the ring.
-RING = 12
-
-
-@dataclass
-class _FilledGraph:
-    """A plane graph with its faces filled: the links of each node with their weights, the triangles counterclockwise,
-    the nodes of the ring, and each crossing with its four neighbours, clockwise."""
-
-    links: List[List[Tuple[int, float]]]
-    triangles: List[Tuple[int, int, int]] = field(default_factory=list)
-    crossed: List[Tuple[int, Tuple[int, int, int, int]]] = field(default_factory=list)
-    ring: List[int] = field(default_factory=list)
-
-    def add(self) -> int:
-        self.links.append([])
-        return len(self.links) - 1
-
-    def link(self, first: int, second: int, weight: float) -> None:
-        self.links[first].append((second, weight))
-        self.links[second].append((first, weight))
 
 
 def spread(
@@ -70,124 +51,56 @@ def spread(
     neighbours of each node, clockwise; at least one edge is wanted. Straight lines between neighbours do not cross.
 
     At the nodes of `crossings`, which have four neighbours, two edges pass each other; they do it as straight as they
-    can. The face on the left of the dart `outer`, a node and a neighbour, lies outside. None where the points have not
-    come to a drawing without crossings.
+    can. The face on the left of the dart `outer`, a node and a neighbour, lies outside. None where the points have come
+    too near to each other to be told apart.
     """
-    number = {node: place for place, node in enumerate(rotations)}
-    around = [[number[other] for other in others] for others in rotations.values()]
-    filled = _fill(around, {number[node] for node in crossings}, (number[outer[0]], number[outer[1]]))
-    points = _begin(filled)
-    for sweep in range(1, FIRST_SWEEPS + MORE_SWEEPS + 1):
-        _to_means(filled, points, sweep > FIRST_SWEEPS)
-        if sweep >= LEAST_SWEEPS and sweep % 10 == 0 and _is_plane(filled, points):
-            _settle(filled, points)
-            return {node: points[place] for node, place in number.items()}
-    return None
+    filled = fill(rotations, crossings, outer)
+    points = _from_few_to_many(filled)
+    if points is None:
+        return None
+    if len(points) <= FEW:
+        points = _at_means(filled, points)
+    _settle(filled, points)
+    return {node: points[place] for place, node in enumerate(rotations)}
 
 
-# ---- Faces filled with triangles
-
-
-def _fill(around: List[List[int]], crossings: Set[int], outer: Tuple[int, int]) -> _FilledGraph:
-    """The graph with its faces filled, and with the ring."""
-    filled = _FilledGraph([[] for _ in around])
-    for node, others in enumerate(around):
-        for other in others:
-            if node < other:
-                filled.link(node, other, 1.0)
-        if node in crossings:
-            filled.crossed.append((node, (others[0], others[1], others[2], others[3])))
-    for face in _faces(around):
-        if outer in zip(face, face[1:] + face[:1]):
-            _add_ring(filled, face)
-        elif len(face) > 3:
-            _add_middle(filled, face if len(set(face)) == len(face) else _add_hoop(filled, face))
-        else:
-            filled.triangles.append((face[0], face[1], face[2]))
-    return filled
-
-
-def _faces(around: List[List[int]]) -> List[List[int]]:
-    """The nodes along each face, which lies on the left."""
-    following = {
-        (other, node): (node, others[(place + 1) % len(others)])
-        for node, others in enumerate(around)
-        for place, other in enumerate(others)
-    }
-    faces: List[List[int]] = []
-    seen: Set[Tuple[int, int]] = set()
-    for first in following:
-        dart = first
-        if dart in seen:
-            continue
-        faces.append([])
-        while dart not in seen:
-            seen.add(dart)
-            faces[-1].append(dart[0])
-            dart = following[dart]
-    return faces
-
-
-def _add_middle(filled: _FilledGraph, face: List[int]) -> None:
-    """A node within a face, linked with each node round it."""
-    middle = filled.add()
-    for node, other in zip(face, face[1:] + face[:1]):
-        filled.link(node, middle, FILL)
-        filled.triangles.append((node, other, middle))
-
-
-def _add_hoop(filled: _FilledGraph, face: List[int], least: int = 0) -> List[int]:
-    """A hoop of nodes within a face, some for each of its corners, so that no two links of a node lead to the same
-    one, also where the face passes a node more than once; the nodes of the hoop."""
-    share = max(1, -(-least // len(face)))
-    hoop = [[filled.add() for _ in range(share)] for _ in face]
-    for place, node in enumerate(face):
-        own, (first, *_) = hoop[place], hoop[(place + 1) % len(face)]
-        other = face[(place + 1) % len(face)]
-        for one, next_one in zip(own, [*own[1:], first]):
-            filled.link(node, one, FILL)
-            filled.link(one, next_one, FILL)
-            filled.triangles.append((node, next_one, one))
-        filled.link(node, first, FILL)
-        filled.triangles.append((node, other, first))
-    return [one for own in hoop for one in own]
-
-
-def _add_ring(filled: _FilledGraph, face: List[int]) -> None:
-    """The ring round the graph."""
-    filled.ring = _add_hoop(filled, face, RING)
-
-
-# ---- Points put at means
-
-
-def _begin(filled: _FilledGraph) -> List[Position]:
-    """The ring on the unit circle, clockwise as the face outside is walked, and all others in its middle."""
+def _from_few_to_many(filled: FilledGraph) -> Optional[List[Position]]:
+    """Places for all nodes, the ring on the unit circle, clockwise."""
     points = [(0.0, 0.0)] * len(filled.links)
     for place, node in enumerate(filled.ring):
         angle = pi / 2 - 2 * pi * place / len(filled.ring)
         points[node] = (cos(angle), sin(angle))
-    return points
+    mesh = Triangulation(filled.around(), filled.ring)
+    rounds = mesh.contracted()
+    there: List[int] = []
+    for steps in reversed(rounds or ()):
+        for step in reversed(steps):
+            place = middle_of_sight([points[it] for it in (step.into, *step.others)])
+            mesh.expand(step)
+            if place is None:
+                return None
+            points[step.node] = place
+            there.append(step.node)
+        forces = _Forces.of_few(mesh, there)
+        for _ in range(ROUND_SWEEPS if len(there) < FEW else 1):
+            for node in there:
+                forces.move(node, points)
+    return points if rounds is not None and _is_plane(filled, points) else None
 
 
-def _to_means(filled: _FilledGraph, points: List[Position], is_weighed: bool) -> None:
-    """Put each node that is not of the ring at the mean of its neighbours, where a link weighs by its length if
-    `is_weighed`; else half as far again, which comes to rest sooner."""
-    ring = set(filled.ring)
-    for node, links in enumerate(filled.links):
-        if node in ring:
-            continue
-        x, y = points[node]
-        total = mean_x = mean_y = 0.0
-        for other, weight in links:
-            u, v = points[other]
-            if is_weighed:
-                weight *= hypot(u - x, v - y) + 1e-9
-            total += weight
-            mean_x += weight * u
-            mean_y += weight * v
-        reach = 1.0 if is_weighed else 1.5
-        points[node] = (x + reach * (mean_x / total - x), y + reach * (mean_y / total - y))
+def _at_means(filled: FilledGraph, points: List[Position]) -> List[Position]:
+    """The points with each node, but those of the ring, near the mean of its neighbours: at rest such a drawing is
+    plane and as symmetric as the graph (Tutte, How to Draw a Graph, 1963). As they were, where not all of that can be
+    told apart."""
+    found, ring = list(points), set(filled.ring)
+    for _ in range(MEANS):
+        for node, links in enumerate(filled.links):
+            if node not in ring:
+                total = sum(weight for _, weight in links)
+                x = sum(weight * found[other][0] for other, weight in links) / total
+                y = sum(weight * found[other][1] for other, weight in links) / total
+                found[node] = (x, y)
+    return found if _is_plane(filled, found) else points
 
 
 # ---- Nodes moved by what pulls and pushes them
@@ -198,24 +111,48 @@ class _Forces:
     `shape`, which says how much more thin ones do; the lines through crossings that it is a part of, as the two other
     nodes and whether it is the crossing itself; and where right angles at crossings would put it."""
 
-    def __init__(self, filled: _FilledGraph):
-        self.links = filled.links
-        self.shape = SHAPE / len(filled.triangles)
-        self.triangles: List[List[Tuple[int, int, float]]] = [[] for _ in filled.links]
-        self.lines: List[List[Tuple[int, int, bool]]] = [[] for _ in filled.links]
+    def __init__(self, count: int, shape: float):
+        self.shape = shape
+        self.links: List[List[Tuple[int, float]]] = [[] for _ in range(count)]
+        self.triangles: List[List[Tuple[int, int, float]]] = [[] for _ in range(count)]
+        self.lines: List[List[Tuple[int, int, bool]]] = [[] for _ in range(count)]
+        self.squared: List[List[Position]] = [[] for _ in range(count)]
+        self.crossed: List[Tuple[int, Tuple[int, int, int, int]]] = []
+
+    @staticmethod
+    def of_few(mesh: Triangulation, there: Sequence[int]) -> "_Forces":
+        """What acts where only some nodes are there, each of which stands for several: a triangle pushes as much as
+        those that it will be."""
+        weight = mesh.weight
+        whole = sum(weight[node] * len(mesh.around[node]) for node in there) + 1
+        forces = _Forces(len(mesh.around), SHAPE / whole * sum(weight) / max(1, len(there)))
+        for node in there:
+            others = mesh.around[node]
+            forces.links[node] = [(other, 1.0) for other in others]
+            forces.triangles[node] = [
+                (first, second, PUSH * ((weight[node] + weight[first] + weight[second]) / whole) ** 2)
+                for first, second in zip(others, others[1:] + others[:1])
+            ]
+        return forces
+
+    @staticmethod
+    def of_all(filled: FilledGraph) -> "_Forces":
+        """What acts where all nodes are there."""
+        forces = _Forces(len(filled.links), SHAPE / len(filled.triangles))
+        forces.links = filled.links
         ring = set(filled.ring)
         for first, second, third in filled.triangles:
             weight = 1.0 if ring.isdisjoint((first, second, third)) else PUSH_AT_RING
             push = PUSH / len(filled.triangles) ** 2 * weight
-            self.triangles[first].append((second, third, push))
-            self.triangles[second].append((third, first, push))
-            self.triangles[third].append((first, second, push))
-        self.crossed = filled.crossed
-        self.squared: List[List[Tuple[float, float, float]]] = [[] for _ in filled.links]
+            forces.triangles[first].append((second, third, push))
+            forces.triangles[second].append((third, first, push))
+            forces.triangles[third].append((first, second, push))
+        forces.crossed = filled.crossed
         for node, four in filled.crossed:
             for place, other in enumerate(four):
-                self.lines[node].append((other, four[place - 2], True))
-                self.lines[other].append((node, four[place - 2], False))
+                forces.lines[node].append((other, four[place - 2], True))
+                forces.lines[other].append((node, four[place - 2], False))
+        return forces
 
     def square(self, points: Sequence[Position]) -> None:
         """Look where the neighbours of crossings would lie if two lines met there at right angles, as far away as they
@@ -226,89 +163,106 @@ class _Forces:
             turned = sum(way / abs(way) * 1j**place for place, way in enumerate(ways))
             for place, (other, way) in enumerate(zip(four, ways)):
                 end = complex(*points[node]) + abs(way) * turned / (abs(turned) or 1.0) / 1j**place
-                self.squared[other].append((end.real, end.imag, SQUARE))
+                self.squared[other].append((end.real, end.imag))
 
-    def pulls(self, node: int, points: Sequence[Position]) -> List[Tuple[float, float, float]]:
-        """The points that a node is pulled to, each with its weight."""
-        found = [(*points[other], weight) for other, weight in self.links[node]] + self.squared[node]
+    def pull(self, node: int, points: Sequence[Position]) -> Tuple[float, float, float]:
+        """The point that a node is pulled to by all that pulls it, and the weight of that."""
+        total = across = up = 0.0
+        for other, weight in self.links[node]:
+            x, y = points[other]
+            total += weight
+            across += weight * x
+            up += weight * y
         for first, second, is_crossing in self.lines[node]:
             (x, y), (u, v) = points[first], points[second]
-            mean, beyond = ((x + u) / 2, (y + v) / 2, 2 * STRAIGHTEN), (2 * x - u, 2 * y - v, STRAIGHTEN)
-            found.append(mean if is_crossing else beyond)
+            if is_crossing:
+                total += 2 * STRAIGHTEN
+                across += STRAIGHTEN * (x + u)
+                up += STRAIGHTEN * (y + v)
+            else:
+                total += STRAIGHTEN
+                across += STRAIGHTEN * (2 * x - u)
+                up += STRAIGHTEN * (2 * y - v)
+        for x, y in self.squared[node]:
+            total += SQUARE
+            across += SQUARE * x
+            up += SQUARE * y
+        return across / total, up / total, total
+
+    def corners(self, node: int, points: Sequence[Position]) -> List[Tuple[float, float, float, float, float]]:
+        """The places of the other two corners of each triangle at a node, and how much it pushes whatever the place of
+        the node is."""
+        found = []
+        shape = self.shape
+        for first, second, push in self.triangles[node]:
+            (u, v), (r, s) = points[first], points[second]
+            found.append((u, v, r, s, push + shape * ((u - r) * (u - r) + (v - s) * (v - s))))
         return found
 
-    def way(
-        self, node: int, points: Sequence[Position], pulls: Sequence[Tuple[float, float, float]]
-    ) -> Tuple[float, float, float]:
-        """The step to where the energy of a node would be least, by its slope and an estimate of its curvature; and the
-        energy that it has now."""
+    def move(self, node: int, points: List[Position]) -> float:
+        """Move a node to where its energy would be least, by its slope and an estimate of its curvature, or a part of
+        that way, if that makes its energy less; how far it went."""
         x, y = points[node]
-        slope_x = slope_y = curvature = energy = 0.0
-        for u, v, weight in pulls:
-            across, up = x - u, y - v
-            slope_x += weight * across
-            slope_y += weight * up
-            curvature += weight
-            energy += weight * (across * across + up * up) / 2
-        for first, second, push in self.triangles[node]:
-            (u, v), (r, s) = points[first], points[second]
-            area = (u - x) * (s - y) - (v - y) * (r - x)
+        pull, corners = self.pull(node, points), self.corners(node, points)
+        middle_x, middle_y, total = pull
+        shape = self.shape
+        slope_x, slope_y, curvature = total * (x - middle_x), total * (y - middle_y), total
+        energy = total * ((x - middle_x) * (x - middle_x) + (y - middle_y) * (y - middle_y)) / 2
+        for u, v, r, s, push in corners:
+            p, q, m, n = u - x, v - y, r - x, s - y
+            area = p * n - q * m
+            push += shape * (p * p + q * q + m * m + n * n)
             across, up = v - s, r - u
-            shape = self.shape * ((x - u) ** 2 + (y - v) ** 2 + (x - r) ** 2 + (y - s) ** 2 + across * across + up * up)
-            force = (push + shape) / (area * area)
-            slope_x += 2 * self.shape * (2 * x - u - r) / area - force * across
-            slope_y += 2 * self.shape * (2 * y - v - s) / area - force * up
-            curvature += force * (across * across + up * up) / area + 4 * self.shape / area
-            energy += (push + shape) / area
-        return -slope_x / curvature, -slope_y / curvature, energy
-
-    def energy(
-        self, node: int, x: float, y: float, points: Sequence[Position], pulls: Sequence[Tuple[float, float, float]]
-    ) -> float:
-        """The energy of a node at a place; more than any other where a triangle would turn over."""
-        energy = 0.0
-        for first, second, push in self.triangles[node]:
-            (u, v), (r, s) = points[first], points[second]
-            area = (u - x) * (s - y) - (v - y) * (r - x)
-            if area <= LEAST_AREA:
-                return float("inf")
-            shape = self.shape * (
-                (x - u) ** 2 + (y - v) ** 2 + (x - r) ** 2 + (y - s) ** 2 + (u - r) ** 2 + (v - s) ** 2
-            )
-            energy += (push + shape) / area
-        for u, v, weight in pulls:
-            energy += weight * ((x - u) * (x - u) + (y - v) * (y - v)) / 2
-        return energy
+            term = push / area
+            force = term / area
+            slope_x -= 2 * shape * (p + m) / area + force * across
+            slope_y -= 2 * shape * (q + n) / area + force * up
+            curvature += (force * (across * across + up * up) + 4 * shape) / area
+            energy += term
+        way_x, way_y = -slope_x / curvature, -slope_y / curvature
+        for _ in range(5):
+            if _energy(x + way_x, y + way_y, pull, corners, shape) < energy:
+                points[node] = (x + way_x, y + way_y)
+                return max(abs(way_x), abs(way_y))
+            way_x, way_y = 0.35 * way_x, 0.35 * way_y
+        return 0.0
 
 
-def _settle(filled: _FilledGraph, points: List[Position]) -> None:
+def _energy(
+    x: float,
+    y: float,
+    pull: Tuple[float, float, float],
+    corners: Iterable[Tuple[float, float, float, float, float]],
+    shape: float,
+) -> float:
+    """The energy of a node at a place; more than any other where a triangle would turn over."""
+    middle_x, middle_y, total = pull
+    energy = total * ((x - middle_x) * (x - middle_x) + (y - middle_y) * (y - middle_y)) / 2
+    for u, v, r, s, push in corners:
+        p, q, m, n = u - x, v - y, r - x, s - y
+        area = p * n - q * m
+        if area <= LEAST_AREA:
+            return float("inf")
+        energy += (push + shape * (p * p + q * q + m * m + n * n)) / area
+    return energy
+
+
+def _settle(filled: FilledGraph, points: List[Position]) -> None:
     """Move the nodes that are not of the ring until they hardly move, or have been moved often; in large graphs that is
     less often."""
-    forces, ring = _Forces(filled), set(filled.ring)
-    for _ in range(max(20, min(SWEEPS, MOVES // len(points)))):
+    forces, ring = _Forces.of_all(filled), set(filled.ring)
+    moves = MOVES if len(points) <= FEW else MOVES // 2
+    for _ in range(max(LEAST_SWEEPS, min(SWEEPS, moves // len(points)))):
         most = 0.0
         forces.square(points)
         for node in range(len(points)):
             if node not in ring:
-                most = max(most, _move(forces, node, points))
+                most = max(most, forces.move(node, points))
         if most < STILL:
             return
 
 
-def _move(forces: _Forces, node: int, points: List[Position]) -> float:
-    """Move a node along its way, or a part of it, if that makes its energy less; how far it went."""
-    x, y = points[node]
-    pulls = forces.pulls(node, points)
-    way_x, way_y, now = forces.way(node, points, pulls)
-    for _ in range(5):
-        if forces.energy(node, x + way_x, y + way_y, points, pulls) < now:
-            points[node] = (x + way_x, y + way_y)
-            return max(abs(way_x), abs(way_y))
-        way_x, way_y = 0.35 * way_x, 0.35 * way_y
-    return 0.0
-
-
-def _is_plane(filled: _FilledGraph, points: Sequence[Position]) -> bool:
+def _is_plane(filled: FilledGraph, points: Sequence[Position]) -> bool:
     """Whether each triangle goes counterclockwise, so that none lies on another."""
     for first, second, third in filled.triangles:
         (x, y), (u, v), (r, s) = points[first], points[second], points[third]

@@ -7,7 +7,7 @@ it by matplotlib. x runs to the east, y to the north; `Scene.unit` says how many
 from __future__ import annotations
 
 from dataclasses import dataclass, replace
-from math import hypot
+from math import ceil, hypot
 from typing import Any, Dict, List, Mapping, NamedTuple, Optional, Sequence, Tuple
 
 from ..engine.graph_edges import Node, Price
@@ -26,6 +26,8 @@ FORBIDDEN = "#222222"
 LETTER_HEIGHT = 9.0
 LETTER = 5.4
 LEAST_NODE = 15.0
+#: The greatest number of nodes for which there is time to give each the room that it wants.
+MANY = 600
 #: How many pixels a step of the grid is at least in orthogonal drawings, and in those with arrows.
 GRID_UNIT = 22.0
 ARROW_UNIT = 34.0
@@ -41,17 +43,20 @@ class Look(NamedTuple):
 @dataclass(frozen=True)
 class Stroke:
     """An edge. `points` are the ends of its straight lines; where it is `curved`, they are an end and then, again and
-    again, two control points of a cubic curve and its other end. `head` is the triangle of an arrow, or empty."""
+    again, two control points of a cubic curve and its other end. `marks` says of each end of a line or a curve which
+    point of the picture it is; None is a bend. `head` is the triangle of an arrow, or empty."""
 
     edge_id: int
     points: Tuple[Position, ...]
     curved: bool
     look: Look
+    marks: Tuple[Optional[Point], ...]
     head: Tuple[Position, ...] = ()
 
 
 class NodeShape(NamedTuple):
-    """A node: its label, its middle, and its width and height. It is drawn with round ends, unless it is a box."""
+    """A node: its label, its middle, and its width and height. It is drawn with round ends, unless it is a box. `scale`
+    is the height of its label beside that of others, which is less where there is little room."""
 
     node: Node
     label: str
@@ -59,18 +64,20 @@ class NodeShape(NamedTuple):
     width: float
     height: float
     box: bool
+    scale: float = 1.0
 
 
 @dataclass(frozen=True)
 class Scene:
     """All that a drawing shows. `dots` are the marks of crossings; `legend` says what the looks of edges mean, and is
-    empty where all look alike."""
+    empty where all look alike. In a file coordinates have so many `decimals`, in pixels."""
 
     unit: float
     strokes: Tuple[Stroke, ...]
     nodes: Tuple[NodeShape, ...]
     dots: Tuple[Position, ...]
     legend: Tuple[Tuple[str, Look], ...]
+    decimals: int = 1
 
     @property
     def bounds(self) -> Tuple[float, float, float, float]:
@@ -121,7 +128,10 @@ def label_size(label: str) -> Tuple[float, float]:
 
 
 def grid_sizes(nodes: Sequence[Node]) -> Dict[Node, Tuple[int, int]]:
-    """The width and height in steps of the grid for the nodes whose labels are too long for a point of the grid."""
+    """The width and height in steps of the grid for the nodes whose labels are too long for a point of the grid; of
+    more than MANY nodes all are points, and the grid is so wide that the labels fit."""
+    if len(nodes) > MANY:
+        return {}
     wide = [node for node in nodes if _point_width(str(node)) > 0.93 * GRID_UNIT]
     return {node: (-int(-(label_size(str(node))[0] + 4.0) // GRID_UNIT), 2) for node in wide}
 
@@ -140,7 +150,7 @@ def orthogonal_scene(
         (_point_width(str(node) if labels else "") for node, box in drawing.boxes.items() if box.is_point),
         default=LEAST_NODE,
     )
-    unit = (ARROW_UNIT if result.graph.is_directed() else GRID_UNIT) + widest - LEAST_NODE
+    unit = (ARROW_UNIT if result.graph.is_directed() else GRID_UNIT) + 2.0 * ceil((widest - LEAST_NODE) / 2)
     nodes = []
     for node, box in drawing.boxes.items():
         label = str(node) if labels else ""
@@ -148,92 +158,37 @@ def orthogonal_scene(
         if box.is_point:
             width, height = _point_width(label) / unit, LEAST_NODE / unit
         nodes.append(NodeShape(node, label, box.middle, width, height, not box.is_point))
-    strokes = [
-        Stroke(edge_id, line, False, kinds[result.picture.edge(edge_id).kind])
-        for edge_id, line in drawing.lines.items()
-    ]
+    strokes = []
+    for edge_id, line in drawing.lines.items():
+        row = result.picture.edge(edge_id)
+        crossings = [(Point(True, it), drawing.crossings[it]) for it in row.crossings]
+        points, marks = _with_crossings(line, crossings)
+        marks = (Point(False, row.a), *marks[1:-1], Point(False, row.b))
+        strokes.append(Stroke(edge_id, points, False, kinds[row.kind], marks))
     scene = Scene(unit, tuple(strokes), tuple(nodes), (), legend)
     return with_arrows(result, scene) if result.graph.is_directed() else scene
 
 
-# ---- Straight drawings
+def _with_crossings(
+    line: Sequence[Position], crossings: Sequence[Tuple[Point, Position]]
+) -> Tuple[Tuple[Position, ...], Tuple[Optional[Point], ...]]:
+    """The points of a line along the grid with the crossings on it, which are given in their order; and for each point
+    the crossing that it is."""
+    points: List[Position] = [line[0]]
+    marks: List[Optional[Point]] = [None]
+    left = list(crossings)
+    for (x, y), end in zip(line, line[1:]):
+        across, up = sorted((x, end[0])), sorted((y, end[1]))
+        while left and across[0] <= left[0][1][0] <= across[1] and up[0] <= left[0][1][1] <= up[1]:
+            mark, place = left.pop(0)
+            points.append(place)
+            marks.append(mark)
+        points.append(end)
+        marks.append(None)
+    return tuple(points), tuple(marks)
 
 
-def straight_scene(
-    result: Planarization,
-    chains: Mapping[int, Sequence[Any]],
-    places: Mapping[Any, Position],
-    unit: float,
-    labels: bool = True,
-    color: str = PLAIN,
-) -> Scene:
-    """The scene of a drawing whose edges lead over these chains of nodes, each of which has a place; they pass them
-    without a corner."""
-    kinds, legend = looks(result, color)
-    nodes = []
-    for node in result.node_of:
-        width, height = label_size(str(node) if labels else "")
-        nodes.append(NodeShape(node, str(node) if labels else "", places[node], width / unit, height / unit, False))
-    ways = crossing_ways(result, chains, places)
-    strokes = []
-    for edge_id, chain in chains.items():
-        curve = smooth([places[node] for node in chain], [ways.get((edge_id, node)) for node in chain])
-        line, look = curve or (places[chain[0]], places[chain[-1]]), kinds[result.picture.edge(edge_id).kind]
-        strokes.append(Stroke(edge_id, line, bool(curve), look))
-    dots = tuple(places[result.name_of(point)] for point in result.picture.points if point.is_crossing)
-    scene = Scene(unit, tuple(strokes), tuple(nodes), dots, legend)
-    return with_arrows(result, scene) if result.graph.is_directed() else scene
-
-
-def crossing_ways(
-    result: Planarization, chains: Mapping[int, Sequence[Any]], places: Mapping[Any, Position]
-) -> Dict[Tuple[int, Any], Position]:
-    """For an edge and a crossing on it, as a node of its chain, the direction in which the edge would pass if both
-    edges met at right angles, turned as little as they can be."""
-    found: Dict[Tuple[int, Any], Position] = {}
-    for row in result.picture.crossings:
-        point = Point(True, row.id)
-        name, darts = result.name_of(point), result.picture.around(point)
-        ways = []
-        for dart in darts:
-            nodes = chains[dart.edge]
-            ways.append(complex(*_toward(places[name], places[nodes[nodes.index(name) + (-1 if dart.back else 1)]])))
-        turned = sum(way * 1j**place for place, way in enumerate(ways))
-        for place, dart in enumerate(darts):
-            if not dart.back and abs(turned) > 1e-9:
-                way = turned / abs(turned) / 1j**place
-                found[dart.edge, name] = (way.real, way.imag)
-    return found
-
-
-def smooth(chain: Sequence[Position], ways: Sequence[Optional[Position]] = ()) -> Tuple[Position, ...]:
-    """A chain of points as cubic curves that pass each of them in one direction. Empty where the chain is as good as
-    straight.
-
-    The direction is between those of the lines before and behind the point; where `ways` has one, it is turned toward
-    that the more, the sharper the corner is.
-    """
-    lines = [_toward(start, end) for start, end in zip(chain, chain[1:])]
-    if all(_cross(lines[0], line) ** 2 < 1e-4 and lines[0][0] * line[0] + lines[0][1] * line[1] > 0 for line in lines):
-        return ()
-    passing = [lines[0]]
-    for place, (before, after) in enumerate(zip(lines, lines[1:]), 1):
-        middle = _toward((0.0, 0.0), (before[0] + after[0], before[1] + after[1]))
-        way = ways[place] if place < len(ways) else None
-        if way is not None:
-            share = min(1.0, 1.0 - (before[0] * after[0] + before[1] * after[1]))
-            middle = _toward((0.0, 0.0), (middle[0] + share * way[0], middle[1] + share * way[1]))
-        passing.append(middle if middle != (0.0, 0.0) else after)
-    passing.append(lines[-1])
-    curve: List[Position] = [chain[0]]
-    for start, end, leaving, coming in zip(chain, chain[1:], passing, passing[1:]):
-        reach = 0.36 * hypot(end[0] - start[0], end[1] - start[1])
-        curve += [
-            (start[0] + reach * leaving[0], start[1] + reach * leaving[1]),
-            (end[0] - reach * coming[0], end[1] - reach * coming[1]),
-            end,
-        ]
-    return tuple(curve)
+# ---- Curves as chains of lines
 
 
 def flat(stroke: Stroke, steps: int = 16) -> List[Position]:
@@ -252,14 +207,10 @@ def flat(stroke: Stroke, steps: int = 16) -> List[Position]:
     return points
 
 
-def _toward(start: Position, end: Position) -> Position:
+def toward(start: Position, end: Position) -> Position:
     """The direction from one point to another as a vector of length 1, or of length 0 where they are one."""
     length = hypot(end[0] - start[0], end[1] - start[1])
     return ((end[0] - start[0]) / length, (end[1] - start[1]) / length) if length > 1e-12 else (0.0, 0.0)
-
-
-def _cross(first: Position, second: Position) -> float:
-    return first[0] * second[1] - first[1] * second[0]
 
 
 # ---- Arrows
@@ -287,7 +238,7 @@ def _head(line: Sequence[Position], node: NodeShape, unit: float) -> Tuple[Posit
     for _ in range(30):
         middle = ((outside[0] + inside[0]) / 2, (outside[1] + inside[1]) / 2)
         outside, inside = (outside, middle) if _is_in(node, middle) else (middle, inside)
-    x, y = _toward(line[place - 1], line[place])
+    x, y = toward(line[place - 1], line[place])
     length, half = 7.0 / unit, 2.6 / unit
     back = (outside[0] - length * x, outside[1] - length * y)
     return outside, (back[0] - half * y, back[1] + half * x), (back[0] + half * y, back[1] - half * x)

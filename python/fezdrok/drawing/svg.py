@@ -3,29 +3,34 @@
 from __future__ import annotations
 
 from html import escape
-from typing import Dict, Iterable, List
+from typing import Dict, Iterable, List, Sequence
 
-from .scenes import LETTER_HEIGHT, NodeShape, Position, Scene, Stroke
+from .pages import MARGIN, Page, PageLine, PageNode, PagePoint
+from .scenes import LETTER_HEIGHT, NodeShape, Position, Scene
 
-MARGIN = 10.0
 LEGEND_ROW = 16.0
 
 
 def svg_of(scene: Scene, node_color: str = "#d9e8f6", crossing_color: str = "#777777") -> str:
-    """The scene as an SVG document. Numbers have one decimal, so that small graphs are small files."""
-    left, bottom, right, top = scene.bounds
-    write = _Writer(scene.unit, left, top)
-    legend = _legend(scene, (top - bottom) * scene.unit + 2 * MARGIN)
-    width = max((right - left) * scene.unit + 2 * MARGIN, 150.0 if legend else 0.0)
-    height = (top - bottom) * scene.unit + 2 * MARGIN + LEGEND_ROW * len(scene.legend)
+    """The scene as an SVG document. Numbers have as few decimals as the scene says, so that small graphs are small
+    files."""
+    page = Page(scene)
+    write = _Writer(page)
+    width, height = (extent / page.steps for extent in page.size)
+    legend = _legend(scene, height)
+    width = max(width, 150.0 if legend else 0.0)
+    height += LEGEND_ROW * len(scene.legend)
     size = f'width="{number(width)}" height="{number(height)}" viewBox="0 0 {number(width)} {number(height)}"'
     lines = [f'<svg xmlns="http://www.w3.org/2000/svg" {size}>']
     lines.append('<rect width="100%" height="100%" fill="#fff"/>')
+    drawn = list(zip(scene.strokes, page.lines))
     for color, thick in dict.fromkeys(stroke.look for stroke in scene.strokes):
         lines.append(f'<g fill="none" stroke="{escape(color)}" stroke-width="{number(thick)}" stroke-linejoin="round">')
-        lines.extend(write.stroke(stroke) for stroke in scene.strokes if stroke.look == (color, thick))
+        lines.extend(write.line(line) for stroke, line in drawn if stroke.look == (color, thick))
         lines.append("</g>")
-        lines.extend(write.head(stroke) for stroke in scene.strokes if stroke.look == (color, thick) and stroke.head)
+        lines.extend(
+            write.head(stroke.head, color) for stroke in scene.strokes if stroke.look == (color, thick) and stroke.head
+        )
     if scene.dots:
         lines += [f'<g fill="{escape(crossing_color)}">', *(write.dot(dot) for dot in scene.dots), "</g>"]
     lines.append(f'<g fill="{escape(node_color)}" stroke="#333" stroke-width=".8">')
@@ -35,68 +40,76 @@ def svg_of(scene: Scene, node_color: str = "#d9e8f6", crossing_color: str = "#77
     return "\n".join(lines) + "\n"
 
 
-def number(value: float) -> str:
-    """A number with one decimal, which is left out where it is 0."""
-    text = f"{value:.1f}"
-    if text.endswith(".0"):
-        text = text[:-2]
-    elif text.lstrip("-").startswith("0."):
+def number(value: float, decimals: int = 1) -> str:
+    """A number with so many decimals, without zeros at its ends."""
+    text = f"{value:.{decimals}f}".rstrip("0").rstrip(".")
+    if text.lstrip("-").startswith("0."):
         text = text.replace("0.", ".", 1)
-    return "0" if text in ("-0", "") else text
+    return "0" if text in ("-0", "-", "") else text
 
 
 class _Writer:
-    """Points in pixels from the upper left corner, and the elements that are made of them."""
+    """The elements of a page."""
 
-    def __init__(self, unit: float, left: float, top: float):
-        self.unit, self.left, self.top = unit, left, top
+    def __init__(self, page: Page):
+        self.page = page
 
-    def at(self, point: Position) -> Position:
-        return (point[0] - self.left) * self.unit + MARGIN, (self.top - point[1]) * self.unit + MARGIN
+    def number(self, units: int) -> str:
+        """A number of units of the page, in pixels."""
+        return number(units / self.page.steps, self.page.scene.decimals)
 
-    def points(self, points: Iterable[Position]) -> List[str]:
-        return [",".join(map(number, self.at(point))) for point in points]
+    def at(self, place: Position) -> List[str]:
+        """The x and y of a place of the scene."""
+        return [self.number(it) for it in self.page.at(place)]
 
-    def stroke(self, stroke: Stroke) -> str:
+    def line(self, line: PageLine) -> str:
         """The path of an edge, whose numbers are relative and so short: to the last end of a line or a curve."""
-        points = [tuple(round(part, 1) for part in self.at(point)) for point in stroke.points]
-        step = 3 if stroke.curved else 1
-        words: List[str] = []
-        for place, (x, y) in enumerate(points[1:]):
-            u, v = points[place - place % step]
-            words += [number(x - u), number(y - v)]
-        path = "".join(word if word.startswith("-") else " " + word for word in words)
-        letter = "c" if stroke.curved else "l"
-        return f'<path d="M{number(points[0][0])} {number(points[0][1])}{letter}{path.strip()}"/>'
+        (x, y), path, before = line.pieces[0][0], "", ""
+        first = f"M{self.number(x)} {self.number(y)}"
+        for piece in line.pieces:
+            letter = "l" if len(piece) == 2 else "c"
+            words = self._relative(piece)
+            path += (letter if letter != before else "" if words[0].startswith("-") else " ") + words[0]
+            path += "".join(word if word.startswith("-") else " " + word for word in words[1:])
+            before = letter
+        return f'<path d="{first}{path}"/>'
 
-    def head(self, stroke: Stroke) -> str:
-        return f'<path fill="{escape(stroke.look.color)}" d="M{"L".join(self.points(stroke.head))}Z"/>'
+    def _relative(self, piece: Sequence[PagePoint]) -> List[str]:
+        """The numbers of a piece, from its first point."""
+        x, y = piece[0]
+        return [self.number(it) for u, v in piece[1:] for it in (u - x, v - y)]
+
+    def head(self, head: Iterable[Position], color: str) -> str:
+        points = "L".join(",".join(self.at(place)) for place in head)
+        return f'<path fill="{escape(color)}" d="M{points}Z"/>'
 
     def dot(self, dot: Position) -> str:
-        x, y = map(number, self.at(dot))
+        x, y = self.at(dot)
         return f'<circle cx="{x}" cy="{y}" r="1.6"/>'
 
     def shapes(self, nodes: Iterable[NodeShape]) -> List[str]:
         """The nodes: each shape once, and where it is used."""
         names: Dict[str, str] = {}
         lines: List[str] = []
-        for node in nodes:
-            name = names.setdefault(self.shape(node), f"n{len(names)}")
-            x, y = map(number, self.at(node.middle))
+        for node, shape in zip(nodes, self.page.nodes):
+            name = names.setdefault(self.shape(shape, node.box), f"n{len(names)}")
+            x, y = map(self.number, shape.middle)
             lines.append(f'<use href="#{name}" x="{x}" y="{y}"/>')
         return ["<defs>", *(shape.replace("/>", f' id="{name}"/>') for shape, name in names.items()), "</defs>", *lines]
 
-    def shape(self, node: NodeShape) -> str:
+    def shape(self, node: PageNode, is_box: bool) -> str:
         """A node as it would be drawn at the upper left corner."""
-        width, height = node.width * self.unit, node.height * self.unit
-        if not node.box and abs(width - height) < 0.1:
-            return f'<circle r="{number(width / 2)}"/>'
-        size = f'x="{number(-width / 2)}" y="{number(-height / 2)}" width="{number(width)}" height="{number(height)}"'
-        return f'<rect {size} rx="{number(3 if node.box else height / 2)}"/>'
+        if node.is_round:
+            return f'<circle r="{self.number(node.right)}"/>'
+        left, up, width, height = map(self.number, (-node.right, -node.down, 2 * node.right, 2 * node.down))
+        rounding = number(3) if is_box else self.number(node.down)
+        return f'<rect x="{left}" y="{up}" width="{width}" height="{height}" rx="{rounding}"/>'
 
     def label(self, node: NodeShape) -> str:
-        x, y = self.at(node.middle)
-        return f'<text x="{number(x)}" y="{number(y + LETTER_HEIGHT / 3)}">{escape(node.label)}</text>'
+        x, y = (it / self.page.steps for it in self.page.at(node.middle))
+        size = LETTER_HEIGHT * node.scale
+        small = f' font-size="{number(size, 2)}"' if node.scale < 1 else ""
+        return f'<text x="{number(x)}" y="{number(y + size / 3)}"{small}>{escape(node.label)}</text>'
 
 
 def _legend(scene: Scene, top: float) -> List[str]:

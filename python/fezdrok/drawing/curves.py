@@ -1,0 +1,76 @@
+"""Edges as cubic curves that pass their crossings without a corner."""
+
+from __future__ import annotations
+
+from typing import Any, Dict, List, Mapping, Optional, Sequence, Tuple
+from math import hypot
+
+from ..engine.pictures import Point
+from ..engine.results import Planarization
+from .scenes import Position, toward
+
+#: How far the control points of a curve lie from its ends, as a part of the chord.
+REACH = 0.36
+
+
+def crossing_ways(
+    result: Planarization, chains: Mapping[int, Sequence[Any]], places: Mapping[Any, Position]
+) -> Dict[Tuple[int, Any], Position]:
+    """For an edge and a crossing on it, as a node of its chain, the direction in which the edge would pass if both
+    edges met at right angles, turned as little as they can be."""
+    found: Dict[Tuple[int, Any], Position] = {}
+    for row in result.picture.crossings:
+        point = Point(True, row.id)
+        name, darts = result.name_of(point), result.picture.around(point)
+        ways = []
+        for dart in darts:
+            nodes = chains[dart.edge]
+            ways.append(complex(*toward(places[name], places[nodes[nodes.index(name) + (-1 if dart.back else 1)]])))
+        turned = sum(way * 1j**place for place, way in enumerate(ways))
+        for place, dart in enumerate(darts):
+            if not dart.back and abs(turned) > 1e-9:
+                way = turned / abs(turned) / 1j**place
+                found[dart.edge, name] = (way.real, way.imag)
+    return found
+
+
+def is_as_good_as_straight(chain: Sequence[Position]) -> bool:
+    """Whether all lines of a chain of points have very nearly one direction."""
+    lines = [toward(start, end) for start, end in zip(chain, chain[1:])]
+    return all(
+        _cross(lines[0], line) ** 2 < 1e-4 and lines[0][0] * line[0] + lines[0][1] * line[1] > 0 for line in lines
+    )
+
+
+def smooth(
+    chain: Sequence[Position], ways: Sequence[Optional[Position]], reaches: Sequence[float]
+) -> Tuple[Position, ...]:
+    """A chain of points as cubic curves that pass each of them in one direction.
+
+    The direction is between those of the lines before and behind the point; where `ways` has one, it is turned toward
+    that the more, the sharper the corner is. `reaches` has for each piece how far its control points lie from its ends,
+    beside how far they do where nothing is in the way; with 0 it is a straight line.
+    """
+    lines = [toward(start, end) for start, end in zip(chain, chain[1:])]
+    passing = [lines[0]]
+    for place, (before, after) in enumerate(zip(lines, lines[1:]), 1):
+        middle = toward((0.0, 0.0), (before[0] + after[0], before[1] + after[1]))
+        way = ways[place]
+        if way is not None:
+            share = min(1.0, 1.0 - (before[0] * after[0] + before[1] * after[1]))
+            middle = toward((0.0, 0.0), (middle[0] + share * way[0], middle[1] + share * way[1]))
+        passing.append(middle if middle != (0.0, 0.0) else after)
+    passing.append(lines[-1])
+    curve: List[Position] = [chain[0]]
+    for start, end, leaving, coming, part in zip(chain, chain[1:], passing, passing[1:], reaches):
+        reach = REACH * part * hypot(end[0] - start[0], end[1] - start[1])
+        curve += [
+            (start[0] + reach * leaving[0], start[1] + reach * leaving[1]),
+            (end[0] - reach * coming[0], end[1] - reach * coming[1]),
+            end,
+        ]
+    return tuple(curve)
+
+
+def _cross(first: Position, second: Position) -> float:
+    return first[0] * second[1] - first[1] * second[0]

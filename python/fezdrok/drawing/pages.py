@@ -1,0 +1,105 @@
+"""Scenes on a page: whole numbers for all that is drawn, as they stand in the file.
+
+A page counts in units of a tenth, a hundredth or a thousandth of a pixel, from its upper left corner to the right and
+down. Each place of a scene has one point of the page, whatever else is drawn, so that lines which meet in the scene
+meet on the page.
+"""
+
+from __future__ import annotations
+
+from dataclasses import dataclass
+from math import floor
+from typing import List, NamedTuple, Optional, Tuple
+
+from ..engine.graph_edges import Node
+from ..engine.pictures import Point
+from .scenes import Position, Scene, Stroke
+
+PagePoint = Tuple[int, int]
+
+#: The width of the margin, in pixels.
+MARGIN = 10
+#: Into how many straight lines a curve is broken at most, and how much larger its points then are.
+MOST_STEPS = 64
+FINE = MOST_STEPS**3
+
+
+class PageNode(NamedTuple):
+    """A node on the page: its middle, and how far its shape reaches to the right and down from there."""
+
+    node: Node
+    middle: PagePoint
+    right: int
+    down: int
+    is_round: bool
+
+
+@dataclass(frozen=True)
+class PageLine:
+    """An edge on the page. Its pieces are straight lines, of two points each, or cubic curves, of four; the last point
+    of a piece is the first of the next. `marks` says for the ends of the pieces which points of the picture they are;
+    None is a bend."""
+
+    edge_id: int
+    pieces: Tuple[Tuple[PagePoint, ...], ...]
+    marks: Tuple[Optional[Point], ...]
+
+
+class Page:
+    """A scene on a page. `steps` is how many units of the page a pixel has."""
+
+    def __init__(self, scene: Scene):
+        self.scene = scene
+        self.steps = 10**scene.decimals
+        left, bottom, right, top = scene.bounds
+        self._factor = scene.unit * self.steps
+        margin = MARGIN * self.steps
+        self._left = floor(left * self._factor) - margin
+        self._top = floor(-top * self._factor) - margin
+        self.size = self.at((right, bottom))[0] + margin, self.at((right, bottom))[1] + margin
+        self.nodes = [
+            PageNode(
+                shape.node,
+                self.at(shape.middle),
+                floor(shape.width * self._factor / 2 + 1e-6),
+                floor(shape.height * self._factor / 2 + 1e-6),
+                not shape.box and abs(shape.width - shape.height) * self._factor < 0.1,
+            )
+            for shape in scene.nodes
+        ]
+        self.lines = [self.line(stroke) for stroke in scene.strokes]
+
+    def at(self, place: Position) -> PagePoint:
+        """The point of the page for a place of the scene."""
+        x, y = place
+        return round(x * self._factor) - self._left, -round(y * self._factor) - self._top
+
+    def line(self, stroke: Stroke) -> PageLine:
+        """A stroke as it would stand on this page."""
+        points = [self.at(point) for point in stroke.points]
+        step = 3 if stroke.curved else 1
+        pieces = tuple(tuple(points[start : start + step + 1]) for start in range(0, len(points) - 1, step))
+        return PageLine(stroke.edge_id, pieces, stroke.marks)
+
+
+def flattened(piece: Tuple[PagePoint, ...], tolerance: int) -> List[PagePoint]:
+    """The points of a piece as a renderer breaks it into straight lines, FINE times as large, and so whole numbers.
+
+    A curve is cut at 2, 4, .. 64 equal steps of its parameter, as many as leave it nearer to the chords than the
+    `tolerance`, which is in units of the page (Wang, The Subdivision Method for Finding the Intersection Between Two
+    Bezier Curves, 1984, has the bound).
+    """
+    if len(piece) == 2:
+        return [(x * FINE, y * FINE) for x, y in piece]
+    (x0, y0), (x1, y1), (x2, y2), (x3, y3) = piece
+    bend = max(abs(x0 - 2 * x1 + x2), abs(y0 - 2 * y1 + y2), abs(x1 - 2 * x2 + x3), abs(y1 - 2 * y2 + y3))
+    steps = 1
+    while steps < MOST_STEPS and steps * steps * tolerance < bend:
+        steps *= 2
+    factor = FINE // steps**3
+    points = []
+    for step in range(steps + 1):
+        left = steps - step
+        a, b, c, d = left**3, 3 * left * left * step, 3 * left * step * step, step**3
+        points.append((factor * (a * x0 + b * x1 + c * x2 + d * x3), factor * (a * y0 + b * y1 + c * y2 + d * y3)))
+    return points

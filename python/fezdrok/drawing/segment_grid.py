@@ -1,0 +1,80 @@
+"""Straight lines in the squares of a grid that they pass, so that those near each other are found without a look at
+all pairs."""
+
+from __future__ import annotations
+
+from math import sqrt
+from typing import Dict, Iterator, List, Sequence, Set, Tuple
+
+#: A square of the grid: its column and its row.
+Square = Tuple[int, int]
+
+#: How many squares a segment passes, in the mean, at most.
+MOST_PASSED = 12
+
+
+class SegmentGrid:
+    """Segments, each a tuple that begins with the x and y of its one end and of its other, and the squares that they
+    pass: `squares[column, row]` has the places of the segments in it. Also a square that a segment only comes near to
+    may have it; none that it passes is missed."""
+
+    def __init__(self, segments: Sequence[Tuple]):
+        self.size = _square_size(segments)
+        self.squares: Dict[Square, List[int]] = {}
+        for place, segment in enumerate(segments):
+            self.add(place, segment)
+
+    def add(self, place: int, segment: Tuple) -> None:
+        """One more segment, by its place."""
+        for square in self.passed(segment):
+            self.squares.setdefault(square, []).append(place)
+
+    @staticmethod
+    def of_rectangles(bounds: Sequence[Tuple[float, float, float, float]]) -> "SegmentGrid":
+        """A grid of rectangles, each the least x and y and the greatest, with the places of those in each square."""
+        grid = SegmentGrid(())
+        grid.size = _square_size(bounds)
+        for place, (left, bottom, right, top) in enumerate(bounds):
+            for column in range(int(left // grid.size), int(right // grid.size) + 1):
+                for row in range(int(bottom // grid.size), int(top // grid.size) + 1):
+                    grid.squares.setdefault((column, row), []).append(place)
+        return grid
+
+    def passed(self, segment: Tuple) -> Iterator[Square]:
+        """The squares that a segment passes, column by column."""
+        x, y, u, v = segment[:4]
+        if x > u:
+            x, y, u, v = u, v, x, y
+        size, spare = self.size, 1e-3 * self.size
+        first, last = int((x - spare) // size), int((u + spare) // size)
+        slope = (v - y) / (u - x) if u > x else 0.0
+        for column in range(first, last + 1):
+            low, high = y, v
+            if first < last and slope:
+                low = y + slope * (min(max(x, column * size - spare), u) - x)
+                high = y + slope * (max(min(u, (column + 1) * size + spare), x) - x)
+            if low > high:
+                low, high = high, low
+            for row in range(int((low - spare) // size), int((high + spare) // size) + 1):
+                yield column, row
+
+    def near(self, left: float, bottom: float, right: float, top: float) -> Set[int]:
+        """The places of all segments that come into a rectangle, and of some near it."""
+        found: Set[int] = set()
+        rows = range(int(bottom // self.size), int(top // self.size) + 1)
+        for column in range(int(left // self.size), int(right // self.size) + 1):
+            for row in rows:
+                found.update(self.squares.get((column, row), ()))
+        return found
+
+
+def _square_size(segments: Sequence[Tuple]) -> float:
+    """The size of squares of which there are about as many as segments, but not so many that long segments pass very
+    many."""
+    if not segments:
+        return 1.0
+    xs = [it for x, _, u, *_ in segments for it in (x, u)]
+    ys = [it for _, y, _, v, *_ in segments for it in (y, v)]
+    width, height = max(xs) - min(xs), max(ys) - min(ys)
+    length = sum(max(abs(u - x), abs(v - y)) for x, y, u, v, *_ in segments) / len(segments)
+    return max(sqrt(float(width) * float(height) / len(segments)), length / MOST_PASSED) or 1.0

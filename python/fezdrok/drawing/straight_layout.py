@@ -1,0 +1,150 @@
+"""Points for straight drawings of a planarization, and the chains of points that its edges lead over."""
+
+from __future__ import annotations
+
+import warnings
+from math import cos, pi, sin, sqrt
+from typing import TYPE_CHECKING, Any, Dict, Iterable, List, Mapping, Optional, Sequence
+
+from ..engine.faults import PlanarWarning, wanted
+from ..engine.graph_edges import GraphEdge
+from ..engine.graph_pictures import Dummy
+from ..engine.results import Planarization
+from ..files.embeddings import to_networkx_embedding
+from .orthogonal_layout import SHORT, path_order
+from .relaxation import between, spread
+from .scenes import Position
+from .shelf_packing import shelf_packing
+
+if TYPE_CHECKING:
+    import networkx
+
+
+def positions(result: Planarization, embedding: Optional["networkx.PlanarEmbedding"] = None) -> Dict[Any, Position]:
+    """A point for each node of the embedding, such that straight lines between neighbours do not cross.
+
+    The points lie in the unit disk, spread so that faces are of like size and edges pass their crossings as straight as
+    they can (see `relaxation`). Where that comes to no drawing without crossings, they are those of
+    `networkx.combinatorial_embedding_to_pos`, on a grid. The parts of a graph that is not connected lie side by side,
+    each in a disk whose area grows with its number of points. ModuleMissing where networkx is not there.
+    """
+    if result.parts:
+        return _side_by_side(result, [positions(part) for part in result.parts])
+    order = path_order(result.picture)
+    if order is not None and len(order) > SHORT:
+        return {result.node_of[vertex]: place for vertex, place in zip(order, _spiral(len(order)))}
+    embedding = to_networkx_embedding(result) if embedding is None else embedding
+    rotations = {node: list(embedding.neighbors_cw_order(node)) for node in embedding}
+    crossings = frozenset(result.name_of(point) for point in result.picture.points if point.is_crossing)
+    if not result.picture.edges:
+        return dict.fromkeys(rotations, (0.0, 0.0))
+    first = result.picture.faces[result.outer_face][0]
+    nodes = chain(result, embedding, first.edge)
+    place = nodes.index(result.name_of(result.picture.start(first)))
+    found = spread(rotations, crossings, (nodes[place], nodes[place - 1 if first.back else place + 1]))
+    if found is None:
+        warnings.warn("no drawing was found in which faces are of like size: its points lie on a grid", PlanarWarning)
+        found = grid_positions(result, embedding)
+    return found
+
+
+def _spiral(count: int) -> List[Position]:
+    """So many points on a spiral from the middle of the unit disk, as far from each other as its turns are."""
+    found, turned = [], 2 * pi
+    for _ in range(count):
+        found.append((turned * cos(turned), turned * sin(turned)))
+        turned += 2 * pi / turned
+    return [(x / turned, y / turned) for x, y in found]
+
+
+def grid_positions(
+    result: Planarization, embedding: Optional["networkx.PlanarEmbedding"] = None
+) -> Dict[Any, Position]:
+    """A point of the grid of whole numbers for each node of the embedding, such that straight lines between neighbours
+    do not cross: those of `networkx.combinatorial_embedding_to_pos` (Chrobak and Payne, A Linear-Time Algorithm for
+    Drawing a Planar Graph on a Grid, 1995). The parts of a graph that is not connected lie side by side. ModuleMissing
+    where networkx is not there.
+    """
+    if result.parts:
+        return _side_by_side(result, [grid_positions(part) for part in result.parts], True)
+    networkx = wanted("networkx", "drawings")
+    embedding = to_networkx_embedding(result) if embedding is None else embedding
+    if len(embedding) < 3:
+        return {node: (float(place), 0.0) for place, node in enumerate(embedding)}
+    places = networkx.combinatorial_embedding_to_pos(embedding)
+    return {node: (float(x), float(y)) for node, (x, y) in places.items()}
+
+
+def _side_by_side(
+    result: Planarization, places: Sequence[Mapping[Any, Position]], is_on_grid: bool = False
+) -> Dict[Any, Position]:
+    """The points of all parts, by the names that they have in the whole; points of a grid stay such."""
+    scales = [1.0 if is_on_grid else sqrt(len(part)) for part in places]
+    least = [tuple(min(place[axis] for place in part.values()) for axis in (0, 1)) for part in places]
+    most = [tuple(max(place[axis] for place in part.values()) for axis in (0, 1)) for part in places]
+    sizes = [(scale * (far[0] - near[0]), scale * (far[1] - near[1])) for scale, near, far in zip(scales, least, most)]
+    found: Dict[Any, Position] = {}
+    for part, scale, (left, bottom), (x, y), (_, edge, crossing) in zip(
+        places, scales, least, shelf_packing(sizes, 1.0), result.offsets
+    ):
+        for name, (u, v) in part.items():
+            found[_name_in_whole(result, name, edge, crossing)] = (x + scale * (u - left), y + scale * (v - bottom))
+    return found
+
+
+def _name_in_whole(result: Planarization, name: Any, edge: int, crossing: int) -> Any:
+    """The name that a node of a part's embedding has in that of the whole, where edge and crossing ids are so much
+    larger."""
+    if name in result.vertex_of:
+        return name
+    of = name.of + crossing if name.kind == "crossing" else name.of._replace(edge=name.of.edge + edge)
+    return Dummy(name.kind, of, result.layer)
+
+
+def places_between(embedding: "networkx.PlanarEmbedding", pos: Mapping[Any, Position]) -> Dict[Any, Position]:
+    """A point for each node of the embedding, those of `pos` among them: each other one at the mean of its neighbours,
+    a crossing where the lines between opposite neighbours meet. KeyError where a node of the graph has no point."""
+    places = {node: pos[node] for node in embedding if node in pos or not embedding.nodes[node]["dummy"]}
+    left = {node: list(embedding.neighbors_cw_order(node)) for node in embedding if node not in places}
+    places.update(between(left, places))
+    for node in left:
+        if "bend" in embedding.nodes[node]:
+            first, second = left[node]
+            (x, y), (u, v) = places[first], places[second]
+            aside = 0.12 * _steps_aside(embedding, node, first, second)
+            places[node] = ((x + u) / 2 + aside * (v - y), (y + v) / 2 - aside * (u - x))
+    return places
+
+
+def _steps_aside(embedding: "networkx.PlanarEmbedding", bend: Any, first: Any, second: Any) -> int:
+    """How many parallel segments, from the first of two nodes to the second, lie from the straight one to that with
+    this bend, to its right; less than 0 where it lies on the left of the straight one."""
+    both = [node for node in embedding[first] if node in embedding[second]]
+    beside = {second, *(node for node in both if "bend" in embedding.nodes[node])}
+    around = list(embedding.neighbors_cw_order(first))
+    ends = [first if node == second else node for node in reversed(list(embedding.neighbors_cw_order(second)))]
+    for order, same in ((around, beside), (ends, {first, *beside} - {second})):
+        cut = next((place for place, node in enumerate(order) if node not in same), None)
+        if cut is not None:
+            around = [node for node in order[cut:] + order[:cut] if node in same]
+            break
+    group = [second if node == first else node for node in around]
+    return group.index(bend) - group.index(second)
+
+
+def chain(result: Planarization, embedding: "networkx.PlanarEmbedding", edge_id: int) -> List[Any]:
+    """The nodes of the embedding along an edge, from the node of its end `a` to that of its end `b`."""
+    edge = result.edge_of[edge_id]
+    names = [result.name_of(point) for point in result.picture.path(edge_id)]
+    nodes = names[:1]
+    for following in names[1:]:
+        if embedding.get_edge_data(nodes[-1], following, {}).get("edge") != edge:
+            nodes.append(_bend_between(embedding, nodes[-1], following, edge))
+        nodes.append(following)
+    return nodes
+
+
+def _bend_between(embedding: "networkx.PlanarEmbedding", start: Any, end: Any, edge: GraphEdge) -> Dummy:
+    """The point that was put into this edge's segment between two nodes."""
+    bends: Iterable[Dummy] = (node for node in embedding[start] if embedding.nodes[node].get("bend") == edge)
+    return next(node for node in bends if embedding.has_edge(node, end))

@@ -1,0 +1,202 @@
+"""Scenes of straight and of curved drawings, which are true: their lines are judged as they stand in the file, and what
+is false is made right.
+
+Nodes are made smaller where they would lie on edges or crossings. Coordinates have as many decimals as a drawing with
+straight lines wants to be true. A curve that meets what it must not is drawn nearer and nearer to its chord, until all
+is right; with every curve straight it is.
+"""
+
+from __future__ import annotations
+
+from dataclasses import dataclass, replace
+from math import hypot, sqrt
+from typing import Any, Dict, List, Mapping, Optional, Sequence, Tuple
+
+from ..engine.pictures import Point
+from ..engine.results import Planarization
+from .curves import crossing_ways, is_as_good_as_straight, smooth
+from .pages import Page
+from .scenes import MANY, PLAIN, NodeShape, Position, Scene, Stroke, label_size, looks, with_arrows
+from .segment_grid import SegmentGrid
+from .verification import Defect, Judge, Piece, defects
+
+#: How many decimals the coordinates of a file have at most.
+MOST_DECIMALS = 4
+#: How near, in pixels, a node of full size comes to what it must not lie on.
+GAP = 2.0
+#: What follows each reach of a curve where it meets what it must not; and in drawings with more than MANY nodes.
+LESS_REACH = {1.0: 0.6, 0.6: 0.35, 0.35: 0.18, 0.18: 0.0}
+LESS_REACH_OF_MANY = {1.0: 0.3, 0.3: 0.0}
+
+
+@dataclass(frozen=True)
+class Chains:
+    """A planarization to be drawn: for each edge the nodes of an embedding along it, and a place for each of them."""
+
+    result: Planarization
+    nodes: Mapping[int, Sequence[Any]]
+    places: Mapping[Any, Position]
+
+    @property
+    def segments(self) -> List[Tuple[Any, ...]]:
+        """The straight lines between neighbours: both places, the edge id, and the names of both ends."""
+        return [
+            (*self.places[start], *self.places[end], edge_id, start, end)
+            for edge_id, chain in self.nodes.items()
+            for start, end in zip(chain, chain[1:])
+        ]
+
+
+def true_scene(
+    chains: Chains, is_curved: bool, labels: bool = True, color: str = PLAIN
+) -> Tuple[Scene, List[Defect]]:
+    """A scene with straight or with curved lines, and what is false in it: nothing, unless its straight lines
+    themselves are false with all decimals that there may be."""
+    scene, false = straight_scene(chains, labels, color), []
+    for decimals in range(1, MOST_DECIMALS + 1):
+        scene = replace(scene, decimals=decimals)
+        false = defects(chains.result, Page(scene))
+        if not false:
+            break
+    if is_curved:
+        scene, false = _curved(chains, scene, false)
+    return (with_arrows(chains.result, scene) if chains.result.graph.is_directed() else scene), false
+
+
+def straight_scene(chains: Chains, labels: bool = True, color: str = PLAIN) -> Scene:
+    """The scene in which edges are straight from one node of their chains to the next."""
+    result, places = chains.result, chains.places
+    kinds, legend = looks(result, color)
+    strokes = [
+        Stroke(
+            edge_id,
+            tuple(places[node] for node in chain),
+            False,
+            kinds[result.picture.edge(edge_id).kind],
+            _marks(result, edge_id, chain),
+        )
+        for edge_id, chain in chains.nodes.items()
+    ]
+    dots = tuple(places[result.name_of(point)] for point in result.picture.points if point.is_crossing)
+    unit, nodes = _sized(chains, [str(node) if labels else "" for node in result.node_of])
+    return Scene(unit, tuple(strokes), nodes, dots, legend)
+
+
+def _marks(result: Planarization, edge_id: int, chain: Sequence[Any]) -> Tuple[Optional[Point], ...]:
+    """For each node of an edge's chain the point of the picture that it is."""
+    point_of = {result.name_of(point): point for point in result.picture.path(edge_id)}
+    return tuple(point_of.get(node) for node in chain)
+
+
+# ---- Nodes that have room
+
+
+def _sized(chains: Chains, labels: Sequence[str]) -> Tuple[float, Tuple[NodeShape, ...]]:
+    """How many pixels a step of the places is, and the nodes: so many that the drawing has room for its points, and up
+    to twice as many where nodes would lie on anything else. A node that does all the same is made smaller."""
+    xs, ys = zip(*chains.places.values())
+    extent = max(max(xs) - min(xs), max(ys) - min(ys)) or 1.0
+    root = sqrt(len(chains.places))
+    least = max(200.0, min(900.0, 80.0 * root), 45.0 * root) / extent
+    sizes = [label_size(label) for label in labels]
+    scales = _scales(chains, sizes, least)
+    unit = least * min(2.0, max(1.0, 1.0 / max(min(scales), 0.1))) if len(scales) <= MANY else least
+    if unit > least:
+        scales = _scales(chains, sizes, unit)
+    return unit, tuple(
+        NodeShape(node, label, chains.places[node], scale * width / unit, scale * height / unit, False, scale)
+        for node, label, (width, height), scale in zip(chains.result.node_of, labels, sizes, scales)
+    )
+
+
+def _scales(chains: Chains, sizes: Sequence[Tuple[float, float]], unit: float) -> List[float]:
+    """By how much each node has to be made smaller, at so many pixels a step, to lie on nothing; else 1."""
+    lines = [(*(unit * it for it in row[:4]), *row[4:]) for row in chains.segments]
+    grid = SegmentGrid(lines)
+    middles = [tuple(unit * it for it in chains.places[node]) for node in chains.result.node_of]
+    scales = []
+    for node, (x, y), (width, height) in zip(chains.result.node_of, middles, sizes):
+        right, up = width / 2 + GAP, height / 2 + GAP
+        scale = 1.0
+        for place in grid.near(x - right, y - up, x + right, y + up):
+            p, q, r, s, _, start, end = lines[place]
+            if node not in (start, end):
+                scale = min(scale, _reach((p - x, q - y), (r - x, s - y), right, up))
+            else:
+                far, name = ((r - x, s - y), end) if node == start else ((p - x, q - y), start)
+                scale = min(scale, _reach(far, far, right, up))
+        scales.append(scale)
+    boxes = [(x - w, y - h, x + w, y + h) for (x, y), (w, h) in zip(middles, sizes)]
+    near = SegmentGrid.of_rectangles(boxes)
+    for place, ((x, y), (width, height)) in enumerate(zip(middles, sizes)):
+        for other in near.near(*boxes[place]):
+            if other != place:
+                (u, v), (w, h) = middles[other], sizes[other]
+                right, up = (width + w + GAP) / 2, (height + h + GAP) / 2
+                scales[place] = min(scales[place], _reach((u - x, v - y), (u - x, v - y), right, up))
+    return scales
+
+
+def _reach(start: Position, end: Position, right: float, up: float) -> float:
+    """How large a shape about the origin may be, beside one that reaches so far to the right and up, until a straight
+    line meets it: a disk where both are equal, else a rectangle."""
+    x, y, u, v = start[0] / right, start[1] / up, end[0] / right, end[1] / up
+    across, rise = u - x, v - y
+    if right == up:
+        length = across * across + rise * rise
+        along = max(0.0, min(1.0, -(x * across + y * rise) / length)) if length else 0.0
+        return hypot(x + along * across, y + along * rise)
+    parts = [0.0, 1.0]
+    for over, under in ((-x, across), (-y, rise), (y - x, across - rise), (-x - y, across + rise)):
+        if under and 0 < over / under < 1:
+            parts.append(over / under)
+    return min(max(abs(x + part * across), abs(y + part * rise)) for part in parts)
+
+
+# ---- Curves that are drawn nearer to their chords
+
+
+def _curved(chains: Chains, scene: Scene, false: List[Defect]) -> Tuple[Scene, List[Defect]]:
+    """The scene with its straight lines made curves, of which those that meet what they must not reach less far; and
+    what stays false. What is false with straight lines, which may be as the points are the caller's, is let be."""
+    ways = crossing_ways(chains.result, chains.nodes, chains.places)
+    allowed = {(it.words, it.pieces) for it in false}
+    bent = {
+        edge_id
+        for edge_id, chain in chains.nodes.items()
+        if not is_as_good_as_straight([chains.places[node] for node in chain])
+    }
+    reaches: Dict[Piece, float] = {}
+    less_reach = LESS_REACH if len(scene.nodes) <= MANY else LESS_REACH_OF_MANY
+    strokes = {it.edge_id: _curve(chains, it, ways, reaches, bent) for it in scene.strokes}
+    page = Page(replace(scene, strokes=tuple(strokes.values())))
+    judge = Judge(chains.result, page)
+    found = judge.defects()
+    while True:
+        pieces = {piece for it in found if (it.words, it.pieces) not in allowed for piece in it.pieces}
+        less = {piece: less_reach[now] for piece in pieces if (now := reaches.get(piece, 1.0)) and piece[0] in bent}
+        if not less:
+            scene = replace(scene, strokes=tuple(strokes.values()))
+            return scene, defects(chains.result, Page(scene)) if false else []
+        reaches.update(less)
+        changed = {edge_id: _curve(chains, strokes[edge_id], ways, reaches, bent) for edge_id, _ in less}
+        strokes.update(changed)
+        found = judge.drawn_otherwise([page.line(stroke) for stroke in changed.values()])
+
+
+def _curve(
+    chains: Chains,
+    stroke: Stroke,
+    ways: Mapping[Tuple[int, Any], Position],
+    reaches: Mapping[Piece, float],
+    bent: Sequence[int],
+) -> Stroke:
+    """A stroke as a curve, each of whose pieces reaches as far as it may."""
+    if stroke.edge_id not in bent:
+        return stroke
+    chain = chains.nodes[stroke.edge_id]
+    parts = [reaches.get((stroke.edge_id, place), 1.0) for place in range(len(chain) - 1)]
+    points = smooth(
+        [chains.places[node] for node in chain], [ways.get((stroke.edge_id, node)) for node in chain], parts
+    )
+    return replace(stroke, points=points, curved=True)

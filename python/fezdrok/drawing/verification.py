@@ -1,0 +1,364 @@
+"""Whether a drawing is true: its lines meet where the picture has crossings and nodes, and nowhere else.
+
+What is judged is the page as it stands in the file, with all curves broken into straight lines as renderers do. All
+numbers are whole, so nothing is rounded in any test. Lines that could meet are found by a grid (see `segment_grid`).
+"""
+
+from __future__ import annotations
+
+from collections import Counter
+from typing import Dict, Iterable, Iterator, List, NamedTuple, Optional, Sequence, Set, Tuple
+
+from ..engine.pictures import Dart, Point
+from ..engine.results import Planarization
+from .pages import FINE, Page, PageLine, PageNode, PagePoint, flattened
+from .segment_grid import SegmentGrid
+
+#: An edge id and the place of a piece along the edge.
+Piece = Tuple[int, int]
+#: How far, in pixels, a curve may be from the straight lines that stand for it.
+TOLERANCE = 0.1
+
+
+class Defect(NamedTuple):
+    """What is false in a drawing. `words` say what, `place` is where, in pixels from the upper left corner of the page,
+    and `pieces` are the pieces of the edges that are at fault, each as an edge id and a place along the edge."""
+
+    words: str
+    place: Tuple[float, float]
+    pieces: Tuple[Piece, ...] = ()
+
+    def __str__(self) -> str:
+        return f"{self.words} at {self.place[0]:.1f}, {self.place[1]:.1f}"
+
+
+class _Straight(NamedTuple):
+    """A straight line of the page: its ends, FINE times as large; its piece, the place of the line along its edge, and
+    what of the picture its ends are."""
+
+    x: int
+    y: int
+    u: int
+    v: int
+    piece: Piece
+    number: int
+    start: Optional[Point]
+    end: Optional[Point]
+
+
+def defects(result: Planarization, page: Page) -> List[Defect]:
+    """All that is false on a page that shows a planarization; empty where it is true."""
+    return Judge(result, page).defects()
+
+
+class Judge:
+    """A page with all its straight lines, and how the darts of the picture leave their points. Edges can be drawn
+    otherwise, and are then judged beside all that stays."""
+
+    def __init__(self, result: Planarization, page: Page):
+        self.result, self.page, self.picture = result, page, result.picture
+        self.lines: List[_Straight] = []
+        self.places_of: Dict[int, range] = {}
+        self.gone: Set[int] = set()
+        self.found: List[Defect] = []
+        self.place_of: Dict[Point, PagePoint] = {}
+        self.leaving: Dict[Dart, Tuple[PagePoint, PagePoint, Piece]] = {}
+        self.shapes = {Point(False, result.vertex_of[node.node]): _Shape(node) for node in page.nodes}
+        for line in page.lines:
+            self._add(line)
+        self.grid = SegmentGrid(self.lines)
+        degree = Counter(mark for line in self.lines for mark in (line.start, line.end) if mark is not None)
+        self.degree = {None: 0, **degree}
+        self.boxes = SegmentGrid.of_rectangles([shape.bounds for shape in self.shapes.values()])
+
+    def defects(self) -> List[Defect]:
+        """What is false."""
+        hubs = [self._hub(line) for line in self.lines]
+        seen = set()
+        for places in self.grid.squares.values():
+            for pair in _pairs(places, hubs):
+                if pair not in seen:
+                    seen.add(pair)
+                    self._judge_pair(*pair)
+        self._judge_orders(self.picture.points)
+        own = self._judge_ends()
+        for point, shape in self.shapes.items():
+            for place in self.grid.near(*shape.bounds):
+                line = self.lines[place]
+                self._judge_shape(shape, line, (line.piece, point) in own)
+        self._judge_overlaps()
+        return self._told()
+
+    def drawn_otherwise(self, lines: Sequence[PageLine]) -> List[Defect]:
+        """What is false about these edges where they are drawn like this from now on."""
+        first = len(self.lines)
+        for line in lines:
+            self.gone.update(self.places_of[line.edge_id])
+            self._add(line)
+        for place in range(first, len(self.lines)):
+            self.grid.add(place, self.lines[place])
+        for place in range(first, len(self.lines)):
+            line = self.lines[place]
+            others = {other for square in self.grid.passed(line) for other in self.grid.squares[square]}
+            hub = self._hub(line)
+            for other in others - self.gone:
+                if other < place and (hub is None or self._hub(self.lines[other]) != hub):
+                    self._judge_pair(other, place)
+        self._judge_orders({point for line in lines for point in self.picture.path(line.edge_id)})
+        own, shapes = self._judge_ends(), list(self.shapes.items())
+        for line in self.lines[first:]:
+            left, right = sorted((line.x, line.u))
+            top, bottom = sorted((line.y, line.v))
+            for place in self.boxes.near(left, top, right, bottom):
+                point, shape = shapes[place]
+                self._judge_shape(shape, line, (line.piece, point) in own)
+        return self._told()
+
+    def _told(self) -> List[Defect]:
+        """What was found, each defect once."""
+        merged: Dict[Tuple[str, Tuple[float, float]], Dict[Piece, None]] = {}
+        for words, place, pieces in self.found:
+            merged.setdefault((words, place), {}).update(dict.fromkeys(pieces))
+        self.found = []
+        return [Defect(words, place, tuple(pieces)) for (words, place), pieces in merged.items()]
+
+    def _tell(self, words: str, place: PagePoint, *pieces: Piece) -> None:
+        unit = FINE * self.page.steps
+        self.found.append(Defect(words, (place[0] / unit, place[1] / unit), pieces))
+
+    def _name(self, edge_id: int) -> str:
+        return f"the edge {self.result.edge_of[edge_id]!r}"
+
+    # ---- The lines of the edges
+
+    def _add(self, line: PageLine) -> None:
+        """The straight lines of an edge. It has to pass the points of its path in their order, each where it is."""
+        path = self.picture.path(line.edge_id)
+        if tuple(mark for mark in line.marks if mark is not None) != path:
+            self._tell(f"{self._name(line.edge_id)} does not pass its crossings in their order", (0, 0))
+        number = segment = 0
+        first = len(self.lines)
+        tolerance = max(1, int(TOLERANCE * self.page.steps))
+        for place, piece in enumerate(line.pieces):
+            own = (line.edge_id, place)
+            points = _distinct(flattened(piece, tolerance))
+            marks = (line.marks[place], line.marks[place + 1])
+            if len(points) < 2:
+                self._tell(f"a part of {self._name(line.edge_id)} has no length", points[0], own)
+                continue
+            for mark, point, beside, dart in (
+                (marks[0], points[0], points[1], Dart(line.edge_id, segment)),
+                (marks[1], points[-1], points[-2], Dart(line.edge_id, segment, True)),
+            ):
+                if mark is not None:
+                    self.leaving[dart] = (point, beside, own)
+                    if mark.is_crossing and self.place_of.setdefault(mark, point) != point:
+                        self._tell(f"{self._name(line.edge_id)} is not at its crossing", point, own)
+            last = len(points) - 2
+            for step, (start, end) in enumerate(zip(points, points[1:])):
+                ends = (marks[0] if step == 0 else None, marks[1] if step == last else None)
+                self.lines.append(_Straight(*start, *end, own, number, *ends))
+                number += 1
+            segment += marks[1] is not None
+        self.places_of[line.edge_id] = range(first, len(self.lines))
+
+    # ---- Lines that meet
+
+    def _hub(self, line: _Straight) -> Optional[Point]:
+        """The end of a line at which most lines end."""
+        return line.start if self.degree[line.start] >= self.degree[line.end] else line.end
+
+    def _judge_pair(self, one: int, other: int) -> None:
+        """Two lines that have a point in common have to share an end, and nothing else."""
+        if _meet_falsely(self.lines[one], self.lines[other]):
+            self._tell_meeting(self.lines[one], self.lines[other])
+
+    def _tell_meeting(self, first: _Straight, second: _Straight) -> None:
+        one, other = self._name(first.piece[0]), self._name(second.piece[0])
+        words = f"{one} meets {other}" if one != other else f"{one} meets itself"
+        self._tell(words, _meeting(first, second), first.piece, second.piece)
+
+    # ---- The order round points
+
+    def _judge_orders(self, points: Iterable[Point]) -> None:
+        """The edges leave each node, and pass each crossing, in the clockwise order of the picture."""
+        for point in points:
+            left = [self.leaving[dart] for dart in self.picture.around(point) if dart in self.leaving]
+            at = left[0][0] if point.is_crossing and left else (0, 0)
+            if not point.is_crossing:
+                at = self.shapes[point].middle
+            if not is_clockwise([_way(at, end, beside) for end, beside, _ in left]):
+                what = "crossing" if point.is_crossing else f"node {self.result.node_of[point.id]!r}"
+                self._tell(f"the edges at the {what} are not in their order", at, *(piece for _, _, piece in left))
+
+    # ---- Nodes
+
+    def _judge_ends(self) -> Set[Tuple[Piece, Point]]:
+        """The edges of a node come to its shape; the pieces that end at points, each with its point."""
+        own = set()
+        for dart, (end, _, piece) in self.leaving.items():
+            point = self.picture.start(dart)
+            own.add((piece, point))
+            if not point.is_crossing and not self.shapes[point].has(end):
+                self._tell(f"{self._name(dart.edge)} does not come to its node", end, piece)
+        return own
+
+    def _judge_shape(self, shape: "_Shape", line: _Straight, is_own: bool) -> None:
+        """A node and a line that is near it, which may be one of the node's own."""
+        for mark, end in ((line.start, (line.x, line.y)), (line.end, (line.u, line.v))):
+            if mark is not None and mark.is_crossing and shape.has(end):
+                self._tell(f"the node {shape.node!r} lies on a crossing", end, line.piece)
+        if not is_own and shape.meets(line):
+            self._tell(f"the node {shape.node!r} lies on {self._name(line.piece[0])}", shape.middle, line.piece)
+
+    def _judge_overlaps(self) -> None:
+        """No node lies on another."""
+        shapes = list(self.shapes.values())
+        for place, shape in enumerate(shapes):
+            for other in self.boxes.near(*shape.bounds):
+                if other < place and shape.overlaps(shapes[other]):
+                    self._tell(f"the node {shapes[other].node!r} lies on the node {shape.node!r}", shape.middle)
+
+
+# ---- Tests in whole numbers
+
+
+class _Shape:
+    """The shape of a node, FINE times as large: a disk, or else the rectangle round it."""
+
+    def __init__(self, node: PageNode):
+        self.node, self.is_round = node.node, node.is_round
+        self.middle = (node.middle[0] * FINE, node.middle[1] * FINE)
+        self.right, self.down = node.right * FINE, node.down * FINE
+        (x, y), right, down = self.middle, self.right, self.down
+        #: The least x and y, and the greatest.
+        self.bounds = (x - right, y - down, x + right, y + down)
+
+    def has(self, point: PagePoint) -> bool:
+        """Whether a point lies in the shape or on its rim."""
+        across, up = abs(point[0] - self.middle[0]), abs(point[1] - self.middle[1])
+        if self.is_round:
+            return across * across + up * up <= self.right * self.right
+        return across <= self.right and up <= self.down
+
+    def meets(self, line: _Straight) -> bool:
+        """Whether a straight line has a point in the shape or on its rim."""
+        if self.has((line.x, line.y)) or self.has((line.u, line.v)):
+            return True
+        left, top, right, bottom = self.bounds
+        if max(line.x, line.u) < left or min(line.x, line.u) > right:
+            return False
+        if max(line.y, line.v) < top or min(line.y, line.v) > bottom:
+            return False
+        start, end = (line.x, line.y), (line.u, line.v)
+        if self.is_round:
+            across, up = end[0] - start[0], end[1] - start[1]
+            along = (self.middle[0] - start[0]) * across + (self.middle[1] - start[1]) * up
+            length = across * across + up * up
+            turn = side(start, end, self.middle)
+            return 0 <= along <= length and turn * turn <= self.right * self.right * length
+        corners = ((left, top), (right, top), (right, bottom), (left, bottom))
+        turns = [side(start, end, corner) for corner in corners]
+        return min(turns) <= 0 <= max(turns)
+
+    def overlaps(self, other: "_Shape") -> bool:
+        """Whether two shapes have a point in common; of disks it is their rectangles that must be apart, but for two
+        disks."""
+        across, up = abs(self.middle[0] - other.middle[0]), abs(self.middle[1] - other.middle[1])
+        if self.is_round and other.is_round:
+            return across * across + up * up <= (self.right + other.right) ** 2
+        return across <= self.right + other.right and up <= self.down + other.down
+
+
+def side(start: PagePoint, end: PagePoint, point: PagePoint) -> int:
+    """Twice the area of a triangle, which is positive where the point lies clockwise, as the page is seen, of the line
+    from start to end."""
+    return (end[0] - start[0]) * (point[1] - start[1]) - (end[1] - start[1]) * (point[0] - start[0])
+
+
+def is_clockwise(ways: Sequence[PagePoint]) -> bool:
+    """Whether vectors turn clockwise, as the page is seen, once round from each to the next, and no two have one
+    direction."""
+    if (0, 0) in ways:
+        return False
+    rounds = 0
+    for (x, y), (u, v) in zip(ways, [*ways[1:], *ways[:1]]):
+        halves = (y < 0 or y == 0 and x < 0, v < 0 or v == 0 and u < 0)
+        turn = x * v - y * u
+        if len(ways) > 1 and turn == 0 and halves[0] == halves[1]:
+            return False
+        rounds += halves[0] > halves[1] or halves[0] == halves[1] and turn <= 0
+    return rounds == min(1, len(ways))
+
+
+def _way(at: PagePoint, end: PagePoint, beside: PagePoint) -> PagePoint:
+    """The direction of an edge at a point: from the point to where the edge ends, at the side of a box, or else along
+    the edge."""
+    if end != at:
+        return end[0] - at[0], end[1] - at[1]
+    return beside[0] - end[0], beside[1] - end[1]
+
+
+def _pairs(places: Sequence[int], hubs: Sequence[Optional[Point]]) -> Iterator[Tuple[int, int]]:
+    """All pairs of lines of which not both come from one hub, the lesser first. Two lines that do meet elsewhere only
+    where they have one direction, which the order round the hub tells."""
+    groups: Dict[Optional[Point], List[int]] = {}
+    for place in places:
+        groups.setdefault(hubs[place], []).append(place)
+    before: List[int] = []
+    for hub, group in groups.items():
+        for number, place in enumerate(group):
+            for other in before if hub is not None else (*before, *group[:number]):
+                yield (place, other) if place < other else (other, place)
+        before += group
+
+
+def _meet_falsely(first: _Straight, second: _Straight) -> bool:
+    """Whether two lines have a point in common that is no end which they share."""
+    x, y, u, v = first[:4]
+    p, q, r, s = second[:4]
+    if (x if x > u else u) < (p if p < r else r) or (p if p > r else r) < (x if x < u else u):
+        return False
+    if (y if y > v else v) < (q if q < s else s) or (q if q > s else s) < (y if y < v else v):
+        return False
+    one = (u - x) * (q - y) - (v - y) * (p - x)
+    other = (u - x) * (s - y) - (v - y) * (r - x)
+    if one > 0 and other > 0 or one < 0 and other < 0:
+        return False
+    third = (r - p) * (y - q) - (s - q) * (x - p)
+    fourth = (r - p) * (v - q) - (s - q) * (u - p)
+    if third > 0 and fourth > 0 or third < 0 and fourth < 0:
+        return False
+    shared = _shared_end(first, second)
+    if shared is None:
+        return True
+    if one or other or third or fourth:
+        return False
+    far, near = (shared[0] * 2 - x - u, shared[1] * 2 - y - v), (shared[0] * 2 - p - r, shared[1] * 2 - q - s)
+    return far[0] * near[0] + far[1] * near[1] > 0
+
+
+def _meeting(first: _Straight, second: _Straight) -> PagePoint:
+    """Where two lines meet; of those in one direction, the end of one that lies on the other."""
+    start, end, other_start, other_end = first[:2], first[2:4], second[:2], second[2:4]
+    before, after = side(other_start, other_end, start), side(other_start, other_end, end)
+    if before != after:
+        parts = before - after
+        return start[0] + (end[0] - start[0]) * before // parts, start[1] + (end[1] - start[1]) * before // parts
+    return max(min(start, end), min(other_start, other_end))
+
+
+def _shared_end(first: _Straight, second: _Straight) -> Optional[PagePoint]:
+    """The end that two lines share, if they do: they follow each other along an edge, or end at one point."""
+    if first.piece[0] == second.piece[0] and abs(first.number - second.number) == 1:
+        return (first.u, first.v) if first.number < second.number else (first.x, first.y)
+    if first.start is not None and first.start in (second.start, second.end):
+        return first.x, first.y
+    if first.end is not None and first.end in (second.start, second.end):
+        return first.u, first.v
+    return None
+
+
+def _distinct(points: Sequence[PagePoint]) -> List[PagePoint]:
+    """The points without those that are equal to the one before."""
+    return [point for place, point in enumerate(points) if place == 0 or point != points[place - 1]]
