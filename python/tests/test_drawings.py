@@ -235,6 +235,35 @@ class Documents(unittest.TestCase):
         text = to_svg(planar_result(nx.Graph([("<a>", "b&c"), ("b&c", "d")])))
         self.assertEqual([it.text for it in ElementTree.fromstring(text).iter(f"{SVG}text")], ["<a>", "b&c", "d"])
 
+    def test_characters_that_xml_has_not(self):
+        """They stand as U+FFFD, in names as in colours; all others are as they were."""
+        bad = [chr(code) for code in (*range(9), 11, 12, *range(14, 32), 0xD800, 0xDFFF, 0xFFFE, 0xFFFF)]
+        good = ["\x7f", "\x85", "\ud7ff", "\ue000", "\ufffd", "\U00010000", "\U0010ffff", "]]>", "'\"", "&amp;"]
+        names = [f"a{it}b" for it in bad + good]
+        text = to_svg(planar_result(nx.path_graph(names)), node_color="\0")
+        shown = [it.text for it in ElementTree.fromstring(text.encode()).iter(f"{SVG}text")]
+        self.assertEqual(sorted(shown), sorted(["a\ufffdb"] * len(bad) + names[len(bad) :]))
+
+    def test_two_drawings_on_one_page(self):
+        """Their ids differ, also where they differ in names alone; what is drawn again has the same ids."""
+        graphs = [nx.path_graph(3), nx.path_graph(4), nx.path_graph(["0", "1", "3"])]
+        texts = [to_svg(planar_result(graph)) for graph in graphs]
+        roots = [ElementTree.fromstring(text) for text in texts]
+        ids = [{it.get("id") for it in root.iter()} - {None} for root in roots]
+        self.assertEqual(len(set().union(*ids)), sum(map(len, ids)))
+        for root, own in zip(roots, ids):
+            self.assertEqual({it.get("href")[1:] for it in root.iter(f"{SVG}use")}, own)
+        self.assertEqual(texts, [to_svg(planar_result(graph)) for graph in graphs])
+
+    def test_a_prefix_of_ones_own(self):
+        result = planar_result(nx.path_graph(3))
+        for prefix, one in (("left-", "left-n0"), ("", "n0")):
+            text = to_svg(result, prefix=prefix)
+            self.assertEqual((text.count(f'id="{one}"'), text.count(f'href="#{one}"')), (1, 3))
+        for prefix in ("a b", "1", "\n", "a#"):
+            with self.assertRaisesRegex(ValueError, "the prefix"):
+                to_svg(result, prefix=prefix)
+
     def test_without_labels(self):
         self.assertNotIn("<text", to_svg(planarize(nx.complete_graph(4)), labels=False))
 

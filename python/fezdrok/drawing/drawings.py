@@ -57,9 +57,12 @@ class Drawing:
         list is empty but where the points were the caller's and kept."""
         return defects(self.result, Page(self.scene))
 
-    def to_svg(self, *, node_color: str = "#d9e8f6", crossing_color: str = "#777777") -> str:
-        """The drawing as an SVG document."""
-        return svg_of(self.scene, node_color, crossing_color)
+    def to_svg(
+        self, *, node_color: str = "#d9e8f6", crossing_color: str = "#777777", prefix: Optional[str] = None
+    ) -> str:
+        """The drawing as an SVG document. Its ids begin with `prefix`; without it with a checksum of the document, so
+        that those of drawings which differ do not meet on one page."""
+        return svg_of(self.scene, node_color, crossing_color, prefix)
 
 
 def drawing_of(
@@ -129,10 +132,12 @@ def to_svg(
     node_color: str = "#d9e8f6",
     edge_color: str = PLAIN,
     crossing_color: str = "#777777",
+    prefix: Optional[str] = None,
 ) -> str:
-    """A planarization drawn as an SVG document, without matplotlib. The words are those of `draw`."""
+    """A planarization drawn as an SVG document, without matplotlib. The words are those of `draw` and of
+    `Drawing.to_svg`."""
     drawing = drawing_of(result, style=style, pos=pos, keep_pos=keep_pos, labels=labels, edge_color=edge_color)
-    return drawing.to_svg(node_color=node_color, crossing_color=crossing_color)
+    return drawing.to_svg(node_color=node_color, crossing_color=crossing_color, prefix=prefix)
 
 
 # ---- matplotlib
