@@ -19,7 +19,7 @@ from .pages import Page
 from .scenes import LETTER_HEIGHT, PLAIN, Position, Scene, flat, grid_sizes, orthogonal_scene
 from .straight_layout import chain, grid_positions, places_between, positions
 from .straight_scenes import Chains, true_scene
-from .svg import svg_of
+from .svg import Paint, svg_of
 from .verification import Defect, defects
 
 if TYPE_CHECKING:
@@ -58,11 +58,18 @@ class Drawing:
         return defects(self.result, Page(self.scene))
 
     def to_svg(
-        self, *, node_color: str = "#d9e8f6", crossing_color: str = "#777777", prefix: Optional[str] = None
+        self,
+        *,
+        node_color: str = "#d9e8f6",
+        crossing_color: str = "#777777",
+        background: Optional[str] = "#fff",
+        prefix: Optional[str] = None,
     ) -> str:
-        """The drawing as an SVG document. Its ids begin with `prefix`; without it with a checksum of the document, so
-        that those of drawings which differ do not meet on one page."""
-        return svg_of(self.scene, node_color, crossing_color, prefix)
+        """The drawing as an SVG document. With None as `background` it has none, and edges that have no colour of yours
+        or of a price are drawn in `currentColor`, so that it fits a dark page as well as a light one. Its ids begin
+        with `prefix`; without it with a checksum of the document, so that those of drawings which differ do not meet
+        on one page."""
+        return svg_of(self.result, self.scene, Paint(node_color, crossing_color, background), prefix)
 
 
 def drawing_of(
@@ -132,12 +139,15 @@ def to_svg(
     node_color: str = "#d9e8f6",
     edge_color: str = PLAIN,
     crossing_color: str = "#777777",
+    background: Optional[str] = "#fff",
     prefix: Optional[str] = None,
 ) -> str:
     """A planarization drawn as an SVG document, without matplotlib. The words are those of `draw` and of
     `Drawing.to_svg`."""
     drawing = drawing_of(result, style=style, pos=pos, keep_pos=keep_pos, labels=labels, edge_color=edge_color)
-    return drawing.to_svg(node_color=node_color, crossing_color=crossing_color, prefix=prefix)
+    return drawing.to_svg(
+        node_color=node_color, crossing_color=crossing_color, background=background, prefix=prefix
+    )
 
 
 # ---- matplotlib

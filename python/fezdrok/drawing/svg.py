@@ -1,34 +1,47 @@
 """Scenes as SVG, by the standard library alone.
 
-Text is cleaned of what XML has not, and ids begin with a prefix that is the drawing's own, so that several drawings may
-stand on one page of HTML.
+A document has a title and a description. Each node and each edge has a title too, which browsers show at the pointer,
+and for programs a class and its names. Text is cleaned of what XML has not, and ids begin with a prefix that is the
+drawing's own, so that several drawings may stand on one page of HTML.
 """
 
 from __future__ import annotations
 
 import re
-from typing import Dict, Hashable, Iterable, List, Optional, Sequence
+from typing import Dict, Hashable, Iterable, List, NamedTuple, Optional, Sequence
 from xml.etree.ElementTree import Element, SubElement, tostring
 from zlib import crc32
 
+from ..engine.results import Planarization
 from .pages import MARGIN, Page, PageLine, PageNode, PagePoint
-from .scenes import LETTER_HEIGHT, Look, NodeShape, Position, Scene
+from .scenes import FORBIDDEN, LETTER_HEIGHT, PLAIN, Look, NodeShape, Position, Scene
 
 LEGEND_ROW = 16.0
+#: The colours of the rims of nodes and of the letters of the legend.
+RIM = "#333"
+LETTERS = "#000"
 #: A character that XML has not: control characters, halves of surrogate pairs, U+FFFE and U+FFFF.
 NOT_XML = re.compile(r"[^\t\n\r\x20-\ud7ff\ue000-\ufffd\U00010000-\U0010ffff]")
 #: What ids may begin with.
 PREFIX = re.compile(r"(?:[A-Za-z_][\w.-]*)?", re.ASCII)
 
 
-def svg_of(
-    scene: Scene,
-    node_color: str = "#d9e8f6",
-    crossing_color: str = "#777777",
-    prefix: Optional[str] = None,
-) -> str:
-    """The scene as an SVG document. Numbers have as few decimals as the scene says, so that small graphs are small
-    files. Ids begin with the `prefix`, or else with one made from a checksum of the document.
+class Paint(NamedTuple):
+    """The colours of a document. Where there is no background, what has no colour of the caller's or of a price is in
+    the colour of the text around the document."""
+
+    node: str = "#d9e8f6"
+    crossing: str = "#777777"
+    background: Optional[str] = "#fff"
+
+    def ink(self, color: str) -> str:
+        """The colour of lines, or of letters beside them, that are of this colour on a background."""
+        return "currentColor" if self.background is None and color in (PLAIN, FORBIDDEN, RIM, LETTERS) else color
+
+
+def svg_of(result: Planarization, scene: Scene, paint: Paint = Paint(), prefix: Optional[str] = None) -> str:
+    """The scene of a planarization as an SVG document. Numbers have as few decimals as the scene says, so that small
+    graphs are small files. Ids begin with the `prefix`, or else with one made from a checksum of the document.
 
     ValueError for a prefix with which no id can begin.
     """
@@ -38,14 +51,17 @@ def svg_of(
     width, height = (extent / page.steps for extent in page.size)
     rows = LEGEND_ROW * len(scene.legend)
     root = _document(max(width, 150.0 if scene.legend else 0.0), height + rows)
-    write = _Writer(page)
+    _described(root, result)
+    if paint.background is not None:
+        _put(root, "rect", width="100%", height="100%", fill=paint.background)
+    write = _Writer(result, page, paint)
     for look in dict.fromkeys(stroke.look for stroke in scene.strokes):
         write.edges(root, look)
     if scene.dots:
-        write.dots(root, crossing_color)
-    write.nodes(root, node_color)
+        write.dots(root)
+    write.nodes(root)
     write.labels(root)
-    _legend(root, scene, height)
+    write.legend(root, height)
     return _text(root, prefix)
 
 
@@ -74,12 +90,28 @@ def _put(parent: Element, tag: str, text: str = "", **words: str) -> Element:
 
 
 def _document(width: float, height: float) -> Element:
-    """A document of this size, in pixels, with nothing but its background."""
+    """A document of this size, in pixels, with nothing in it."""
     across, down = number(width), number(height)
     root = Element("svg", xmlns="http://www.w3.org/2000/svg", width=across, height=down)
     root.set("viewBox", f"0 0 {across} {down}")
-    _put(root, "rect", width="100%", height="100%", fill="#fff")
+    root.set("role", "img")
     return root
+
+
+def _described(root: Element, result: Planarization) -> None:
+    """What the document shows, in words: as its title, and how large the graph is."""
+    kind = "A directed graph" if result.graph.is_directed() else "A graph"
+    counts = ((len(result.node_of), "node"), (len(result.edge_of), "edge"), (result.crossings, "crossing"))
+    nodes, edges, crossings = (f"{count} {word}{'' if count == 1 else 's'}" for count, word in counts)
+    _put(root, "title", f"{kind} drawn with {crossings}")
+    _put(root, "desc", f"{nodes}, {edges}, {crossings}")
+
+
+def edge_words(result: Planarization, edge_id: int) -> str:
+    """An edge in words: the names of the nodes at its ends, and in a multigraph its key."""
+    source, target, *key = result.edge_of[edge_id]
+    between = "->" if result.graph.is_directed() else "--"
+    return f"{source} {between} {target}" + "".join(f" ({it})" for it in key)
 
 
 def _text(root: Element, prefix: Optional[str]) -> str:
@@ -103,8 +135,8 @@ def _text(root: Element, prefix: Optional[str]) -> str:
 class _Writer:
     """The elements of a page."""
 
-    def __init__(self, page: Page):
-        self.page, self.scene = page, page.scene
+    def __init__(self, result: Planarization, page: Page, paint: Paint):
+        self.result, self.page, self.scene, self.paint = result, page, page.scene, paint
 
     def number(self, units: int) -> str:
         """A number of units of the page, in pixels."""
@@ -118,14 +150,17 @@ class _Writer:
 
     def edges(self, root: Element, look: Look) -> None:
         """The edges that look like this, and then the heads of their arrows."""
-        width = number(look.width)
-        group = _put(root, "g", fill="none", stroke=look.color, stroke_width=width, stroke_linejoin="round")
+        width, color = number(look.width), self.paint.ink(look.color)
+        group = _put(root, "g", fill="none", stroke=color, stroke_width=width, stroke_linejoin="round")
         drawn = [(stroke, line) for stroke, line in zip(self.scene.strokes, self.page.lines) if stroke.look == look]
-        for _, line in drawn:
-            _put(group, "path", d=self.line(line))
+        for stroke, line in drawn:
+            words = edge_words(self.result, stroke.edge_id)
+            source, target = map(str, self.result.edge_of[stroke.edge_id][:2])
+            names = {"data_edge": words, "data_from": source, "data_to": target}
+            _put(_put(group, "path", class_="edge", **names, d=self.line(line)), "title", words)
         for stroke, _ in drawn:
             if stroke.head:
-                _put(root, "path", fill=look.color, d=self.head(stroke.head))
+                _put(root, "path", class_="arrow", fill=color, pointer_events="none", d=self.head(stroke.head))
 
     def line(self, line: PageLine) -> str:
         """The path of an edge, whose numbers are relative and so short: to the last end of a line or a curve."""
@@ -149,18 +184,18 @@ class _Writer:
         points = "L".join(",".join(self.at(place)) for place in head)
         return f"M{points}Z"
 
-    def dots(self, root: Element, color: str) -> None:
-        """The marks of crossings."""
-        group = _put(root, "g", fill=color)
+    def dots(self, root: Element) -> None:
+        """The marks of crossings. The pointer sees the edges below them."""
+        group = _put(root, "g", fill=self.paint.crossing, pointer_events="none")
         for dot in self.scene.dots:
             x, y = self.at(dot)
-            _put(group, "circle", cx=x, cy=y, r="1.6")
+            _put(group, "circle", class_="crossing", cx=x, cy=y, r="1.6")
 
     # ---- Nodes
 
-    def nodes(self, root: Element, color: str) -> None:
+    def nodes(self, root: Element) -> None:
         """The nodes: each shape once, and where it is used."""
-        group = _put(root, "g", fill=color, stroke="#333", stroke_width=".8")
+        group = _put(root, "g", fill=self.paint.node, stroke=self.paint.ink(RIM), stroke_width=".8")
         shapes = _put(group, "defs")
         ids: Dict[Hashable, str] = {}
         for node, place in zip(self.scene.nodes, self.page.nodes):
@@ -169,7 +204,9 @@ class _Writer:
                 ids[kind] = f"n{len(ids)}"
                 self.shape(shapes, place, node.box).set("id", ids[kind])
             x, y = map(self.number, place.middle)
-            _put(group, "use", href=f"#{ids[kind]}", x=x, y=y)
+            name = str(node.node)
+            use = _put(group, "use", class_="node", data_node=name, href=f"#{ids[kind]}", x=x, y=y)
+            _put(use, "title", name)
 
     def shape(self, parent: Element, node: PageNode, is_box: bool) -> Element:
         """A node as it would be drawn at the upper left corner."""
@@ -180,9 +217,9 @@ class _Writer:
         return _put(parent, "rect", x=left, y=up, width=width, height=height, rx=rounding)
 
     def labels(self, root: Element) -> None:
-        """The names of the nodes."""
+        """The names of the nodes. The pointer sees the nodes below them."""
         words = {"font_family": "sans-serif", "font_size": number(LETTER_HEIGHT), "text_anchor": "middle"}
-        group = _put(root, "g", fill="#111", **words)
+        group = _put(root, "g", fill="#111", pointer_events="none", **words)
         for node in self.scene.nodes:
             if node.label:
                 self.label(group, node)
@@ -194,12 +231,13 @@ class _Writer:
         small = {"font_size": number(size, 2)} if node.scale < 1 else {}
         _put(group, "text", node.label, x=number(x), y=number(y + size / 3), **small)
 
+    # ---- The legend
 
-def _legend(root: Element, scene: Scene, top: float) -> None:
-    """The rows of the legend, below the drawing."""
-    for place, (words, look) in enumerate(scene.legend):
-        y = top + LEGEND_ROW * place
-        line = f"M{number(MARGIN)},{number(y)}h24"
-        _put(root, "path", stroke=look.color, stroke_width=number(look.width), d=line)
-        corner = {"x": number(MARGIN + 30), "y": number(y + 3)}
-        _put(root, "text", words, font_family="sans-serif", font_size="10", **corner)
+    def legend(self, root: Element, top: float) -> None:
+        """The rows of the legend, below the drawing."""
+        for place, (words, look) in enumerate(self.scene.legend):
+            y, color = top + LEGEND_ROW * place, self.paint.ink(look.color)
+            line = f"M{number(MARGIN)},{number(y)}h24"
+            _put(root, "path", stroke=color, stroke_width=number(look.width), d=line)
+            corner = {"x": number(MARGIN + 30), "y": number(y + 3), "fill": self.paint.ink(LETTERS)}
+            _put(root, "text", words, font_family="sans-serif", font_size="10", **corner)
