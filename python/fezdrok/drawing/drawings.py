@@ -14,9 +14,10 @@ from typing import TYPE_CHECKING, Any, List, Mapping, Optional
 from ..engine.faults import PlanarError, PlanarWarning, wanted
 from ..engine.results import Planarization
 from ..files.embeddings import to_networkx_embedding
+from .labels import LETTER_HEIGHT
 from .orthogonal_layout import orthogonal_drawing
 from .pages import Page
-from .scenes import LETTER_HEIGHT, PLAIN, Position, Scene, flat, grid_sizes, orthogonal_scene
+from .scenes import PLAIN, Position, Scene, flat, grid_sizes, orthogonal_scene
 from .straight_layout import chain, grid_positions, places_between, positions
 from .straight_scenes import Chains, true_scene
 from .svg import Paint, svg_of
@@ -167,13 +168,13 @@ def draw(
 ) -> "Axes":
     """Draw a planarization by matplotlib and give the axes.
 
-    `style` is `straight`, `curved` or `orthogonal`. Nodes have their names if `labels`, and are as wide as these. Edges
-    of different prices have colours of their own, those that must not be crossed are dark and broad, and a legend says
-    so; where all cost the same they have `edge_color`. Directed edges have arrows. `pos` gives points for the nodes of
-    the graph, and if you like for those of `to_networkx_embedding(result)`; crossings without a point are put between
-    their neighbours. Where these points show what is not in the picture, that is FalseDrawing, and with `keep_pos` a
-    PlanarWarning. Without `pos` the points are those of `positions`, and the drawing is true. ModuleMissing where
-    networkx or matplotlib is not there.
+    `style` is `straight`, `curved` or `orthogonal`. Nodes have their names if `labels`, in several lines where they are
+    long, and are as large as these. Edges of different prices have colours of their own, those that must not be crossed
+    are dark and broad, and a legend says so; where all cost the same they have `edge_color`. Directed edges have
+    arrows. `pos` gives points for the nodes of the graph, and if you like for those of `to_networkx_embedding(result)`;
+    crossings without a point are put between their neighbours. Where these points show what is not in the picture, that
+    is FalseDrawing, and with `keep_pos` a PlanarWarning. Without `pos` the points are those of `positions`, and the
+    drawing is true. ModuleMissing where networkx or matplotlib is not there.
     """
     patches = wanted("matplotlib.patches", "drawings by draw")
     scene = drawing_of(

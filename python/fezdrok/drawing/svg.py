@@ -13,15 +13,14 @@ from xml.etree.ElementTree import Element, SubElement, tostring
 from zlib import crc32
 
 from ..engine.results import Planarization
+from .labels import LETTER_HEIGHT, LINE, clean
 from .pages import MARGIN, Page, PageLine, PageNode, PagePoint
-from .scenes import FORBIDDEN, LETTER_HEIGHT, PLAIN, Look, NodeShape, Position, Scene
+from .scenes import FORBIDDEN, PLAIN, Look, NodeShape, Position, Scene
 
 LEGEND_ROW = 16.0
 #: The colours of the rims of nodes and of the letters of the legend.
 RIM = "#333"
 LETTERS = "#000"
-#: A character that XML has not: control characters, halves of surrogate pairs, U+FFFE and U+FFFF.
-NOT_XML = re.compile(r"[^\t\n\r\x20-\ud7ff\ue000-\ufffd\U00010000-\U0010ffff]")
 #: What ids may begin with.
 PREFIX = re.compile(r"(?:[A-Za-z_][\w.-]*)?", re.ASCII)
 
@@ -71,11 +70,6 @@ def number(value: float, decimals: int = 1) -> str:
     if text.lstrip("-").startswith("0."):
         text = text.replace("0.", ".", 1)
     return "0" if text in ("-0", "-", "") else text
-
-
-def clean(text: str) -> str:
-    """The text with U+FFFD in place of each character that XML has not."""
-    return NOT_XML.sub("\ufffd", text)
 
 
 # ---- Elements
@@ -225,11 +219,17 @@ class _Writer:
                 self.label(group, node)
 
     def label(self, group: Element, node: NodeShape) -> None:
-        """The name of a node."""
+        """The name of a node, in one line or in several."""
         x, y = (it / self.page.steps for it in self.page.at(node.middle))
-        size = LETTER_HEIGHT * node.scale
+        size, lines = LETTER_HEIGHT * node.scale, node.label.split("\n")
         small = {"font_size": number(size, 2)} if node.scale < 1 else {}
-        _put(group, "text", node.label, x=number(x), y=number(y + size / 3), **small)
+        top = y + size / 3 - LINE * node.scale * (len(lines) - 1) / 2
+        if len(lines) == 1:
+            _put(group, "text", node.label, x=number(x), y=number(top), **small)
+            return
+        text = _put(group, "text", **small)
+        for place, line in enumerate(lines):
+            _put(text, "tspan", line, x=number(x), y=number(top + LINE * node.scale * place))
 
     # ---- The legend
 
