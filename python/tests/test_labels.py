@@ -20,7 +20,7 @@ LONG = {
     "Friedrichshain-Kreuzberg am Wasser": "Friedrichshain-\nKreuzberg am\nWasser",
     "org.apache.commons.lang.StringUtils": "org.apache.\ncommons.lang.\nStringUtils",
     "The quick brown fox jumps over the lazy dog": "The quick brown\nfox jumps over\nthe lazy dog",
-    "\u6771\u4eac\u90fd\u5343\u4ee3\u7530\u533a\u4e38\u306e\u5185": "\u6771\u4eac\u90fd\u5343\u4ee3\n\u7530\u533a\u4e38\u306e\u5185",
+    "\u6771\u4eac" * 5: "\u6771\u4eac\u6771\u4eac\u6771\n\u4eac\u6771\u4eac\u6771\u4eac",
     "x" * 17: "x" * 9 + "\n" + "x" * 8,
     "e\u0301" * 18: "\n".join(["e\u0301" * 9] * 2),
 }

@@ -62,14 +62,16 @@ class Drawing:
         self,
         *,
         node_color: str = "#d9e8f6",
-        crossing_color: str = "#777777",
+        crossing_color: Optional[str] = None,
         background: Optional[str] = "#fff",
         prefix: Optional[str] = None,
     ) -> str:
-        """The drawing as an SVG document. With None as `background` it has none, and edges that have no colour of yours
-        or of a price are drawn in `currentColor`, so that it fits a dark page as well as a light one. Its ids begin
-        with `prefix`; without it with a checksum of the document, so that those of drawings which differ do not meet
-        on one page."""
+        """The drawing as an SVG document. At a crossing the edge that was there first has a gap, or in the style
+        `orthogonal` the newcomer an arc; with a `crossing_color` crossings have dots instead, but none in that style.
+        With None as `background` it has none, and edges that have no colour of yours or of a price are drawn in
+        `currentColor`, so that it fits a dark page as well as a light one; crossings then have dots. Its ids begin with
+        `prefix`; without it with a checksum of the document, so that those of drawings which differ do not meet on one
+        page."""
         return svg_of(self.result, self.scene, Paint(node_color, crossing_color, background), prefix)
 
 
@@ -139,12 +141,12 @@ def to_svg(
     labels: bool = True,
     node_color: str = "#d9e8f6",
     edge_color: str = PLAIN,
-    crossing_color: str = "#777777",
+    crossing_color: Optional[str] = None,
     background: Optional[str] = "#fff",
     prefix: Optional[str] = None,
 ) -> str:
-    """A planarization drawn as an SVG document, without matplotlib. The words are those of `draw` and of
-    `Drawing.to_svg`."""
+    """A planarization drawn as an SVG document, without matplotlib. The words are those of `Drawing.to_svg`, and the
+    others those of `draw`."""
     drawing = drawing_of(result, style=style, pos=pos, keep_pos=keep_pos, labels=labels, edge_color=edge_color)
     return drawing.to_svg(
         node_color=node_color, crossing_color=crossing_color, background=background, prefix=prefix

@@ -13,6 +13,7 @@ from xml.etree.ElementTree import Element, SubElement, tostring
 from zlib import crc32
 
 from ..engine.results import Planarization
+from .bridges import bridges
 from .labels import LETTER_HEIGHT, LINE, clean
 from .pages import MARGIN, Page, PageLine, PageNode, PagePoint
 from .scenes import FORBIDDEN, PLAIN, Look, NodeShape, Position, Scene
@@ -21,16 +22,18 @@ LEGEND_ROW = 16.0
 #: The colours of the rims of nodes and of the letters of the legend.
 RIM = "#333"
 LETTERS = "#000"
+#: The colour of the marks of crossings where they are no bridges and no other is given.
+DOTS = "#777777"
 #: What ids may begin with.
 PREFIX = re.compile(r"(?:[A-Za-z_][\w.-]*)?", re.ASCII)
 
 
 class Paint(NamedTuple):
     """The colours of a document. Where there is no background, what has no colour of the caller's or of a price is in
-    the colour of the text around the document."""
+    the colour of the text around the document. Where there is none for crossings, these are bridges."""
 
     node: str = "#d9e8f6"
-    crossing: str = "#777777"
+    crossing: Optional[str] = None
     background: Optional[str] = "#fff"
 
     def ink(self, color: str) -> str:
@@ -56,8 +59,11 @@ def svg_of(result: Planarization, scene: Scene, paint: Paint = Paint(), prefix: 
     write = _Writer(result, page, paint)
     for look in dict.fromkeys(stroke.look for stroke in scene.strokes):
         write.edges(root, look)
-    if scene.dots:
+    if paint.crossing is None and paint.background is not None:
+        write.bridges(root, paint.background)
+    else:
         write.dots(root)
+    write.arrows(root)
     write.nodes(root)
     write.labels(root)
     write.legend(root, height)
@@ -143,7 +149,7 @@ class _Writer:
     # ---- Edges and crossings
 
     def edges(self, root: Element, look: Look) -> None:
-        """The edges that look like this, and then the heads of their arrows."""
+        """The edges that look like this."""
         width, color = number(look.width), self.paint.ink(look.color)
         group = _put(root, "g", fill="none", stroke=color, stroke_width=width, stroke_linejoin="round")
         drawn = [(stroke, line) for stroke, line in zip(self.scene.strokes, self.page.lines) if stroke.look == look]
@@ -152,9 +158,6 @@ class _Writer:
             source, target = map(str, self.result.edge_of[stroke.edge_id][:2])
             names = {"data_edge": words, "data_from": source, "data_to": target}
             _put(_put(group, "path", class_="edge", **names, d=self.line(line)), "title", words)
-        for stroke, _ in drawn:
-            if stroke.head:
-                _put(root, "path", class_="arrow", fill=color, pointer_events="none", d=self.head(stroke.head))
 
     def line(self, line: PageLine) -> str:
         """The path of an edge, whose numbers are relative and so short: to the last end of a line or a curve."""
@@ -173,17 +176,42 @@ class _Writer:
         x, y = piece[0]
         return [self.number(it) for u, v in piece[1:] for it in (u - x, v - y)]
 
-    def head(self, head: Iterable[Position]) -> str:
-        """The path of an arrow's head."""
-        points = "L".join(",".join(self.at(place)) for place in head)
-        return f"M{points}Z"
+    def arrows(self, root: Element) -> None:
+        """The heads of arrows. The pointer sees what is below them, as it does with the marks of crossings."""
+        for stroke in self.scene.strokes:
+            if stroke.head:
+                points = "L".join(",".join(self.at(place)) for place in stroke.head)
+                color = self.paint.ink(stroke.look.color)
+                _put(root, "path", class_="arrow", fill=color, pointer_events="none", d=f"M{points}Z")
 
     def dots(self, root: Element) -> None:
-        """The marks of crossings. The pointer sees the edges below them."""
-        group = _put(root, "g", fill=self.paint.crossing, pointer_events="none")
-        for dot in self.scene.dots:
-            x, y = self.at(dot)
-            _put(group, "circle", class_="crossing", cx=x, cy=y, r="1.6")
+        """The marks of crossings where these are no bridges."""
+        if self.scene.dots:
+            group = _put(root, "g", fill=self.paint.crossing or DOTS, pointer_events="none")
+            for dot in self.scene.dots:
+                x, y = self.at(dot)
+                _put(group, "circle", class_="crossing", cx=x, cy=y, r="1.6")
+
+    def bridges(self, root: Element, background: str) -> None:
+        """The crossings as bridges; in drawings whose crossings have no marks, which are orthogonal, these are arcs.
+        All gaps come first, so that none lies on what is drawn again."""
+        found = bridges(self.result, self.scene, not self.scene.dots)
+        for width in dict.fromkeys(it.gap_width for it in found):
+            gaps = [it.gap for it in found if it.gap_width == width]
+            self.chains(root, Look(background, width), gaps, "butt", class_="crossing")
+        for look in dict.fromkeys(it.below_look for it in found if it.below):
+            self.chains(root, look, [it.below for it in found if it.below_look == look], "butt")
+        for look in dict.fromkeys(it.above_look for it in found):
+            self.chains(root, look, [it.above for it in found if it.above_look == look], "round")
+
+    def chains(
+        self, root: Element, look: Look, chains: Iterable[Iterable[Position]], ends: str, **words: str
+    ) -> None:
+        """Chains of straight lines that look like this and have such ends, which the pointer does not see."""
+        drawn = {"stroke": look.color, "stroke_width": number(look.width), "stroke_linecap": ends}
+        group = _put(root, "g", fill="none", pointer_events="none", stroke_linejoin="round", **drawn)
+        for chain in chains:
+            _put(group, "polyline", points=" ".join(",".join(self.at(place)) for place in chain), **words)
 
     # ---- Nodes
 
