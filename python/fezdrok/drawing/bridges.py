@@ -6,6 +6,7 @@ The edges themselves stay as they are, so that what is judged of a drawing is wh
 
 from __future__ import annotations
 
+from dataclasses import replace
 from math import cos, hypot, pi, sin
 from typing import List, NamedTuple, Sequence, Tuple
 
@@ -20,7 +21,7 @@ SEEN = 1.5
 RADIUS = 4.0
 ARC_STEPS = 4
 #: Into how many lines a curve between two crossings is broken, and what part of it a bridge may take at most.
-STEPS = 48
+STEPS = 32
 PART = 0.45
 
 
@@ -57,11 +58,11 @@ def bridges(result: Planarization, scene: Scene, are_arcs: bool) -> List[Bridge]
 
 def _around(stroke: Stroke, mark: Point, reach: float) -> Tuple[Position, Position, Position]:
     """Three points along an edge: before a crossing, the crossing, and behind it."""
-    place = stroke.marks.index(mark)
-    line, steps = (flat(stroke, STEPS), STEPS) if stroke.curved else (list(stroke.points), 1)
-    middle = place * steps
-    before, after = line[middle - steps : middle + 1][::-1], line[middle : middle + steps + 1]
-    return _along(before, reach), line[middle], _along(after, reach)
+    place, step = stroke.marks.index(mark), 3 if stroke.curved else 1
+    beside = replace(stroke, points=stroke.points[step * (place - 1) : step * (place + 1) + 1])
+    line = flat(beside, STEPS)
+    middle = len(line) // 2
+    return _along(line[middle::-1], reach), line[middle], _along(line[middle:], reach)
 
 
 def _along(line: Sequence[Position], reach: float) -> Position:
