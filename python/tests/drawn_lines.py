@@ -63,19 +63,16 @@ def edges_in(root: ElementTree.Element) -> List[List[Place]]:
 
 
 def nodes_in(root: ElementTree.Element) -> Dict[str, DrawnNode]:
-    """The nodes by their labels."""
+    """The nodes by their names."""
     shapes = {it.get("id"): it for it in root.find(f".//{SVG}defs")}
-    middles = [
-        ((float(it.get("x")), float(it.get("y"))), shapes[it.get("href")[1:]]) for it in root.iter(f"{SVG}use")
-    ]
-    labels = [it.text for it in root.iter(f"{SVG}text") if it.get("font-size") != "10"]
+    uses = [(it, shapes[it.get("href")[1:]]) for it in root.iter(f"{SVG}use")]
     return {
-        label: DrawnNode(
-            middle,
+        it.get("data-node"): DrawnNode(
+            (float(it.get("x")), float(it.get("y"))),
             float(shape.get("r") or float(shape.get("width")) / 2),
             float(shape.get("r") or float(shape.get("height")) / 2),
         )
-        for label, (middle, shape) in zip(labels, middles)
+        for it, shape in uses
     }
 
 

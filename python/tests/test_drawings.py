@@ -218,7 +218,7 @@ class Documents(unittest.TestCase):
     def test_svg(self):
         for result, style in itertools.product(pictured().values(), ("straight", "curved", "orthogonal")):
             text = to_svg(result, style=style)
-            self.assertLess(len(text), 20000)
+            self.assertLess(len(text), 40000)
             root = ElementTree.fromstring(text)
             width, height = float(root.get("width")), float(root.get("height"))
             self.assertEqual(len(root.findall(f".//{SVG}path")), len(result.edge_of))
@@ -230,6 +230,82 @@ class Documents(unittest.TestCase):
     def test_names_that_xml_must_not_see(self):
         text = to_svg(planar_result(nx.Graph([("<a>", "b&c"), ("b&c", "d")])))
         self.assertEqual([it.text for it in ElementTree.fromstring(text).iter(f"{SVG}text")], ["<a>", "b&c", "d"])
+
+    def test_characters_that_xml_has_not(self):
+        """They stand as U+FFFD, in names as in colours; all others are as they were."""
+        bad = [chr(code) for code in (*range(9), 11, 12, *range(14, 32), 0xD800, 0xDFFF, 0xFFFE, 0xFFFF)]
+        good = ["\x7f", "\x85", "\ud7ff", "\ue000", "\ufffd", "\U00010000", "\U0010ffff", "]]>", "'\"", "&amp;"]
+        names = [f"a{it}b" for it in bad + good]
+        text = to_svg(planar_result(nx.path_graph(names)), node_color="\0")
+        shown = [it.text for it in ElementTree.fromstring(text.encode()).iter(f"{SVG}text")]
+        self.assertEqual(sorted(shown), sorted(["a\ufffdb"] * len(bad) + names[len(bad) :]))
+
+    def test_two_drawings_on_one_page(self):
+        """Their ids differ, also where they differ in names alone; what is drawn again has the same ids."""
+        graphs = [nx.path_graph(3), nx.path_graph(4), nx.path_graph(["0", "1", "3"])]
+        texts = [to_svg(planar_result(graph)) for graph in graphs]
+        roots = [ElementTree.fromstring(text) for text in texts]
+        ids = [{it.get("id") for it in root.iter()} - {None} for root in roots]
+        self.assertEqual(len(set().union(*ids)), sum(map(len, ids)))
+        for root, own in zip(roots, ids):
+            self.assertEqual({it.get("href")[1:] for it in root.iter(f"{SVG}use")}, own)
+        self.assertEqual(texts, [to_svg(planar_result(graph)) for graph in graphs])
+
+    def test_a_prefix_of_ones_own(self):
+        result = planar_result(nx.path_graph(3))
+        for prefix, one in (("left-", "left-n0"), ("", "n0")):
+            text = to_svg(result, prefix=prefix)
+            self.assertEqual((text.count(f'id="{one}"'), text.count(f'href="#{one}"')), (1, 3))
+        for prefix in ("a b", "1", "\n", "a#"):
+            with self.assertRaisesRegex(ValueError, "the prefix"):
+                to_svg(result, prefix=prefix)
+
+    def test_titles_and_names(self):
+        """Each node and each edge says what it is: to the reader by a title, to programs by a class and its names."""
+        graph = nx.relabel_nodes(nx.complete_graph(5), dict(enumerate(["a", "b<", "c d", 3, "\0"])))
+        shown = ["a", "b<", "c d", "3", "\ufffd"]
+        for style in ("straight", "curved", "orthogonal"):
+            root = ElementTree.fromstring(to_svg(planarize(graph), style=style, labels=False))
+            self.assertEqual(root.get("role"), "img")
+            words = [(it.tag, it.text) for it in root[:2]]
+            told = ["A graph drawn with 1 crossing", "5 nodes, 10 edges, 1 crossing"]
+            self.assertEqual(words, [(f"{SVG}title", told[0]), (f"{SVG}desc", told[1])])
+            of_class = {name: root.findall(f".//*[@class='{name}']") for name in ("node", "edge", "crossing")}
+            self.assertEqual(len(of_class["crossing"]), 1)
+            nodes = {it.get("data-node"): it.find(f"{SVG}title").text for it in of_class["node"]}
+            self.assertEqual(nodes, dict(zip(shown, shown)))
+            ends = [(it.get("data-from"), it.get("data-to")) for it in of_class["edge"]]
+            self.assertEqual(set(map(frozenset, ends)), set(map(frozenset, itertools.combinations(shown, 2))))
+            for it, (source, target) in zip(of_class["edge"], ends):
+                self.assertEqual([it.get("data-edge"), it.find(f"{SVG}title").text], [f"{source} -- {target}"] * 2)
+
+    def test_titles_of_directed_and_of_parallel_edges(self):
+        graph = nx.MultiDiGraph([(1, 0), (1, 0), (2, 1)])
+        root = ElementTree.fromstring(to_svg(planarize(graph)))
+        words = ["1 -> 0 (0)", "1 -> 0 (1)", "2 -> 1 (0)"]
+        self.assertEqual(sorted(it.get("data-edge") for it in root.iter() if it.get("class") == "edge"), words)
+        self.assertEqual(sum(it.get("class") == "arrow" for it in root.iter()), 3)
+        self.assertEqual(root.find(f"{SVG}title").text, "A directed graph drawn with 0 crossings")
+
+    def test_background(self):
+        """Without one, lines have the colour of the text around, but where a price or the caller gives them one."""
+        result = planarize(nx.complete_graph(5))
+        root = ElementTree.fromstring(to_svg(result))
+        self.assertEqual([it.get("fill") for it in root.findall(f"{SVG}rect")], ["#fff"])
+        self.assertNotIn("currentColor", to_svg(result))
+        root = ElementTree.fromstring(to_svg(result, background="#123"))
+        self.assertEqual([it.get("fill") for it in root.findall(f"{SVG}rect")], ["#123"])
+        for color, shown in (("#36618e", "currentColor"), ("red", "red")):
+            root = ElementTree.fromstring(to_svg(result, background=None, edge_color=color))
+            self.assertEqual(root.findall(f"{SVG}rect"), [])
+            strokes = [it.get("stroke") for it in root.iter(f"{SVG}g") if it.get("stroke")]
+            self.assertEqual(strokes, [shown, "currentColor"])
+        priced = planarize(nx.complete_graph(5), price=lambda u, v, data: 1 + v % 2, forbidden=[(0, 1)])
+        root = ElementTree.fromstring(to_svg(priced, background=None))
+        lines = [it for it in root.findall(f"{SVG}path") if it.get("stroke")]
+        self.assertEqual([it.get("stroke") for it in lines], ["currentColor", "#b03a2e", "#0072b2"])
+        words = [it.get("fill") for it in root.findall(f"{SVG}text")]
+        self.assertEqual(words, ["currentColor"] * 3)
 
     def test_without_labels(self):
         self.assertNotIn("<text", to_svg(planarize(nx.complete_graph(4)), labels=False))

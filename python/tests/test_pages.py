@@ -110,7 +110,7 @@ class Pages(unittest.TestCase):
         self.assertEqual(len(shown), 12)
         for name in shown:
             kept, written = ROOT / "docs" / name, folder / Path(name).name
-            self.assertLess(kept.stat().st_size, 20000)
+            self.assertLess(kept.stat().st_size, 40000)
             shown_there, written_now = (
                 [(it.tag, it.text) for it in ElementTree.parse(file).iter() if it.get("id") is None]
                 for file in (kept, written)

@@ -14,12 +14,13 @@ from typing import TYPE_CHECKING, Any, List, Mapping, Optional
 from ..engine.faults import PlanarError, PlanarWarning, wanted
 from ..engine.results import Planarization
 from ..files.embeddings import to_networkx_embedding
+from .labels import LETTER_HEIGHT
 from .orthogonal_layout import orthogonal_drawing
 from .pages import Page
-from .scenes import LETTER_HEIGHT, PLAIN, Position, Scene, flat, grid_sizes, orthogonal_scene
+from .scenes import PLAIN, Position, Scene, flat, grid_sizes, orthogonal_scene
 from .straight_layout import chain, grid_positions, places_between, positions
 from .straight_scenes import Chains, true_scene
-from .svg import svg_of
+from .svg import Paint, svg_of
 from .verification import Defect, defects
 
 if TYPE_CHECKING:
@@ -57,9 +58,21 @@ class Drawing:
         list is empty but where the points were the caller's and kept."""
         return defects(self.result, Page(self.scene))
 
-    def to_svg(self, *, node_color: str = "#d9e8f6", crossing_color: str = "#777777") -> str:
-        """The drawing as an SVG document."""
-        return svg_of(self.scene, node_color, crossing_color)
+    def to_svg(
+        self,
+        *,
+        node_color: str = "#d9e8f6",
+        crossing_color: Optional[str] = None,
+        background: Optional[str] = "#fff",
+        prefix: Optional[str] = None,
+    ) -> str:
+        """The drawing as an SVG document. At a crossing the edge that was there first has a gap, or in the style
+        `orthogonal` the newcomer an arc; with a `crossing_color` crossings have dots instead, but none in that style.
+        With None as `background` it has none, and edges that have no colour of yours or of a price are drawn in
+        `currentColor`, so that it fits a dark page as well as a light one; crossings then have dots. Its ids begin with
+        `prefix`; without it with a checksum of the document, so that those of drawings which differ do not meet on one
+        page."""
+        return svg_of(self.result, self.scene, Paint(node_color, crossing_color, background), prefix)
 
 
 def drawing_of(
@@ -128,11 +141,16 @@ def to_svg(
     labels: bool = True,
     node_color: str = "#d9e8f6",
     edge_color: str = PLAIN,
-    crossing_color: str = "#777777",
+    crossing_color: Optional[str] = None,
+    background: Optional[str] = "#fff",
+    prefix: Optional[str] = None,
 ) -> str:
-    """A planarization drawn as an SVG document, without matplotlib. The words are those of `draw`."""
+    """A planarization drawn as an SVG document, without matplotlib. The words are those of `Drawing.to_svg`, and the
+    others those of `draw`."""
     drawing = drawing_of(result, style=style, pos=pos, keep_pos=keep_pos, labels=labels, edge_color=edge_color)
-    return drawing.to_svg(node_color=node_color, crossing_color=crossing_color)
+    return drawing.to_svg(
+        node_color=node_color, crossing_color=crossing_color, background=background, prefix=prefix
+    )
 
 
 # ---- matplotlib
@@ -152,13 +170,13 @@ def draw(
 ) -> "Axes":
     """Draw a planarization by matplotlib and give the axes.
 
-    `style` is `straight`, `curved` or `orthogonal`. Nodes have their names if `labels`, and are as wide as these. Edges
-    of different prices have colours of their own, those that must not be crossed are dark and broad, and a legend says
-    so; where all cost the same they have `edge_color`. Directed edges have arrows. `pos` gives points for the nodes of
-    the graph, and if you like for those of `to_networkx_embedding(result)`; crossings without a point are put between
-    their neighbours. Where these points show what is not in the picture, that is FalseDrawing, and with `keep_pos` a
-    PlanarWarning. Without `pos` the points are those of `positions`, and the drawing is true. ModuleMissing where
-    networkx or matplotlib is not there.
+    `style` is `straight`, `curved` or `orthogonal`. Nodes have their names if `labels`, in several lines where they are
+    long, and are as large as these. Edges of different prices have colours of their own, those that must not be crossed
+    are dark and broad, and a legend says so; where all cost the same they have `edge_color`. Directed edges have
+    arrows. `pos` gives points for the nodes of the graph, and if you like for those of `to_networkx_embedding(result)`;
+    crossings without a point are put between their neighbours. Where these points show what is not in the picture, that
+    is FalseDrawing, and with `keep_pos` a PlanarWarning. Without `pos` the points are those of `positions`, and the
+    drawing is true. ModuleMissing where networkx or matplotlib is not there.
     """
     patches = wanted("matplotlib.patches", "drawings by draw")
     scene = drawing_of(

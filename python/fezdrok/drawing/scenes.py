@@ -13,6 +13,7 @@ from typing import Any, Dict, List, Mapping, NamedTuple, Optional, Sequence, Tup
 from ..engine.graph_edges import Node, Price
 from ..engine.pictures import Point
 from ..engine.results import Planarization
+from .labels import LEAST_NODE, label_in_one_line, label_of, label_size, point_width
 from .orthogonal_layout import OrthogonalDrawing
 
 Position = Tuple[float, float]
@@ -22,10 +23,6 @@ PLAIN = "#36618e"
 COLOURS = ("#b03a2e", "#0072b2", "#d58a00", "#009e73", "#a4509b", "#5a9bd4")
 #: The colour of edges that must not be crossed.
 FORBIDDEN = "#222222"
-#: The height of a label, the width of one of its letters and the least size of a node, in pixels.
-LETTER_HEIGHT = 9.0
-LETTER = 5.4
-LEAST_NODE = 15.0
 #: The greatest number of nodes for which there is time to give each the room that it wants.
 MANY = 600
 #: How many pixels a step of the grid is at least in orthogonal drawings, and in those with arrows.
@@ -55,8 +52,9 @@ class Stroke:
 
 
 class NodeShape(NamedTuple):
-    """A node: its label, its middle, and its width and height. It is drawn with round ends, unless it is a box. `scale`
-    is the height of its label beside that of others, which is less where there is little room."""
+    """A node: its label, with a line break between lines, its middle, and its width and height. It is drawn with round
+    ends, unless it is a box. `scale` is the height of its label beside that of others, which is less where there is
+    little room."""
 
     node: Node
     label: str
@@ -119,26 +117,18 @@ def _between(part: float) -> str:
     return "#" + "".join(f"{round(start + part * (end - start)):02x}" for start, end in zip(first, last))
 
 
-def label_size(label: str) -> Tuple[float, float]:
-    """The width and the height, in pixels, that a node needs so that its label fits."""
-    return max(LEAST_NODE, LETTER * len(label) + 8.0), LEAST_NODE
-
-
 # ---- Orthogonal drawings
 
 
 def grid_sizes(nodes: Sequence[Node]) -> Dict[Node, Tuple[int, int]]:
-    """The width and height in steps of the grid for the nodes whose labels are too long for a point of the grid; of
-    more than MANY nodes all are points, and the grid is so wide that the labels fit."""
+    """The width and height in steps of the grid for the nodes whose labels are too long for a point of the grid, or
+    have more lines than one; of more than MANY nodes all are points, and the grid is so wide that the labels fit."""
     if len(nodes) > MANY:
         return {}
-    wide = [node for node in nodes if _point_width(str(node)) > 0.93 * GRID_UNIT]
-    return {node: (-int(-(label_size(str(node))[0] + 4.0) // GRID_UNIT), 2) for node in wide}
-
-
-def _point_width(label: str) -> float:
-    """The width, in pixels, of a node that lies on a point of the grid."""
-    return max(LEAST_NODE, LETTER * len(label) + 4.0)
+    labels = {node: label_of(node) for node in nodes}
+    large = [node for node, it in labels.items() if "\n" in it or point_width(it) > 0.93 * GRID_UNIT]
+    sizes = {node: tuple(ceil((extent + 4.0) / GRID_UNIT) for extent in label_size(labels[node])) for node in large}
+    return {node: (width, max(2, height)) for node, (width, height) in sizes.items()}
 
 
 def orthogonal_scene(
@@ -147,16 +137,16 @@ def orthogonal_scene(
     """The scene of an orthogonal drawing. Crossings have no mark: two lines cross at right angles."""
     kinds, legend = looks(result, color)
     widest = max(
-        (_point_width(str(node) if labels else "") for node, box in drawing.boxes.items() if box.is_point),
+        (point_width(label_in_one_line(node) if labels else "") for node, box in drawing.boxes.items() if box.is_point),
         default=LEAST_NODE,
     )
     unit = (ARROW_UNIT if result.graph.is_directed() else GRID_UNIT) + 2.0 * ceil((widest - LEAST_NODE) / 2)
     nodes = []
     for node, box in drawing.boxes.items():
-        label = str(node) if labels else ""
+        label = (label_in_one_line(node) if box.is_point else label_of(node)) if labels else ""
         width, height = box.right - box.left, box.top - box.bottom
         if box.is_point:
-            width, height = _point_width(label) / unit, LEAST_NODE / unit
+            width, height = point_width(label) / unit, LEAST_NODE / unit
         nodes.append(NodeShape(node, label, box.middle, width, height, not box.is_point))
     strokes = []
     for edge_id, line in drawing.lines.items():

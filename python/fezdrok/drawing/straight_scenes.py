@@ -15,8 +15,9 @@ from typing import Any, Dict, List, Mapping, Optional, Sequence, Tuple
 from ..engine.pictures import Point
 from ..engine.results import Planarization
 from .curves import crossing_ways, is_as_good_as_straight, smooth
+from .labels import label_of, label_size
 from .pages import Page
-from .scenes import MANY, PLAIN, NodeShape, Position, Scene, Stroke, label_size, looks, with_arrows
+from .scenes import MANY, PLAIN, NodeShape, Position, Scene, Stroke, looks, with_arrows
 from .segment_grid import SegmentGrid
 from .verification import Defect, Judge, Piece, defects
 
@@ -78,7 +79,7 @@ def straight_scene(chains: Chains, labels: bool = True, color: str = PLAIN) -> S
         for edge_id, chain in chains.nodes.items()
     ]
     dots = tuple(places[result.name_of(point)] for point in result.picture.points if point.is_crossing)
-    unit, nodes = _sized(chains, [str(node) if labels else "" for node in result.node_of])
+    unit, nodes = _sized(chains, [label_of(node) if labels else "" for node in result.node_of])
     return Scene(unit, tuple(strokes), nodes, dots, legend)
 
 
@@ -104,7 +105,9 @@ def _sized(chains: Chains, labels: Sequence[str]) -> Tuple[float, Tuple[NodeShap
     if unit > least:
         scales = _scales(chains, sizes, unit)
     return unit, tuple(
-        NodeShape(node, label, chains.places[node], scale * width / unit, scale * height / unit, False, scale)
+        NodeShape(
+            node, label, chains.places[node], scale * width / unit, scale * height / unit, "\n" in label, scale
+        )
         for node, label, (width, height), scale in zip(chains.result.node_of, labels, sizes, scales)
     )
 
