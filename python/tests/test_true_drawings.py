@@ -84,6 +84,9 @@ class TrueDrawings(DrawnTest):
                 with self.subTest(seed=seed, style=style):
                     self.check(result, style, seed % 4 == 0 or COUNT > 100)
 
+    def test_curves_that_cross_at_a_small_angle(self):
+        self.check(planarize(random_graph(365), tries=1, rounds=1, shakes=0), "curved")
+
     def test_graphs_with_few_edges(self):
         for graph in (nx.empty_graph(1), nx.empty_graph(5), nx.path_graph(2), nx.star_graph(3)):
             result = planarize(graph)

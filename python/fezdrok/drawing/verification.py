@@ -63,6 +63,7 @@ class Judge:
         self.found: List[Defect] = []
         self.place_of: Dict[Point, PagePoint] = {}
         self.leaving: Dict[Dart, Tuple[PagePoint, PagePoint, Piece]] = {}
+        self.tangents: Dict[Dart, PagePoint] = {}
         self.shapes = {Point(False, result.vertex_of[node.node]): _Shape(node) for node in page.nodes}
         for line in page.lines:
             self._add(line)
@@ -146,12 +147,12 @@ class Judge:
             if len(points) < 2:
                 self._tell(f"a part of {self._name(line.edge_id)} has no length", points[0], own)
                 continue
-            for mark, point, beside, dart in (
-                (marks[0], points[0], points[1], Dart(line.edge_id, segment)),
-                (marks[1], points[-1], points[-2], Dart(line.edge_id, segment, True)),
+            for mark, point, beside, tangent, dart in (
+                (marks[0], points[0], points[1], _tangent(piece), Dart(line.edge_id, segment)),
+                (marks[1], points[-1], points[-2], _tangent(piece[::-1]), Dart(line.edge_id, segment, True)),
             ):
                 if mark is not None:
-                    self.leaving[dart] = (point, beside, own)
+                    self.leaving[dart], self.tangents[dart] = (point, beside, own), tangent
                     if mark.is_crossing and self.place_of.setdefault(mark, point) != point:
                         self._tell(f"{self._name(line.edge_id)} is not at its crossing", point, own)
             last = len(points) - 2
@@ -181,13 +182,16 @@ class Judge:
     # ---- The order round points
 
     def _judge_orders(self, points: Iterable[Point]) -> None:
-        """The edges leave each node, and pass each crossing, in the clockwise order of the picture."""
+        """The edges leave each node, and pass each crossing, in the clockwise order of the picture: by the straight lines
+        that stand for them, and by the tangents of their curves."""
         for point in points:
-            left = [self.leaving[dart] for dart in self.picture.around(point) if dart in self.leaving]
+            darts = [dart for dart in self.picture.around(point) if dart in self.leaving]
+            left = [self.leaving[dart] for dart in darts]
             at = left[0][0] if point.is_crossing and left else (0, 0)
             if not point.is_crossing:
                 at = self.shapes[point].middle
-            if not is_clockwise([_way(at, end, beside) for end, beside, _ in left]):
+            by_tangent = [_way(at, self.leaving[dart][0], self.tangents[dart]) for dart in darts]
+            if not is_clockwise([_way(at, end, beside) for end, beside, _ in left]) or not is_clockwise(by_tangent):
                 what = "crossing" if point.is_crossing else f"node {self.result.node_of[point.id]!r}"
                 self._tell(f"the edges at the {what} are not in their order", at, *(piece for _, _, piece in left))
 
@@ -357,6 +361,12 @@ def _shared_end(first: _Straight, second: _Straight) -> Optional[PagePoint]:
     if first.end is not None and first.end in (second.start, second.end):
         return first.u, first.v
     return None
+
+
+def _tangent(piece: Sequence[PagePoint]) -> PagePoint:
+    """A point on the tangent of a piece at its beginning, FINE times as large: the first of its points that is another."""
+    x, y = next((it for it in piece if it != piece[0]), piece[0])
+    return x * FINE, y * FINE
 
 
 def _distinct(points: Sequence[PagePoint]) -> List[PagePoint]:
