@@ -1,5 +1,5 @@
 -- What a stored closure promises, and what a table of prices may have.
-use Rattle.std.specs.Prelude.{◌≡◌, ℕ, ◌≤◌, min, nat_le, not, ◌&&◌, Bool, true, List, Option, Some, None, MatchOption, position, slice_get}
+use Rattle.std.specs.Prelude.{◌≡◌, ◌++◌, ◌∷◌, [], ℕ, ◌≤◌, min, nat_le, not, ◌&&◌, Bool, true, List, Option, Some, None, MatchOption, position, slice_get}
 use Rattle.topo_core.specs.declared.rows.Facts.{Facts}
 use Rattle.topo_core.specs.Routes.{Pricing}
 use Rattle.topo_core.specs.declared.rows.TheConstants.{MAX_PRICE}
@@ -21,6 +21,13 @@ prices_of answers facts n = answers facts (Some n)
 -- the answer is the price of these facts, and none where they have no price
 abbrev pub IsPriceOf : Pricing → Facts → Option ℕ → Type 0
 IsPriceOf price facts answer = MatchOption answer ((n : ℕ) → price facts n → ⊥) (λ n. price facts n)
+
+-- one edge was asked for: its answer, which is its price, was added at the end
+pub record IsAsked (answers : Asking) (facts : Facts) (before after : List (Option ℕ)) : Type 0 where
+  pub answer : Option ℕ
+  pub added : after ≡ before ++ answer ∷ []
+  pub may : answers facts answer
+  pub price : IsPriceOf (prices_of answers) facts answer
 
 -- a number that no price of a kind is below, by what is known of its prices: that price, at most the greatest of sixteen bits
 abbrev pub floor_of : Option (Option ℕ) → ℕ
