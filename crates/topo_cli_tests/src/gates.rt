@@ -2,6 +2,7 @@
 
 use std::sync::atomic::{AtomicBool, AtomicUsize, Ordering};
 use std::test::Fail;
+use std::thread;
 use topo_core::calls::{Entry, Reply};
 use topo_forms::read_report;
 use topo_run::run_io;
@@ -30,6 +31,57 @@ fn a_gate_fixes_the_order_of_two_lists(rt: HostRuntime) -> Result<(), Fail> {
     assert_eq!(rt; history.len(), 2);
     assert!(rt; is_insertion(&history[0], 1, 1));
     assert!(rt; is_insertion(&history[1], 0, 2));
+    Ok(())
+}
+
+/// How often a call of the gate looks for a flag at most.
+const LOOKS: u32 = 10_000_000;
+
+/// Lets worker 1 begin only when the first command of worker 0 has ended. It looks a bounded number
+/// of times, leaving the processor to others between, and does not block.
+#[derive(Drop)]
+struct Behind {
+    has_ended: AtomicBool,
+    is_late: AtomicBool,
+}
+
+impl Gate for Behind {
+    fn before(&self, worker: usize, index: usize) {
+        if worker != 1 || index != 0 {
+            return;
+        }
+        for _ in 0..LOOKS {
+            if self.has_ended.load(Ordering::SeqCst) {
+                return;
+            }
+            thread::yield_now();
+        }
+        self.is_late.store(true, Ordering::SeqCst);
+    }
+
+    fn after(&self, worker: usize, index: usize) {
+        if worker == 0 && index == 0 {
+            self.has_ended.store(true, Ordering::SeqCst);
+        }
+    }
+}
+
+#[test]
+fn a_worker_begins_when_the_other_has_ended(rt: HostRuntime) -> Result<(), Fail> {
+    let alloc = rt.alloc();
+    let gate = Behind {
+        has_ended: AtomicBool::new(false),
+        is_late: AtomicBool::new(false),
+    };
+    let mut reader = CountedReader::new(TWO_LISTS.as_bytes());
+    let mut written: Vec<u8> = Vec::new(alloc);
+    assert!(rt; run_io(&rt, alloc, &mut reader, &mut written, &gate) == Ok(()));
+    assert!(rt; !gate.is_late.load(Ordering::SeqCst));
+    let made = read_report(alloc, written.as_slice()).expect(&rt, "a report");
+    let history = made.history.as_slice();
+    assert_eq!(rt; history.len(), 2);
+    assert!(rt; is_insertion(&history[0], 0, 1));
+    assert!(rt; is_insertion(&history[1], 1, 2));
     Ok(())
 }
 

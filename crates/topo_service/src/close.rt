@@ -25,7 +25,6 @@ use topo_picture::Picture;
 use topo_price::tariff::{PriceFn, Tariff};
 use topo_versions::{
     FreshLog, LogLength, LogPrefix, ServiceBrand, StoreWriter, Version, VersionWriter, new_store,
-    wait_forever,
 };
 
 /// The end of a service that was not well, with the book and the passes as they were handed in.
@@ -181,7 +180,6 @@ impl<F: PriceFn + Drop, K: ServiceBrand<F>> Service<F, K> {
             pool: SharePool::new(rest),
             nothing,
             places,
-            given: 0,
         })
     }
 }
@@ -231,12 +229,8 @@ impl<F: PriceFn + Drop, K: ServiceBrand<F>, W: VersionWriter<F, K>> ServiceOver<
             pool,
             nothing: _nothing,
             places: _,
-            given,
         } = self;
-        let (parts, rest) = pool.into_parts();
-        if parts != given {
-            wait_forever(rt);
-        }
+        let (given, rest) = pool.into_parts(rt);
         let mut state = state.into_inner();
         if let Some(fault) = first_fault(given, passes.as_slice(), state.history()) {
             return Err(CloseFault {

@@ -40,7 +40,6 @@ pub struct ServiceOver<F: PriceFn, K: ServiceBrand<F>, W: VersionWriter<F, K>> {
     // What a new pass has seen.
     pub(crate) nothing: LogPrefix<F, K>,
     pub(crate) places: u32,
-    pub(crate) given: u32,
 }
 
 impl<F: PriceFn, K: ServiceBrand<F>, W: VersionWriter<F, K>> Model for ServiceOver<F, K, W> {
@@ -54,7 +53,7 @@ impl<F: PriceFn, K: ServiceBrand<F>, W: VersionWriter<F, K>> Model for ServiceOv
     ghost view = { λ s. record {
       tariff = arc_value s.tariff;
       places = s.places;
-      given = s.given;
+      given = s.pool;
     } };
 
     ghost invariant = { λ s. (K.closure ≡ Some (arc_value s.tariff)) × (K.parts ≡ MAX_PASSES)
@@ -82,17 +81,15 @@ impl<F: PriceFn, K: ServiceBrand<F>, W: VersionWriter<F, K>> ServiceOver<F, K, W
         ensures at_most { self.old.places ≤ MAX_PASSES }
         ensures same { (self.new.tariff ≡ self.old.tariff) × (self.new.places ≡ self.old.places) }
     {
-        if self.given >= self.places {
+        if self.pool.given() >= self.places {
             return Err(ServiceFault::NoSeat);
         }
         let Ok(reader) = self.state.get_mut().reader() else {
             return Err(ServiceFault::NoSeat);
         };
-        let Some(share) = self.pool.take() else {
+        let Some((number, share)) = self.pool.take() else {
             return Err(ServiceFault::NoSeat);
         };
-        let number = self.given;
-        self.given += 1;
         Ok(Pass {
             number,
             receipts: Vec::new(self.alloc),

@@ -3,12 +3,14 @@
 use crate::harness::{Scene, Start, are_carried_out};
 use crate::inside::{Counted, Meeting};
 use crate::steps::Step;
-use std::sync::atomic::Ordering;
+use std::sync::atomic::{AtomicUsize, Ordering};
 use std::test::Fail;
 use topo_core::calls::{Call, Command};
+use topo_price::tariff::PriceFn;
 use topo_service::Gate;
 use topo_service_test_support::gates::Turns;
 use topo_test_support::prices::FIVE_TWO_NINE;
+use topo_versions::{ServiceBrand, Version};
 
 /// What is done round each command.
 #[derive(Drop)]
@@ -23,6 +25,27 @@ pub(crate) enum Round {
     Together(Meeting),
     /// The calls of the gate are counted.
     Counted(Counted),
+    /// A view is taken before the run. Its edges are counted when the first command of worker 0 has
+    /// ended.
+    Viewed(AtomicUsize),
+}
+
+/// A view that was taken before a run, and how many edges it shows when the first command of worker
+/// 0 has ended.
+pub(crate) struct EarlierView<'a, F: PriceFn, K: ServiceBrand<F>> {
+    pub view: &'a Version<F, K>,
+    pub edges: &'a AtomicUsize,
+}
+
+impl<F: PriceFn + Send + Sync, K: ServiceBrand<F> + Send + Sync> Gate for EarlierView<'_, F, K> {
+    fn before(&self, _worker: usize, _index: usize) {}
+
+    fn after(&self, worker: usize, index: usize) {
+        if worker == 0 && index == 0 {
+            let edges = self.view.picture().counts().edges;
+            self.edges.store(edges as usize, Ordering::SeqCst);
+        }
+    }
 }
 
 impl Round {
@@ -34,6 +57,7 @@ impl Round {
             Round::FromFirstPrice(turns) => !turns.is_late(),
             Round::Together(meeting) => !meeting.late.load(Ordering::SeqCst),
             Round::Counted(counted) => !counted.is_amiss.load(Ordering::SeqCst),
+            Round::Viewed(edges) => edges.load(Ordering::SeqCst) == 1,
         }
     }
 }
@@ -46,19 +70,27 @@ impl Round {
             _ => false,
         }
     }
+
+    /// Whether workers met, and these were their numbers.
+    pub(crate) fn has_met(&self, numbers: usize) -> bool {
+        match self {
+            Round::Together(meeting) => meeting.numbers.load(Ordering::SeqCst) == numbers,
+            _ => false,
+        }
+    }
 }
 
 impl Gate for Round {
     fn before(&self, worker: usize, index: usize) {
         match self {
-            Round::Still => {}
+            Round::Still | Round::Viewed(_) => {}
             Round::InTurn(turns) => turns.before(worker, index),
             Round::FromFirstPrice(turns) => {
                 if worker == 1 {
                     turns.before(worker, index);
                 }
             }
-            Round::Together(meeting) => meeting.look_for_all(),
+            Round::Together(meeting) => meeting.look_for_all(worker),
             Round::Counted(counted) => counted.note(worker, index.wrapping_mul(2)),
         }
     }
@@ -70,7 +102,7 @@ impl Gate for Round {
             Round::Counted(counted) => {
                 counted.note(worker, index.wrapping_mul(2).wrapping_add(1));
             }
-            Round::Still | Round::Together(_) => {}
+            Round::Still | Round::Together(_) | Round::Viewed(_) => {}
         }
     }
 }
@@ -110,6 +142,18 @@ const SEED_SCENE: Scene<'static> = Scene {
 fn workers_run_at_one_time(rt: HostRuntime) -> Result<(), Fail> {
     let round = Round::InTurn(Turns::new());
     are_carried_out(&rt, &SEED_SCENE, SEED_LISTS, &round)
+}
+
+/// The version that a view shows stays as it is while other calls are made.
+#[test]
+fn an_earlier_view_shows_the_start(rt: HostRuntime) -> Result<(), Fail> {
+    let scene = Scene {
+        steps: &[],
+        due: "[Done, Done]\n[]; 2 calls, replayed: true",
+        ..SEED_SCENE
+    };
+    let round = Round::Viewed(AtomicUsize::new(0));
+    are_carried_out(&rt, &scene, SEED_LISTS, &round)
 }
 
 /// One list plans between the apexes, and the other takes the edge out that a plan crosses.

@@ -1,12 +1,12 @@
 //! A service that is begun, used by its passes and closed, and what is told of it.
 
-ghost use Rattle.std.specs.Prelude.{◌≡◌, Some};
+ghost use Rattle.std.specs.Prelude.{◌≡◌, ◌<◌, ◌≤◌, Some};
 ghost use Rattle.std.specs.Arc.{arc_value};
 ghost use Rattle.topo_core.specs.declared.limits.TheConstants.{MAX_PASSES};
 ghost use Rattle.topo_price.specs.Prices.{IsPromise};
 
 use crate::crowds::{Watch, tree, work_all};
-use crate::gates::Round;
+use crate::gates::{EarlierView, Round};
 use crate::steps::{Kept, Play, Steps};
 use crate::survivors::GRID;
 use std::alloc::{AllocError, Global};
@@ -18,6 +18,7 @@ use std::test::Fail;
 use std::thread::Threads;
 use topo_book::replay;
 use topo_core::calls::Command;
+use topo_core::limits::MAX_PASSES;
 use topo_core::rows::Facts;
 use topo_picture::Picture;
 use topo_price::tariff::{PriceFn, Tariff};
@@ -54,6 +55,8 @@ pub(crate) enum Work<'a> {
     Given(&'a Plan),
     /// So many do nothing, and of those that are given out the second alone is handed back.
     SecondAlone(usize),
+    /// Of a service of so many places one pass more than it has is asked for, and refused.
+    Seats(u32),
     /// One for each list carries it out, with the gate's calls round each command.
     Lists(&'a [&'a [Command]], &'a Round),
     /// So many make calls of their own, and look at versions meanwhile.
@@ -61,6 +64,16 @@ pub(crate) enum Work<'a> {
 }
 
 impl Work<'_> {
+    /// How many places the service has.
+    fn places(&self) -> u32
+        ensures { (0 < result) × (result ≤ MAX_PASSES) }
+    {
+        match self {
+            Work::Seats(places) => (*places).max(1).min(MAX_PASSES),
+            _ => MAX_PASSES,
+        }
+    }
+
     /// A price is asked for.
     fn ask(&self) {
         if let Work::Lists(_, Round::FromFirstPrice(turns)) = self {
@@ -173,7 +186,8 @@ fn named<F: PriceFn + Drop + Send + Sync, K: ServiceBrand<F> + Send + Sync, R: T
     requires start { start ≡ K.start }
     requires prices { K.closure ≡ Some (arc_value tariff) }
 {
-    let mut service = Service::<F, K>::new(rt.alloc(), fresh, start, tariff)?;
+    let places = play.work.places();
+    let mut service = Service::<F, K>::with_places(rt.alloc(), fresh, start, tariff, places)?;
     let mut passes = Vec::new(rt.alloc());
     let told = tell(rt, &mut service, &mut passes, play);
     let end = close(rt, rt.alloc(), service, passes);
@@ -193,6 +207,7 @@ fn tell<F: PriceFn + Drop + Send + Sync, K: ServiceBrand<F> + Send + Sync, R: Te
         Work::Nothing(count) => *count,
         Work::Given(_) => 2,
         Work::SecondAlone(count) => *count,
+        Work::Seats(places) => *places as usize,
         Work::Lists(lists, _) => lists.len(),
         Work::Crowd(count, _) => *count,
     };
@@ -202,7 +217,10 @@ fn tell<F: PriceFn + Drop + Send + Sync, K: ServiceBrand<F> + Send + Sync, R: Te
         };
         passes.push(pass)?;
     }
-    let text = carry_out(rt, &*service, passes, play.work)?;
+    let text = match play.work {
+        Work::Seats(_) => ask_for_one_more(rt.alloc(), service, passes.len())?,
+        work => carry_out(rt, &*service, passes, work)?,
+    };
     let mut kept = Kept {
         views: Vec::new(rt.alloc()),
         routes: Vec::new(rt.alloc()),
@@ -211,6 +229,21 @@ fn tell<F: PriceFn + Drop + Send + Sync, K: ServiceBrand<F> + Send + Sync, R: Te
     let told = play.play(rt, &*service, passes.as_mut_slice(), &mut kept, text);
     drop(kept);
     told
+}
+
+/// Asks for one pass more than so many that were given out. The text says what was answered.
+fn ask_for_one_more<F: PriceFn + Drop, K: ServiceBrand<F>>(
+    alloc: Global,
+    service: &mut Service<F, K>,
+    given: usize,
+) -> Result<String, AllocError> {
+    match service.pass() {
+        Ok(_pass) => format!(in alloc; "{given} given out, and one more\n"),
+        Err(fault) => {
+            let number = fault.number();
+            format!(in alloc; "{given} given out, then {number}\n")
+        }
+    }
 }
 
 /// Closes the service with these passes. The text says with how many calls it ended, and whether
@@ -248,7 +281,7 @@ fn carry_out<F: PriceFn + Drop + Send + Sync, K: ServiceBrand<F> + Send + Sync, 
     work: &Work<'_>,
 ) -> Result<String, Fail> {
     match work {
-        Work::Nothing(_) | Work::Given(_) => Ok(String::new(rt.alloc())),
+        Work::Nothing(_) | Work::Given(_) | Work::Seats(_) => Ok(String::new(rt.alloc())),
         Work::SecondAlone(_) => {
             let given = passes.len();
             passes.truncate(2);
@@ -285,7 +318,13 @@ fn run_made<F: PriceFn + Drop + Send + Sync, K: ServiceBrand<F> + Send + Sync, R
     if passes.len() != lists.len() {
         return Err("a pass for each list".into());
     }
-    let ends = run_workers(rt, rt.alloc(), service, passes, lists, gate)?;
+    let ends = match (gate, passes.first_mut()) {
+        (Round::Viewed(edges), Some(first)) => {
+            let view = &first.view()?;
+            run_workers(rt, rt.alloc(), service, passes, lists, &EarlierView { view, edges })?
+        }
+        _ => run_workers(rt, rt.alloc(), service, passes, lists, gate)?,
+    };
     let text = format!(in rt.alloc(); "{:?}\n", ends.as_slice());
     drop(ends);
     Ok(text?)

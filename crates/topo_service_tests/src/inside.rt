@@ -16,16 +16,19 @@ const LOOKS: u32 = 2_000_000;
 const WORKERS: usize = 16;
 
 /// Each worker waits before its call until all are there. It looks a bounded number of times,
-/// leaving the processor to others between, and does not block.
+/// leaving the processor to others between, and does not block. Of those who came it notes the
+/// numbers, each as one bit.
 #[derive(Drop)]
 pub(crate) struct Meeting {
     pub inside: AtomicUsize,
+    pub numbers: AtomicUsize,
     pub late: AtomicBool,
 }
 
 impl Meeting {
     /// Comes in, looks until all are there, and marks the run late where it does not see them.
-    pub(crate) fn look_for_all(&self) {
+    pub(crate) fn look_for_all(&self, worker: usize) {
+        let _ = self.numbers.fetch_or(bit_of(worker), Ordering::SeqCst);
         let _ = self.inside.fetch_add(1, Ordering::SeqCst);
         for _ in 0..LOOKS {
             if self.inside.load(Ordering::SeqCst) >= WORKERS {
@@ -35,6 +38,11 @@ impl Meeting {
         }
         self.late.store(true, Ordering::SeqCst);
     }
+}
+
+/// The bit of a worker's number; that of none past the last worker.
+fn bit_of(worker: usize) -> usize {
+    if worker < WORKERS { 1 << worker } else { 0 }
 }
 
 /// Follows two lists: for each the calls are to be before command 0, after it, before command 1,
@@ -90,10 +98,13 @@ fn sixteen_workers_are_inside_at_one_time(rt: HostRuntime) -> Result<(), Fail> {
     );
     let round = Round::Together(Meeting {
         inside: AtomicUsize::new(0),
+        numbers: AtomicUsize::new(0),
         late: AtomicBool::new(false),
     });
     let list: &[Command] = &[ALONG];
-    are_carried_out(&rt, &scene, &[list; WORKERS], &round)
+    are_carried_out(&rt, &scene, &[list; WORKERS], &round)?;
+    assert!(rt; round.has_met(0xffff));
+    Ok(())
 }
 
 #[test]

@@ -189,3 +189,39 @@ fn the_seventeenth_pass_is_refused_and_missing_ones_are_told(rt: HostRuntime) ->
     }
     Ok(())
 }
+
+/// A service of so many places: one pass more is refused, those that were given out go on, and the
+/// service ends well.
+#[test]
+fn a_pass_that_is_refused_holds_nobody_up(rt: HostRuntime) -> Result<(), Fail> {
+    let seats: [(u32, Scene<'static>); 2] = [
+        (
+            16,
+            Scene {
+                start: Start::Seed,
+                prices: (Some(1), &[]),
+                steps: &[(0, FIRST_LOOP), (15, FIRST_LOOP)],
+                due: "16 given out, then 41\n\
+                    Refused(SameEnds)\n\
+                    Refused(SameEnds)\n\
+                    []; 2 calls, replayed: true",
+            },
+        ),
+        (
+            1,
+            Scene {
+                start: Start::Seed,
+                prices: (Some(1), &[]),
+                steps: &[(0, FIRST_LOOP), (0, FIRST_LOOP)],
+                due: "1 given out, then 41\n\
+                    Refused(SameEnds)\n\
+                    Refused(SameEnds)\n\
+                    []; 2 calls, replayed: true",
+            },
+        ),
+    ];
+    for (places, scene) in &seats {
+        is_played(&rt, scene, Work::Seats(*places))?;
+    }
+    Ok(())
+}

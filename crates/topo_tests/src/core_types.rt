@@ -2,16 +2,18 @@
 
 ghost use Rattle.topo_price.specs.Prices.{IsPromise};
 
+use std::alloc::Global;
 use std::process::Abort;
 use std::test::Fail;
 use topo_core::ids::{CrossId, EdgeId, VertexId};
 use topo_core::limits::{Limits, LimitsFault};
 use topo_core::listed::Listed;
 use topo_core::rows::{Facts, Rows};
+use topo_price::asked::Asked;
 use topo_price::table::PriceFault;
 use topo_price::tariff::{PriceFn, Tariff};
-use topo_test_support::pictures::{Named, rows_of};
-use topo_test_support::prices::table_of;
+use topo_test_support::pictures::{BIPYRAMID, Named, rows_of};
+use topo_test_support::prices::{FIVE_TWO_NINE, table_of};
 
 #[test]
 fn ids_are_their_numbers(rt: HostRuntime) {
@@ -72,6 +74,35 @@ fn prices_of_a_table_are_known_by_kind(rt: HostRuntime) -> Result<(), Fail> {
     let table = table_of(Some(1), &[(1, Some(1000)), (2, None)])?;
     table.laws();
     is_known_by_kind(&rt, table);
+    Ok(())
+}
+
+/// The first two edges of the bipyramid, asked for at these prices.
+fn are_asked_for<F: PriceFn + Drop>(alloc: Global, rows: &Rows, ask: F) -> Result<Asked, Fail>
+    requires callable { F.is_callable ask }
+    requires promise { IsPromise (F.may_return ask) }
+{
+    let tariff = Tariff::new(ask);
+    let mut asked = Asked::new(alloc);
+    for edge in 0..2 {
+        let row = rows.edge(edge).ok_or("an edge")?;
+        let facts = Facts::from_row(row).ok_or("facts of an edge")?;
+        asked.ask(&tariff, &facts)?;
+    }
+    Ok(asked)
+}
+
+#[test]
+fn answers_are_kept_in_order(rt: HostRuntime) -> Result<(), Fail> {
+    let rows = rows_of(rt.alloc(), &BIPYRAMID)?;
+    let table = table_of(Some(1), FIVE_TWO_NINE)?;
+    table.laws();
+    let asked = are_asked_for(rt.alloc(), &rows, table);
+    drop(rows);
+    let asked = asked?;
+    assert_eq!(rt; asked.count(), 2);
+    assert!(rt; (asked.price(0), asked.price(1)) == (Some(5), Some(2)));
+    drop(asked);
     Ok(())
 }
 
