@@ -1,7 +1,8 @@
-"""How many allocations the program makes for a large text: one with no escape is read from its tokens, without a tree
-of values, whatever the order of its keys and the gaps between its tokens."""
+"""How many allocations the program makes for a large text: one with each key once is read from its tokens, without a tree
+of values, whatever the order of its keys, its escapes, and the gaps between its tokens."""
 
 import json
+import re
 import subprocess
 import unittest
 from typing import Any
@@ -72,9 +73,14 @@ def backward_layout(form: dict[str, Any]) -> bytes:
 
 
 def escaped_layout(form: dict[str, Any]) -> bytes:
-    """The text with an escape in its last key."""
+    """The text with an escape in each key and each word."""
+    return re.sub(rb'"([a-z])', lambda found: b'"\\u%04x' % ord(found[1]), own_layout(form))
+
+
+def repeated_layout(form: dict[str, Any]) -> bytes:
+    """The text with its last key twice."""
     key = max(form)
-    return own_layout(form).replace(f'"{key}":'.encode(), f'"\\u{ord(key[0]):04x}{key[1:]}":'.encode())
+    return own_layout(form)[:-1] + b',"%s":%s}' % (key.encode(), own_layout(form[key]))
 
 
 class Allocations(RefusedAllocationTest):
@@ -85,13 +91,15 @@ class Allocations(RefusedAllocationTest):
         return is_refused
 
     def check(self, verb: str, form: dict[str, Any], for_each: int) -> None:
-        """A text takes at most so many allocations for each vertex or call, also with gaps between its tokens, and with
-        its keys in another order. With an escape it takes more, so the bound tells the two ways to read apart."""
+        """A text takes at most so many allocations for each vertex or call, also with gaps between its tokens, with its
+        keys in another order, and with escapes. With a key twice it takes more, so the bound tells the two ways to read
+        apart."""
         most = for_each * COUNT + SOME
         self.assertFalse(self.makes_more_than(verb, own_layout(form), most))
         self.assertFalse(self.makes_more_than(verb, spaced_layout(form), most))
         self.assertFalse(self.makes_more_than(verb, backward_layout(form), most))
-        self.assertTrue(self.makes_more_than(verb, escaped_layout(form), most))
+        self.assertFalse(self.makes_more_than(verb, escaped_layout(form), most))
+        self.assertTrue(self.makes_more_than(verb, repeated_layout(form), most))
 
     def test_a_picture(self):
         self.check("check", path_picture(), 2)

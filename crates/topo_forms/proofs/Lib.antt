@@ -1,6 +1,7 @@
 pub mod Bytes
 pub mod Fronts
 pub mod Items
+pub mod Letters
 pub mod Lookups
 pub mod Objects
 pub mod PriceLists

@@ -10,7 +10,8 @@ ghost use Rattle.json.specs.Print.{escape};
 ghost use Rattle.json.specs.Run.{is_plain};
 ghost use Rattle.json.specs.Token.{string};
 ghost use Rattle.json.specs.Word.{ends_word, is_space};
-ghost use Rattle.topo_forms.specs.Readers.{ends_value};
+ghost use Rattle.std.specs.Char.{digit_value};
+ghost use Rattle.topo_forms.specs.Readers.{SpellsInside, StandsFor, ends_value};
 
 /// Whether two texts are the same. With a literal it becomes one comparison.
 #[inline(always)]
@@ -178,18 +179,114 @@ pub fn plain_len(bytes: &[u8]) -> usize
     i
 }
 
-/// The text in quotes at the front, and what follows it.
+/// The number that a hexadecimal digit stands for.
+fn hex_digit(byte: u8) -> Option<u8>
+    ensures { IfSome result (λ n. (n ≡ digit_value byte) × (n < 16)) }
+{
+    let digit = (byte as char).to_digit(16)?;
+    Some(digit as u8)
+}
+
+/// The letter that an escape at the front stands for, and what follows it: a backslash, `u`, and
+/// the number of an ASCII letter in four digits.
+fn behind_escape(bytes: &[u8]) -> Option<(u8, &[u8])>
+    ensures { IfSome result (λ r. StandsFor bytes.now r.0 r.1.now) }
+{
+    let digits = behind_literal(bytes, "\\u00")?;
+    if digits.len() < 2 {
+        return None;
+    }
+    let high = hex_digit(digits[0])?;
+    let low = hex_digit(digits[1])?;
+    if high >= 8 {
+        return None;
+    }
+    Some((high * 16 + low, &digits[2..]))
+}
+
+/// The letter at the front of the inside of a text, and what follows it.
+fn behind_letter(bytes: &[u8]) -> Option<(u8, &[u8])>
+    ensures { IfSome result (λ r. StandsFor bytes.now r.0 r.1.now) }
+{
+    if bytes.is_empty() {
+        return None;
+    }
+    let byte = bytes[0];
+    if byte == b'\\' {
+        return behind_escape(bytes);
+    }
+    if byte < 32 || byte == b'"' {
+        return None;
+    }
+    Some((byte, &bytes[1..]))
+}
+
+/// What follows this text and its closing quote, where they stand at the front, with escapes or
+/// without.
+fn behind_spelled<'a>(inside: &'a [u8], text: &[u8]) -> Option<&'a [u8]>
+    ensures { IfSome result (λ rest. SpellsInside inside.now text.now rest.now) }
+{
+    let mut rest = inside;
+    for wanted in text {
+        let (letter, more) = behind_letter(rest)?;
+        if letter != *wanted {
+            return None;
+        }
+        rest = more;
+    }
+    behind(rest, b'"')
+}
+
+/// The words of the forms that are texts.
+const WORDS: [&str; 18] = [
+    "BadKind",
+    "Cut",
+    "Full",
+    "Memory",
+    "NoEdge",
+    "NoPosition",
+    "NoRoute",
+    "NoVertex",
+    "SameEnds",
+    "back",
+    "delete",
+    "forward",
+    "grow",
+    "insert",
+    "ltr",
+    "planned",
+    "rtl",
+    "seed",
+];
+
+/// The word of the forms that stands at the front of the inside of a text, and what follows it and
+/// its closing quote.
+fn behind_word(inside: &[u8]) -> Option<(&[u8], &[u8])>
+    ensures { IfSome result (λ r. SpellsInside inside.now r.0.now r.1.now) }
+{
+    for word in WORDS {
+        if let Some(rest) = behind_spelled(inside, word.as_bytes()) {
+            return Some((word.as_bytes(), rest));
+        }
+    }
+    None
+}
+
+/// The text in quotes at the front, and what follows it. One with an escape is told only if it is a
+/// word of the forms.
 pub fn behind_text(bytes: &[u8]) -> Option<(&[u8], &[u8])>
     ensures { IfSome result
         (λ r. lex between bytes.now ≡ token (string r.0.now) ∷ lex between r.1.now) }
 {
     let inside = behind(bytes, b'"')?;
     let len = plain_len(inside);
-    let rest = behind(&inside[len..], b'"')?;
-    Some((&inside[..len], rest))
+    match behind(&inside[len..], b'"') {
+        Some(rest) => Some((&inside[..len], rest)),
+        None => behind_word(inside),
+    }
 }
 
-/// What follows this text in quotes, where it stands at the front.
+/// What follows this text in quotes, where it stands at the front, with escapes or without.
 #[inline(always)]
 pub fn behind_quoted<'a>(bytes: &'a [u8], text: &str) -> Option<&'a [u8]>
     requires { escape text.now ≡ text.now }
@@ -197,6 +294,8 @@ pub fn behind_quoted<'a>(bytes: &'a [u8], text: &str) -> Option<&'a [u8]>
         (λ rest. lex between bytes.now ≡ token (string text.now) ∷ lex between rest.now) }
 {
     let inside = behind(bytes, b'"')?;
-    let rest = behind_literal(inside, text)?;
-    behind(rest, b'"')
+    match behind_literal(inside, text) {
+        Some(rest) => behind(rest, b'"'),
+        None => behind_spelled(inside, text.as_bytes()),
+    }
 }

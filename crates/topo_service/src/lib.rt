@@ -46,4 +46,4 @@ pub use faults::{EndFault, PassFault, ServiceFault};
 pub use found::FoundRoute;
 pub use pass::{Pass, Receipt, View};
 pub use service::ServiceOver;
-pub use workers::{Gate, WorkerEnd, run_workers};
+pub use workers::{Gate, WorkerEnd, between, run_workers};

@@ -2,6 +2,7 @@
 
 ghost use Rattle.std.specs.Prelude.{◌≡◌, ◌<◌, ◌≤◌, ◌-◌, ◌++◌, ◌∷◌, ℕ, [], length};
 ghost use Rattle.std.specs.Prelude.{map, IfOk, IfSome, OnErr, OnOk, slice_index_or, vec_capacity};
+ghost use Rattle.std.specs.Fn.{FnOnceReturnsAtMut};
 ghost use Rattle.topo_core.specs.History.{IsPrefix, call_of};
 ghost use Rattle.topo_core.specs.declared.calls.Call.TheVariants.{Insert};
 ghost use Rattle.topo_service.specs.Answers.{HasReceiptOf};
@@ -27,6 +28,23 @@ pub trait Gate: Sync {
     fn before(&self, worker: usize, index: usize);
 
     fn after(&self, worker: usize, index: usize);
+}
+
+/// Makes a call on what it is given, between the gate's two calls for a command. Whatever is made of
+/// it, the gate is told that it has ended.
+pub fn between<T: Gate, S, A, F: FnOnce(&mut S) -> A>(
+    gate: &T,
+    (worker, index): (usize, usize),
+    state: &mut S,
+    call: F,
+) -> A
+    requires { F.IsAlwaysCallable call }
+    ensures { FnOnceReturnsAtMut F.FnOnce call state.old result state.new }
+{
+    gate.before(worker, index);
+    let made = call(state);
+    gate.after(worker, index);
+    made
 }
 
 /// How the work on a list ended.
@@ -167,9 +185,21 @@ fn work<F: PriceFn, K: ServiceBrand<F>, W: VersionWriter<F, K>, R: Wait, T: Gate
     ensures { HasMade (prices_named F.may_return K.closure) K.start pass.old pass.new list.now }
 {
     for (index, command) in list.iter().enumerate() {
-        gate.before(worker, index);
-        let made = carry_out(rt, alloc, service, pass, *command);
-        gate.after(worker, index);
+        let made = between(
+            gate,
+            (worker, index),
+            pass,
+            |pass: &mut Pass<F, K>|
+                ensures number { pass.exit.now.number ≡ pass.entry.now.number }
+                ensures receipt { OnOk result (HasReceiptOf (prices_named F.may_return K.closure)
+                    K.start pass.entry.now pass.exit.now (call_of command.now)) }
+                ensures later { IsPrefix pass.entry.now.seen pass.exit.now.seen }
+                ensures unchanged { OnErr result
+                    (pass.exit.now.receipts ≡ pass.entry.now.receipts) }
+            {
+                carry_out(rt, alloc, service, pass, *command)
+            },
+        );
         if made.is_err() {
             return;
         }

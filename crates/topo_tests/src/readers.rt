@@ -64,17 +64,17 @@ const EACH_FIELD: &str = concat!(
     r#""rotations":[]},"version":2}"#,
 );
 
-/// The same with the keys in other orders, and a price more.
+/// The same with the keys in other orders, escapes in keys and words, and a price more.
 const EACH_OTHERWISE: &str = concat!(
     r#"{"version":2,"start":{"rotations":[],"edges":[],"next_crossing":64,"next_edge":65,"#,
-    r#""crossings":[]},"history":[{"caller":23,"call":["grow",20,21,22],"#,
+    r#""crossings":[]},"history":[{"caller":23,"call":["\u0067row",20,21,22],"#,
     r#""reply":{"vertex":25,"edge":24}},{"call":["insert",26,27,28],"caller":29,"#,
-    r#""reply":{"start":37,"crossed":[[30,31,"back"],[32,33,"forward"]],"edge":34,"#,
-    r#""price":36,"end":35}},{"reply":{"refused":[6,"Cut",40]},"call":["delete",38],"#,
+    r#""reply":{"start":37,"crossed":[[30,31,"back"],[32,33,"forwar\u0064"]],"edge":34,"#,
+    r#""price":36,"end":35}},{"reply":{"refused":[6,"C\u0075t",40]},"call":["delete",38],"#,
     r#""caller":39},{"call":["delete",41],"caller":42,"reply":{"deleted":43}},"#,
-    r#"{"call":["delete",44],"caller":45,"reply":{"refused":[4,"NoEdge"]}}],"#,
+    r#"{"call":["delete",44],"caller":45,"reply":{"refused":[4,"N\u006fEdge"]}}],"#,
     r#""limits":{"vertices":48,"crossings":46,"edges":47},"prices":[62,null,63,1],"#,
-    r#""picture":{"crossings":[{"sign":"rtl","crossed":49,"id":50,"newcomer":51}],"#,
+    r#""picture":{"crossings":[{"si\u0067n":"r\u0074l","crossed":49,"id":50,"newcomer":51}],"#,
     r#""edges":[{"kind":56,"a":52,"b":53,"crossings":[54],"id":55}],"next_crossing":57,"#,
     r#""next_edge":58,"rotations":[[59],[60,61]]}}"#,
 );
