@@ -77,23 +77,24 @@ fn find_first<F: PriceFn>(
     alloc: Global,
     picture: &Picture,
     tariff: &Tariff<F>,
-    u: u32,
-    v: u32,
+    ends: (u32, u32),
     source: RouteSource<PricedRoute>,
     scratch: &mut Scratch,
 ) -> Result<Option<PricedRoute>, AllocError>
-    requires known { IsTrueOf (prices_of (F.may_return tariff.now)) picture.now.rows u v source }
-    requires u_there { u < length picture.now.rows.rotations }
-    requires v_there { v < length picture.now.rows.rotations }
-    requires apart { u ≢ v }
+    requires known { IsTrueOf (prices_of (F.may_return tariff.now))
+        picture.now.rows ends.0 ends.1 source }
+    requires start_there { ends.0 < length picture.now.rows.rotations }
+    requires end_there { ends.1 < length picture.now.rows.rotations }
+    requires apart { ends.0 ≢ ends.1 }
     ensures { IfOk result (λ found. MatchOption found
-        (HasNoRoute (prices_of (F.may_return tariff.now)) picture.now.rows u v)
-        (λ r. IsFirst (prices_of (F.may_return tariff.now)) picture.now.rows u v r.route r.price)) }
+        (HasNoRoute (prices_of (F.may_return tariff.now)) picture.now.rows ends.0 ends.1)
+        (λ r. IsFirst (prices_of (F.may_return tariff.now))
+        picture.now.rows ends.0 ends.1 r.route r.price)) }
 {
     match source {
         RouteSource::Search => {}
         RouteSource::Plan(plan) => {
-            if passes(picture, tariff, (u, v), plan, &mut scratch.lists)? {
+            if passes(picture, tariff, ends, plan, &mut scratch.lists)? {
                 return Ok(Some(route_of(alloc, &plan.route, plan.price)?));
             }
         }
@@ -101,30 +102,30 @@ fn find_first<F: PriceFn>(
             return Ok(Some(route_of(alloc, &first.route, first.price)?));
         }
     }
+    let (u, v) = ends;
     first_route(alloc, &picture.embedded(), tariff, u, v, &mut scratch.work)
 }
 
-/// The reply that is due to an insertion from `u` to `v`, for which what it brings along may spare
-/// the search.
+/// The reply that is due to an insertion of an edge with these ends and of this kind, for which
+/// what it brings along may spare the search.
 fn decide_insertion<F: PriceFn>(
     alloc: Global,
     picture: &Picture,
     tariff: &Tariff<F>,
-    ends: (u32, u32),
-    kind: u32,
+    edge: (u32, u32, u32),
     source: RouteSource<PricedRoute>,
     scratch: &mut Scratch,
 ) -> Result<Reply, AllocError>
     requires { IsTrueOf (prices_of (F.may_return tariff.now))
-        picture.now.rows ends.0 ends.1 source }
+        picture.now.rows edge.0 edge.1 source }
     ensures { IfOk result (IsDue (prices_of (F.may_return tariff.now))
-        picture.now.limits picture.now.rows (Insert ends.0 ends.1 kind)) }
+        picture.now.limits picture.now.rows (Insert edge.0 edge.1 edge.2)) }
 {
-    let (u, v) = ends;
+    let (u, v, kind) = edge;
     if let Err(why) = picture.admit(u, v, kind) {
         return Ok(Reply::Refused(why));
     }
-    let Some(first) = find_first(alloc, picture, tariff, u, v, source, scratch)? else {
+    let Some(first) = find_first(alloc, picture, tariff, (u, v), source, scratch)? else {
         return Ok(Reply::Refused(Refusal::NoRoute));
     };
     match picture.admit_route(&first.route) {
@@ -158,7 +159,7 @@ pub(crate) fn decide<F: PriceFn>(
             Err(why) => Ok(Reply::Refused(why)),
         },
         Call::Insert { u, v, kind } => {
-            decide_insertion(alloc, picture, tariff, (u, v), kind, source, scratch)
+            decide_insertion(alloc, picture, tariff, (u, v, kind), source, scratch)
         }
         Call::Delete { edge } => match picture.admit_deletion(edge) {
             Ok(()) => Ok(Reply::Deleted(EdgeId::new(edge))),

@@ -408,9 +408,9 @@ impl Embedded {
             unreachable!()
         };
         let mut crossed = self.crossed_of(alloc, route.crossed.as_slice())?;
-        let corners = (start, end);
+        let edge = (ends.0, ends.1, kind);
         self.parts
-            .insert(alloc, &mut crossed, corners, ends, kind, route)
+            .insert(alloc, &mut crossed, (start, end), edge, route)
     }
 }
 

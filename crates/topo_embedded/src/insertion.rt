@@ -67,27 +67,35 @@ fn subdivided(crossed: &[Crossed], half: Half) -> Half
     half
 }
 
+/// A new edge: its number, and the halves that name the corners of its two ends.
+#[derive(Clone, Copy)]
+struct NewEdge {
+    edge: u32,
+    start: Half,
+    end: Half,
+}
+
 /// Adds the segments of the new edge between the crossings and its ends, the last one first, and
 /// writes down their halves.
 fn add_chords(
     segments: &mut Embedding,
     bounds: &mut Bounds,
     crossed: &[Crossed],
-    start: Half,
-    end: Half,
-    edge: u32,
+    new: NewEdge,
     line: &mut Path,
 )
-    requires start { is_live segments.old start ≡ true }
-    requires end { is_live segments.old end ≡ true }
+    requires start { is_live segments.old new.start ≡ true }
+    requires end { is_live segments.old new.end ≡ true }
     requires alive { All (λ c. (is_live segments.old (twin c.near) ≡ true)
         × (is_live segments.old c.beyond ≡ true)) crossed.now }
     requires room { length crossed.now + 1 ≤ segments.old.room }
     requires line { length line.old ≡ length crossed.now + 1 }
-    ensures added { AreChordsAdded segments.old segments.new crossed.now start end edge line.new }
+    ensures added { AreChordsAdded segments.old segments.new crossed.now new.start new.end
+        new.edge line.new }
     ensures bounds { GoesOn segments.old segments.new bounds.old bounds.new }
 {
     segments.laws();
+    let NewEdge { edge, start, end } = new;
     let mut to = end;
     let mut n = crossed.len();
     while n > 0 {
@@ -135,15 +143,14 @@ fn add_route(
     segments: &mut Embedding,
     bounds: &mut Bounds,
     crossed: &mut [Crossed],
-    corners: (Half, Half),
-    edge: u32,
+    new: NewEdge,
     line: &mut Path,
 )
     ghost p: { RowsWithPaths }
     requires ready { IsReady p segments.old crossed.old (values_in paths.old) }
     requires room { 2 * length crossed.old + 1 ≤ segments.old.room }
-    requires start { is_live segments.old corners.0 ≡ true }
-    requires end { is_live segments.old corners.1 ≡ true }
+    requires start { is_live segments.old new.start ≡ true }
+    requires end { is_live segments.old new.end ≡ true }
     requires line { length line.old ≡ length crossed.old + 1 }
     requires ids { ids_in paths.old ≡ map (λ row. row.id) p.rows.edges }
     ensures darts { crossed_darts crossed.new ≡ crossed_darts crossed.old }
@@ -151,44 +158,46 @@ fn add_route(
     ensures paths { values_in paths.new
         ≡ map (put_halves (subdivisions_of p.rows crossed.new)) p.paths }
     ensures same { KeepsIds paths.old paths.new }
-    ensures routed { IsRouted p segments.old segments.new crossed.new corners.0
-        corners.1 edge line.new }
+    ensures routed { IsRouted p segments.old segments.new crossed.new new.start new.end
+        new.edge line.new }
     ensures bounds { GoesOn segments.old segments.new bounds.old bounds.new }
 {
     segments.laws();
     split_crossed(paths, segments, crossed);
-    let start = subdivided(crossed, corners.0);
-    let end = subdivided(crossed, corners.1);
-    add_chords(segments, bounds, crossed, start, end, edge, line);
+    let split = NewEdge {
+        edge: new.edge,
+        start: subdivided(crossed, new.start),
+        end: subdivided(crossed, new.end),
+    };
+    add_chords(segments, bounds, crossed, split, line);
 }
 
 impl Parts {
-    /// Puts a new edge along a route, between the corners that the halves name, into the rows and
-    /// the embedding, or leaves all as it was.
+    /// Puts a new edge with these ends and of this kind along a route, between the corners that the
+    /// halves name, into the rows and the embedding, or leaves all as it was.
     pub(crate) fn insert(
         &mut self,
         alloc: Global,
         crossed: &mut [Crossed],
         corners: (Half, Half),
-        ends: (u32, u32),
-        kind: u32,
+        edge: (u32, u32, u32),
         route: &Route,
     ) -> Result<(), AllocError>
         requires ready { IsReadyFor (with_paths self.old)
-            self.old.segments crossed.old ends.0 ends.1 kind route.now corners.0 corners.1 }
+            self.old.segments crossed.old edge.0 edge.1 edge.2 route.now corners.0 corners.1 }
         requires kept { AreForEdges self.old.rows self.old.paths }
         requires searches { AreForSearches self.old }
         requires edges { self.old.rows.next_edge + 1 < 2 ^ 32 }
         requires crossing_ids { self.old.rows.next_crossing + length route.now.crossed < 2 ^ 32 }
         ensures ok { OnOk result
-            (self.new.rows ≡ shown self.old.rows ends.0 ends.1 kind route.now) }
+            (self.new.rows ≡ shown self.old.rows edge.0 edge.1 edge.2 route.now) }
         ensures err { OnErr result (self.new.rows ≡ self.old.rows) }
         ensures err_paths { OnErr result (values_in self.new.paths ≡ values_in self.old.paths) }
         ensures shows { Agree self.new }
         ensures kept { AreForEdges self.new.rows self.new.paths }
         ensures searches { AreForSearches self.new }
     {
-        self.add_edge(alloc, crossed, corners, ends, kind, route)
+        self.add_edge(alloc, crossed, corners, edge, route)
     }
 
     // As `insert`, with a name for the proof of what is there before.
@@ -197,46 +206,42 @@ impl Parts {
         alloc: Global,
         crossed: &mut [Crossed],
         corners: (Half, Half),
-        ends: (u32, u32),
-        kind: u32,
+        edge: (u32, u32, u32),
         route: &Route,
     ) -> Result<(), AllocError>
         ghost p: { RowsWithPaths }
         requires was { p ≡ with_paths self.old }
-        requires ready { IsReadyFor p self.old.segments crossed.old ends.0 ends.1 kind route.now
+        requires ready { IsReadyFor p self.old.segments crossed.old edge.0 edge.1 edge.2 route.now
             corners.0 corners.1 }
         requires kept { AreForEdges self.old.rows self.old.paths }
         requires searches { AreForSearches self.old }
         requires edges { self.old.rows.next_edge + 1 < 2 ^ 32 }
         requires crossing_ids { self.old.rows.next_crossing + length route.now.crossed < 2 ^ 32 }
         ensures ok { OnOk result
-            (self.new.rows ≡ shown self.old.rows ends.0 ends.1 kind route.now) }
+            (self.new.rows ≡ shown self.old.rows edge.0 edge.1 edge.2 route.now) }
         ensures err { OnErr result (self.new.rows ≡ self.old.rows) }
         ensures err_paths { OnErr result (values_in self.new.paths ≡ values_in self.old.paths) }
         ensures shows { Agree self.new }
         ensures kept { AreForEdges self.new.rows self.new.paths }
         ensures searches { AreForSearches self.new }
     {
-        let edge = self.rows.next_edge();
+        let (a, b, kind) = edge;
+        let number = self.rows.next_edge();
+        let new = NewEdge {
+            edge: number,
+            start: corners.0,
+            end: corners.1,
+        };
         let mut line = make_room(alloc, &mut self.paths, &mut self.segments, crossed)?;
-        if apply_rows(alloc, &mut self.rows, ends.0, ends.1, kind, route).is_err() {
+        if apply_rows(alloc, &mut self.rows, a, b, kind, route).is_err() {
             unpad(&mut self.paths, crossed);
             return Err(AllocError);
         }
         self.segments.laws();
-        let paths = &mut self.paths;
-        let bounds = &mut self.bounds;
-        add_route(
-            paths,
-            &mut self.segments,
-            bounds,
-            crossed,
-            corners,
-            edge,
-            &mut line,
-        );
-        paths.push(edge, line);
-        self.kinds.note(edge, kind);
+        let (paths, segments) = (&mut self.paths, &mut self.segments);
+        add_route(paths, segments, &mut self.bounds, crossed, new, &mut line);
+        self.paths.push(number, line);
+        self.kinds.note(number, kind);
         Ok(())
     }
 }

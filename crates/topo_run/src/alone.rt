@@ -1,8 +1,8 @@
 //! A run of one list: on a book, with no lock and no versions, since nobody else takes part.
 
-ghost use Rattle.std.specs.Prelude.{◌≡◌, ◌++◌, ◌∷◌, [], IfErr, IfOk, true};
+ghost use Rattle.std.specs.Prelude.{◌≡◌, ◌++◌, ◌∷◌, [], IfErr, IfOk, OnOk, true};
 ghost use Rattle.std.specs.Arc.{arc_value};
-ghost use Rattle.topo_book.specs.Books.{IsSameBook};
+ghost use Rattle.topo_book.specs.Books.{IsAnswered, IsSameBook};
 ghost use Rattle.topo_core.specs.History.{IsRun, call_of};
 ghost use Rattle.topo_price.specs.Prices.{prices_of};
 ghost use Rattle.topo_run.specs.Working.{HasEntered};
@@ -14,7 +14,7 @@ use topo_book::Book;
 use topo_core::calls::{Call, Command, Reply};
 use topo_picture::Picture;
 use topo_price::tariff::{PriceFn, Tariff};
-use topo_service::Gate;
+use topo_service::{Gate, between};
 use topo_settings::RunFault;
 
 /// The call that a command makes.
@@ -40,9 +40,19 @@ fn carry_out<F: PriceFn, T: Gate>(
     ensures same_book { IsSameBook book.old book.new }
 {
     for (index, command) in list.iter().enumerate() {
-        gate.before(0, index);
-        let made = book.enter(alloc, 0, call_of(*command));
-        gate.after(0, index);
+        let made = between(
+            gate,
+            (0, index),
+            book,
+            |book: &mut Book<F>|
+                ensures answered { OnOk result ((reply : Reply) × IsAnswered
+                    (prices_of (F.may_return book.entry.now.tariff)) 0 (call_of command.now)
+                    reply book.entry.now book.exit.now) }
+                ensures same_book { IsSameBook book.entry.now book.exit.now }
+            {
+                book.enter(alloc, 0, call_of(*command))
+            },
+        );
         if made.is_err() {
             return false;
         }

@@ -39,6 +39,13 @@ AreHonest price start number known [] seen = IsPrefix known seen
 AreHonest price start number known (receipt ∷ receipts) seen = (after : List Entry) × IsHonest price start number known after receipt
     × AreHonest price start number after receipts seen
 
+-- The pass goes on under its number, with one receipt more: of the call and this reply, and it is honest. This is what each call
+-- of a service promises.
+pub record HasCalled (price : Pricing) (start : Shown) (old new : PassState) (call : Call) (reply : Reply) : Type 0 where
+  pub number : new.number ≡ old.number
+  pub receipt : new.receipts ≡ old.receipts ++ receipt_of call reply ∷ []
+  pub honest : IsHonest price start old.number old.seen new.seen (receipt_of call reply)
+
 -- the pass has one receipt more, of the call, and it is honest
 pub record HasReceiptOf (price : Pricing) (start : Shown) (old new : PassState) (call : Call) : Type 0 where
   pub reply : Reply

@@ -17,7 +17,7 @@ use crate::pass::Pass;
 use crate::service::ServiceOver;
 use crate::share_pool::SharePool;
 use std::alloc::{AllocError, Global};
-use std::sync::ledger::{Blank, Book as Tally};
+use std::sync::ledger::Blank;
 use std::sync::{Arc, Mutex, Wait};
 use topo_book::Book;
 use topo_core::limits::MAX_PASSES;
@@ -105,26 +105,6 @@ fn book_with_store<F: PriceFn + Drop, K: ServiceBrand<F>>(
     Ok((book, writer))
 }
 
-/// What lies under the lock of a service with no call, for so many passes.
-fn state_of<F: PriceFn + Drop, K: ServiceBrand<F>>(
-    alloc: Global,
-    log_length: LogLength<K>,
-    prefix: LogPrefix<F, K>,
-    calls: Tally<K>,
-    start: Picture,
-    tariff: &Arc<Tariff<F>>,
-    places: u32,
-) -> Result<LockedState<F, K, StoreWriter<F, K>>, AllocError>
-    requires empty { prefix ≡ [] }
-    requires no_call { calls.total ≡ 0 }
-    requires start { start ≡ K.start }
-    requires prices { K.closure ≡ Some (arc_value tariff.now) }
-    requires places { 0 < places }
-{
-    let (book, writer) = book_with_store(alloc, start, tariff, &prefix, places)?;
-    Ok(LockedState::new(book, calls, log_length, prefix, writer))
-}
-
 /// A service over the version store.
 pub type Service<F, K> = ServiceOver<F, K, StoreWriter<F, K>>;
 
@@ -172,7 +152,8 @@ impl<F: PriceFn + Drop, K: ServiceBrand<F>> Service<F, K> {
         let (calls, rest) = blank.open::<K>();
         let (log_length, prefix) = log.named::<F, K>();
         let nothing = prefix.share();
-        let state = state_of(alloc, log_length, prefix, calls, start, &tariff, places)?;
+        let (book, writer) = book_with_store(alloc, start, &tariff, &prefix, places)?;
+        let state = LockedState::new(book, calls, log_length, prefix, writer);
         Ok(ServiceOver {
             alloc,
             tariff,

@@ -115,34 +115,13 @@ fn show<F: PriceFn, K: ServiceBrand<F>, W: VersionWriter<F, K>, R: Wait>(
     Ok(())
 }
 
-/// The answer to a call that was made ready, once the version after it is published where it is
-/// accepted. Out of memory, nothing has changed.
-fn answer_ready<F: PriceFn, K: ServiceBrand<F>, W: VersionWriter<F, K>, R: Wait>(
-    rt: &R,
-    alloc: Global,
-    log_length: &LogLength<K>,
-    prefix: &mut LogPrefix<F, K>,
-    writer: &mut W,
-    next: &Next,
-    is_asked: bool,
-) -> Result<ReplyPair, AllocError>
-    requires room { length prefix.old + 1 < 2 ^ 64 }
-    requires whole { W.published writer.old ≡ Some prefix.old }
-    requires follows { IfSome next.now.picture (λ picture. IsVersionFrom
-        (prices_named F.may_return K.closure) K.start (prefix.old ++ next.now.entry ∷ []) picture) }
-    ensures reply { IfOk result (λ pair. pair.receipt ≡ next.now.entry.reply) }
-    ensures answer { IfOk result (λ pair. is_some pair.answer ≡ is_asked) }
-    ensures told { IfOk result (λ pair. IfSome pair.answer (λ r. r ≡ next.now.entry.reply)) }
-    ensures prefix { OnOk result
-        (prefix.new ≡ (if is_accepted next.now.entry.reply then prefix.old ++ next.now.entry
-        ∷ [] else prefix.old)) }
-    ensures published { OnOk result (W.published writer.new ≡ Some prefix.new) }
-    ensures err { OnErr result
-        ((prefix.new ≡ prefix.old) × (W.published writer.new ≡ W.published writer.old)) }
-{
-    let pair = ReplyPair::of(alloc, &next.entry().reply, is_asked)?;
-    show::<F, K, W, R>(rt, log_length, prefix, writer, next)?;
-    Ok(pair)
+/// What a pass wants carried out: a call, where the route of an insertion comes from, and whether
+/// the reply is to be copied once more, for who asks for it.
+#[derive(Drop)]
+pub(crate) struct Demand<'a, F: PriceFn, K: ServiceBrand<F>> {
+    pub call: Call,
+    pub source: RouteSource<'a, FoundRoute<F, K>>,
+    pub is_asked: bool,
 }
 
 impl<F: PriceFn, K: ServiceBrand<F>, W: VersionWriter<F, K>> LockedState<F, K, W> {
@@ -214,9 +193,7 @@ impl<F: PriceFn, K: ServiceBrand<F>, W: VersionWriter<F, K>> LockedState<F, K, W
         alloc: Global,
         mine: &mut Share<K>,
         caller: u32,
-        call: Call,
-        source: RouteSource<FoundRoute<F, K>>,
-        is_asked: bool,
+        demand: Demand<F, K>,
     ) -> Result<ReplyPair, AllocError>
         requires { 0 < mine.old.parts }
         ensures parts { mine.new.parts ≡ mine.old.parts }
@@ -225,28 +202,28 @@ impl<F: PriceFn, K: ServiceBrand<F>, W: VersionWriter<F, K>> LockedState<F, K, W
         ensures same_book { IsSameBook self.old self.new }
         ensures entered { IfOk result
             (λ pair. self.new.history
-            ≡ self.old.history ++ entry_of caller call pair.receipt ∷ []) }
+            ≡ self.old.history ++ entry_of caller demand.call pair.receipt ∷ []) }
         ensures step { IfOk result (λ pair. Step (prices_named F.may_return K.closure)
-            K.start.limits self.old.picture.rows call pair.receipt self.new.picture.rows) }
+            K.start.limits self.old.picture.rows demand.call pair.receipt
+            self.new.picture.rows) }
         ensures no_memory { IfOk result (λ pair. pair.receipt ≢ Refused Memory) }
-        ensures answer { IfOk result (λ pair. is_some pair.answer ≡ is_asked) }
+        ensures answer { IfOk result (λ pair. is_some pair.answer ≡ demand.is_asked) }
         ensures told { IfOk result (λ pair. IfSome pair.answer (λ r. r ≡ pair.receipt)) }
         ensures unchanged { OnErr result (IsUnchanged self.old self.new) }
     {
+        let Demand {
+            call,
+            source,
+            is_asked,
+        } = demand;
         let known = self.known(call, source);
         self.was_known = matches!(known, RouteSource::Found(_));
         let next = prepare_call(&mut self.book, alloc, caller, call, known)?;
         // For the proof: what the type keeps.
         next.picture();
-        let pair = answer_ready::<F, K, W, R>(
-            rt,
-            alloc,
-            &self.log_length,
-            &mut self.prefix,
-            &mut self.writer,
-            &next,
-            is_asked,
-        )?;
+        let pair = ReplyPair::of(alloc, &next.entry().reply, is_asked)?;
+        let (log_length, prefix) = (&self.log_length, &mut self.prefix);
+        show::<F, K, W, R>(rt, log_length, prefix, &mut self.writer, &next)?;
         self.book.commit(next);
         self.calls.add(mine, 1);
         Ok(pair)

@@ -15,7 +15,7 @@ ghost use Rattle.topo_core.specs.declared.limits.TheConstants.{MAX_PASSES};
 use crate::faults::ServiceFault;
 use crate::found::FoundRoute;
 use crate::inbox::Inbox;
-use crate::locked_state::LockedState;
+use crate::locked_state::{Demand, LockedState};
 use crate::lookahead::Lookahead;
 use crate::pass::{Pass, Receipt};
 use crate::reply_pair::ReplyPair;
@@ -116,18 +116,9 @@ impl<F: PriceFn, K: ServiceBrand<F>, W: VersionWriter<F, K>> ServiceOver<F, K, W
         v: u32,
         kind: u32,
     ) -> Result<Reply, AllocError>
-        ensures number { pass.new.number ≡ pass.old.number }
-        ensures receipt { IfOk result (λ reply. pass.new.receipts ≡ pass.old.receipts
-            ++ receipt_of (Insert u v kind) reply ∷ []) }
-        ensures later { IsPrefix pass.old.seen pass.new.seen }
-        ensures accepted { IfOk result
-            (λ reply. is_accepted reply ≡ true → HasEntered pass.old.seen pass.new.seen
-            (entry_of pass.old.number (Insert u v kind) reply)) }
-        ensures refused { IfOk result (λ reply. is_accepted reply ≡ false
-            → IsDueAfter (prices_named F.may_return K.closure) K.start pass.new.seen
-            (Insert u v kind) reply) }
+        ensures called { IfOk result (HasCalled (prices_named F.may_return K.closure)
+            K.start pass.old pass.new (Insert u v kind)) }
         ensures legal { AreLegal (prices_named F.may_return K.closure) K.start pass.new.seen }
-        ensures no_memory { IfOk result (λ reply. reply ≢ Refused Memory) }
         ensures unchanged { OnErr result (pass.new ≡ pass.old) }
     {
         self.call(rt, pass, Call::Insert { u, v, kind }, RouteSource::Search)
@@ -144,18 +135,9 @@ impl<F: PriceFn, K: ServiceBrand<F>, W: VersionWriter<F, K>> ServiceOver<F, K, W
         kind: u32,
         plan: &Plan,
     ) -> Result<Reply, AllocError>
-        ensures number { pass.new.number ≡ pass.old.number }
-        ensures receipt { IfOk result (λ reply. pass.new.receipts ≡ pass.old.receipts
-            ++ receipt_of (Insert u v kind) reply ∷ []) }
-        ensures later { IsPrefix pass.old.seen pass.new.seen }
-        ensures accepted { IfOk result
-            (λ reply. is_accepted reply ≡ true → HasEntered pass.old.seen pass.new.seen
-            (entry_of pass.old.number (Insert u v kind) reply)) }
-        ensures refused { IfOk result (λ reply. is_accepted reply ≡ false
-            → IsDueAfter (prices_named F.may_return K.closure) K.start pass.new.seen
-            (Insert u v kind) reply) }
+        ensures called { IfOk result (HasCalled (prices_named F.may_return K.closure)
+            K.start pass.old pass.new (Insert u v kind)) }
         ensures legal { AreLegal (prices_named F.may_return K.closure) K.start pass.new.seen }
-        ensures no_memory { IfOk result (λ reply. reply ≢ Refused Memory) }
         ensures unchanged { OnErr result (pass.new ≡ pass.old) }
     {
         let planned = RouteSource::Plan(plan);
@@ -172,18 +154,9 @@ impl<F: PriceFn, K: ServiceBrand<F>, W: VersionWriter<F, K>> ServiceOver<F, K, W
         kind: u32,
         found: &FoundRoute<F, K>,
     ) -> Result<Reply, AllocError>
-        ensures number { pass.new.number ≡ pass.old.number }
-        ensures receipt { IfOk result (λ reply. pass.new.receipts ≡ pass.old.receipts
-            ++ receipt_of (Insert found.now.u found.now.v kind) reply ∷ []) }
-        ensures later { IsPrefix pass.old.seen pass.new.seen }
-        ensures accepted { IfOk result
-            (λ reply. is_accepted reply ≡ true → HasEntered pass.old.seen pass.new.seen
-            (entry_of pass.old.number (Insert found.now.u found.now.v kind) reply)) }
-        ensures refused { IfOk result (λ reply. is_accepted reply ≡ false
-            → IsDueAfter (prices_named F.may_return K.closure) K.start pass.new.seen
-            (Insert found.now.u found.now.v kind) reply) }
+        ensures called { IfOk result (HasCalled (prices_named F.may_return K.closure)
+            K.start pass.old pass.new (Insert found.now.u found.now.v kind)) }
         ensures legal { AreLegal (prices_named F.may_return K.closure) K.start pass.new.seen }
-        ensures no_memory { IfOk result (λ reply. reply ≢ Refused Memory) }
         ensures unchanged { OnErr result (pass.new ≡ pass.old) }
     {
         let (u, v) = found.ends();
@@ -198,19 +171,9 @@ impl<F: PriceFn, K: ServiceBrand<F>, W: VersionWriter<F, K>> ServiceOver<F, K, W
         pass: &mut Pass<F, K>,
         edge: u32,
     ) -> Result<Reply, AllocError>
-        ensures number { pass.new.number ≡ pass.old.number }
-        ensures receipt { IfOk result
-            (λ reply. pass.new.receipts ≡ pass.old.receipts
-            ++ receipt_of (Delete edge) reply ∷ []) }
-        ensures later { IsPrefix pass.old.seen pass.new.seen }
-        ensures accepted { IfOk result
-            (λ reply. is_accepted reply ≡ true → HasEntered pass.old.seen pass.new.seen
-            (entry_of pass.old.number (Delete edge) reply)) }
-        ensures refused { IfOk result (λ reply. is_accepted reply ≡ false
-            → IsDueAfter (prices_named F.may_return K.closure) K.start pass.new.seen
-            (Delete edge) reply) }
+        ensures called { IfOk result (HasCalled (prices_named F.may_return K.closure)
+            K.start pass.old pass.new (Delete edge)) }
         ensures legal { AreLegal (prices_named F.may_return K.closure) K.start pass.new.seen }
-        ensures no_memory { IfOk result (λ reply. reply ≢ Refused Memory) }
         ensures unchanged { OnErr result (pass.new ≡ pass.old) }
     {
         self.call(rt, pass, Call::Delete { edge }, RouteSource::Search)
@@ -226,18 +189,9 @@ impl<F: PriceFn, K: ServiceBrand<F>, W: VersionWriter<F, K>> ServiceOver<F, K, W
         position: u32,
         kind: u32,
     ) -> Result<Reply, AllocError>
-        ensures number { pass.new.number ≡ pass.old.number }
-        ensures receipt { IfOk result (λ reply. pass.new.receipts ≡ pass.old.receipts
-            ++ receipt_of (Grow u position kind) reply ∷ []) }
-        ensures later { IsPrefix pass.old.seen pass.new.seen }
-        ensures accepted { IfOk result
-            (λ reply. is_accepted reply ≡ true → HasEntered pass.old.seen pass.new.seen
-            (entry_of pass.old.number (Grow u position kind) reply)) }
-        ensures refused { IfOk result (λ reply. is_accepted reply ≡ false
-            → IsDueAfter (prices_named F.may_return K.closure) K.start pass.new.seen
-            (Grow u position kind) reply) }
+        ensures called { IfOk result (HasCalled (prices_named F.may_return K.closure)
+            K.start pass.old pass.new (Grow u position kind)) }
         ensures legal { AreLegal (prices_named F.may_return K.closure) K.start pass.new.seen }
-        ensures no_memory { IfOk result (λ reply. reply ≢ Refused Memory) }
         ensures unchanged { OnErr result (pass.new ≡ pass.old) }
     {
         let growth = Call::Grow { u, position, kind };
@@ -252,20 +206,17 @@ impl<F: PriceFn, K: ServiceBrand<F>, W: VersionWriter<F, K>> ServiceOver<F, K, W
         call: Call,
         source: RouteSource<'a, FoundRoute<F, K>>,
     ) -> Result<Reply, AllocError>
-        ensures number { pass.new.number ≡ pass.old.number }
-        ensures receipt { IfOk result
-            (λ reply. pass.new.receipts ≡ pass.old.receipts ++ receipt_of call reply ∷ []) }
-        ensures later { IsPrefix pass.old.seen pass.new.seen }
-        ensures accepted { IfOk result
-            (λ reply. is_accepted reply ≡ true → HasEntered pass.old.seen pass.new.seen
-            (entry_of pass.old.number call reply)) }
-        ensures refused { IfOk result (λ reply. is_accepted reply ≡ false
-            → IsDueAfter (prices_named F.may_return K.closure) K.start pass.new.seen call reply) }
+        ensures called { IfOk result (HasCalled (prices_named F.may_return K.closure)
+            K.start pass.old pass.new call) }
         ensures legal { AreLegal (prices_named F.may_return K.closure) K.start pass.new.seen }
-        ensures no_memory { IfOk result (λ reply. reply ≢ Refused Memory) }
         ensures unchanged { OnErr result (pass.new ≡ pass.old) }
     {
-        match self.enter(rt, pass, call, source, true)? {
+        let demand = Demand {
+            call,
+            source,
+            is_asked: true,
+        };
+        match self.enter(rt, pass, demand)? {
             Some(reply) => Ok(reply),
             None => unreachable!(),
         }
@@ -277,20 +228,18 @@ impl<F: PriceFn, K: ServiceBrand<F>, W: VersionWriter<F, K>> ServiceOver<F, K, W
         &'a self,
         rt: &R,
         pass: &mut Pass<F, K>,
-        call: Call,
-        source: RouteSource<'a, FoundRoute<F, K>>,
-        is_asked: bool,
+        demand: Demand<'a, F, K>,
     ) -> Result<Option<Reply>, AllocError>
         ensures number { pass.new.number ≡ pass.old.number }
-        ensures asked { IfOk result (λ reply. is_some reply ≡ is_asked) }
+        ensures asked { IfOk result (λ reply. is_some reply ≡ demand.is_asked) }
         ensures answered { IfOk result (IsAnswered (prices_named F.may_return K.closure)
-            K.start pass.old pass.new call) }
+            K.start pass.old pass.new demand.call) }
         ensures later { IsPrefix pass.old.seen pass.new.seen }
         ensures legal { AreLegal (prices_named F.may_return K.closure) K.start pass.new.seen }
         ensures unchanged { OnErr result (pass.new ≡ pass.old) }
     {
         let mut guard = self.state.lock(rt);
-        enter_in(rt, self.alloc, &mut *guard, pass, call, source, is_asked)
+        enter_in(rt, self.alloc, &mut *guard, pass, demand)
     }
 
     /// As `enter` of an insertion, if the route that was found for it still stands. Else nothing is
@@ -318,9 +267,12 @@ impl<F: PriceFn, K: ServiceBrand<F>, W: VersionWriter<F, K>> ServiceOver<F, K, W
             catch_up(rt, self.alloc, &*guard, pass);
             return Ok(false);
         }
-        let source = RouteSource::Found(found);
-        let insertion = Call::Insert { u, v, kind };
-        enter_in(rt, self.alloc, &mut *guard, pass, insertion, source, false)?;
+        let demand = Demand {
+            call: Call::Insert { u, v, kind },
+            source: RouteSource::Found(found),
+            is_asked: false,
+        };
+        enter_in(rt, self.alloc, &mut *guard, pass, demand)?;
         Ok(true)
     }
 }
@@ -351,9 +303,7 @@ fn enter_in<'a, F, K, W, R>(
     alloc: Global,
     state: &mut LockedState<F, K, W>,
     pass: &mut Pass<F, K>,
-    call: Call,
-    source: RouteSource<'a, FoundRoute<F, K>>,
-    is_asked: bool,
+    demand: Demand<'a, F, K>,
 ) -> Result<Option<Reply>, AllocError>
 where
     F: PriceFn,
@@ -361,9 +311,9 @@ where
     W: VersionWriter<F, K>,
     R: Wait,
     ensures number { pass.new.number ≡ pass.old.number }
-    ensures asked { IfOk result (λ reply. is_some reply ≡ is_asked) }
+    ensures asked { IfOk result (λ reply. is_some reply ≡ demand.is_asked) }
     ensures answered { IfOk result (IsAnswered (prices_named F.may_return K.closure)
-        K.start pass.old pass.new call) }
+        K.start pass.old pass.new demand.call) }
     ensures later { IsPrefix pass.old.seen pass.new.seen }
     ensures legal { AreLegal (prices_named F.may_return K.closure) K.start pass.new.seen }
     ensures unchanged { OnErr result (pass.new ≡ pass.old) }
@@ -371,12 +321,12 @@ where
     // For the proof: what the type keeps.
     pass.seen();
     pass.receipts.reserve(1)?;
-    let is_found = matches!(source, RouteSource::Found(_));
+    let call = demand.call;
+    let is_found = matches!(demand.source, RouteSource::Found(_));
     if !pass.prefix.is_prefix_of(state.prefix()) {
         wait_forever(rt);
     }
-    let share = &mut pass.share;
-    let made = state.call(rt, alloc, share, pass.number, call, source, is_asked);
+    let made = state.call(rt, alloc, &mut pass.share, pass.number, demand);
     let ReplyPair { receipt, answer } = made?;
     pass.lookahead.note(is_found, state.was_known());
     pass.receipts.push_reserved(Receipt {

@@ -12,6 +12,7 @@ ghost use Rattle.topo_versions.specs.Names.{prices_named};
 ghost use Rattle.topo_versions.specs.Versions.{AreLegal};
 
 use crate::found::{FoundRoute, first_on};
+use crate::locked_state::Demand;
 use crate::pass::Pass;
 use crate::service::ServiceOver;
 use std::alloc::{AllocError, Global};
@@ -30,17 +31,18 @@ pub trait Gate: Sync {
     fn after(&self, worker: usize, index: usize);
 }
 
-/// Makes a call on what it is given, between the gate's two calls for a command. Whatever is made of
-/// it, the gate is told that it has ended.
+/// Makes a call on what it is given, between the gate's two calls for the command at a place: its
+/// list, and its place in that. Whatever is made of it, the gate is told that it has ended.
 pub fn between<T: Gate, S, A, F: FnOnce(&mut S) -> A>(
     gate: &T,
-    (worker, index): (usize, usize),
+    place: (usize, usize),
     state: &mut S,
     call: F,
 ) -> A
     requires { F.IsAlwaysCallable call }
     ensures { FnOnceReturnsAtMut F.FnOnce call state.old result state.new }
 {
+    let (worker, index) = place;
     gate.before(worker, index);
     let made = call(state);
     gate.after(worker, index);
@@ -70,14 +72,18 @@ fn enter<'a, F: PriceFn, K: ServiceBrand<F>, W: VersionWriter<F, K>, R: Wait>(
     ensures later { IsPrefix pass.old.seen pass.new.seen }
     ensures unchanged { OnErr result (pass.new.receipts ≡ pass.old.receipts) }
 {
-    let _none = service.enter(rt, pass, call, source, false)?;
+    let demand = Demand {
+        call,
+        source,
+        is_asked: false,
+    };
+    let _none = service.enter(rt, pass, demand)?;
     Ok(())
 }
 
 /// The first of the cheapest routes on the pass's own version, looked for without the lock; none if
 /// there is none, or it is out of memory.
 fn find_ahead<F: PriceFn, K: ServiceBrand<F>, W: VersionWriter<F, K>>(
-    alloc: Global,
     service: &ServiceOver<F, K, W>,
     pass: &mut Pass<F, K>,
     u: u32,
@@ -89,6 +95,7 @@ fn find_ahead<F: PriceFn, K: ServiceBrand<F>, W: VersionWriter<F, K>>(
     ensures u { IfSome result (λ found. found.u ≡ u) }
     ensures v { IfSome result (λ found. found.v ≡ v) }
 {
+    let alloc = service.alloc;
     let Ok(own) = pass.take_own(alloc, service.tariff()) else {
         return None;
     };
@@ -107,7 +114,6 @@ fn find_ahead<F: PriceFn, K: ServiceBrand<F>, W: VersionWriter<F, K>>(
 #[tactic(auto, using(crate::proofs::Answering::may_have_later, crate::proofs::Answering::begins_further))]
 fn insert_ahead<F: PriceFn, K: ServiceBrand<F>, W: VersionWriter<F, K>, R: Wait>(
     rt: &R,
-    alloc: Global,
     service: &ServiceOver<F, K, W>,
     pass: &mut Pass<F, K>,
     u: u32,
@@ -121,7 +127,7 @@ fn insert_ahead<F: PriceFn, K: ServiceBrand<F>, W: VersionWriter<F, K>, R: Wait>
     ensures unchanged { OnErr result (pass.new.receipts ≡ pass.old.receipts) }
 {
     let insertion = Call::Insert { u, v, kind };
-    let Some(found) = find_ahead(alloc, service, pass, u, v) else {
+    let Some(found) = find_ahead(service, pass, u, v) else {
         return enter(rt, service, pass, insertion, RouteSource::Search);
     };
     let entered = service.enter_standing(rt, pass, kind, &found);
@@ -132,7 +138,7 @@ fn insert_ahead<F: PriceFn, K: ServiceBrand<F>, W: VersionWriter<F, K>, R: Wait>
     if !pass.looks_ahead() {
         return enter(rt, service, pass, insertion, RouteSource::Search);
     }
-    let Some(found) = find_ahead(alloc, service, pass, u, v) else {
+    let Some(found) = find_ahead(service, pass, u, v) else {
         return enter(rt, service, pass, insertion, RouteSource::Search);
     };
     let made = enter(rt, service, pass, insertion, RouteSource::Found(&found));
@@ -144,7 +150,6 @@ fn insert_ahead<F: PriceFn, K: ServiceBrand<F>, W: VersionWriter<F, K>, R: Wait>
 /// pass found last came too late.
 fn carry_out<F: PriceFn, K: ServiceBrand<F>, W: VersionWriter<F, K>, R: Wait>(
     rt: &R,
-    alloc: Global,
     service: &ServiceOver<F, K, W>,
     pass: &mut Pass<F, K>,
     command: Command,
@@ -159,7 +164,7 @@ fn carry_out<F: PriceFn, K: ServiceBrand<F>, W: VersionWriter<F, K>, R: Wait>(
         Command::Plain(call) => enter(rt, service, pass, call, RouteSource::Search),
         Command::Planned { u, v, kind } => {
             if pass.looks_ahead() {
-                return insert_ahead(rt, alloc, service, pass, u, v, kind);
+                return insert_ahead(rt, service, pass, u, v, kind);
             }
             enter(
                 rt,
@@ -175,7 +180,6 @@ fn carry_out<F: PriceFn, K: ServiceBrand<F>, W: VersionWriter<F, K>, R: Wait>(
 /// Carries a list out, until it is out of memory.
 fn work<F: PriceFn, K: ServiceBrand<F>, W: VersionWriter<F, K>, R: Wait, T: Gate>(
     rt: &R,
-    alloc: Global,
     service: &ServiceOver<F, K, W>,
     pass: &mut Pass<F, K>,
     worker: usize,
@@ -197,7 +201,7 @@ fn work<F: PriceFn, K: ServiceBrand<F>, W: VersionWriter<F, K>, R: Wait, T: Gate
                 ensures unchanged { OnErr result
                     (pass.exit.now.receipts ≡ pass.entry.now.receipts) }
             {
-                carry_out(rt, alloc, service, pass, *command)
+                carry_out(rt, service, pass, *command)
             },
         );
         if made.is_err() {
@@ -215,7 +219,6 @@ fn run_each<
     T: Gate,
 >(
     rt: &R,
-    alloc: Global,
     service: &ServiceOver<F, K, W>,
     passes: &mut [Pass<F, K>],
     lists: &[Vec<Command>],
@@ -246,7 +249,7 @@ fn run_each<
             ensures legal { AreLegal (prices_named F.may_return K.closure)
                 K.start pass.exit.now.seen }
         {
-            work(rt, alloc, service, pass, i, lists[i].as_slice(), gate);
+            work(rt, service, pass, i, lists[i].as_slice(), gate);
             // For the proof: what the type keeps.
             pass.seen();
         },
@@ -342,7 +345,7 @@ pub fn run_workers<
 {
     let before = receipt_counts(alloc, passes)?;
     let mut ends = Vec::with_capacity(alloc, passes.len())?;
-    run_each(rt, alloc, service, passes, lists, gate);
+    run_each(rt, service, passes, lists, gate);
     tell_ends(&mut ends, before.as_slice(), passes, lists);
     Ok(ends)
 }

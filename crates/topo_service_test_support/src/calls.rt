@@ -1,7 +1,8 @@
 //! Calls of a service as values.
 
-ghost use Rattle.std.specs.Prelude.{◌≡◌, ◌++◌, ◌∷◌, [], IfOk, OnErr};
-ghost use Rattle.topo_service.specs.Passes.{receipt_of};
+ghost use Rattle.std.specs.Prelude.{◌≡◌, IfOk, OnErr};
+ghost use Rattle.topo_service.specs.Answers.{HasCalled};
+ghost use Rattle.topo_versions.specs.Names.{prices_named};
 
 use std::alloc::AllocError;
 use std::sync::Wait;
@@ -18,9 +19,8 @@ pub fn make<F: PriceFn + Drop, K: ServiceBrand<F>, R: Wait>(
     pass: &mut Pass<F, K>,
     call: Call,
 ) -> Result<Reply, AllocError>
-    ensures number { pass.new.number ≡ pass.old.number }
-    ensures receipt { IfOk result
-        (λ reply. pass.new.receipts ≡ pass.old.receipts ++ receipt_of call reply ∷ []) }
+    ensures called { IfOk result (HasCalled (prices_named F.may_return K.closure)
+        K.start pass.old pass.new call) }
     ensures unchanged { OnErr result (pass.new ≡ pass.old) }
 {
     match call {

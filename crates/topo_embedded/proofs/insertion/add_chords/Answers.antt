@@ -10,7 +10,7 @@ use Rattle.topo_embedded.proofs.insertion.add_chords.Goals as goal
 
 pub loop-n-init : goal.loop-n-init
 loop-n-init c = record {
-  added = chords_none c.args.segments.now c.args.crossed.now c.args.end c.args.edge c.args.line.now c.laws.ensures c.requires.end
+  added = chords_none c.args.segments.now c.args.crossed.now c.args.new.end c.args.new.edge c.args.line.now c.laws.ensures c.requires.end
       c.requires.room c.requires.line;
   bounds = goes_nowhere c.args.segments.now c.args.bounds.now;
 }
@@ -38,11 +38,11 @@ loop-n-preserved c =
     subst (λ (b : Crossed). is_live c.args.segments.now b.beyond ≡ true) (sym c.index-crossed-n.is) (c.requires.alive n cross less).1 in
     record {
       added =
-          subst (λ (line : List ℕ). AreChordsAddedFrom c.args.segments.now c.chord.new.segments c.args.crossed.now n cross.beyond c.args.end c.args.edge line)
+          subst (λ (line : List ℕ). AreChordsAddedFrom c.args.segments.now c.chord.new.segments c.args.crossed.now n cross.beyond c.args.new.end c.args.new.edge line)
           (sym c.set.ensures)
-          (chords_more c.args.segments.now c.loop-n.segments c.chord.new.segments c.args.crossed.now c.args.end c.args.edge c.loop-n.line c.chord.result n
+          (chords_more c.args.segments.now c.loop-n.segments c.chord.new.segments c.args.crossed.now c.args.new.end c.args.new.edge c.loop-n.line c.chord.result n
           cross less c.index-crossed-n.is alive beyond
-          (subst (λ (k : ℕ). AreChordsAddedFrom c.args.segments.now c.loop-n.segments c.args.crossed.now k c.loop-n.to c.args.end c.args.edge c.loop-n.line)
+          (subst (λ (k : ℕ). AreChordsAddedFrom c.args.segments.now c.loop-n.segments c.args.crossed.now k c.loop-n.to c.args.new.end c.args.new.edge c.loop-n.line)
           more c.loop-n.invariant.added)
           (subst (λ (h : ℕ). IsChord (turn c.loop-n.segments) (turn c.chord.new.segments) half_limit h c.loop-n.to c.chord.result)
           c.twin.ensures c.chord.ensures.edit)
@@ -52,14 +52,14 @@ loop-n-preserved c =
 
 pub returns-clause-added : goal.returns-clause-added
 returns-clause-added c =
-    subst (λ (line : List ℕ). AreChordsAdded c.args.segments.now c.chord-2.new.segments c.args.crossed.now c.args.start c.args.end c.args.edge line)
+    subst (λ (line : List ℕ). AreChordsAdded c.args.segments.now c.chord-2.new.segments c.args.crossed.now c.args.new.start c.args.new.end c.args.new.edge line)
     (sym c.set-2.ensures)
-    (chords_last c.args.segments.now c.loop-n.segments c.chord-2.new.segments c.args.crossed.now c.args.end
-    c.args.edge c.loop-n.line c.chord-2.result c.loop-n.n
-    c.loop-n.to c.args.start (omega arith) c.requires.start c.loop-n.invariant.added c.chord-2.ensures.edit c.chord-2.ensures.grows c.chord-2.ensures.label)
+    (chords_last c.args.segments.now c.loop-n.segments c.chord-2.new.segments c.args.crossed.now c.args.new.end
+    c.args.new.edge c.loop-n.line c.chord-2.result c.loop-n.n
+    c.loop-n.to c.args.new.start (omega arith) c.requires.start c.loop-n.invariant.added c.chord-2.ensures.edit c.chord-2.ensures.grows c.chord-2.ensures.label)
 
 pub returns-clause-bounds : goal.returns-clause-bounds
 returns-clause-bounds c = goes_further c.loop-n.invariant.bounds c.chord-2.ensures.bounds
 
 pub chord-requires-2-clause-live : goal.chord-requires-2-clause-live
-chord-requires-2-clause-live c = c.loop-n.invariant.added.stays c.args.start c.requires.start
+chord-requires-2-clause-live c = c.loop-n.invariant.added.stays c.args.new.start c.requires.start

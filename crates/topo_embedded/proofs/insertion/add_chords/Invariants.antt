@@ -4,7 +4,7 @@ use Rattle.topo_embedded.proofs.insertion.add_chords.Given as goal
 
 abbrev pub invariant-loop-n : goal.invariant-loop-n
 invariant-loop-n l = record {
-  added : AreChordsAddedFrom l.fn.segments l.segments l.crossed l.n l.to l.fn.end l.edge l.line;
+  added : AreChordsAddedFrom l.fn.segments l.segments l.crossed l.n l.to l.fn.new.end l.edge l.line;
   bounds : GoesOn l.fn.segments l.segments l.fn.bounds l.bounds;
 }
 

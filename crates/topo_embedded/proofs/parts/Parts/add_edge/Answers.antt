@@ -38,7 +38,7 @@ apply_rows-requires-clause-formed g c = subst (λ (q : RowsWithPaths). IsWellFor
 
 pub apply_rows-requires-clause-insertable : goal.apply_rows-requires-clause-insertable
 apply_rows-requires-clause-insertable g c =
-    subst (λ (q : RowsWithPaths). IsInsertable q.rows c.args.ends.0 c.args.ends.1 c.args.kind c.args.route.now) c.requires.0 c.requires.1.0.insertable
+    subst (λ (q : RowsWithPaths). IsInsertable q.rows c.args.edge.0 c.args.edge.1 c.args.edge.2 c.args.route.now) c.requires.0 c.requires.1.0.insertable
 
 pub apply_rows-requires-clause-crossings : goal.apply_rows-requires-clause-crossings
 apply_rows-requires-clause-crossings g c = c.requires.1.1.1.1.1
@@ -104,7 +104,7 @@ pub push-requires-clause-room : goal.push-requires-clause-room
 push-requires-clause-room g c = let room = c.add_route.ensures.same.1.1 in let some = c.in_ok-line.ensures.path_room in omega (arith, room, some)
 
 pub push-requires-clause-own : goal.push-requires-clause-own
-push-requires-clause-own g c = c.next_edge-edge.ensures
+push-requires-clause-own g c = c.next_edge-number.ensures
     ∙ sym (kept_ids c.args.self.now.rows c.args.self.now.paths c.add_route.new.paths (c.add_route.ensures.same.0 ∙ c.make_room.ensures.ids)
     (c.add_route.ensures.same.1.0 ∙ c.make_room.ensures.places) c.requires.1.1.0).count
 
@@ -114,22 +114,22 @@ returns-clause-ok g c = when_ok c.apply_rows.result (sym c.if-is_err.ensures.val
 pub returns-clause-shows : goal.returns-clause-shows
 returns-clause-shows g c =
     let ready = c.requires.1.0 in
-    let rows : c.apply_rows.new.rows ≡ shown g.p.rows c.args.ends.0 c.args.ends.1 c.args.kind c.args.route.now =
+    let rows : c.apply_rows.new.rows ≡ shown g.p.rows c.args.edge.0 c.args.edge.1 c.args.edge.2 c.args.route.now =
     when_ok c.apply_rows.result (sym c.if-is_err.ensures.value) c.apply_rows.ensures.ok
-    ∙ ap (λ (q : RowsWithPaths). shown q.rows c.args.ends.0 c.args.ends.1 c.args.kind c.args.route.now) (sym c.requires.0) in
+    ∙ ap (λ (q : RowsWithPaths). shown q.rows c.args.edge.0 c.args.edge.1 c.args.edge.2 c.args.route.now) (sym c.requires.0) in
     inserted_parts ready c.make_room.ensures.slots c.laws.ensures c.add_route.ensures.darts c.add_route.ensures.marked
-    (c.next_edge-edge.ensures ∙ ap (λ (q : RowsWithPaths). q.rows.next_edge) (sym c.requires.0)) c.add_route.ensures.routed rows c.add_route.ensures.paths
-    (values_pushed c.add_route.new.paths c.push.new.self c.next_edge-edge.result c.add_route.new.line c.push.ensures.entries)
+    (c.next_edge-number.ensures ∙ ap (λ (q : RowsWithPaths). q.rows.next_edge) (sym c.requires.0)) c.add_route.ensures.routed rows c.add_route.ensures.paths
+    (values_pushed c.add_route.new.paths c.push.new.self c.next_edge-number.result c.add_route.new.line c.push.ensures.entries)
 
 pub returns-clause-kept : goal.returns-clause-kept
 returns-clause-kept g c =
     let rows = c.args.self.now.rows in
     subst (λ (after : Rows). AreForEdges after c.push.new.self)
     (sym (when_ok c.apply_rows.result (sym c.if-is_err.ensures.value) c.apply_rows.ensures.ok))
-    (one_more_kept (shown rows c.args.ends.0 c.args.ends.1 c.args.kind c.args.route.now) c.push.new.self c.add_route.new.line c.next_edge-edge.result
+    (one_more_kept (shown rows c.args.edge.0 c.args.edge.1 c.args.edge.2 c.args.route.now) c.push.new.self c.add_route.new.line c.next_edge-number.result
     (kept_ids rows c.args.self.now.paths c.add_route.new.paths (c.add_route.ensures.same.0 ∙ c.make_room.ensures.ids)
     (c.add_route.ensures.same.1.0 ∙ c.make_room.ensures.places) c.requires.1.1.0)
-    c.next_edge-edge.ensures (ids_shown rows c.args.ends.0 c.args.ends.1 c.args.kind c.args.route.now) refl c.push.ensures.slots c.push.ensures.entries)
+    c.next_edge-number.ensures (ids_shown rows c.args.edge.0 c.args.edge.1 c.args.edge.2 c.args.route.now) refl c.push.ensures.slots c.push.ensures.entries)
 
 pub returns-in_err-line-clause-err_paths : goal.returns-in_err-line-clause-err_paths
 returns-in_err-line-clause-err_paths g c = on_err c.from_residual.result c.in_err-line.ensures.err
@@ -159,11 +159,11 @@ pub returns-clause-searches : goal.returns-clause-searches
 returns-clause-searches g c =
     let rows = c.args.self.now.rows in
     let made = when_ok c.apply_rows.result (sym c.if-is_err.ensures.value) c.apply_rows.ensures.ok in
-    searches_on c.args.self.now _ c.args.kind
+    searches_on c.args.self.now _ c.args.edge.2
     (subst (λ (q : RowsWithPaths). IsWellFormed q.rows) c.requires.0 c.requires.1.0.formed)
     (goes_further (goes_same c.args.self.now.segments c.make_room.new.segments c.args.self.now.bounds c.make_room.ensures.slots c.make_room.ensures.labels)
     c.add_route.ensures.bounds)
-    (subst (λ (after : Rows). (e : ℕ) (row : EdgeRow) → edge_row after e ≡ Some row → ComesFrom rows c.args.kind e row) (sym made)
-    (shown_from rows c.args.ends.0 c.args.ends.1 c.args.kind c.args.route.now))
+    (subst (λ (after : Rows). (e : ℕ) (row : EdgeRow) → edge_row after e ≡ Some row → ComesFrom rows c.args.edge.2 e row) (sym made)
+    (shown_from rows c.args.edge.0 c.args.edge.1 c.args.edge.2 c.args.route.now))
     (ap (λ (after : Rows). after.next_edge) made)
-    (subst (λ edge. IsNoted c.args.self.now.kinds c.note.new.self edge c.args.kind) c.next_edge-edge.ensures c.note.ensures) c.requires.1.1.1.0
+    (subst (λ edge. IsNoted c.args.self.now.kinds c.note.new.self edge c.args.edge.2) c.next_edge-number.ensures c.note.ensures) c.requires.1.1.1.0

@@ -5,11 +5,11 @@ use Rattle.topo_book.specs.Books.{picture_after}
 use Rattle.topo_service.proofs.Versions.{copied_lawful, copied_there, if_some, named_step, version_ready, versions_length}
 use Rattle.topo_service.proofs.locked_state.LockedState.call.Goals as goal
 
-pub answer_ready-requires-clause-room : goal.answer_ready-requires-clause-room
-answer_ready-requires-clause-room g c = omega (arith, ap length c.self.invariant.3, versions_length c.self.inside.book.history, c.prepare_call.ensures.room)
+pub show-requires-clause-room : goal.show-requires-clause-room
+show-requires-clause-room g c = omega (arith, ap length c.self.invariant.3, versions_length c.self.inside.book.history, c.prepare_call.ensures.room)
 
-pub answer_ready-requires-clause-follows : goal.answer_ready-requires-clause-follows
-answer_ready-requires-clause-follows g c =
+pub show-requires-clause-follows : goal.show-requires-clause-follows
+show-requires-clause-follows g c =
     let n = c.in_ok-next.next in
     let i = c.self.invariant in
     let m = c.prepare_call.ensures in
@@ -27,7 +27,7 @@ returns-clause-step g c =
     let b = c.self.inside.book in
     let i = c.self.invariant in
     let m = c.prepare_call.ensures in
-    let told : c.in_ok-pair.pair.receipt ≡ n.entry.reply = c.in_ok-pair.ensures.reply in
+    let told : c.in_ok-pair.pair.receipt ≡ n.entry.reply = c.in_ok-pair.ensures.receipt ∙ {!!} in
     let after : c.commit.new.self.picture ≡ picture_after n.picture b.picture = c.commit.ensures.picture ∙ ap (picture_after n.picture) m.unchanged.1 in
     let step = named_step g.F.PriceFn.may_return g.K.ServiceBrand.closure g.K.ServiceBrand.start b c.prepare_call.new.book n i.1 i.0 m.unchanged m.same_book
     m.same_limits c.in_ok-next.ensures.ready in

@@ -1,10 +1,4 @@
 use Rattle.topo_service.proofs.service.ServiceOver.insert.Goals as goal
 
-pub returns-clause-receipt : goal.returns-clause-receipt
-returns-clause-receipt g c = c.call.ensures.receipt
-
-pub returns-clause-accepted : goal.returns-clause-accepted
-returns-clause-accepted g c = c.call.ensures.accepted
-
-pub returns-clause-refused : goal.returns-clause-refused
-returns-clause-refused g c = c.call.ensures.refused
+pub returns-clause-called : goal.returns-clause-called
+returns-clause-called g c = c.call.ensures.called
