@@ -20,7 +20,7 @@ use crate::faces::dart_count;
 use crate::guide::{Guide, is_guided};
 use crate::guided::heights_toward;
 use crate::plan::{Plan, PricedRoute, SeenRoute};
-use crate::priced_graph::{PricedGraph, segment_prices};
+use crate::priced_graph::{PricedGraph, SegmentPrices, segment_prices};
 use crate::seen::seen_region;
 use crate::stamped_array::StampedArray;
 use crate::steps::height_at;
@@ -139,7 +139,8 @@ pub fn search<D: Dual, F: PriceFn>(
         (HasNoRoute (prices_of (F.may_return tariff.now)) (D.shows dual.now) u v)
         (IsPlan (prices_of (F.may_return tariff.now)) (D.shows dual.now) u v)) }
 {
-    let prices = segment_prices(alloc, dual, tariff)?;
+    let SegmentPrices { prices, asked } = segment_prices(alloc, dual, tariff)?;
+    drop(asked);
     let priced = PricedGraph {
         graph: dual,
         tariff,

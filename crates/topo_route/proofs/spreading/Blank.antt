@@ -1,6 +1,6 @@
 -- Arrays that are blank, and numbers written in them.
 use Rattle.std.proofs.Common.{◌≡◌, ◌∙◌, ◌<◌, ◌≤◌, ◌+◌, ◌-◌, ◌∷◌, ◌++◌, [], ℕ, suc, zero, Bool, List}
-use Rattle.std.proofs.Common.{ap, arith, get_or-set_other, get_or-set_same, inl, inr, length, refl, replicate, subst, sym, take}
+use Rattle.std.proofs.Common.{ap, arith, get_or-set_other, get_or-set_same, inl, inr, length, refl, replicate, sym, take}
 use Rattle.std.proofs.Math.ListN.{set}
 use Rattle.std.proofs.lemmas.Bool.{cases_eq, cases_lt, le-ltb, lt-ltb}
 use Rattle.std.proofs.lemmas.List.{get_or-map, length-map, length-set}
