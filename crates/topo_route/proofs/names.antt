@@ -4,6 +4,7 @@ pub mod Rounds
 pub mod Prices
 pub mod Walking
 pub mod Segments
+pub mod Asking
 pub mod Names
 pub mod Canonical
 pub mod Ranges

@@ -1,6 +1,7 @@
 pub mod Chains
 pub mod Descents
 pub mod Direct
+pub mod EachOnce
 pub mod Guided
 pub mod FaceHeights
 pub mod FaultTexts

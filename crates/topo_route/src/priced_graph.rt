@@ -1,18 +1,20 @@
 //! A picture with the prices of its segments.
 
-ghost use Rattle.std.specs.Prelude.{◌≡◌, ◌/◌, ◌%◌, ◌<◌, length, IfOk};
+ghost use Rattle.std.specs.Prelude.{◌+◌, ◌*◌, ◌<◌, length, IfOk, OnOk};
 ghost use Rattle.topo_core.specs.Picture.{darts};
 ghost use Rattle.topo_core.specs.Routes.{KeepsPromise};
 ghost use Rattle.topo_price.specs.Prices.{prices_of};
+ghost use Rattle.topo_route.specs.EachOnce.{AreAsked, IsEachAskedOnce};
 ghost use Rattle.topo_route.specs.Names.{IsName, dart_named};
 ghost use Rattle.topo_route.specs.Numbers.{IsPriceAt, IsPriceFor};
-ghost use Rattle.topo_route.specs.Settling.{ArePrices, ArePricesOf};
+ghost use Rattle.topo_route.specs.Settling.{ArePrices};
 
 use crate::dual::Dual;
 use crate::face_graph::FaceGraph;
 use crate::faces;
 use crate::steps::price_at;
 use std::alloc::{AllocError, Global};
+use topo_price::asked::Asked;
 use topo_price::tariff::{PriceFn, Tariff};
 
 /// A picture with prices. Those of the first segments are kept, by half of a dart's name; the
@@ -43,29 +45,41 @@ impl<W: FaceGraph, F: PriceFn> PricedGraph<'_, W, F> {
     }
 }
 
-/// The price of the dart of a segment that has the smaller number: that of the segment before it,
-/// where both lie on one edge.
-fn segment_price<D: Dual, F: PriceFn>(
+/// The prices of all segments, and what was asked for them.
+#[derive(Drop)]
+pub(crate) struct SegmentPrices {
+    pub prices: Vec<Option<u32>>,
+    pub asked: Asked,
+}
+
+/// The price of a segment. Where it lies on the edge of the segment before it, that is the last
+/// answer; else its edge is asked for.
+fn ask_once<D: Dual, F: PriceFn>(
     dual: &D,
     tariff: &Tariff<F>,
-    prices: &[Option<u32>],
-    dart: u32,
-) -> Option<u32>
-    requires within { dart < length (darts (D.shows dual.now)) }
-    requires even { dart % 2 ≡ 0 }
-    requires right { ArePricesOf (prices_of (F.may_return tariff.now))
-        (D.shows dual.now) prices.now (dart / 2) }
-    ensures price { IsPriceAt (prices_of (F.may_return tariff.now)) (D.shows dual.now) dart result }
-    ensures promise { KeepsPromise (prices_of (F.may_return tariff.now)) }
+    asked: &mut Asked,
+    segment: u32,
+) -> Result<Option<u32>, AllocError>
+    requires within { 2 * segment < length (darts (D.shows dual.now)) }
+    requires before { AreAsked (prices_of (F.may_return tariff.now))
+        (D.shows dual.now) asked.old segment }
+    ensures asked { OnOk result (AreAsked (prices_of (F.may_return tariff.now))
+        (D.shows dual.now) asked.new (segment + 1)) }
+    ensures price { IfOk result (λ price. IsPriceAt (prices_of (F.may_return tariff.now))
+        (D.shows dual.now) (2 * segment) price) }
 {
+    // For the proof: what the type keeps.
+    faces::dart_count(dual);
+    let dart = 2 * segment;
     if dart > 0 {
         let edge = faces::edge_at(dual, dart);
         let before = faces::edge_at(dual, dart - 2);
         if before == edge {
-            return prices[(dart / 2 - 1) as usize];
+            return Ok(asked.price(asked.count() - 1));
         }
     }
-    faces::price_at(dual, tariff, dart)
+    asked.ask(tariff, &dual.facts(dart))?;
+    Ok(asked.price(asked.count() - 1))
 }
 
 /// The prices of all segments. Each edge is asked for once.
@@ -73,16 +87,22 @@ pub(crate) fn segment_prices<D: Dual, F: PriceFn>(
     alloc: Global,
     dual: &D,
     tariff: &Tariff<F>,
-) -> Result<Vec<Option<u32>>, AllocError>
-    ensures { IfOk result
-        (λ prices. ArePrices (prices_of (F.may_return tariff.now))
-        (D.named dual.now) prices.items) }
+) -> Result<SegmentPrices, AllocError>
+    ensures right { IfOk result
+        (λ all. ArePrices (prices_of (F.may_return tariff.now))
+        (D.named dual.now) all.prices.items) }
+    ensures once { IfOk result
+        (λ all. IsEachAskedOnce (prices_of (F.may_return tariff.now))
+        (D.shows dual.now) all.asked) }
 {
+    // For the proof: what the type keeps.
+    tariff.keeps_promise();
     let segments = faces::dart_count(dual) / 2;
     let mut prices = Vec::with_capacity(alloc, segments as usize)?;
+    let mut asked = Asked::new(alloc);
     for segment in 0..segments {
-        let price = segment_price(dual, tariff, prices.as_slice(), 2 * segment);
+        let price = ask_once(dual, tariff, &mut asked, segment)?;
         prices.push(price)?;
     }
-    Ok(prices)
+    Ok(SegmentPrices { prices, asked })
 }

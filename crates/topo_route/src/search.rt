@@ -20,7 +20,7 @@ use crate::faces::dart_count;
 use crate::guide::{Guide, is_guided};
 use crate::guided::heights_toward;
 use crate::plan::{Plan, PricedRoute, SeenRoute};
-use crate::priced_graph::{PricedGraph, segment_prices};
+use crate::priced_graph::{PricedGraph, SegmentPrices, segment_prices};
 use crate::seen::seen_region;
 use crate::stamped_array::StampedArray;
 use crate::steps::height_at;
@@ -139,7 +139,8 @@ pub fn search<D: Dual, F: PriceFn>(
         (HasNoRoute (prices_of (F.may_return tariff.now)) (D.shows dual.now) u v)
         (IsPlan (prices_of (F.may_return tariff.now)) (D.shows dual.now) u v)) }
 {
-    let prices = segment_prices(alloc, dual, tariff)?;
+    let SegmentPrices { prices, asked } = segment_prices(alloc, dual, tariff)?;
+    drop(asked);
     let priced = PricedGraph {
         graph: dual,
         tariff,
@@ -213,9 +214,7 @@ fn find_route<W: FaceGraph, F: PriceFn>(
 /// something of these prices, it searches from `v` alone, guided to `u`. Else it searches from both
 /// ends until the two searches meet, so its time follows the faces of two discs, one round each
 /// end, which together reach as far as the route is dear. What it writes on is handed in, and costs nothing for the
-/// rest of the picture. An edge is asked for its price each time that it is needed. A height of
-/// 2,147,483,647 or more would be answered as out of memory. No picture within the limits has one:
-/// it has fewer than 1,200,000 faces, and no price is above 1,000.
+/// rest of the picture. An edge is asked for its price each time that it is needed.
 ///
 /// If a face at one of the first corners of `u` is also at `v`, nothing is crossed and nothing is
 /// searched.

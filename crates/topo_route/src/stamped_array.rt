@@ -1,11 +1,11 @@
 //! A list of numbers that is blank again in one step.
 
-ghost use Rattle.std.specs.Prelude.{◌≡◌, ◌<◌, ◌≤◌, ◌↔◌, [], ℕ, IfOk, IsTrue, OnOk};
+ghost use Rattle.std.specs.Prelude.{◌≡◌, ◌<◌, ◌≤◌, ◌↔◌, [], ℕ, IsOk, IsTrue, OnErr, OnOk};
 ghost use Rattle.std.specs.Prelude.{length, map, replicate, slice_index, slice_set};
 ghost use Rattle.topo_core.specs.Routes.{unreached};
 ghost use Rattle.topo_route.specs.Settling.{number_at};
-ghost use Rattle.topo_route.specs.StampedArrays.{AreAtLeast, AreWords, SaysTheSame, height_limit};
-ghost use Rattle.topo_route.specs.StampedArrays.{moved_word};
+ghost use Rattle.topo_route.specs.StampedArrays.{AreAtLeast, AreWords, SaysTheSame, moved_word};
+ghost use Rattle.topo_route.specs.StampedArrays.{span_limit};
 
 use std::alloc::{AllocError, Global};
 use std::marker::Model;
@@ -26,9 +26,13 @@ const MAX_SPAN: u32 = u32::MAX / 2;
 /// a search that is given one takes no time for what it does not reach. An epoch is made wider when
 /// a number comes that it does not have, and the later ones stay so. The words are never fewer than
 /// they were: a list that is long again takes no time either.
+///
+/// A number that no epoch may have is kept beside the words, in a list that is empty until one
+/// comes. Where a word is of no number of this epoch, what is beside it counts.
 #[derive(Drop)]
 pub(crate) struct StampedArray {
     words: Vec<u32>,
+    wide: Vec<u64>,
     base: u32,
     span: u32,
     len: usize,
@@ -36,13 +40,15 @@ pub(crate) struct StampedArray {
 
 impl Model for StampedArray {
     ghost use Rattle.std.specs.Prelude.{ℕ, List};
-    ghost use Rattle.topo_route.specs.StampedArrays.{AreWords, read_all};
+    ghost use Rattle.topo_route.specs.Settling.{number_at};
+    ghost use Rattle.topo_route.specs.StampedArrays.{AreBeside, AreWords, read_all};
 
     ghost Value = { List ℕ };
 
-    ghost view = { λ s. read_all s.base s.span s.len s.words.items };
+    ghost view = { λ s. read_all s.base s.span s.len s.words.items (number_at s.wide.items) };
 
-    ghost invariant = { λ s. AreWords s.base s.span s.len s.words.items };
+    ghost invariant = { λ s. AreWords s.base s.span s.len s.words.items
+        × AreBeside s.wide.items };
 }
 
 /// The word that says the same in a wider epoch, which ends with the last word before the blank
@@ -71,29 +77,43 @@ fn move_words(words: &mut [u32], base: u32, span: u32, wider: u32)
     }
 }
 
-/// Makes an epoch wide enough for a number, and says the same in it. For a number that no epoch may
-/// have it answers that there is no memory, and nothing has changed.
-fn widen(
-    words: &mut Vec<u32>,
-    base: &mut u32,
-    span: &mut u32,
-    number: u64,
-) -> Result<(), AllocError>
+/// Makes an epoch wide enough for a number, and says the same in it.
+fn widen(words: &mut Vec<u32>, base: &mut u32, span: &mut u32, number: u32)
     requires above { AreAtLeast base.old words.old.items }
-    ensures fits { OnOk result (number < span.new) }
+    requires small { number < span_limit }
+    ensures fits { number < span.new }
     ensures same { (len : ℕ) → AreWords base.old span.old len words.old.items
         → SaysTheSame base.old span.old words.old.items base.new span.new words.new.items len }
 {
-    if number < *span as u64 {
-        return Ok(());
+    if number < *span {
+        return;
     }
-    if number >= MAX_SPAN as u64 {
-        return Err(AllocError);
-    }
-    let wider = MAX_SPAN.min(2 * number as u32 + 1);
+    let wider = MAX_SPAN.min(2 * number + 1);
     move_words(words.as_mut_slice(), *base, *span, wider);
     *base = BLANK - wider;
     *span = wider;
+}
+
+/// The number beside the word of a place, and the greatest where none is.
+fn beside(wide: &[u64], place: usize) -> u64
+    ensures { result ≡ number_at wide.now place }
+{
+    if place < wide.len() {
+        wide[place]
+    } else {
+        u64::MAX
+    }
+}
+
+/// Makes the list beside the words as long as they are, and says the same in it; also where it is
+/// out of memory.
+fn grow_beside(wide: &mut Vec<u64>, len: usize) -> Result<(), AllocError>
+    ensures long { OnOk result (len ≤ length wide.new.items) }
+    ensures same { (place : ℕ) → number_at wide.new.items place ≡ number_at wide.old.items place }
+{
+    if wide.len() < len {
+        wide.resize(len, u64::MAX)?;
+    }
     Ok(())
 }
 
@@ -104,6 +124,7 @@ impl StampedArray {
     {
         StampedArray {
             words: Vec::new(alloc),
+            wide: Vec::new(alloc),
             base: BLANK - FIRST_SPAN,
             span: FIRST_SPAN,
             len: 0,
@@ -119,6 +140,7 @@ impl StampedArray {
             self.base = BLANK - self.span;
         }
         self.base -= self.span;
+        self.wide.truncate(0);
         if self.words.len() < len {
             self.words.resize(len, BLANK)?;
         }
@@ -143,16 +165,19 @@ impl StampedArray {
         if number < self.span {
             number as u64
         } else {
-            u64::MAX
+            beside(self.wide.as_slice(), place)
         }
     }
 
-    /// Whether the number at a place is above this one. It is not read off for that.
+    /// Whether the number at a place is above this one. It is not read off for that, if an epoch may
+    /// have this one.
     pub(crate) fn is_above(&self, place: u32, number: u64) -> bool
-        requires within { place < length self.now }
-        requires fits { number < height_limit }
+        requires { place < length self.now }
         ensures { IsTrue result ↔ number < slice_index self.now place }
     {
+        if number >= MAX_SPAN as u64 {
+            return self.get(place) > number;
+        }
         let there = self.words[place as usize] - self.base;
         there as u64 > number || there >= self.span
     }
@@ -176,13 +201,23 @@ impl StampedArray {
         let _places = self.len;
     }
 
-    /// Writes a number at a place.
+    /// Writes a number at a place; out of memory, nothing is written. Only a number that no epoch may
+    /// have takes memory.
     pub(crate) fn set(&mut self, place: u32, number: u64) -> Result<(), AllocError>
         requires { place < length self.old }
-        ensures { OnOk result (self.new ≡ slice_set self.old place number) }
+        ensures written { OnOk result (self.new ≡ slice_set self.old place number) }
+        ensures unchanged { OnErr result (self.new ≡ self.old) }
+        ensures within { number < span_limit → IsOk result }
     {
-        widen(&mut self.words, &mut self.base, &mut self.span, number)?;
-        self.words[place as usize] = self.base + number as u32;
+        if number < MAX_SPAN as u64 {
+            let number = number as u32;
+            widen(&mut self.words, &mut self.base, &mut self.span, number);
+            self.words[place as usize] = self.base + number;
+            return Ok(());
+        }
+        grow_beside(&mut self.wide, self.len)?;
+        self.wide[place as usize] = number;
+        self.words[place as usize] = BLANK;
         Ok(())
     }
 }

@@ -34,7 +34,7 @@ two_each : (e : ℕ) (xs : List ℕ) → sum_by (λ s. length (both_ways e s)) x
 two_each e [] = refl
 two_each e (x ∷ xs) = let rest = two_each e xs in let step = sum_by-cons (λ s. length (both_ways e s)) x xs in omega arith
 
-of_edge : (row : EdgeRow) → length (darts_of row) ≡ 2 * segment_count row
+pub of_edge : (row : EdgeRow) → length (darts_of row) ≡ 2 * segment_count row
 of_edge row = length-flat_map (both_ways row.id) (range_with_len 0 (segment_count row)) ∙ two_each row.id (range_with_len 0 (segment_count row))
     ∙ ap (λ n. 2 * n) (length-range_with_len 0 (segment_count row))
 

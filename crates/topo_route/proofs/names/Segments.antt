@@ -21,21 +21,16 @@ price_along : (price : Pricing) (rows : Rows) (d e : Dart) (p : ℕ) → d.edge 
 price_along price rows d e p same asked =
     record { facts = asked.facts; known = subst (λ x. AreFactsOf (edge_at rows x) asked.facts) same asked.known; asked = asked.asked }
 
-answer_along : (price : Pricing) (rows : Rows) (d e : Dart) (answer : Option ℕ) → d.edge ≡ e.edge → IsPriceFor price rows d answer
+pub answer_along : (price : Pricing) (rows : Rows) (d e : Dart) (answer : Option ℕ) → d.edge ≡ e.edge → IsPriceFor price rows d answer
     → IsPriceFor price rows e answer
 answer_along price rows d e (Some p) same asked = price_along price rows d e p same asked
 answer_along price rows d e None same none = λ p asked. none p (price_along price rows e d p (sym same) asked)
 
--- two darts of one edge have one price
-pub price_of_edge : (price : Pricing) (rows : Rows) (i j : ℕ) (answer : Option ℕ) → (dart_of rows i).edge ≡ (dart_of rows j).edge
-    → IsPriceAt price rows i answer → IsPriceAt price rows j answer
-price_of_edge price rows i j answer same priced = answer_along price rows (dart_of rows i) (dart_of rows j) answer same priced
-
-at_end : {X : Type 0} (xs : List X) (x d : X) → slice_index_or (xs ++ x ∷ []) (length xs) d ≡ x
+pub at_end : {X : Type 0} (xs : List X) (x d : X) → slice_index_or (xs ++ x ∷ []) (length xs) d ≡ x
 at_end [] x d = refl
 at_end (y ∷ xs) x d = at_end xs x d
 
-before_end : {X : Type 0} (xs : List X) (x d : X) (i : ℕ) → i < length xs → slice_index_or (xs ++ x ∷ []) i d ≡ slice_index_or xs i d
+pub before_end : {X : Type 0} (xs : List X) (x d : X) (i : ℕ) → i < length xs → slice_index_or (xs ++ x ∷ []) i d ≡ slice_index_or xs i d
 before_end [] x d i l = absurd (omega arith)
 before_end (y ∷ xs) x d zero l = refl
 before_end (y ∷ xs) x d (suc i) l = before_end xs x d i (omega arith)

@@ -4,61 +4,65 @@ use Rattle.std.proofs.Common.{ap, arith, get_or-set_other, get_or-set_same, inl,
 use Rattle.std.proofs.Math.ListN.{set}
 use Rattle.std.proofs.lemmas.Bool.{cases_eq, cases_lt, le-ltb, lt-ltb}
 use Rattle.std.proofs.lemmas.List.{get_or-map, length-map, length-set}
-use Rattle.std.specs.Prelude.{cond, map, slice_index}
+use Rattle.std.specs.Prelude.{◌≢◌, cond, map, slice_index}
 use Rattle.topo_core.specs.Routes.{unreached}
-use Rattle.topo_route.specs.StampedArrays.{AreAtLeast, AreWords, SaysTheSame, blank_word, height_limit, moved_word, read_all, read_from}
+use Rattle.topo_route.specs.Settling.{number_at}
+use Rattle.topo_route.specs.StampedArrays.{AreAtLeast, AreBeside, AreWords, SaysTheSame, blank_word, moved_word, read_all, read_from, span_limit}
 
 -- a word of the epoch says how far it is above the base
-pub reads_number : (base span word : ℕ) → word - base < span → read_from base span word ≡ word - base
-reads_number base span word h = ap (λ (b : Bool). cond {A = ℕ} b (word - base) unreached) (lt-ltb (word - base) span h)
+pub reads_number : (base span word beside : ℕ) → word - base < span → read_from base span word beside ≡ word - base
+reads_number base span word beside h = ap (λ (b : Bool). cond {A = ℕ} b (word - base) beside) (lt-ltb (word - base) span h)
 
--- one of an earlier epoch says nothing
-pub reads_blank : (base span word : ℕ) → span ≤ word - base → read_from base span word ≡ unreached
-reads_blank base span word h = ap (λ (b : Bool). cond {A = ℕ} b (word - base) unreached) (le-ltb (word - base) span h)
+-- one of an earlier epoch says what is beside it
+pub reads_beside : (base span word beside : ℕ) → span ≤ word - base → read_from base span word beside ≡ beside
+reads_beside base span word beside h = ap (λ (b : Bool). cond {A = ℕ} b (word - base) beside) (le-ltb (word - base) span h)
 
 -- a word that lies above the base by more than a number says more than the number
-pub reads_more : (base span word number : ℕ) → number < height_limit → number < word - base → number < read_from base span word
-reads_more base span word number fits more = elim (cases_lt (word - base) span) [
-  | inl less ↦ let is = reads_number base span word less in omega arith
-  | inr past ↦ let is = reads_blank base span word past in omega arith
+pub reads_more : (base span word beside number : ℕ) → number < beside → number < word - base → number < read_from base span word beside
+reads_more base span word beside number fits more = elim (cases_lt (word - base) span) [
+  | inl less ↦ let is = reads_number base span word beside less in omega arith
+  | inr past ↦ let is = reads_beside base span word beside past in omega arith
 ]
 
 -- and no other does
-pub reads_no_more : (base span word number : ℕ) → word - base < span → word - base ≤ number → read_from base span word ≤ number
-reads_no_more base span word number fits low = let is = reads_number base span word (omega arith) in omega arith
+pub reads_no_more : (base span word beside number : ℕ) → word - base < span → word - base ≤ number → read_from base span word beside ≤ number
+reads_no_more base span word beside number fits low = let is = reads_number base span word beside (omega arith) in omega arith
 
-pub all_long : (base span len : ℕ) (words : List ℕ) → len ≤ length words → length (read_all base span len words) ≡ len
-all_long base span zero words many = refl
-all_long base span (suc len) [] many = absurd (omega arith)
-all_long base span (suc len) (word ∷ words) many = ap suc (all_long base span len words (omega arith))
+pub all_long : (base span len : ℕ) (words : List ℕ) (beside : ℕ → ℕ) → len ≤ length words → length (read_all base span len words beside) ≡ len
+all_long base span zero words beside many = refl
+all_long base span (suc len) [] beside many = absurd (omega arith)
+all_long base span (suc len) (word ∷ words) beside many = ap suc (all_long base span len words (λ k. beside (suc k)) (omega arith))
 
-pub read_at : (base span len : ℕ) (words : List ℕ) (k : ℕ) → k < len → len ≤ length words
-    → slice_index (read_all base span len words) k ≡ read_from base span (slice_index words k)
-read_at base span zero words k h many = absurd (omega arith)
-read_at base span (suc len) [] k h many = absurd (omega arith)
-read_at base span (suc len) (word ∷ words) zero h many = refl
-read_at base span (suc len) (word ∷ words) (suc k) h many = read_at base span len words k (omega arith) (omega arith)
+pub read_at : (base span len : ℕ) (words : List ℕ) (beside : ℕ → ℕ) (k : ℕ) → k < len → len ≤ length words
+    → slice_index (read_all base span len words beside) k ≡ read_from base span (slice_index words k) (beside k)
+read_at base span zero words beside k h many = absurd (omega arith)
+read_at base span (suc len) [] beside k h many = absurd (omega arith)
+read_at base span (suc len) (word ∷ words) beside zero h many = refl
+read_at base span (suc len) (word ∷ words) beside (suc k) h many = read_at base span len words (λ j. beside (suc j)) k (omega arith) (omega arith)
 
 -- a number that is written is read
-written_reads : (base span number : ℕ) → number < span → read_from base span (base + number) ≡ number
-written_reads base span number h = let back : base + number - base ≡ number = omega arith in reads_number base span (base + number) (omega arith) ∙ back
+written_reads : (base span number beside : ℕ) → number < span → read_from base span (base + number) beside ≡ number
+written_reads base span number beside h =
+    let back : base + number - base ≡ number = omega arith in reads_number base span (base + number) beside (omega arith) ∙ back
 
-pub written_number : (base span len : ℕ) (words : List ℕ) (k number : ℕ) → number < span
-    → read_all base span len (set words k (base + number)) ≡ set (read_all base span len words) k number
-written_number base span zero words k number h = refl
-written_number base span (suc len) [] k number h = refl
-written_number base span (suc len) (word ∷ words) zero number h = ap (λ x. x ∷ read_all base span len words) (written_reads base span number h)
-written_number base span (suc len) (word ∷ words) (suc k) number h = ap (λ xs. read_from base span word ∷ xs) (written_number base span len words k number h)
+pub written_number : (base span len : ℕ) (words : List ℕ) (beside : ℕ → ℕ) (k number : ℕ) → number < span
+    → read_all base span len (set words k (base + number)) beside ≡ set (read_all base span len words beside) k number
+written_number base span zero words beside k number h = refl
+written_number base span (suc len) [] beside k number h = refl
+written_number base span (suc len) (word ∷ words) beside zero number h =
+    ap (λ x. x ∷ read_all base span len words (λ j. beside (suc j))) (written_reads base span number (beside 0) h)
+written_number base span (suc len) (word ∷ words) beside (suc k) number h =
+    ap (λ xs. read_from base span word (beside 0) ∷ xs) (written_number base span len words (λ j. beside (suc j)) k number h)
 
--- words of earlier epochs are blank
-pub all_blank : (base span len : ℕ) (words : List ℕ) → len ≤ length words → AreAtLeast (base + span) words
-    → read_all base span len words ≡ replicate len unreached
-all_blank base span zero words many early = refl
-all_blank base span (suc len) [] many early = absurd (omega arith)
-all_blank base span (suc len) (word ∷ words) many early =
+-- words of earlier epochs are blank, where nothing is beside them
+pub all_blank : (base span len : ℕ) (words : List ℕ) (beside : ℕ → ℕ) → len ≤ length words → AreAtLeast (base + span) words
+    → ((k : ℕ) → beside k ≡ unreached) → read_all base span len words beside ≡ replicate len unreached
+all_blank base span zero words beside many early none = refl
+all_blank base span (suc len) [] beside many early none = absurd (omega arith)
+all_blank base span (suc len) (word ∷ words) beside many early none =
     let high : base + span ≤ word = early 0 (omega arith) in
-    ap (λ x. x ∷ read_all base span len words) (reads_blank base span word (omega arith))
-    ∙ ap (λ xs. unreached ∷ xs) (all_blank base span len words (omega arith) (λ k h. early (suc k) (omega arith)))
+    ap (λ x. x ∷ read_all base span len words (λ k. beside (suc k))) (reads_beside base span word (beside 0) (omega arith) ∙ none 0)
+    ∙ ap (λ xs. unreached ∷ xs) (all_blank base span len words (λ k. beside (suc k)) (omega arith) (λ k h. early (suc k) (omega arith)) (λ k. none (suc k)))
 
 -- a list that is filled, or filled up, with the greatest word keeps its bound
 pub filled : (least m : ℕ) → least ≤ blank_word → AreAtLeast least (replicate m blank_word)
@@ -73,17 +77,85 @@ filled_up least (suc n) m (x ∷ xs) h above zero within = above 0 (omega arith)
 filled_up least (suc n) m (x ∷ xs) h above (suc k) within = filled_up least n m xs h (λ j less. above (suc j) (omega arith)) k (omega arith)
 
 -- what is read is no more than the greatest number
-reads_within : (base span word : ℕ) → span ≤ blank_word → read_from base span word ≤ unreached
-reads_within base span word narrow = elim (cases_lt (word - base) span) [
-  | inl less ↦ let is = reads_number base span word less in omega arith
-  | inr more ↦ let is = reads_blank base span word more in omega arith
+reads_within : (base span word beside : ℕ) → span ≤ blank_word → beside ≤ unreached → read_from base span word beside ≤ unreached
+reads_within base span word beside narrow low = elim (cases_lt (word - base) span) [
+  | inl less ↦ let is = reads_number base span word beside less in omega arith
+  | inr more ↦ let is = reads_beside base span word beside more in omega arith
 ]
 
-pub all_within : (base span len : ℕ) (words : List ℕ) (k : ℕ) → span ≤ blank_word → slice_index (read_all base span len words) k ≤ unreached
-all_within base span zero words k narrow = omega arith
-all_within base span (suc len) [] k narrow = omega arith
-all_within base span (suc len) (word ∷ words) zero narrow = reads_within base span word narrow
-all_within base span (suc len) (word ∷ words) (suc k) narrow = all_within base span len words k narrow
+pub all_within : (base span len : ℕ) (words : List ℕ) (beside : ℕ → ℕ) (k : ℕ) → span ≤ blank_word → ((j : ℕ) → beside j ≤ unreached)
+    → slice_index (read_all base span len words beside) k ≤ unreached
+all_within base span zero words beside k narrow low = omega arith
+all_within base span (suc len) [] beside k narrow low = omega arith
+all_within base span (suc len) (word ∷ words) beside zero narrow low = reads_within base span word (beside 0) narrow (low 0)
+all_within base span (suc len) (word ∷ words) beside (suc k) narrow low = all_within base span len words (λ j. beside (suc j)) k narrow (λ j. low (suc j))
+
+-- ---- Numbers beside the words
+
+-- what is beside the words counts at their places alone
+pub same_beside : (base span len : ℕ) (words : List ℕ) (before after : ℕ → ℕ) → ((j : ℕ) → after j ≡ before j)
+    → read_all base span len words after ≡ read_all base span len words before
+same_beside base span zero words before after same = refl
+same_beside base span (suc len) [] before after same = refl
+same_beside base span (suc len) (word ∷ words) before after same =
+    ap (λ b. read_from base span word b ∷ read_all base span len words (λ j. after (suc j))) (same 0)
+    ∙ ap (λ xs. read_from base span word (before 0) ∷ xs) (same_beside base span len words (λ j. before (suc j)) (λ j. after (suc j)) (λ j. same (suc j)))
+
+-- a number is written beside a word, which is blanked
+pub written_beside : (base span len : ℕ) (words : List ℕ) (before after : ℕ → ℕ) (k number : ℕ) → base + span ≤ blank_word
+    → after k ≡ number → ((j : ℕ) → j ≢ k → after j ≡ before j)
+    → read_all base span len (set words k blank_word) after ≡ set (read_all base span len words before) k number
+written_beside base span zero words before after k number room at others = refl
+written_beside base span (suc len) [] before after k number room at others = refl
+written_beside base span (suc len) (word ∷ words) before after zero number room at others =
+    ap (λ x. x ∷ read_all base span len words (λ j. after (suc j))) (reads_beside base span blank_word (after 0) (omega arith) ∙ at)
+    ∙ ap (λ xs. number ∷ xs)
+    (same_beside base span len words (λ j. before (suc j)) (λ j. after (suc j)) (λ j. others (suc j) (omega arith)))
+written_beside base span (suc len) (word ∷ words) before after (suc k) number room at others =
+    ap (λ b. read_from base span word b ∷ read_all base span len (set words k blank_word) (λ j. after (suc j))) (others 0 (omega arith))
+    ∙ ap (λ xs. read_from base span word (before 0) ∷ xs)
+    (written_beside base span len words (λ j. before (suc j)) (λ j. after (suc j)) k number room at (λ j other. others (suc j) (omega arith)))
+
+-- a list that is filled up with the greatest number says the same
+full_of_greatest : (m k : ℕ) → number_at (replicate m unreached) k ≡ unreached
+full_of_greatest zero k = refl
+full_of_greatest (suc m) zero = refl
+full_of_greatest (suc m) (suc k) = full_of_greatest m k
+
+pub filled_beside : (n m : ℕ) (xs : List ℕ) (k : ℕ) → length xs ≤ n → number_at (take n xs ++ replicate m unreached) k ≡ number_at xs k
+filled_beside zero m [] k long = full_of_greatest m k
+filled_beside zero m (x ∷ xs) k long = absurd (omega arith)
+filled_beside (suc n) m [] k long = full_of_greatest m k
+filled_beside (suc n) m (x ∷ xs) zero long = refl
+filled_beside (suc n) m (x ∷ xs) (suc k) long = filled_beside n m xs k (omega arith)
+
+pub same_are_beside : (before after : List ℕ) → ((k : ℕ) → number_at after k ≡ number_at before k) → AreBeside before → AreBeside after
+same_are_beside before after same are = record {
+  above = λ k. let is = same k in let was = are.above k in omega arith;
+  within = λ k. let is = same k in let was = are.within k in omega arith;
+}
+
+pub none_beside : AreBeside []
+none_beside = record { above = λ k. omega arith; within = λ k. omega arith }
+
+-- a number is written there
+pub beside_there : (wide : List ℕ) (k number : ℕ) → k < length wide → number_at (set wide k number) k ≡ number
+beside_there wide k number inside = get_or-set_same wide k number unreached inside
+
+pub beside_others : (wide : List ℕ) (k number j : ℕ) → j ≢ k → number_at (set wide k number) j ≡ number_at wide j
+beside_others wide k number j other = get_or-set_other wide k j number unreached other
+
+pub one_beside : (wide : List ℕ) (k number : ℕ) → k < length wide → span_limit ≤ number → number ≤ unreached → AreBeside wide → AreBeside (set wide k number)
+one_beside wide k number inside great fits are = record {
+  above = λ j. elim (cases_eq j k) [
+    | inl e ↦ let at = ap (number_at (set wide k number)) e ∙ beside_there wide k number inside in omega arith
+    | inr ne ↦ let at = beside_others wide k number j ne in let was = are.above j in omega arith
+  ];
+  within = λ j. elim (cases_eq j k) [
+    | inl e ↦ let at = ap (number_at (set wide k number)) e ∙ beside_there wide k number inside in omega arith
+    | inr ne ↦ let at = beside_others wide k number j ne in let was = are.within j in omega arith
+  ];
+}
 
 -- ---- Words that are moved to a wider epoch
 
@@ -97,23 +169,24 @@ module _ (base span wider : ℕ) (more : span ≤ wider) (half : wider + wider �
   goes : (word : ℕ) → span ≤ word - base → moved word ≡ blank_word
   goes word h = ap (λ (b : Bool). cond {A = ℕ} b (blank_word - wider + (word - base)) blank_word) (le-ltb (word - base) span h)
 
-  says_the_same : (word : ℕ) → read_from (blank_word - wider) wider (moved word) ≡ read_from base span word
-  says_the_same word = elim (cases_lt (word - base) span) [
+  says_the_same : (word beside : ℕ) → read_from (blank_word - wider) wider (moved word) beside ≡ read_from base span word beside
+  says_the_same word beside = elim (cases_lt (word - base) span) [
     | inl less ↦ (
         let at = stays word less in
         let back : moved word - (blank_word - wider) ≡ word - base = omega (arith, at) in
-        reads_number (blank_word - wider) wider (moved word) (omega (arith, back)) ∙ back ∙ sym (reads_number base span word less))
+        reads_number (blank_word - wider) wider (moved word) beside (omega (arith, back)) ∙ back ∙ sym (reads_number base span word beside less))
     | inr past ↦ (
         let at = goes word past in
-        reads_blank (blank_word - wider) wider (moved word) (omega (arith, at)) ∙ sym (reads_blank base span word past))
+        reads_beside (blank_word - wider) wider (moved word) beside (omega (arith, at)) ∙ sym (reads_beside base span word beside past))
   ]
 
-  say_the_same : (len : ℕ) (words : List ℕ) → read_all (blank_word - wider) wider len (map moved words) ≡ read_all base span len words
-  say_the_same zero words = refl
-  say_the_same (suc len) [] = refl
-  say_the_same (suc len) (word ∷ words) =
-      ap (λ x. x ∷ read_all (blank_word - wider) wider len (map moved words)) (says_the_same word)
-      ∙ ap (λ xs. read_from base span word ∷ xs) (say_the_same len words)
+  say_the_same : (len : ℕ) (words : List ℕ) (beside : ℕ → ℕ)
+      → read_all (blank_word - wider) wider len (map moved words) beside ≡ read_all base span len words beside
+  say_the_same zero words beside = refl
+  say_the_same (suc len) [] beside = refl
+  say_the_same (suc len) (word ∷ words) beside =
+      ap (λ x. x ∷ read_all (blank_word - wider) wider len (map moved words) (λ k. beside (suc k))) (says_the_same word (beside 0))
+      ∙ ap (λ xs. read_from base span word (beside 0) ∷ xs) (say_the_same len words (λ k. beside (suc k)))
 
   high : (word : ℕ) → blank_word - wider ≤ moved word
   high word = elim (cases_lt (word - base) span) [
@@ -133,21 +206,21 @@ module _ (base span wider : ℕ) (more : span ≤ wider) (half : wider + wider �
           room = omega arith;
           half = half;
         };
-        reads = say_the_same len words;
+        reads = λ beside. say_the_same len words beside;
       }
 
--- a number is written
-pub number_written : (base span len : ℕ) (words : List ℕ) (k number : ℕ) → AreWords base span len words → AreWords base span len (set words k (base + number))
-number_written base span len words k number are =
-    let same = length-set words k (base + number) in
+-- a word is written
+pub word_written : (base span len : ℕ) (words : List ℕ) (k word : ℕ) → base ≤ word → AreWords base span len words → AreWords base span len (set words k word)
+word_written base span len words k word high are =
+    let same = length-set words k word in
     let as_many = are.as_many in
     record {
       as_many = omega arith;
       above = λ j within. elim (cases_eq j k) [
         | inl e ↦
-            let here = get_or-set_same words k (base + number) 0 (omega (arith, e, within)) in
-            let at : slice_index (set words k (base + number)) j ≡ base + number = ap (slice_index (set words k (base + number))) e ∙ here in omega arith
-        | inr ne ↦ let there = get_or-set_other words k j (base + number) 0 ne in let was = are.above j (omega arith) in omega arith
+            let here = get_or-set_same words k word 0 (omega (arith, e, within)) in
+            let at : slice_index (set words k word) j ≡ word = ap (slice_index (set words k word)) e ∙ here in omega arith
+        | inr ne ↦ let there = get_or-set_other words k j word 0 ne in let was = are.above j (omega arith) in omega arith
       ];
       room = are.room;
       half = are.half;
