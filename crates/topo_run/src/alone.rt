@@ -46,7 +46,7 @@ fn carry_out<F: PriceFn, T: Gate>(
             book,
             |book: &mut Book<F>|
                 ensures answered { OnOk result ((reply : Reply) × IsAnswered
-                    (prices_of (F.may_return book.entry.now.tariff)) 0 (call_of command.now)
+                    (prices_of (F.may_return book.entry.now.tariff)) 0 (call_of command.entry.now)
                     reply book.entry.now book.exit.now) }
                 ensures same_book { IsSameBook book.entry.now book.exit.now }
             {

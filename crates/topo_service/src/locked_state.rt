@@ -202,12 +202,12 @@ impl<F: PriceFn, K: ServiceBrand<F>, W: VersionWriter<F, K>> LockedState<F, K, W
         ensures same_book { IsSameBook self.old self.new }
         ensures entered { IfOk result
             (λ pair. self.new.history
-            ≡ self.old.history ++ entry_of caller demand.call pair.receipt ∷ []) }
+            ≡ self.old.history ++ entry_of caller demand.entry.call pair.receipt ∷ []) }
         ensures step { IfOk result (λ pair. Step (prices_named F.may_return K.closure)
-            K.start.limits self.old.picture.rows demand.call pair.receipt
+            K.start.limits self.old.picture.rows demand.entry.call pair.receipt
             self.new.picture.rows) }
         ensures no_memory { IfOk result (λ pair. pair.receipt ≢ Refused Memory) }
-        ensures answer { IfOk result (λ pair. is_some pair.answer ≡ demand.is_asked) }
+        ensures answer { IfOk result (λ pair. is_some pair.answer ≡ demand.entry.is_asked) }
         ensures told { IfOk result (λ pair. IfSome pair.answer (λ r. r ≡ pair.receipt)) }
         ensures unchanged { OnErr result (IsUnchanged self.old self.new) }
     {

@@ -1,15 +1,12 @@
 //! The locked service.
 
-ghost use Rattle.std.specs.Prelude.{◌≡◌, ◌≢◌, ◌+◌, ◌<◌, ◌≤◌, ◌++◌, ◌∷◌, []};
+ghost use Rattle.std.specs.Prelude.{◌≡◌, ◌+◌, ◌<◌, ◌≤◌, []};
 ghost use Rattle.std.specs.Prelude.{true, false, IfOk, IsErr, OnErr, Some, is_some};
-ghost use Rattle.topo_core.specs.History.{IsPrefix, is_accepted};
+ghost use Rattle.topo_core.specs.History.{IsPrefix};
 ghost use Rattle.topo_core.specs.declared.calls.Call.TheVariants.{Grow, Insert, Delete};
-ghost use Rattle.topo_core.specs.declared.calls.Refusal.TheVariants.{Memory};
-ghost use Rattle.topo_core.specs.declared.calls.Reply.TheVariants.{Refused};
 ghost use Rattle.topo_versions.specs.Names.{prices_named};
 ghost use Rattle.topo_versions.specs.Versions.{AreLegal};
-ghost use Rattle.topo_service.specs.Answers.{HasEntered, HasReceiptOf, IsAnswered, IsDueAfter};
-ghost use Rattle.topo_service.specs.Passes.{entry_of, receipt_of};
+ghost use Rattle.topo_service.specs.Answers.{HasCalled, HasReceiptOf, IsAnswered};
 ghost use Rattle.topo_core.specs.declared.limits.TheConstants.{MAX_PASSES};
 
 use crate::faults::ServiceFault;
@@ -231,9 +228,9 @@ impl<F: PriceFn, K: ServiceBrand<F>, W: VersionWriter<F, K>> ServiceOver<F, K, W
         demand: Demand<'a, F, K>,
     ) -> Result<Option<Reply>, AllocError>
         ensures number { pass.new.number ≡ pass.old.number }
-        ensures asked { IfOk result (λ reply. is_some reply ≡ demand.is_asked) }
+        ensures asked { IfOk result (λ reply. is_some reply ≡ demand.entry.is_asked) }
         ensures answered { IfOk result (IsAnswered (prices_named F.may_return K.closure)
-            K.start pass.old pass.new demand.call) }
+            K.start pass.old pass.new demand.entry.call) }
         ensures later { IsPrefix pass.old.seen pass.new.seen }
         ensures legal { AreLegal (prices_named F.may_return K.closure) K.start pass.new.seen }
         ensures unchanged { OnErr result (pass.new ≡ pass.old) }
@@ -311,9 +308,9 @@ where
     W: VersionWriter<F, K>,
     R: Wait,
     ensures number { pass.new.number ≡ pass.old.number }
-    ensures asked { IfOk result (λ reply. is_some reply ≡ demand.is_asked) }
+    ensures asked { IfOk result (λ reply. is_some reply ≡ demand.entry.is_asked) }
     ensures answered { IfOk result (IsAnswered (prices_named F.may_return K.closure)
-        K.start pass.old pass.new demand.call) }
+        K.start pass.old pass.new demand.entry.call) }
     ensures later { IsPrefix pass.old.seen pass.new.seen }
     ensures legal { AreLegal (prices_named F.may_return K.closure) K.start pass.new.seen }
     ensures unchanged { OnErr result (pass.new ≡ pass.old) }

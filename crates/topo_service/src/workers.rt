@@ -196,7 +196,7 @@ fn work<F: PriceFn, K: ServiceBrand<F>, W: VersionWriter<F, K>, R: Wait, T: Gate
             |pass: &mut Pass<F, K>|
                 ensures number { pass.exit.now.number ≡ pass.entry.now.number }
                 ensures receipt { OnOk result (HasReceiptOf (prices_named F.may_return K.closure)
-                    K.start pass.entry.now pass.exit.now (call_of command.now)) }
+                    K.start pass.entry.now pass.exit.now (call_of command.entry.now)) }
                 ensures later { IsPrefix pass.entry.now.seen pass.exit.now.seen }
                 ensures unchanged { OnErr result
                     (pass.exit.now.receipts ≡ pass.entry.now.receipts) }

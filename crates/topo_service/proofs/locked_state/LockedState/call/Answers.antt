@@ -27,7 +27,7 @@ returns-clause-step g c =
     let b = c.self.inside.book in
     let i = c.self.invariant in
     let m = c.prepare_call.ensures in
-    let told : c.in_ok-pair.pair.receipt ≡ n.entry.reply = c.in_ok-pair.ensures.receipt ∙ {!!} in
+    let told : c.in_ok-pair.pair.receipt ≡ n.entry.reply = c.in_ok-pair.ensures.receipt ∙ ap (λ e. e.reply) c.entry.ensures.entry in
     let after : c.commit.new.self.picture ≡ picture_after n.picture b.picture = c.commit.ensures.picture ∙ ap (picture_after n.picture) m.unchanged.1 in
     let step = named_step g.F.PriceFn.may_return g.K.ServiceBrand.closure g.K.ServiceBrand.start b c.prepare_call.new.book n i.1 i.0 m.unchanged m.same_book
     m.same_limits c.in_ok-next.ensures.ready in

@@ -12,16 +12,16 @@ use Rattle.topo_service.proofs.service.ServiceOver.close.Goals as goal
 
 pub audit-requires : goal.audit-requires
 audit-requires g c =
-    let given = c.self.inside.given in
-    let sum : c.into_parts-parts.result.1.parts + given ≡ MAX_PASSES = search rules in
+    let given = c.into_parts-given.result.0 in
+    let sum : c.into_parts-given.result.1.parts + given ≡ MAX_PASSES = search rules in
     let s = c.gather-all.ensures in
     let there : (n : ℕ) → n < given → HasNumber n c.args.passes.items = rw (← c.as_slice.ensures.value) c.in_default.ensures.all_there in
     let len : vec_len c.args.passes ≡ length c.args.passes.items = search rules in
-    (all_parts c.into_parts-parts.result.1.parts given _ sum c.self.invariant.1 s.parts s.apart
+    (all_parts c.into_parts-given.result.1.parts given _ sum c.self.invariant.1 s.parts s.apart
     (rw len (enough given c.args.passes.items there))).0
 
 pub returns-clause-all_there : goal.returns-clause-all_there
-returns-clause-all_there g c = rw (← c.self.view_is, ← c.as_slice.ensures.value) c.in_default.ensures.all_there
+returns-clause-all_there g c = rw (← c.self.view_is, ← c.into_parts-given.ensures.number, ← c.as_slice.ensures.value) c.in_default.ensures.all_there
 
 pub returns-clause-agree : goal.returns-clause-agree
 returns-clause-agree g c =
@@ -34,10 +34,10 @@ returns-clause-agree g c =
 
 pub returns-clause-whole : goal.returns-clause-whole
 returns-clause-whole g c =
-    let given = c.self.inside.given in
+    let given = c.into_parts-given.result.0 in
     let history = c.into_inner-state.result.history in
     let passes : List PassState = c.args.passes.items in
-    let rest = c.into_parts-parts.result.1 in
+    let rest = c.into_parts-given.result.1 in
     let sum : rest.parts + given ≡ MAX_PASSES = search rules in
     let none : rest.amount ≡ 0 = search rules in
     let s = c.gather-all.ensures in
@@ -61,4 +61,4 @@ returns-clause-seen g c =
 pub returns-in-Some-clause-fault : goal.returns-in-Some-clause-fault
 returns-in-Some-clause-fault g c =
     let same = ap (λ b. b.history) c.into_book.ensures.same in
-    rw (← c.self.view_is, same, ← c.as_slice.ensures.value, ← c.history.ensures) c.in-Some.ensures.fault
+    rw (← c.self.view_is, ← c.into_parts-given.ensures.number, same, ← c.as_slice.ensures.value, ← c.history.ensures) c.in-Some.ensures.fault
