@@ -12,6 +12,7 @@ mod books;
 mod embeddings;
 mod marks;
 mod pictures;
+mod plans;
 mod services;
 mod values;
 
@@ -19,6 +20,7 @@ use books::use_book;
 use embeddings::edit_embedding;
 use marks::Console;
 use pictures::use_picture;
+use plans::use_plan;
 use services::serve;
 use values::make_values;
 
@@ -27,6 +29,7 @@ fn run<R: Wait + Console + Sync>(rt: &R) -> Result<()> {
     make_values(rt)?;
     edit_embedding(rt)?;
     use_picture(rt)?;
+    use_plan(rt)?;
     use_book(rt)?;
     serve(rt)
 }

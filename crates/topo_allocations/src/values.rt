@@ -8,6 +8,7 @@ use std::io;
 use topo_core::limits::Limits;
 use topo_core::listed::Listed;
 use topo_core::rows::{EdgeRow, Facts};
+use topo_perm::laws::{bypass, exchange};
 use topo_perm::same_cycle;
 use topo_price::table::PriceTable;
 use topo_price::tariff::{PriceFn, Tariff};
@@ -29,12 +30,16 @@ fn read_facts<R: Print>(rt: &R, row: &EdgeRow) -> io::Result<()> {
     says(rt, facts.is_some())
 }
 
-/// Whether two places lie on one cycle.
+/// Whether two places lie on one cycle, which is then changed.
 fn follow_cycle<R: Print>(rt: &R) -> io::Result<()> {
-    let images = [1, 2, 0, 3];
+    let mut images = [1, 2, 0, 3];
     begin(rt, "same_cycle")?;
     let answer = same_cycle(&images, 0, 2);
-    says(rt, answer)
+    says(rt, answer)?;
+    begin(rt, "exchange and bypass")?;
+    exchange(&mut images, 0, 3);
+    bypass(&mut images, 1);
+    number(rt, images[0] as u64)
 }
 
 /// A price of a closure's prices, which is asked for.
