@@ -1,8 +1,10 @@
-/* Refuses one allocation of a program: LD_PRELOAD=THIS REFUSED_ALLOCATION=N PROGRAM refuses the Nth one, counted from 1.
+/* Counts the allocations of a program, and refuses one of them: LD_PRELOAD=THIS REFUSED_ALLOCATION=N PROGRAM refuses the Nth
+ * one, counted from 1, and LD_PRELOAD=THIS TOLD_ALLOCATIONS=1 PROGRAM tells how many there were.
  *
  * Only what the program itself asks for is counted, so what the C library wants for itself, as for a thread or a
  * stream, is given. A line on standard error says that the allocation was refused; a program that makes fewer
- * allocations prints none.
+ * allocations prints none. Where they are told, a line on standard error says for each line that the program writes to
+ * standard output how many allocations it has made by then.
  */
 #define _GNU_SOURCE
 #include <dlfcn.h>
@@ -10,7 +12,10 @@
 #include <link.h>
 #include <stdatomic.h>
 #include <stdint.h>
+#include <stdio.h>
 #include <stdlib.h>
+#include <string.h>
+#include <sys/syscall.h>
 #include <unistd.h>
 
 extern void *__libc_malloc(size_t);
@@ -20,6 +25,7 @@ extern void *__libc_memalign(size_t, size_t);
 
 static atomic_ulong made;
 static unsigned long refused;
+static int are_told;
 static uintptr_t begin, end;
 
 /* Notes where the program's code is: the first object is the program. */
@@ -37,6 +43,7 @@ static int note_code(struct dl_phdr_info *info, size_t size, void *unused) {
 __attribute__((constructor)) static void begin_to_count(void) {
     const char *number = getenv("REFUSED_ALLOCATION");
     refused = number ? strtoul(number, NULL, 10) : 0;
+    are_told = getenv("TOLD_ALLOCATIONS") != NULL;
     dl_iterate_phdr(note_code, NULL);
 }
 
@@ -71,4 +78,18 @@ int posix_memalign(void **made_at, size_t alignment, size_t size) {
         return ENOMEM;
     *made_at = made_now;
     return 0;
+}
+
+/* Tells how many allocations the program has made, without one more. */
+static void tell(void) {
+    char line[40];
+    int length = snprintf(line, sizeof line, "allocations %lu\n", atomic_load(&made));
+    syscall(SYS_write, STDERR_FILENO, line, length);
+}
+
+ssize_t write(int file, const void *bytes, size_t count) {
+    if (are_told && file == STDOUT_FILENO)
+        for (const char *at = bytes, *end_of_bytes = at + count; (at = memchr(at, '\n', end_of_bytes - at)); at++)
+            tell();
+    return syscall(SYS_write, file, bytes, count);
 }
