@@ -1,10 +1,9 @@
 use Rattle.std.proofs.Common.{◌≡◌, sym, ap, subst, ◌∙◌}
-use Rattle.std.specs.Prelude.{OnErr, OnOk}
+use Rattle.std.specs.Prelude.{OnErr}
 use Rattle.topo_core.specs.History.{IsPrefix}
 use Rattle.topo_versions.specs.Names.{prices_named}
-use Rattle.topo_service.specs.Answers.{HasReceiptOf}
 use Rattle.topo_service.specs.Passes.{PassState}
-use Rattle.topo_service.proofs.Answering.{calls_on, none_done, none_made, one_made}
+use Rattle.topo_service.proofs.Answering.{calls_on, none_done, none_made, one_made, receipt_of_same}
 use Rattle.topo_service.proofs.workers.work.Goals as goal
 
 pub loop-index-init : goal.loop-index-init
@@ -17,9 +16,8 @@ loop-index-preserved g c =
     let made = c.between-made.ensures in
     let number : c.between-made.new.state.number ≡ c.loop-index.pass.number =
     ap (λ (s : PassState). s.number) (sym made.leaves) ∙ made.met.0 ∙ ap (λ (s : PassState). s.number) made.shows in
-    let receipt : OnOk c.between-made.result (HasReceiptOf price start c.loop-index.pass c.between-made.new.state _) =
-    subst (λ (s : PassState). OnOk c.between-made.result (HasReceiptOf price start s c.between-made.new.state _)) made.shows
-    (subst (λ (s : PassState). OnOk c.between-made.result (HasReceiptOf price start made.shown.now s _)) made.leaves made.met.1.0) in
+    let receipt = receipt_of_same price start made.shown.now made.left.now c.loop-index.pass c.between-made.new.state c.between-made.result made.shows
+    made.leaves made.met.1.0 in
     one_made price start c.args.pass.now c.loop-index.pass c.between-made.new.state c.args.list.now c.loop-index.index _ c.between-made.result
     c.loop-index.invariant receipt (sym c.is_err.ensures.value ∙ c.if-is_err.false) number
     (calls_on c.args.list.now c.loop-index.index _ c.loop-index-test.true)
