@@ -7,6 +7,7 @@ imported when it is first used, and matplotlib for `draw` alone.
 
 from .drawing.drawings import Drawing, FalseDrawing, draw, drawing_of, to_svg
 from .drawing.orthogonal_layout import Box, OrthogonalDrawing, orthogonal_drawing
+from .drawing.step_pages import to_html
 from .drawing.straight_layout import chain, positions
 from .drawing.verification import Defect
 from .engine.faults import (
@@ -104,6 +105,7 @@ __all__ = [
     "positions",
     "prepare",
     "reinsert",
+    "to_html",
     "to_networkx_embedding",
     "to_networkx_graph",
     "to_svg",
@@ -113,3 +115,4 @@ __all__ = [
 __version__ = "0.5.0"
 
 Planarization.painter = staticmethod(to_svg)
+Session.pager = staticmethod(to_html)

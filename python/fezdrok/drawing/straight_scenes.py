@@ -79,7 +79,7 @@ def straight_scene(chains: Chains, labels: bool = True, color: str = PLAIN) -> S
         for edge_id, chain in chains.nodes.items()
     ]
     dots = tuple(places[result.name_of(point)] for point in result.picture.points if point.is_crossing)
-    unit, nodes = _sized(chains, [label_of(node) if labels else "" for node in result.node_of])
+    unit, nodes = sized_nodes(chains, [label_of(node) if labels else "" for node in result.node_of])
     return Scene(unit, tuple(strokes), nodes, dots, legend)
 
 
@@ -92,7 +92,7 @@ def _marks(result: Planarization, edge_id: int, chain: Sequence[Any]) -> Tuple[O
 # ---- Nodes that have room
 
 
-def _sized(chains: Chains, labels: Sequence[str]) -> Tuple[float, Tuple[NodeShape, ...]]:
+def sized_nodes(chains: Chains, labels: Sequence[str]) -> Tuple[float, Tuple[NodeShape, ...]]:
     """How many pixels a step of the places is, and the nodes: so many that the drawing has room for its points, and up
     to twice as many where nodes would lie on anything else. A node that does all the same is made smaller."""
     xs, ys = zip(*chains.places.values())
