@@ -8,8 +8,9 @@ planarization alone, as they stand in the file (see `verification`), but where `
 from __future__ import annotations
 
 import warnings
+from collections.abc import Mapping
 from dataclasses import dataclass, replace
-from typing import TYPE_CHECKING, Any, List, Mapping, Optional
+from typing import TYPE_CHECKING, Any
 
 from ..engine.faults import PlanarError, PlanarWarning, wanted
 from ..engine.results import Planarization
@@ -35,7 +36,7 @@ class FalseDrawing(PlanarError, ValueError):
     `defects` says what, and where; see `Defect`.
     """
 
-    def __init__(self, false: List[Defect]):
+    def __init__(self, false: list[Defect]):
         super().__init__(false)
         self.defects = false
 
@@ -52,7 +53,7 @@ class Drawing:
     style: str
     scene: Scene
 
-    def verify(self) -> List[Defect]:
+    def verify(self) -> list[Defect]:
         """What is false in the drawing, as it stands in its file: where lines meet that do not cross there in the
         picture, edges do not lie in their order round a node or a crossing, or a node lies on what is not its own. The
         list is empty but where the points were the caller's and kept."""
@@ -62,9 +63,9 @@ class Drawing:
         self,
         *,
         node_color: str = "#d9e8f6",
-        crossing_color: Optional[str] = None,
-        background: Optional[str] = "#fff",
-        prefix: Optional[str] = None,
+        crossing_color: str | None = None,
+        background: str | None = "#fff",
+        prefix: str | None = None,
     ) -> str:
         """The drawing as an SVG document. At a crossing the edge that was there first has a gap, or in the style
         `orthogonal` the newcomer an arc; with a `crossing_color` crossings have dots instead, but none in that style.
@@ -79,7 +80,7 @@ def drawing_of(
     result: Planarization,
     *,
     style: str = "curved",
-    pos: Optional[Mapping[Any, Position]] = None,
+    pos: Mapping[Any, Position] | None = None,
     keep_pos: bool = False,
     labels: bool = True,
     edge_color: str = PLAIN,
@@ -106,7 +107,7 @@ def drawing_of(
 def _scene(
     result: Planarization,
     is_curved: bool,
-    pos: Optional[Mapping[Any, Position]],
+    pos: Mapping[Any, Position] | None,
     keep_pos: bool,
     labels: bool,
     color: str,
@@ -136,14 +137,14 @@ def to_svg(
     result: Planarization,
     *,
     style: str = "curved",
-    pos: Optional[Mapping[Any, Position]] = None,
+    pos: Mapping[Any, Position] | None = None,
     keep_pos: bool = False,
     labels: bool = True,
     node_color: str = "#d9e8f6",
     edge_color: str = PLAIN,
-    crossing_color: Optional[str] = None,
-    background: Optional[str] = "#fff",
-    prefix: Optional[str] = None,
+    crossing_color: str | None = None,
+    background: str | None = "#fff",
+    prefix: str | None = None,
 ) -> str:
     """A planarization drawn as an SVG document, without matplotlib. The words are those of `Drawing.to_svg`, and the
     others those of `draw`."""
@@ -158,10 +159,10 @@ def to_svg(
 
 def draw(
     result: Planarization,
-    ax: Optional["Axes"] = None,
+    ax: "Axes | None" = None,
     *,
     style: str = "curved",
-    pos: Optional[Mapping[Any, Position]] = None,
+    pos: Mapping[Any, Position] | None = None,
     keep_pos: bool = False,
     labels: bool = True,
     node_color: Any = "#d9e8f6",
@@ -176,7 +177,7 @@ def draw(
     arrows. `pos` gives points for the nodes of the graph, and if you like for those of `to_networkx_embedding(result)`;
     crossings without a point are put between their neighbours. Where these points show what is not in the picture, that
     is FalseDrawing, and with `keep_pos` a PlanarWarning. Without `pos` the points are those of `positions`, and the
-    drawing is true. ModuleMissing where networkx or matplotlib is not there.
+    drawing is true. ModuleMissing where matplotlib is not there.
     """
     patches = wanted("matplotlib.patches", "drawings by draw")
     scene = drawing_of(

@@ -190,8 +190,8 @@ class _Writer:
 
     def steps(self) -> list[Json]:
         """What is said at each step."""
-        start = {"call": "the start", "reply": "", "kind": "start", "edge": None, "crossed": [], "ends": []}
-        rows: list[Json] = [start, *(self.step(entry.call, entry.reply) for entry in self.history.report.history)]
+        start: Json = {"call": "the start", "reply": "", "kind": "start", "edge": None, "crossed": [], "ends": []}
+        rows = [start, *(self.step(entry.call, entry.reply) for entry in self.history.report.history)]
         for row, counts in zip(rows, self.history.counts):
             row.update(vertices=counts.vertices, edges=counts.edges, crossings=counts.crossings)
         return rows
