@@ -7,6 +7,7 @@ imported when it is first used, and matplotlib for `draw` alone.
 
 from .drawing.drawings import Drawing, FalseDrawing, draw, drawing_of, to_svg
 from .drawing.orthogonal_layout import Box, OrthogonalDrawing, orthogonal_drawing
+from .drawing.position_pictures import DegeneratePositionsError, from_positions
 from .drawing.step_pages import to_html
 from .drawing.straight_layout import chain, positions
 from .drawing.verification import Defect
@@ -27,6 +28,7 @@ from .engine.results import Planarization, load
 from .engine.session import Renumbered, Session
 from .files.embeddings import from_networkx_embedding, to_networkx_embedding
 from .files.multigraphs import to_networkx_graph
+from .layouts import layout
 from .search.batches import Bar, iter_planarize, planarize_many
 from .search.planarization import Prepared, planarize, prepare, reinsert
 from .search.progress import Progress
@@ -38,6 +40,7 @@ __all__ = [
     "Crossing",
     "Dart",
     "Defect",
+    "DegeneratePositionsError",
     "Delete",
     "Deleted",
     "Drawing",
@@ -97,7 +100,9 @@ __all__ = [
     "drawing_of",
     "find_program",
     "from_networkx_embedding",
+    "from_positions",
     "iter_planarize",
+    "layout",
     "load",
     "orthogonal_drawing",
     "planarize",
