@@ -8,6 +8,7 @@ imported when it is first used, and matplotlib for `draw` alone.
 from .drawing.drawings import Drawing, FalseDrawing, draw, drawing_of, to_svg
 from .drawing.orthogonal_layout import Box, OrthogonalDrawing, orthogonal_drawing
 from .drawing.position_pictures import DegeneratePositionsError, from_positions
+from .drawing.qualities import Quality, quality
 from .drawing.step_pages import to_html
 from .drawing.straight_layout import chain, positions
 from .drawing.verification import Defect
@@ -83,6 +84,7 @@ __all__ = [
     "ProgramNotStarted",
     "ProgramNotStartedError",
     "Progress",
+    "Quality",
     "Refused",
     "Renumbered",
     "Report",
@@ -109,6 +111,7 @@ __all__ = [
     "planarize_many",
     "positions",
     "prepare",
+    "quality",
     "reinsert",
     "to_html",
     "to_networkx_embedding",
