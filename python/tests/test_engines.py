@@ -1,4 +1,4 @@
-"""Many graphs by engines that others made: dask.distributed, MPI and GNU parallel, each run for real where it is there."""
+"""Many graphs by engines of others: dask.distributed, MPI and GNU parallel, each run for real where it is there."""
 
 import json
 import logging

@@ -44,6 +44,15 @@ def route(face: Sequence[Position], start: int) -> list[Position]:
     return _shortened([corners[start], *bends, corners[0]], corners, are_joined)
 
 
+def spot_in_sight(face: Sequence[Position]) -> Position:
+    """A point in a face, which is given as for `route`, that sees its corner 0: the middle of the largest triangle at
+    it."""
+    corners = list(face) if area(face) > 0 else _framed(face, 0)[0]
+    beside = [triangle for triangle in triangles(corners) if 0 in triangle]
+    xs, ys = zip(*(corners[it] for it in max(beside, key=lambda three: turn(*(corners[it] for it in three)))))
+    return sum(xs) / 3, sum(ys) / 3
+
+
 def area(points: Sequence[Position]) -> float:
     """Twice the area within a chain of points that is closed, which is less than 0 where they go clockwise. Where it
     goes back as it came, that is 0, whatever is rounded."""

@@ -15,7 +15,7 @@ from math import dist
 from ..engine.pictures import Crossing, Dart, Edge, Picture
 from ..engine.results import Planarization
 from ..files.embeddings import to_networkx_embedding
-from .face_routes import Position, route
+from .face_routes import Position, route, spot_in_sight
 from .step_histories import History
 from .straight_layout import chain, positions
 
@@ -61,15 +61,25 @@ def lines_of(history: History, last: Planarization) -> StepLines:
     """The lines of all edges of a history, of which `last` is the last picture."""
     drawn = _last_lines(last)
     for edge_id, picture in history.deletions():
-        row = picture.edge(edge_id)
-        _put_crossings(drawn, picture, row)
-        drawn.lines[edge_id] = Line([drawn.vertices[row.a]], [None])
-        for segment, crossing in enumerate((*row.crossings, None)):
-            end = drawn.vertices[row.b] if crossing is None else drawn.crossing_place(picture.crossing(crossing))
-            bends = _bends(drawn, picture, Dart(edge_id, segment))
-            drawn.lines[edge_id].points += [*bends, end]
-            drawn.lines[edge_id].crossings += [*(None for _ in bends), crossing]
+        put_edge(drawn, picture, picture.edge(edge_id))
     return drawn
+
+
+def put_edge(drawn: StepLines, picture: Picture, row: Edge) -> None:
+    """Puts an edge of a picture into a drawing that has all its other edges. Where its end `b` has no other edge, that
+    gets its place too: in the face to which the edge leads."""
+    _put_crossings(drawn, picture, row)
+    line = drawn.lines[row.id] = Line([drawn.vertices[row.a]], [None])
+    for segment, crossing in enumerate((*row.crossings, None)):
+        if crossing is None and len(picture.rotations[row.b]) == 1:
+            face, _ = _face(picture, Dart(row.id, segment, True))
+            drawn.vertices[row.b] = spot_in_sight([it for dart in face for it in _along(drawn, picture, dart)[:-1]])
+            bends = []
+        else:
+            bends = _bends(drawn, picture, Dart(row.id, segment))
+        end = drawn.vertices[row.b] if crossing is None else drawn.crossing_place(picture.crossing(crossing))
+        line.points += [*bends, end]
+        line.crossings += [*(None for _ in bends), crossing]
 
 
 def _last_lines(last: Planarization) -> StepLines:
