@@ -191,8 +191,8 @@ def _is_free(
             continue
         if side and turn(a, b, point) >= 0 and turn(b, c, point) >= 0 and turn(c, a, point) >= 0:
             return False
-        before = min(distance(point, first, second), distance(point, second, third))
-        if distance(point, first, third) < min(clear, NEARER * before):
+        near = distance(point, first, third)
+        if near < clear and near < NEARER * min(distance(point, first, second), distance(point, second, third)):
             return False
     return True
 

@@ -23,10 +23,11 @@ from .straight_layout import chain, positions
 @dataclass
 class Line:
     """The line of an edge, from its end `a` to its end `b`: its points, and the id of the crossing at each of them, or
-    None at its ends and bends."""
+    None at its ends and bends. `flat` are the crossings at which it does not turn."""
 
     points: list[Position]
     crossings: list[int | None]
+    flat: set[int] = field(default_factory=set)
 
     def place(self, crossing: int | None, otherwise: int) -> int:
         """The place of a crossing along the line; that which is given where there is none."""
@@ -40,6 +41,7 @@ class Line:
         parts = [(place + 1) / (len(crossings) + 1) for place in range(len(crossings))]
         self.points[start + 1 : start + 1] = [(x + part * (u - x), y + part * (v - y)) for part in parts]
         self.crossings[start + 1 : start + 1] = crossings
+        self.flat.update(crossings)
 
 
 @dataclass
@@ -144,10 +146,12 @@ def _face(picture: Picture, segment: Dart) -> tuple[list[Dart], int]:
 
 
 def _along(drawn: StepLines, picture: Picture, dart: Dart) -> list[Position]:
-    """The points along a dart."""
+    """The points along a dart, without those at which the line does not turn and the picture has no crossing."""
     row, line = picture.edge(dart.edge), drawn.lines[dart.edge]
     marks = (None, *row.crossings, None)
     first = line.place(marks[dart.segment], 0)
     last = line.place(marks[dart.segment + 1], len(line.points) - 1)
-    points = line.points[first : last + 1]
+    gone = line.flat.difference(row.crossings)
+    stops = zip(line.points[first : last + 1], line.crossings[first : last + 1])
+    points = [point for point, crossing in stops if crossing not in gone]
     return points[::-1] if dart.back else points
