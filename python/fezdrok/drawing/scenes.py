@@ -6,10 +6,10 @@ it by matplotlib. x runs to the east, y to the north; `Scene.unit` says how many
 
 from __future__ import annotations
 
-from collections.abc import Mapping, Sequence
+from collections.abc import Sequence
 from dataclasses import dataclass, replace
 from math import ceil, hypot
-from typing import Any, NamedTuple
+from typing import NamedTuple
 
 from ..engine.graph_edges import Node, Price
 from ..engine.pictures import Point
