@@ -7,6 +7,9 @@ imported when it is first used, and matplotlib for `draw` alone.
 
 from .drawing.drawings import Drawing, FalseDrawing, draw, drawing_of, to_svg
 from .drawing.orthogonal_layout import Box, OrthogonalDrawing, orthogonal_drawing
+from .drawing.position_pictures import DegeneratePositionsError, from_positions
+from .drawing.qualities import Quality, quality
+from .drawing.step_pages import to_html
 from .drawing.straight_layout import chain, positions
 from .drawing.verification import Defect
 from .engine.faults import (
@@ -26,6 +29,7 @@ from .engine.results import Planarization, load
 from .engine.session import Renumbered, Session
 from .files.embeddings import from_networkx_embedding, to_networkx_embedding
 from .files.multigraphs import to_networkx_graph
+from .layouts import layout
 from .search.batches import Bar, iter_planarize, planarize_many
 from .search.planarization import Prepared, planarize, prepare, reinsert
 from .search.progress import Progress
@@ -37,6 +41,7 @@ __all__ = [
     "Crossing",
     "Dart",
     "Defect",
+    "DegeneratePositionsError",
     "Delete",
     "Deleted",
     "Drawing",
@@ -79,6 +84,7 @@ __all__ = [
     "ProgramNotStarted",
     "ProgramNotStartedError",
     "Progress",
+    "Quality",
     "Refused",
     "Renumbered",
     "Report",
@@ -96,14 +102,18 @@ __all__ = [
     "drawing_of",
     "find_program",
     "from_networkx_embedding",
+    "from_positions",
     "iter_planarize",
+    "layout",
     "load",
     "orthogonal_drawing",
     "planarize",
     "planarize_many",
     "positions",
     "prepare",
+    "quality",
     "reinsert",
+    "to_html",
     "to_networkx_embedding",
     "to_networkx_graph",
     "to_svg",
@@ -113,3 +123,4 @@ __all__ = [
 __version__ = "0.5.0"
 
 Planarization.painter = staticmethod(to_svg)
+Session.pager = staticmethod(to_html)

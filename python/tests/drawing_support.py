@@ -6,12 +6,9 @@ from __future__ import annotations
 from functools import lru_cache
 from typing import Any, Dict, Tuple
 
-from fezdrok import Planarization, from_networkx_embedding, planarize
+import networkx as nx
 
-try:
-    import networkx as nx
-except ImportError:
-    nx = None
+from fezdrok import Planarization, from_networkx_embedding, planarize
 
 
 def grid_with_chords() -> Any:

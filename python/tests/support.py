@@ -15,10 +15,7 @@ from fezdrok import ProgramNotFound, find_program
 ROOT = Path(__file__).resolve().parent.parent.parent
 EXAMPLES = ROOT / "crates" / "topo_examples" / "data"
 
-needs_networkx = unittest.skipUnless(find_spec("networkx"), "left out: networkx is not there")
-needs_matplotlib = unittest.skipUnless(
-    find_spec("networkx") and find_spec("matplotlib"), "left out: networkx or matplotlib is not there"
-)
+needs_matplotlib = unittest.skipUnless(find_spec("matplotlib"), "left out: matplotlib is not there")
 
 
 def has_program() -> bool:

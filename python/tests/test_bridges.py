@@ -5,18 +5,15 @@ from itertools import product
 from math import hypot
 from xml.etree import ElementTree
 
+import networkx as nx
+
 from fezdrok import drawing_of, planarize, to_svg
 from fezdrok.drawing.bridges import RADIUS, REACH
 from fezdrok.drawing.drawings import STYLES
 
 from .drawing_support import pictured
 from .drawn_lines import SVG, distance, edges_in, meetings
-from .support import needs_networkx, needs_program
-
-try:
-    import networkx as nx
-except ImportError:
-    nx = None
+from .support import needs_program
 
 
 def points_of(element):
@@ -29,7 +26,6 @@ def away(point, line):
     return min(distance(point, segment) for segment in zip(line, line[1:]))
 
 
-@needs_networkx
 @needs_program
 class Bridges(unittest.TestCase):
     def shown(self, result, style):

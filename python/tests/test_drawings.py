@@ -8,6 +8,8 @@ from pathlib import Path
 from unittest import mock
 from xml.etree import ElementTree
 
+import networkx as nx
+
 from fezdrok import (
     FalseDrawing, ModuleMissing, PlanarWarning, chain, draw, planarize, positions, to_networkx_embedding, to_svg,
 )
@@ -16,12 +18,7 @@ from fezdrok.drawing.relaxation import spread
 from fezdrok.drawing.scenes import flat
 
 from .drawing_support import pictured, planar_result, touch
-from .support import needs_matplotlib, needs_networkx, needs_program
-
-try:
-    import networkx as nx
-except ImportError:
-    nx = None
+from .support import needs_matplotlib, needs_program
 
 SVG = "{http://www.w3.org/2000/svg}"
 
@@ -45,7 +42,6 @@ class DrawingTest(unittest.TestCase):
         self.assertGreater(nearest, 0.005)
 
 
-@needs_networkx
 class Plane(DrawingTest):
     def test_spread_without_crossings(self):
         graphs = [
@@ -75,7 +71,6 @@ class Plane(DrawingTest):
             draw(result)
 
 
-@needs_networkx
 @needs_program
 class Positions(DrawingTest):
     def test_lines_meet_at_their_common_ends_alone(self):
@@ -120,7 +115,6 @@ class Positions(DrawingTest):
         self.assertEqual(len({nodes[1] for nodes in chains}), 3)
 
 
-@needs_networkx
 @needs_program
 class Scenes(unittest.TestCase):
     def test_edges_pass_crossings_without_a_corner_and_apart(self):
@@ -212,7 +206,6 @@ class Scenes(unittest.TestCase):
         self.assertEqual(len(middles), 5)
 
 
-@needs_networkx
 @needs_program
 class Documents(unittest.TestCase):
     def test_svg(self):

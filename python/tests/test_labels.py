@@ -4,17 +4,14 @@ import unittest
 from itertools import product
 from xml.etree import ElementTree
 
+import networkx as nx
+
 from fezdrok import drawing_of, planarize, to_svg
 from fezdrok.drawing.drawings import STYLES
 from fezdrok.drawing.labels import LETTER, MOST, label_in_one_line, label_of, label_size, text_width
 
 from .drawn_lines import SVG
-from .support import needs_networkx, needs_program
-
-try:
-    import networkx as nx
-except ImportError:
-    nx = None
+from .support import needs_program
 
 LONG = {
     "Friedrichshain-Kreuzberg am Wasser": "Friedrichshain-\nKreuzberg am\nWasser",
@@ -66,7 +63,6 @@ class Labels(unittest.TestCase):
         self.assertEqual((wide, high - height), (width if width > high else high + 1, 11.0))
 
 
-@needs_networkx
 @needs_program
 class DrawnLabels(unittest.TestCase):
     def test_drawings_of_long_names_are_true(self):

@@ -6,6 +6,8 @@ import time
 import unittest
 from unittest import mock
 
+import networkx as nx
+
 from fezdrok import drawing_of, positions
 from fezdrok.drawing.contraction import Triangulation, middle_of_sight
 from fezdrok.drawing.drawings import STYLES
@@ -13,12 +15,6 @@ from fezdrok.drawing.flows import Arc, least_cost_flow
 from fezdrok.drawing.segment_grid import SegmentGrid
 
 from .drawing_support import planar_result
-from .support import needs_networkx
-
-try:
-    import networkx as nx
-except ImportError:
-    nx = None
 
 #: How large the graphs are, beside those that are to be drawn in five seconds each.
 PART = float(os.environ.get("FEZDROK_LARGE_DRAWINGS", "0.12"))
@@ -37,7 +33,6 @@ def grid_with_holes(count):
     return graph
 
 
-@needs_networkx
 class Large(unittest.TestCase):
     def graphs(self):
         levels = 10 if PART >= 1 else 7
@@ -105,7 +100,6 @@ class Parts(unittest.TestCase):
         with self.assertRaisesRegex(ValueError, "takes no such flow"):
             least_cost_flow([-5, 0, 0, 5], arcs)
 
-    @needs_networkx
     def test_flows_cost_what_those_of_networkx_cost(self):
         source = random.Random(3)
         for _ in range(20):

@@ -4,16 +4,13 @@ import itertools
 import unittest
 from unittest import mock
 
+import networkx as nx
+
 from fezdrok import Dart, Planarization, Picture, orthogonal_drawing, planarize
 from fezdrok.drawing.bends import least_bends
 
 from .drawing_support import pictured, planar_result, touch
-from .support import needs_networkx, needs_program
-
-try:
-    import networkx as nx
-except ImportError:
-    nx = None
+from .support import needs_program
 
 
 def steps(line):
@@ -110,7 +107,6 @@ class OrthogonalTest(unittest.TestCase):
                 self.assertNotEqual(*ways)
 
 
-@needs_networkx
 class Planar(OrthogonalTest):
     def test_fewest_bends(self):
         """The numbers are the least that any orthogonal drawing without crossings has."""
@@ -202,7 +198,6 @@ def nx_free_triple():
     return {"rotations": [[0, 1, 2], [0, 2, 1]], "edges": edges, "next_edge": 3}
 
 
-@needs_networkx
 @needs_program
 class Crossed(OrthogonalTest):
     def test_the_four_graphs(self):

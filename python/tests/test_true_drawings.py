@@ -5,6 +5,8 @@ import random
 import unittest
 from collections import Counter
 
+import networkx as nx
+
 from fezdrok import Crossing, Edge, Picture, Planarization, Point, drawing_of, planarize
 from fezdrok.drawing.drawings import STYLES
 from fezdrok.drawing.pages import Page
@@ -12,12 +14,7 @@ from fezdrok.drawing.scenes import Look, NodeShape, Scene, Stroke
 from fezdrok.drawing.verification import defects, is_clockwise
 
 from .drawn_lines import nodes_on_edges, shown_crossings
-from .support import needs_networkx, needs_program
-
-try:
-    import networkx as nx
-except ImportError:
-    nx = None
+from .support import needs_program
 
 #: How many random graphs are drawn; with 500, which take over half an hour, all named ones are too.
 COUNT = int(os.environ.get("FEZDROK_RANDOM_DRAWINGS", "7"))
@@ -74,7 +71,6 @@ class DrawnTest(unittest.TestCase):
         self.assertEqual(nodes_on_edges(text, ends), [])
 
 
-@needs_networkx
 @needs_program
 class TrueDrawings(DrawnTest):
     def test_random_graphs(self):

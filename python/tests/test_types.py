@@ -12,13 +12,11 @@ PACKAGE = Path(__file__).resolve().parent.parent / "fezdrok"
 @unittest.skipUnless(shutil.which("mypy"), "left out: mypy is not there")
 class Types(unittest.TestCase):
     def test_strictly(self):
-        """Of the drawings nothing is said here."""
         with tempfile.TemporaryDirectory() as cache:
             options = ["--strict", "--ignore-missing-imports", "--python-version", "3.10", "--cache-dir", cache]
             done = subprocess.run(["mypy", *options, PACKAGE], capture_output=True, text=True)
-        errors = [line for line in done.stdout.splitlines() if "error:" in line and "fezdrok/drawing/" not in line]
-        self.assertEqual((errors, done.stderr), ([], ""))
-        self.assertIn("source files", done.stdout)
+        self.assertEqual((done.returncode, done.stderr), (0, ""), done.stdout)
+        self.assertRegex(done.stdout, r"\ASuccess: no issues found in \d+ source files\n\Z")
 
 
 if __name__ == "__main__":

@@ -13,14 +13,16 @@ from html import escape
 from typing import Any
 
 from ..drawing.drawings import to_svg
+from ..drawing.step_pages import to_html
 from ..engine.faults import PlanarError, PlanarWarning
+from ..engine.reports import Report
 from ..engine.results import SUFFIX, Planarization, single
 from ..engine.whole_files import write_whole
 from ..files.graph_files import FORMATS, Format, GraphFileError, bytes_of, format_of
 from ..files.multigraphs import to_networkx_graph
 from ..search.planarization import planarize
 from .graph_inputs import (
-    DASH, Outputs, inputs_of, is_saved, name_of, read_graph, read_saved, without_loops,
+    DASH, Outputs, inputs_of, is_saved, name_of, read_bytes, read_graph, read_saved, without_loops,
 )
 from .streams import FAILED, NO_MEMORY, WELL, OutputLostError, complain, say, say_bytes
 
@@ -243,6 +245,20 @@ def convert_files(words: argparse.Namespace) -> int:
             put(bytes_of(graph, form), place, line)
 
     return Run().each(inputs, work)
+
+
+def view_files(words: argparse.Namespace) -> int:
+    """`fezdrok view`."""
+    outputs = Outputs(words.output, words.files, ".html")
+
+    def work(path: str) -> None:
+        place = outputs.place_for(path)
+        report = Report.from_text(read_bytes(path).decode(errors="replace"))
+        page = to_html(report, title=name_of(path), program=words.program)
+        line = f"{name_of(path)}: {len(report.history)} calls, {len(report.picture.crossings)} crossings at the end"
+        put(page.encode(), place, line)
+
+    return Run().each(words.files, work)
 
 
 # ---- Labels and colours of nodes

@@ -13,7 +13,7 @@ from ..engine.program import Program
 from ..files.graph_files import FORMATS, GraphFileError
 from ..files.graphs import Objective
 from ..search.options import EffortName
-from .graph_work import convert_files, draw_files, output_form, planarize_files, style_fault, verify_file
+from .graph_work import convert_files, draw_files, output_form, planarize_files, style_fault, verify_file, view_files
 from .lines import answer_lines
 from .statistics import show_statistics
 from .streams import INTERRUPTED, REFUSED, OutputLostError, complain, let_go, say
@@ -85,6 +85,9 @@ def _parser(version: str) -> Parser:
     verify.add_argument("graph", metavar="GRAPH", nargs="?", help="the graph that it is to be of")
     verify.add_argument("--format", choices=[*FORMATS], metavar="FORMAT", help="the format of the graph")
     _add_convert(command("convert", "write planarizations, or graphs, in other formats", convert_files))
+    view = command("view", "make pages of HTML that step through the calls of reports", view_files)
+    view.add_argument("files", metavar="REPORT", nargs="+", help="reports, as planar run prints them, or -")
+    view.add_argument("-o", "--output", metavar="PLACE", help="a file as page.html, a folder, or - for standard output")
     command("lines", "answer scripts, one a line, each by one line", _work_lines)
     return parser
 

@@ -8,8 +8,9 @@ is a box: an angle between two of its edges may be 0, and then both leave the sa
 
 from __future__ import annotations
 
+from collections.abc import Iterator
 from dataclasses import dataclass
-from typing import Any, Dict, Iterator, List, Tuple
+from typing import Any
 
 from ..engine.pictures import Dart, Picture, Point
 from .flows import Arc, least_cost_flow
@@ -28,16 +29,16 @@ class Shape:
     """
 
     picture: Picture
-    angles: Dict[Dart, int]
-    bends: Dict[Dart, int]
-    headings: Dict[Dart, int]
+    angles: dict[Dart, int]
+    bends: dict[Dart, int]
+    headings: dict[Dart, int]
 
     @property
     def bend_count(self) -> int:
         """How many bends all edges have together: the cost of the flow in bends."""
         return sum(self.bends.values())
 
-    def turns(self, dart: Dart) -> Tuple[int, ...]:
+    def turns(self, dart: Dart) -> tuple[int, ...]:
         """The turns of a dart from its start to its end: 1 for a left turn, -1 for a right one."""
         return (1,) * self.bends[dart] + (-1,) * self.bends[dart.twin]
 
@@ -59,7 +60,9 @@ def least_bends(picture: Picture, outer: int) -> Shape:
     """
     if not 0 <= outer < len(picture.faces):
         raise ValueError(f"there is no face {outer}: the picture has {len(picture.faces)}")
-    demand = {("face", place): _due(picture, place, outer) for place in range(len(picture.faces))}
+    demand: dict[tuple[str, int | Point], int] = {
+        ("face", place): _due(picture, place, outer) for place in range(len(picture.faces))
+    }
     for point in picture.points:
         spare = 4 - sum(_least(picture, point) for _ in picture.around(point))
         if spare > 0:
@@ -90,7 +93,7 @@ def _due(picture: Picture, place: int, outer: int) -> int:
     return 2 * len(face) - least + (4 if place == outer else -4)
 
 
-def _arcs(picture: Picture) -> Iterator[Tuple[Any, Any, Any, int, int]]:
+def _arcs(picture: Picture) -> Iterator[tuple[Any, Any, Any, int, int]]:
     """The arcs of the network: start, end, key, capacity, cost of a unit.
 
     A bend costs more than all angles together can, so bends are the fewest. The first right angle that a corner takes
@@ -113,11 +116,11 @@ def _arcs(picture: Picture) -> Iterator[Tuple[Any, Any, Any, int, int]]:
             yield ("face", left), ("face", right), ("bend", dart), room, bend
 
 
-def _headings(picture: Picture, angles: Dict[Dart, int], bends: Dict[Dart, int]) -> Dict[Dart, int]:
+def _headings(picture: Picture, angles: dict[Dart, int], bends: dict[Dart, int]) -> dict[Dart, int]:
     """The direction in which each dart starts, where the first one starts to the east."""
     first = next(picture.darts)
     headings = {first: EAST}
-    waiting: List[Dart] = [first]
+    waiting: list[Dart] = [first]
     while waiting:
         dart = waiting.pop()
         following, back = picture.turn(dart), dart.twin

@@ -6,9 +6,10 @@ The edges themselves stay as they are, so that what is judged of a drawing is wh
 
 from __future__ import annotations
 
+from collections.abc import Sequence
 from dataclasses import replace
 from math import cos, hypot, pi, sin
-from typing import List, NamedTuple, Sequence, Tuple
+from typing import NamedTuple
 
 from ..engine.pictures import Point
 from ..engine.results import Planarization
@@ -29,15 +30,15 @@ class Bridge(NamedTuple):
     """A bridge: what is covered by the background, and how wide; then what is drawn again of the edge that was there
     first, if anything, and of the newcomer; with the looks of both edges."""
 
-    gap: Tuple[Position, ...]
+    gap: tuple[Position, ...]
     gap_width: float
-    below: Tuple[Position, ...]
+    below: tuple[Position, ...]
     below_look: Look
-    above: Tuple[Position, ...]
+    above: tuple[Position, ...]
     above_look: Look
 
 
-def bridges(result: Planarization, scene: Scene, are_arcs: bool) -> List[Bridge]:
+def bridges(result: Planarization, scene: Scene, are_arcs: bool) -> list[Bridge]:
     """A bridge for each crossing: gaps, or arcs where the edges run along a grid."""
     stroke_of = {stroke.edge_id: stroke for stroke in scene.strokes}
     found = []
@@ -45,18 +46,19 @@ def bridges(result: Planarization, scene: Scene, are_arcs: bool) -> List[Bridge]
         first, newcomer = stroke_of[row.crossed], stroke_of[row.newcomer]
         mark = Point(True, row.id)
         width = newcomer.look.width + 2 * SEEN
+        above: tuple[Position, ...]
+        below: tuple[Position, ...] = ()
         if are_arcs:
             start, middle, end = _around(newcomer, mark, RADIUS / scene.unit)
             below = _around(first, mark, (width / 2 + 0.5) / scene.unit)
             above = _arc(start, middle, end, RADIUS / scene.unit)
         else:
             above = start, _, end = _around(newcomer, mark, REACH / scene.unit)
-            below = ()
         found.append(Bridge((start, end), width, below, first.look, above, newcomer.look))
     return found
 
 
-def _around(stroke: Stroke, mark: Point, reach: float) -> Tuple[Position, Position, Position]:
+def _around(stroke: Stroke, mark: Point, reach: float) -> tuple[Position, Position, Position]:
     """Three points along an edge: before a crossing, the crossing, and behind it."""
     place, step = stroke.marks.index(mark), 3 if stroke.curved else 1
     beside = replace(stroke, points=stroke.points[step * (place - 1) : step * (place + 1) + 1])
@@ -76,7 +78,7 @@ def _along(line: Sequence[Position], reach: float) -> Position:
     return line[-1]
 
 
-def _arc(start: Position, middle: Position, end: Position, radius: float) -> Tuple[Position, ...]:
+def _arc(start: Position, middle: Position, end: Position, radius: float) -> tuple[Position, ...]:
     """A half circle over a point of a straight line, on its upper or left side."""
     (x, y), (u, v) = middle, toward(start, end)
     across, up = (-v, u) if max(u, v) > 0.5 else (v, -u)

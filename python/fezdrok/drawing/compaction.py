@@ -10,16 +10,16 @@ Drawings, 1999, where the orders are given). It is done for one axis and then th
 
 from __future__ import annotations
 
-from typing import Container, Dict, List, Mapping, Sequence, Tuple
+from collections.abc import Container, Mapping, Sequence
 
 from .flows import Arc, least_cost_flow
 from .meshes import Mesh, rectangles
 
 #: For two bars the least distance from the first to the second.
-Gaps = Dict[Tuple[int, int], int]
+Gaps = dict[tuple[int, int], int]
 #: For two nodes of one level how far apart they stand at least, where that is more than 1.
-Room = Mapping[Tuple[int, int], int]
-Places = List[Tuple[int, int]]
+Room = Mapping[tuple[int, int], int]
+Places = list[tuple[int, int]]
 
 #: How many times each axis is made shorter at most, and how much a side of a box counts beside other links.
 ROUNDS = 4
@@ -29,7 +29,7 @@ MANY = 3000
 
 
 def compact_mesh(
-    mesh: Mesh, sides: Container[Tuple[int, int]] = (), room: Tuple[Room, Room] = ({}, {}), by_flow: bool = True
+    mesh: Mesh, sides: Container[tuple[int, int]] = (), room: tuple[Room, Room] = ({}, {}), by_flow: bool = True
 ) -> Places:
     """A point of the grid for each node of a connected mesh, so that links meet in nodes alone and run as they should.
 
@@ -54,7 +54,7 @@ def compact_mesh(
     return [(x - least[0], y - least[1]) for x, y in zip(*axes)]
 
 
-def _bars(mesh: Mesh, axis: int) -> List[int]:
+def _bars(mesh: Mesh, axis: int) -> list[int]:
     """For each node its bar: a number that nodes have in common where links across the axis join them."""
     bar = [-1] * len(mesh.links)
     count = 0
@@ -73,7 +73,7 @@ def _bars(mesh: Mesh, axis: int) -> List[int]:
     return bar
 
 
-def _first_axis(cut: Mesh, axis: int) -> List[int]:
+def _first_axis(cut: Mesh, axis: int) -> list[int]:
     """Coordinates along an axis of the nodes of a mesh of rectangles, by longest paths."""
     bar = _bars(cut, axis)
     gaps = {(bar[start], bar[around[axis]]): 1 for start, around in enumerate(cut.links) if axis in around}
@@ -81,9 +81,9 @@ def _first_axis(cut: Mesh, axis: int) -> List[int]:
     return [place[it] for it in bar]
 
 
-def _longest(count: int, gaps: Gaps) -> List[int]:
+def _longest(count: int, gaps: Gaps) -> list[int]:
     """The least coordinates from 0 on with these gaps; the bars are taken in an order in which all gaps lead on."""
-    following: List[List[Tuple[int, int]]] = [[] for _ in range(count)]
+    following: list[list[tuple[int, int]]] = [[] for _ in range(count)]
     before = [0] * count
     for (start, end), gap in gaps.items():
         following[start].append((end, gap))
@@ -108,14 +108,14 @@ def _gaps_seen(bar: Sequence[int], along: Sequence[int], across: Sequence[int], 
     A bar lies on all levels from its lowest node to its highest. What keeps its order on each level cannot come to
     lie on another or beyond it.
     """
-    least: Dict[int, int] = {}
-    most: Dict[int, int] = {}
-    place: Dict[int, int] = {}
+    least: dict[int, int] = {}
+    most: dict[int, int] = {}
+    place: dict[int, int] = {}
     for node, it in enumerate(bar):
         least[it] = min(across[node], least.get(it, across[node]))
         most[it] = max(across[node], most.get(it, across[node]))
         place[it] = along[node]
-    levels: Dict[int, List[int]] = {}
+    levels: dict[int, list[int]] = {}
     for it in sorted(place, key=place.__getitem__):
         for level in range(least[it], most[it] + 1):
             levels.setdefault(level, []).append(it)
@@ -126,7 +126,7 @@ def _gaps_seen(bar: Sequence[int], along: Sequence[int], across: Sequence[int], 
     return gaps
 
 
-def _pull(mesh: Mesh, axis: int, bar: Sequence[int], sides: Container[Tuple[int, int]]) -> List[int]:
+def _pull(mesh: Mesh, axis: int, bar: Sequence[int], sides: Container[tuple[int, int]]) -> list[int]:
     """What each bar counts in the total length: the links that end at it less those that start from it."""
     pull = [0] * (max(bar) + 1)
     for start, around in enumerate(mesh.links):
@@ -143,7 +143,7 @@ def _length(pull: Sequence[int], bar: Sequence[int], along: Sequence[int]) -> in
     return sum(weight * place[it] for it, weight in enumerate(pull))
 
 
-def _shorter(pull: Sequence[int], bar: Sequence[int], gaps: Gaps, by_flow: bool) -> List[int]:
+def _shorter(pull: Sequence[int], bar: Sequence[int], gaps: Gaps, by_flow: bool) -> list[int]:
     """Coordinates along an axis with these gaps; by flow, those with the least total length of links."""
     place = _longest(len(pull), gaps)
     if by_flow:
@@ -151,22 +151,22 @@ def _shorter(pull: Sequence[int], bar: Sequence[int], gaps: Gaps, by_flow: bool)
     return [place[it] for it in bar]
 
 
-def _least_length(place: Sequence[int], gaps: Gaps, pull: Sequence[int]) -> List[int]:
+def _least_length(place: Sequence[int], gaps: Gaps, pull: Sequence[int]) -> list[int]:
     """The coordinates with these gaps for which the sum of `pull` times coordinate is least.
 
     In the dual, a bar takes as much flow as its pull says, and a gap carries flow at the cost of what is to spare in
     it. In the best coordinates the gaps that carry flow are exact. `place` are any coordinates with these gaps.
     """
-    room = sum(map(abs, pull))
+    room = sum(abs(it) for it in pull)
     arcs = [Arc(start, end, room, place[end] - place[start] - gap) for (start, end), gap in gaps.items()]
     flow = least_cost_flow(pull, arcs)
     tight = {(end, start): -gap for ((start, end), gap), amount in zip(gaps.items(), flow) if amount > 0}
     return _settled(len(pull), {**gaps, **tight})
 
 
-def _settled(count: int, gaps: Gaps) -> List[int]:
+def _settled(count: int, gaps: Gaps) -> list[int]:
     """The least coordinates from 0 on with these gaps, some of which are negative and lead back: Bellman and Ford's."""
-    following: List[List[Tuple[int, int]]] = [[] for _ in range(count)]
+    following: list[list[tuple[int, int]]] = [[] for _ in range(count)]
     for (start, end), gap in gaps.items():
         following[start].append((end, gap))
     place = [0] * count

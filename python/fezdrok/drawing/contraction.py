@@ -9,9 +9,10 @@ drawing, 1936). In between the nodes are moved about, when they are still few.
 
 from __future__ import annotations
 
-from typing import List, NamedTuple, Optional, Sequence, Set, Tuple
+from collections.abc import Sequence
+from typing import NamedTuple
 
-Position = Tuple[float, float]
+Position = tuple[float, float]
 
 #: The greatest number of neighbours that a node has which is contracted, while there are others.
 FEW = 7
@@ -22,27 +23,27 @@ class Contraction(NamedTuple):
 
     node: int
     into: int
-    others: Tuple[int, ...]
+    others: tuple[int, ...]
 
 
 class Triangulation:
     """The neighbours of each node, counterclockwise, of those that are there, and for how many nodes each stands."""
 
-    def __init__(self, around: List[List[int]], ring: Sequence[int]):
+    def __init__(self, around: list[list[int]], ring: Sequence[int]):
         self.around = around
-        self.beside: List[Set[int]] = [set(others) for others in around]
+        self.beside: list[set[int]] = [set(others) for others in around]
         self.weight = [1] * len(around)
         self.fixed = set(ring)
 
-    def contracted(self) -> Optional[List[List[Contraction]]]:
+    def contracted(self) -> list[list[Contraction]] | None:
         """Contract all nodes but those of the ring, in rounds in which no neighbour of a node that went goes itself;
         the rounds. None where it comes to no end."""
         left = [node for node in range(len(self.around)) if node not in self.fixed]
-        rounds: List[List[Contraction]] = []
+        rounds: list[list[Contraction]] = []
         most = FEW
         while left:
-            done: List[Contraction] = []
-            still: Set[int] = set()
+            done: list[Contraction] = []
+            still: set[int] = set()
             for node in sorted(left, key=lambda it: len(self.around[it])):
                 if len(self.around[node]) > most:
                     break
@@ -61,11 +62,11 @@ class Triangulation:
             most = FEW
         return rounds
 
-    def _target(self, node: int) -> Optional[int]:
+    def _target(self, node: int) -> int | None:
         """The neighbour that a node can go into: they have two others in common alone, so no two links fall together.
         Of several, the one with the fewest neighbours."""
         found = [other for other in self.around[node] if len(self.beside[node] & self.beside[other]) == 2]
-        return min(found, key=lambda it: len(self.around[it]), default=None)
+        return min(found, key=lambda it: len(self.around[it])) if found else None
 
     def _contract(self, node: int, into: int) -> Contraction:
         around, beside = self.around, self.beside
@@ -102,13 +103,13 @@ class Triangulation:
         self.weight[into] -= self.weight[node]
 
 
-def middle_of_sight(corners: Sequence[Position]) -> Optional[Position]:
+def middle_of_sight(corners: Sequence[Position]) -> Position | None:
     """The mean of the corners of the region from which all of a polygon can be seen, which is given by its corners,
     counterclockwise; None where there is as good as no such region."""
     region = list(corners)
     for (x, y), (u, v) in zip(corners, [*corners[1:], corners[0]]):
         sides = [(u - x) * (s - y) - (v - y) * (r - x) for r, s in region]
-        cut: List[Position] = []
+        cut: list[Position] = []
         for place, (point, here) in enumerate(zip(region, sides)):
             before, there = region[place - 1], sides[place - 1]
             if here * there < 0:

@@ -2,8 +2,9 @@
 
 from __future__ import annotations
 
-from typing import Any, Dict, List, Mapping, Optional, Sequence, Tuple
+from collections.abc import Mapping, Sequence
 from math import hypot
+from typing import Any
 
 from ..engine.pictures import Point
 from ..engine.results import Planarization
@@ -15,10 +16,10 @@ REACH = 0.36
 
 def crossing_ways(
     result: Planarization, chains: Mapping[int, Sequence[Any]], places: Mapping[Any, Position]
-) -> Dict[Tuple[int, Any], Position]:
+) -> dict[tuple[int, Any], Position]:
     """For an edge and a crossing on it, as a node of its chain, the direction in which the edge would pass if both
     edges met at right angles, turned as little as they can be."""
-    found: Dict[Tuple[int, Any], Position] = {}
+    found: dict[tuple[int, Any], Position] = {}
     for row in result.picture.crossings:
         point = Point(True, row.id)
         name, darts = result.name_of(point), result.picture.around(point)
@@ -43,8 +44,8 @@ def is_as_good_as_straight(chain: Sequence[Position]) -> bool:
 
 
 def smooth(
-    chain: Sequence[Position], ways: Sequence[Optional[Position]], reaches: Sequence[float]
-) -> Tuple[Position, ...]:
+    chain: Sequence[Position], ways: Sequence[Position | None], reaches: Sequence[float]
+) -> tuple[Position, ...]:
     """A chain of points as cubic curves that pass each of them in one direction.
 
     The direction is between those of the lines before and behind the point; where `ways` has one, it is turned toward
@@ -61,7 +62,7 @@ def smooth(
             middle = toward((0.0, 0.0), (middle[0] + share * way[0], middle[1] + share * way[1]))
         passing.append(middle if middle != (0.0, 0.0) else after)
     passing.append(lines[-1])
-    curve: List[Position] = [chain[0]]
+    curve: list[Position] = [chain[0]]
     for start, end, leaving, coming, part in zip(chain, chain[1:], passing, passing[1:], reaches):
         reach = REACH * part * hypot(end[0] - start[0], end[1] - start[1])
         curve += [

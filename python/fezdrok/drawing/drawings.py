@@ -8,13 +8,15 @@ planarization alone, as they stand in the file (see `verification`), but where `
 from __future__ import annotations
 
 import warnings
+from collections.abc import Mapping
 from dataclasses import dataclass, replace
-from typing import TYPE_CHECKING, Any, List, Mapping, Optional
+from typing import TYPE_CHECKING, Any
 
 from ..engine.faults import PlanarError, PlanarWarning, wanted
 from ..engine.results import Planarization
 from ..files.embeddings import to_networkx_embedding
 from .labels import LETTER_HEIGHT
+from .near_lines import near_chains
 from .orthogonal_layout import orthogonal_drawing
 from .pages import Page
 from .scenes import PLAIN, Position, Scene, flat, grid_sizes, orthogonal_scene
@@ -35,7 +37,7 @@ class FalseDrawing(PlanarError, ValueError):
     `defects` says what, and where; see `Defect`.
     """
 
-    def __init__(self, false: List[Defect]):
+    def __init__(self, false: list[Defect]):
         super().__init__(false)
         self.defects = false
 
@@ -52,7 +54,7 @@ class Drawing:
     style: str
     scene: Scene
 
-    def verify(self) -> List[Defect]:
+    def verify(self) -> list[Defect]:
         """What is false in the drawing, as it stands in its file: where lines meet that do not cross there in the
         picture, edges do not lie in their order round a node or a crossing, or a node lies on what is not its own. The
         list is empty but where the points were the caller's and kept."""
@@ -62,9 +64,9 @@ class Drawing:
         self,
         *,
         node_color: str = "#d9e8f6",
-        crossing_color: Optional[str] = None,
-        background: Optional[str] = "#fff",
-        prefix: Optional[str] = None,
+        crossing_color: str | None = None,
+        background: str | None = "#fff",
+        prefix: str | None = None,
     ) -> str:
         """The drawing as an SVG document. At a crossing the edge that was there first has a gap, or in the style
         `orthogonal` the newcomer an arc; with a `crossing_color` crossings have dots instead, but none in that style.
@@ -79,18 +81,22 @@ def drawing_of(
     result: Planarization,
     *,
     style: str = "curved",
-    pos: Optional[Mapping[Any, Position]] = None,
+    pos: Mapping[Any, Position] | None = None,
     keep_pos: bool = False,
+    near: Drawing | None = None,
     labels: bool = True,
     edge_color: str = PLAIN,
 ) -> Drawing:
     """A drawing of a planarization, which is true; the words are those of `draw`.
 
-    ValueError for a style that is not known, and for `pos` with the style `orthogonal`, which has points of its own;
-    FalseDrawing where the points of `pos` allow no true drawing, or with `keep_pos` a PlanarWarning.
+    ValueError for a style that is not known, for `pos` or `near` with the style `orthogonal`, which has points of its
+    own, for both together, and for a `near` that is no drawing or an orthogonal one; FalseDrawing where the points of
+    `pos` allow no true drawing, or with `keep_pos` a PlanarWarning. A PlanarWarning too where `near` has too little in
+    common with this planarization.
     """
     if style not in STYLES:
         raise ValueError(f"the style {style!r} is not known: it is 'straight', 'curved' or 'orthogonal'")
+    _judge_near(near, style, pos)
     if style == "orthogonal":
         if pos is not None:
             raise ValueError("an orthogonal drawing has points of its own: leave pos out")
@@ -100,13 +106,39 @@ def drawing_of(
         if false:
             raise AssertionError(f"an orthogonal drawing is false: {false[0]}")
         return Drawing(result, style, scene)
+    if near is not None:
+        same = _scene_near(result, style == "curved", near, labels, edge_color)
+        if same is not None:
+            return Drawing(result, style, same)
+        warnings.warn("too much is otherwise than in the drawing before: this one begins anew", PlanarWarning)
     return Drawing(result, style, _scene(result, style == "curved", pos, keep_pos, labels, edge_color))
+
+
+def _judge_near(near: Any, style: str, pos: Mapping[Any, Position] | None) -> None:
+    """ValueError where a drawing cannot be near this one."""
+    if near is None:
+        return
+    if not isinstance(near, Drawing):
+        raise ValueError(f"near is {near!r:.80}: it must be a Drawing, as drawing_of gives it")
+    if "orthogonal" in (style, near.style):
+        raise ValueError("an orthogonal drawing has points of its own: leave near out")
+    if pos is not None:
+        raise ValueError("pos and near both say where the points are: leave one of them out")
+
+
+def _scene_near(result: Planarization, is_curved: bool, near: Drawing, labels: bool, color: str) -> Scene | None:
+    """The scene in which all that a drawing has too lies as there; None where that is not true."""
+    chains = near_chains(result, near.result, near.scene)
+    if chains is None:
+        return None
+    scene, false = true_scene(chains, is_curved, labels, color)
+    return None if false else scene
 
 
 def _scene(
     result: Planarization,
     is_curved: bool,
-    pos: Optional[Mapping[Any, Position]],
+    pos: Mapping[Any, Position] | None,
     keep_pos: bool,
     labels: bool,
     color: str,
@@ -136,18 +168,21 @@ def to_svg(
     result: Planarization,
     *,
     style: str = "curved",
-    pos: Optional[Mapping[Any, Position]] = None,
+    pos: Mapping[Any, Position] | None = None,
     keep_pos: bool = False,
+    near: Drawing | None = None,
     labels: bool = True,
     node_color: str = "#d9e8f6",
     edge_color: str = PLAIN,
-    crossing_color: Optional[str] = None,
-    background: Optional[str] = "#fff",
-    prefix: Optional[str] = None,
+    crossing_color: str | None = None,
+    background: str | None = "#fff",
+    prefix: str | None = None,
 ) -> str:
     """A planarization drawn as an SVG document, without matplotlib. The words are those of `Drawing.to_svg`, and the
     others those of `draw`."""
-    drawing = drawing_of(result, style=style, pos=pos, keep_pos=keep_pos, labels=labels, edge_color=edge_color)
+    drawing = drawing_of(
+        result, style=style, pos=pos, keep_pos=keep_pos, near=near, labels=labels, edge_color=edge_color
+    )
     return drawing.to_svg(
         node_color=node_color, crossing_color=crossing_color, background=background, prefix=prefix
     )
@@ -158,11 +193,12 @@ def to_svg(
 
 def draw(
     result: Planarization,
-    ax: Optional["Axes"] = None,
+    ax: "Axes | None" = None,
     *,
     style: str = "curved",
-    pos: Optional[Mapping[Any, Position]] = None,
+    pos: Mapping[Any, Position] | None = None,
     keep_pos: bool = False,
+    near: Drawing | None = None,
     labels: bool = True,
     node_color: Any = "#d9e8f6",
     edge_color: Any = PLAIN,
@@ -176,11 +212,13 @@ def draw(
     arrows. `pos` gives points for the nodes of the graph, and if you like for those of `to_networkx_embedding(result)`;
     crossings without a point are put between their neighbours. Where these points show what is not in the picture, that
     is FalseDrawing, and with `keep_pos` a PlanarWarning. Without `pos` the points are those of `positions`, and the
-    drawing is true. ModuleMissing where networkx or matplotlib is not there.
+    drawing is true. With `near`, a drawing of a planarization that has most edges in common with this one, what both
+    have lies as it lies there, and new edges lead through the faces between; where too much is otherwise, a
+    PlanarWarning says so. ModuleMissing where matplotlib is not there.
     """
     patches = wanted("matplotlib.patches", "drawings by draw")
     scene = drawing_of(
-        result, style=style, pos=pos, keep_pos=keep_pos, labels=labels, edge_color=edge_color
+        result, style=style, pos=pos, keep_pos=keep_pos, near=near, labels=labels, edge_color=edge_color
     ).scene
     ax = _fresh_axes(scene) if ax is None else ax
     for stroke in scene.strokes:

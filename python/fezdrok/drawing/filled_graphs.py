@@ -3,8 +3,9 @@ the graph."""
 
 from __future__ import annotations
 
+from collections.abc import Mapping, Sequence
 from dataclasses import dataclass, field
-from typing import Any, Dict, FrozenSet, List, Mapping, Sequence, Set, Tuple
+from typing import Any
 
 #: What a link that fills a face weighs beside an edge.
 FILL = 0.5
@@ -18,10 +19,10 @@ class FilledGraph:
     """A plane graph with its faces filled: the links of each node with their weights, the triangles counterclockwise,
     the nodes of the ring clockwise, and each crossing with its four neighbours, clockwise."""
 
-    links: List[List[Tuple[int, float]]]
-    triangles: List[Tuple[int, int, int]] = field(default_factory=list)
-    crossed: List[Tuple[int, Tuple[int, int, int, int]]] = field(default_factory=list)
-    ring: List[int] = field(default_factory=list)
+    links: list[list[tuple[int, float]]]
+    triangles: list[tuple[int, int, int]] = field(default_factory=list)
+    crossed: list[tuple[int, tuple[int, int, int, int]]] = field(default_factory=list)
+    ring: list[int] = field(default_factory=list)
 
     def add(self) -> int:
         """A new node without links."""
@@ -33,10 +34,10 @@ class FilledGraph:
         self.links[first].append((second, weight))
         self.links[second].append((first, weight))
 
-    def around(self) -> List[List[int]]:
+    def around(self) -> list[list[int]]:
         """The neighbours of each node, counterclockwise; those of a node of the ring from the one before it on the ring
         to the one behind it."""
-        following: List[Dict[int, int]] = [{} for _ in self.links]
+        following: list[dict[int, int]] = [{} for _ in self.links]
         for first, second, third in self.triangles:
             following[first][second] = third
             following[second][third] = first
@@ -52,7 +53,7 @@ class FilledGraph:
 
 
 def fill(
-    rotations: Mapping[Any, Sequence[Any]], crossings: FrozenSet[Any], outer: Tuple[Any, Any]
+    rotations: Mapping[Any, Sequence[Any]], crossings: frozenset[Any], outer: tuple[Any, Any]
 ) -> FilledGraph:
     """A connected plane graph without parallel edges with its faces filled, and with the ring in the face on the left
     of the dart `outer`. It is given by the neighbours of each node, clockwise, and its nodes are numbered in their
@@ -78,15 +79,15 @@ def fill(
     return filled
 
 
-def _faces(around: List[List[int]]) -> List[List[int]]:
+def _faces(around: list[list[int]]) -> list[list[int]]:
     """The nodes along each face, which lies on the left."""
     following = {
         (other, node): (node, others[(place + 1) % len(others)])
         for node, others in enumerate(around)
         for place, other in enumerate(others)
     }
-    faces: List[List[int]] = []
-    seen: Set[Tuple[int, int]] = set()
+    faces: list[list[int]] = []
+    seen: set[tuple[int, int]] = set()
     for first in following:
         dart = first
         if dart in seen:
@@ -99,7 +100,7 @@ def _faces(around: List[List[int]]) -> List[List[int]]:
     return faces
 
 
-def _add_middle(filled: FilledGraph, face: List[int]) -> None:
+def _add_middle(filled: FilledGraph, face: list[int]) -> None:
     """A node within a face, linked with each node round it."""
     middle = filled.add()
     for node, other in zip(face, face[1:] + face[:1]):
@@ -107,7 +108,7 @@ def _add_middle(filled: FilledGraph, face: List[int]) -> None:
         filled.triangles.append((node, other, middle))
 
 
-def _add_hoop(filled: FilledGraph, face: List[int]) -> List[int]:
+def _add_hoop(filled: FilledGraph, face: list[int]) -> list[int]:
     """A hoop of nodes within a face, one or more for each of its corners, so that no two links of a node lead to the
     same one, also where the face passes a node more than once; the nodes of the hoop."""
     share = 1 if len(face) > 2 else 2
@@ -124,7 +125,7 @@ def _add_hoop(filled: FilledGraph, face: List[int]) -> List[int]:
     return [one for own in hoop for one in own]
 
 
-def _add_ring(filled: FilledGraph, face: List[int]) -> None:
+def _add_ring(filled: FilledGraph, face: list[int]) -> None:
     """The ring round the graph, and triangles between it and the face outside."""
     if len(face) < 3 or len(set(face)) < len(face):
         face = _add_hoop(filled, face)

@@ -2,8 +2,9 @@
 
 from __future__ import annotations
 
+from collections.abc import Sequence
 from heapq import heappop, heappush
-from typing import List, NamedTuple, Sequence
+from typing import NamedTuple
 
 
 class Arc(NamedTuple):
@@ -16,7 +17,7 @@ class Arc(NamedTuple):
     cost: int
 
 
-def least_cost_flow(demand: Sequence[int], arcs: Sequence[Arc]) -> List[int]:
+def least_cost_flow(demand: Sequence[int], arcs: Sequence[Arc]) -> list[int]:
     """What each arc carries in a flow of least cost by which each node takes as much more than it gives as its demand
     says. ValueError where there is no such flow.
 
@@ -40,12 +41,12 @@ class _Residual:
         self.head = [it for arc in arcs for it in (arc.end, arc.start)]
         self.room = [it for arc in arcs for it in (arc.capacity, 0)]
         self.cost = [it for arc in arcs for it in (arc.cost, -arc.cost)]
-        self.out: List[List[int]] = [[] for _ in demand]
+        self.out: list[list[int]] = [[] for _ in demand]
         for place, arc in enumerate(arcs):
             self.out[arc.start].append(2 * place)
             self.out[arc.end].append(2 * place + 1)
 
-    def sources(self) -> List[int]:
+    def sources(self) -> list[int]:
         """The nodes that have something left to give."""
         return [node for node, number in enumerate(self.left) if number > 0]
 
@@ -78,7 +79,7 @@ class _Residual:
         searches that never enter a node again from which there was no way on."""
         spent = [0] * len(self.left)
         for source in self.sources():
-            way: List[int] = []
+            way: list[int] = []
             on_way = {source}
             node = source
             while self.left[source] > 0:
@@ -91,10 +92,10 @@ class _Residual:
                         self.room[arc ^ 1] += amount
                     way, on_way, node = [], {source}, source
                     continue
-                arc = self._next(node, spent, on_way)
-                if arc is not None:
-                    way.append(arc)
-                    node = self.head[arc]
+                following = self._next(node, spent, on_way)
+                if following is not None:
+                    way.append(following)
+                    node = self.head[following]
                     on_way.add(node)
                 elif way:
                     on_way.discard(node)
@@ -103,7 +104,7 @@ class _Residual:
                 else:
                     break
 
-    def _next(self, node: int, spent: List[int], on_way: set) -> "int | None":
+    def _next(self, node: int, spent: list[int], on_way: set[int]) -> int | None:
         """The next arc of reduced cost 0 that leads on from a node."""
         out = self.out[node]
         base = self.potential[node]

@@ -8,7 +8,7 @@ from __future__ import annotations
 import re
 from functools import lru_cache
 from math import ceil, sqrt
-from typing import Any, List, Tuple
+from typing import Any
 from unicodedata import category, east_asian_width, normalize
 
 #: The height of a letter, the width of a digit, how far lines are apart, and the least size of a node, in pixels.
@@ -42,7 +42,7 @@ def clean(text: str) -> str:
 # ---- Sizes
 
 
-def label_size(label: str) -> Tuple[float, float]:
+def label_size(label: str) -> tuple[float, float]:
     """The width and the height, in pixels, that a node needs so that its label fits. A node with more lines than one is
     wider than high."""
     lines = label.split("\n")
@@ -92,7 +92,7 @@ def label_of(name: Any) -> str:
     return "\n".join(part for line in lines for part in _broken(line, most))
 
 
-def _broken(line: str, most: float) -> List[str]:
+def _broken(line: str, most: float) -> list[str]:
     """A line broken into as few as can be of which none is wider than `most` digits, and these as even as can be."""
     width = text_width(line) / LETTER
     if width <= most:
@@ -107,7 +107,7 @@ def _broken(line: str, most: float) -> List[str]:
     return lines
 
 
-def _pieces(line: str, most: float) -> List[str]:
+def _pieces(line: str, most: float) -> list[str]:
     """The parts of a line that stay together: words with the spaces behind them, cut after hyphens and the like, and
     between wide letters; and where they are wider than a line, anywhere."""
     words = [""]
@@ -119,7 +119,7 @@ def _pieces(line: str, most: float) -> List[str]:
     return [part for word in words for part in _cut(word, most)]
 
 
-def _cut(word: str, most: float) -> List[str]:
+def _cut(word: str, most: float) -> list[str]:
     """A word in as few parts as can be of about `most` digits, and these as even as can be. A mark on a letter stays
     with it."""
     width = text_width(word.rstrip()) / LETTER
@@ -135,7 +135,7 @@ def _cut(word: str, most: float) -> List[str]:
     return parts
 
 
-def _filled(pieces: List[str], most: float) -> List[str]:
+def _filled(pieces: list[str], most: float) -> list[str]:
     """The pieces in lines that are filled one after another."""
     lines, width = [""], 0.0
     for piece in pieces:

@@ -6,8 +6,9 @@ into rectangles, as in Tamassia's paper (see `bends`), after which lengths can b
 
 from __future__ import annotations
 
+from collections.abc import Container, Iterator
 from dataclasses import dataclass, field
-from typing import Container, Dict, Iterator, List, NamedTuple, Set, Tuple
+from typing import NamedTuple
 
 from ..engine.pictures import Dart, Point
 from .bends import Shape
@@ -17,7 +18,7 @@ from .bends import Shape
 class Mesh:
     """`links[n]` has for each direction in which a link leaves node n the node at its other end."""
 
-    links: List[Dict[int, int]] = field(default_factory=list)
+    links: list[dict[int, int]] = field(default_factory=list)
 
     def copy(self) -> "Mesh":
         """The same mesh, to be changed without this one."""
@@ -44,7 +45,7 @@ class Mesh:
         self.join(middle, end, heading)
         return middle
 
-    def walk(self, start: int, heading: int) -> Iterator[Tuple[int, int, int]]:
+    def walk(self, start: int, heading: int) -> Iterator[tuple[int, int, int]]:
         """The face on the left of a link, once round: for each link its end, its direction, and the turn there: 1 for
         left, 0, -1 for right, -2 for back."""
         node, first = start, (start, heading)
@@ -64,10 +65,10 @@ class Expansion:
     south-east, north-east. `sides` are the links round boxes, either way round."""
 
     mesh: Mesh
-    port: Dict[Dart, int]
-    chains: Dict[int, Tuple[int, ...]]
-    corners: Dict[Point, Tuple[int, ...]]
-    sides: Set[Tuple[int, int]]
+    port: dict[Dart, int]
+    chains: dict[int, tuple[int, ...]]
+    corners: dict[Point, tuple[int, ...]]
+    sides: set[tuple[int, int]]
 
 
 # ---- From a shape to a mesh
@@ -76,8 +77,8 @@ class Expansion:
 def expand(shape: Shape, wide: Container[Point] = ()) -> Expansion:
     """The mesh of a shape. Points of `wide` are boxes too, also where they have few edges."""
     picture, mesh = shape.picture, Mesh()
-    port: Dict[Dart, int] = {}
-    corners: Dict[Point, Tuple[int, ...]] = {}
+    port: dict[Dart, int] = {}
+    corners: dict[Point, tuple[int, ...]] = {}
     for point in picture.points:
         if shape.is_box(point) or point in wide:
             corners[point] = _add_box(shape, mesh, point, port)
@@ -91,9 +92,9 @@ def expand(shape: Shape, wide: Container[Point] = ()) -> Expansion:
     return Expansion(mesh, port, chains, corners, sides)
 
 
-def _add_box(shape: Shape, mesh: Mesh, point: Point, port: Dict[Dart, int]) -> Tuple[int, ...]:
+def _add_box(shape: Shape, mesh: Mesh, point: Point, port: dict[Dart, int]) -> tuple[int, ...]:
     """The sides of a box, clockwise, with a node for each dart and each corner; the corners as in an Expansion."""
-    around: List[Tuple[int, int]] = []
+    around: list[tuple[int, int]] = []
     corners = [-1] * 4
     for dart in shape.picture.around(point):
         heading = shape.headings[dart] + shape.angles[dart] - 1
@@ -108,7 +109,7 @@ def _add_box(shape: Shape, mesh: Mesh, point: Point, port: Dict[Dart, int]) -> T
     return tuple(corners)
 
 
-def _add_edge(shape: Shape, mesh: Mesh, darts: List[Dart], port: Dict[Dart, int]) -> Tuple[int, ...]:
+def _add_edge(shape: Shape, mesh: Mesh, darts: list[Dart], port: dict[Dart, int]) -> tuple[int, ...]:
     """The links of an edge; the nodes along it."""
     chain = [port[darts[0]]]
     for dart in darts:
@@ -150,10 +151,10 @@ def rectangles(mesh: Mesh) -> Mesh:
     return cut
 
 
-def _faces(mesh: Mesh) -> List[List[_Corner]]:
+def _faces(mesh: Mesh) -> list[list[_Corner]]:
     """The corners of each face."""
-    faces: List[List[_Corner]] = []
-    seen: Set[Tuple[int, int]] = set()
+    faces: list[list[_Corner]] = []
+    seen: set[tuple[int, int]] = set()
     for start, around in enumerate(mesh.links):
         for heading in around:
             if (start, heading) in seen:
@@ -169,13 +170,13 @@ def _faces(mesh: Mesh) -> List[List[_Corner]]:
     return faces
 
 
-def _reduce(mesh: Mesh, corners: List[_Corner]) -> List[_Corner]:
+def _reduce(mesh: Mesh, corners: list[_Corner]) -> list[_Corner]:
     """Cut off from a face all that a right turn and two left turns enclose; the corners that are left.
 
     After one pass no such three are left but over the end of the list, and the second pass begins with a right turn.
     """
     for _ in range(2):
-        left: List[_Corner] = []
+        left: list[_Corner] = []
         for corner in corners:
             left.append(corner)
             while [it.turn for it in left[-3:]] == [-1, 1, 1]:
@@ -188,7 +189,7 @@ def _reduce(mesh: Mesh, corners: List[_Corner]) -> List[_Corner]:
     return corners
 
 
-def _framed(mesh: Mesh, corners: List[_Corner]) -> List[_Corner]:
+def _framed(mesh: Mesh, corners: list[_Corner]) -> list[_Corner]:
     """A frame round the face outside, with a link from its first right turn; the corners of the face between."""
     frame = [mesh.add() for _ in range(4)]
     for side in range(4):

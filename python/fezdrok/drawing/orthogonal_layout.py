@@ -6,8 +6,9 @@ the right angles and the bends (see `bends`). `compact_mesh` makes coordinates o
 
 from __future__ import annotations
 
+from collections.abc import Mapping, Sequence
 from dataclasses import dataclass
-from typing import Dict, List, Mapping, NamedTuple, Optional, Sequence, Tuple
+from typing import NamedTuple
 
 from ..engine.graph_edges import Node
 from ..engine.pictures import Picture, Point
@@ -17,7 +18,7 @@ from .compaction import Places, compact_mesh
 from .meshes import Expansion, expand
 from .shelf_packing import shelf_packing
 
-GridPoint = Tuple[int, int]
+GridPoint = tuple[int, int]
 
 #: The greatest number of nodes of a path that is drawn without a turn.
 SHORT = 40
@@ -32,7 +33,7 @@ class Box(NamedTuple):
     top: int
 
     @property
-    def middle(self) -> Tuple[float, float]:
+    def middle(self) -> tuple[float, float]:
         """The point in its middle."""
         return ((self.left + self.right) / 2, (self.bottom + self.top) / 2)
 
@@ -56,13 +57,13 @@ class OrthogonalDrawing:
     `bends` is the number of bends that the flow came to.
     """
 
-    boxes: Dict[Node, Box]
-    crossings: Dict[int, GridPoint]
-    lines: Dict[int, Tuple[GridPoint, ...]]
+    boxes: dict[Node, Box]
+    crossings: dict[int, GridPoint]
+    lines: dict[int, tuple[GridPoint, ...]]
     bends: int
 
     @property
-    def size(self) -> Tuple[int, int]:
+    def size(self) -> tuple[int, int]:
         """The width and the height."""
         points = [point for line in self.lines.values() for point in line]
         points += [corner for box in self.boxes.values() for corner in ((box.left, box.bottom), (box.right, box.top))]
@@ -76,9 +77,9 @@ class OrthogonalDrawing:
 
 def orthogonal_drawing(
     result: Planarization,
-    sizes: Optional[Mapping[Node, Tuple[int, int]]] = None,
+    sizes: Mapping[Node, tuple[int, int]] | None = None,
     *,
-    outer: Optional[int] = None,
+    outer: int | None = None,
     by_flow: bool = True,
 ) -> OrthogonalDrawing:
     """An orthogonal drawing of a planarization: edges along the grid, with the fewest bends that its picture allows
@@ -109,7 +110,7 @@ def orthogonal_drawing(
     return _drawing(result, shape, expansion, places)
 
 
-def path_order(picture: Picture) -> Optional[List[int]]:
+def path_order(picture: Picture) -> list[int] | None:
     """The vertices of a picture along it, if it is a path of at least one edge; else None."""
     degrees = list(map(len, picture.rotations))
     if not picture.edges or len(picture.edges) != len(degrees) - 1 or max(degrees) > 2 or picture.crossings:
@@ -141,16 +142,16 @@ def _spiral(result: Planarization, order: Sequence[int]) -> OrthogonalDrawing:
     return OrthogonalDrawing(boxes, {}, {row.id: (at[row.a], at[row.b]) for row in result.picture.edges}, 0)
 
 
-def _sizes_in(part: Planarization, sizes: Optional[Mapping[Node, Tuple[int, int]]]) -> Dict[Node, Tuple[int, int]]:
+def _sizes_in(part: Planarization, sizes: Mapping[Node, tuple[int, int]] | None) -> dict[Node, tuple[int, int]]:
     """The sizes that are given for nodes of a part."""
     return {node: size for node, size in (sizes or {}).items() if node in part.vertex_of}
 
 
 def _side_by_side(result: Planarization, drawings: Sequence[OrthogonalDrawing]) -> OrthogonalDrawing:
     """One drawing from those of the parts."""
-    boxes: Dict[Node, Box] = {}
-    crossings: Dict[int, GridPoint] = {}
-    lines: Dict[int, Tuple[GridPoint, ...]] = {}
+    boxes: dict[Node, Box] = {}
+    crossings: dict[int, GridPoint] = {}
+    lines: dict[int, tuple[GridPoint, ...]] = {}
     corners = shelf_packing([drawing.size for drawing in drawings], 2)
     for drawing, (left, bottom), (_, edge, crossing) in zip(drawings, corners, result.offsets):
         x, y = int(left), int(bottom)
@@ -161,8 +162,8 @@ def _side_by_side(result: Planarization, drawings: Sequence[OrthogonalDrawing]) 
 
 
 def _room(
-    expansion: Expansion, wide: Mapping[Point, Tuple[int, int]]
-) -> Tuple[Dict[Tuple[int, int], int], Dict[Tuple[int, int], int]]:
+    expansion: Expansion, wide: Mapping[Point, tuple[int, int]]
+) -> tuple[dict[tuple[int, int], int], dict[tuple[int, int], int]]:
     """How far apart the corners of the boxes have to be that were given a size, along either axis."""
     corners = {point: expansion.corners[point] for point in wide}
     return (
@@ -189,7 +190,7 @@ def _box(picture: Picture, expansion: Expansion, places: Places, point: Point) -
     return Box(x, y, x, y)
 
 
-def _bent(points: List[GridPoint]) -> Tuple[GridPoint, ...]:
+def _bent(points: list[GridPoint]) -> tuple[GridPoint, ...]:
     """The points of a line without those between its ends at which it goes straight on."""
     kept = points[:1]
     for before, point, after in zip(points, points[1:], points[2:]):

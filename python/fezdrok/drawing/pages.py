@@ -9,13 +9,13 @@ from __future__ import annotations
 
 from dataclasses import dataclass
 from math import floor
-from typing import List, NamedTuple, Optional, Tuple
+from typing import NamedTuple
 
 from ..engine.graph_edges import Node
 from ..engine.pictures import Point
 from .scenes import Position, Scene, Stroke
 
-PagePoint = Tuple[int, int]
+PagePoint = tuple[int, int]
 
 #: The width of the margin, in pixels.
 MARGIN = 10
@@ -41,8 +41,8 @@ class PageLine:
     None is a bend."""
 
     edge_id: int
-    pieces: Tuple[Tuple[PagePoint, ...], ...]
-    marks: Tuple[Optional[Point], ...]
+    pieces: tuple[tuple[PagePoint, ...], ...]
+    marks: tuple[Point | None, ...]
 
 
 class Page:
@@ -82,7 +82,7 @@ class Page:
         return PageLine(stroke.edge_id, pieces, stroke.marks)
 
 
-def flattened(piece: Tuple[PagePoint, ...], tolerance: int) -> List[PagePoint]:
+def flattened(piece: tuple[PagePoint, ...], tolerance: int) -> list[PagePoint]:
     """The points of a piece as a renderer breaks it into straight lines, FINE times as large, and so whole numbers.
 
     A curve is cut at 2, 4, .. 64 equal steps of its parameter, as many as leave it nearer to the chords than the

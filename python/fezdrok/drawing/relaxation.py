@@ -13,13 +13,14 @@ counterclockwise, so no step makes a crossing.
 
 from __future__ import annotations
 
+from collections.abc import Iterable, Mapping, Sequence
 from math import cos, pi, sin
-from typing import Any, Dict, FrozenSet, Iterable, List, Mapping, Optional, Sequence, Tuple
+from typing import Any
 
 from .contraction import Triangulation, middle_of_sight
 from .filled_graphs import FilledGraph, fill
 
-Position = Tuple[float, float]
+Position = tuple[float, float]
 
 #: The greatest number of nodes that are few.
 #: How often all nodes are moved after each round in which some came, while they are few; else that is once.
@@ -45,8 +46,8 @@ LEAST_AREA = 1e-14
 
 
 def spread(
-    rotations: Mapping[Any, Sequence[Any]], crossings: FrozenSet[Any], outer: Tuple[Any, Any]
-) -> Optional[Dict[Any, Position]]:
+    rotations: Mapping[Any, Sequence[Any]], crossings: frozenset[Any], outer: tuple[Any, Any]
+) -> dict[Any, Position] | None:
     """A point in the unit disk for each node of a connected plane graph without parallel edges, which is given by the
     neighbours of each node, clockwise; at least one edge is wanted. Straight lines between neighbours do not cross.
 
@@ -64,15 +65,15 @@ def spread(
     return {node: points[place] for place, node in enumerate(rotations)}
 
 
-def _from_few_to_many(filled: FilledGraph) -> Optional[List[Position]]:
+def _from_few_to_many(filled: FilledGraph) -> list[Position] | None:
     """Places for all nodes, the ring on the unit circle, clockwise."""
     points = [(0.0, 0.0)] * len(filled.links)
-    for place, node in enumerate(filled.ring):
-        angle = pi / 2 - 2 * pi * place / len(filled.ring)
+    for number, node in enumerate(filled.ring):
+        angle = pi / 2 - 2 * pi * number / len(filled.ring)
         points[node] = (cos(angle), sin(angle))
     mesh = Triangulation(filled.around(), filled.ring)
     rounds = mesh.contracted()
-    there: List[int] = []
+    there: list[int] = []
     for steps in reversed(rounds or ()):
         for step in reversed(steps):
             place = middle_of_sight([points[it] for it in (step.into, *step.others)])
@@ -88,7 +89,7 @@ def _from_few_to_many(filled: FilledGraph) -> Optional[List[Position]]:
     return points if rounds is not None and _is_plane(filled, points) else None
 
 
-def _at_means(filled: FilledGraph, points: List[Position]) -> List[Position]:
+def _at_means(filled: FilledGraph, points: list[Position]) -> list[Position]:
     """The points with each node, but those of the ring, near the mean of its neighbours: at rest such a drawing is
     plane and as symmetric as the graph (Tutte, How to Draw a Graph, 1963). As they were, where not all of that can be
     told apart."""
@@ -113,11 +114,11 @@ class _Forces:
 
     def __init__(self, count: int, shape: float):
         self.shape = shape
-        self.links: List[List[Tuple[int, float]]] = [[] for _ in range(count)]
-        self.triangles: List[List[Tuple[int, int, float]]] = [[] for _ in range(count)]
-        self.lines: List[List[Tuple[int, int, bool]]] = [[] for _ in range(count)]
-        self.squared: List[List[Position]] = [[] for _ in range(count)]
-        self.crossed: List[Tuple[int, Tuple[int, int, int, int]]] = []
+        self.links: list[list[tuple[int, float]]] = [[] for _ in range(count)]
+        self.triangles: list[list[tuple[int, int, float]]] = [[] for _ in range(count)]
+        self.lines: list[list[tuple[int, int, bool]]] = [[] for _ in range(count)]
+        self.squared: list[list[Position]] = [[] for _ in range(count)]
+        self.crossed: list[tuple[int, tuple[int, int, int, int]]] = []
 
     @staticmethod
     def of_few(mesh: Triangulation, there: Sequence[int]) -> "_Forces":
@@ -165,7 +166,7 @@ class _Forces:
                 end = complex(*points[node]) + abs(way) * turned / (abs(turned) or 1.0) / 1j**place
                 self.squared[other].append((end.real, end.imag))
 
-    def pull(self, node: int, points: Sequence[Position]) -> Tuple[float, float, float]:
+    def pull(self, node: int, points: Sequence[Position]) -> tuple[float, float, float]:
         """The point that a node is pulled to by all that pulls it, and the weight of that."""
         total = across = up = 0.0
         for other, weight in self.links[node]:
@@ -189,7 +190,7 @@ class _Forces:
             up += SQUARE * y
         return across / total, up / total, total
 
-    def corners(self, node: int, points: Sequence[Position]) -> List[Tuple[float, float, float, float, float]]:
+    def corners(self, node: int, points: Sequence[Position]) -> list[tuple[float, float, float, float, float]]:
         """The places of the other two corners of each triangle at a node, and how much it pushes whatever the place of
         the node is."""
         found = []
@@ -199,7 +200,7 @@ class _Forces:
             found.append((u, v, r, s, push + shape * ((u - r) * (u - r) + (v - s) * (v - s))))
         return found
 
-    def move(self, node: int, points: List[Position]) -> float:
+    def move(self, node: int, points: list[Position]) -> float:
         """Move a node to where its energy would be least, by its slope and an estimate of its curvature, or a part of
         that way, if that makes its energy less; how far it went."""
         x, y = points[node]
@@ -231,8 +232,8 @@ class _Forces:
 def _energy(
     x: float,
     y: float,
-    pull: Tuple[float, float, float],
-    corners: Iterable[Tuple[float, float, float, float, float]],
+    pull: tuple[float, float, float],
+    corners: Iterable[tuple[float, float, float, float, float]],
     shape: float,
 ) -> float:
     """The energy of a node at a place; more than any other where a triangle would turn over."""
@@ -247,7 +248,7 @@ def _energy(
     return energy
 
 
-def _settle(filled: FilledGraph, points: List[Position]) -> None:
+def _settle(filled: FilledGraph, points: list[Position]) -> None:
     """Move the nodes that are not of the ring until they hardly move, or have been moved often; in large graphs that is
     less often."""
     forces, ring = _Forces.of_all(filled), set(filled.ring)
@@ -276,10 +277,10 @@ def _is_plane(filled: FilledGraph, points: Sequence[Position]) -> bool:
 
 def between(
     neighbours: Mapping[Any, Sequence[Any]], places: Mapping[Any, Position], sweeps: int = 200
-) -> Dict[Any, Position]:
+) -> dict[Any, Position]:
     """Points for the nodes that have none yet, each at the mean of its neighbours; crossings where the lines between
     their opposite neighbours meet. `neighbours` has the neighbours of these nodes, clockwise."""
-    points: List[Position] = list(places.values())
+    points: list[Position] = list(places.values())
     number = {node: place for place, node in enumerate([*places, *neighbours])}
     middle = (sum(x for x, _ in points) / len(points), sum(y for _, y in points) / len(points))
     points += [middle] * len(neighbours)
@@ -296,7 +297,7 @@ def between(
     return {node: points[number[node]] for node in neighbours}
 
 
-def _straight(points: Sequence[Position], four: Tuple[int, int, int, int], mean: Position) -> Position:
+def _straight(points: Sequence[Position], four: tuple[int, int, int, int], mean: Position) -> Position:
     """Where the lines between opposite neighbours meet; the mean where they do not meet."""
     (ax, ay), (cx, cy), (bx, by), (dx, dy) = (points[node] for node in four)
     area = (bx - ax) * (dy - cy) - (by - ay) * (dx - cx)

@@ -6,9 +6,10 @@ it by matplotlib. x runs to the east, y to the north; `Scene.unit` says how many
 
 from __future__ import annotations
 
+from collections.abc import Sequence
 from dataclasses import dataclass, replace
 from math import ceil, hypot
-from typing import Any, Dict, List, Mapping, NamedTuple, Optional, Sequence, Tuple
+from typing import NamedTuple
 
 from ..engine.graph_edges import Node, Price
 from ..engine.pictures import Point
@@ -16,7 +17,7 @@ from ..engine.results import Planarization
 from .labels import LEAST_NODE, label_in_one_line, label_of, label_size, point_width
 from .orthogonal_layout import OrthogonalDrawing
 
-Position = Tuple[float, float]
+Position = tuple[float, float]
 
 #: The colour of edges that all cost the same, and those of up to six prices, the dearest first.
 PLAIN = "#36618e"
@@ -44,11 +45,11 @@ class Stroke:
     point of the picture it is; None is a bend. `head` is the triangle of an arrow, or empty."""
 
     edge_id: int
-    points: Tuple[Position, ...]
+    points: tuple[Position, ...]
     curved: bool
     look: Look
-    marks: Tuple[Optional[Point], ...]
-    head: Tuple[Position, ...] = ()
+    marks: tuple[Point | None, ...]
+    head: tuple[Position, ...] = ()
 
 
 class NodeShape(NamedTuple):
@@ -71,14 +72,14 @@ class Scene:
     empty where all look alike. In a file coordinates have so many `decimals`, in pixels."""
 
     unit: float
-    strokes: Tuple[Stroke, ...]
-    nodes: Tuple[NodeShape, ...]
-    dots: Tuple[Position, ...]
-    legend: Tuple[Tuple[str, Look], ...]
+    strokes: tuple[Stroke, ...]
+    nodes: tuple[NodeShape, ...]
+    dots: tuple[Position, ...]
+    legend: tuple[tuple[str, Look], ...]
     decimals: int = 1
 
     @property
-    def bounds(self) -> Tuple[float, float, float, float]:
+    def bounds(self) -> tuple[float, float, float, float]:
         """The least and the greatest x and y of what is drawn: left, bottom, right, top."""
         points = [point for stroke in self.strokes for point in stroke.points]
         for node in self.nodes:
@@ -91,7 +92,7 @@ class Scene:
 # ---- How edges look
 
 
-def looks(result: Planarization, color: str = PLAIN) -> Tuple[List[Look], Tuple[Tuple[str, Look], ...]]:
+def looks(result: Planarization, color: str = PLAIN) -> tuple[list[Look], tuple[tuple[str, Look], ...]]:
     """The look of each kind, and the legend, which is empty where all edges have one price.
 
     Edges that must not be crossed are dark and broad. Up to six prices have colours of their own; more share a range
@@ -101,7 +102,7 @@ def looks(result: Planarization, color: str = PLAIN) -> Tuple[List[Look], Tuple[
     numbers = sorted({price for price in prices if price is not None}, reverse=True)
     if len(prices) == 1 and numbers:
         return [Look(color, 1.4)], ()
-    of_price: Dict[Price, Look] = {None: Look(FORBIDDEN, 3.0)}
+    of_price: dict[Price, Look] = {None: Look(FORBIDDEN, 3.0)}
     are_few, last = len(numbers) <= len(COLOURS), len(numbers) - 1
     for place, price in enumerate(numbers):
         of_price[price] = Look(COLOURS[place] if are_few else _between(place / last), 1.6)
@@ -120,7 +121,7 @@ def _between(part: float) -> str:
 # ---- Orthogonal drawings
 
 
-def grid_sizes(nodes: Sequence[Node]) -> Dict[Node, Tuple[int, int]]:
+def grid_sizes(nodes: Sequence[Node]) -> dict[Node, tuple[int, int]]:
     """The width and height in steps of the grid for the nodes whose labels are too long for a point of the grid, or
     have more lines than one; of more than MANY nodes all are points, and the grid is so wide that the labels fit."""
     if len(nodes) > MANY:
@@ -144,7 +145,7 @@ def orthogonal_scene(
     nodes = []
     for node, box in drawing.boxes.items():
         label = (label_in_one_line(node) if box.is_point else label_of(node)) if labels else ""
-        width, height = box.right - box.left, box.top - box.bottom
+        width, height = float(box.right - box.left), float(box.top - box.bottom)
         if box.is_point:
             width, height = point_width(label) / unit, LEAST_NODE / unit
         nodes.append(NodeShape(node, label, box.middle, width, height, not box.is_point))
@@ -160,12 +161,12 @@ def orthogonal_scene(
 
 
 def _with_crossings(
-    line: Sequence[Position], crossings: Sequence[Tuple[Point, Position]]
-) -> Tuple[Tuple[Position, ...], Tuple[Optional[Point], ...]]:
+    line: Sequence[Position], crossings: Sequence[tuple[Point, Position]]
+) -> tuple[tuple[Position, ...], tuple[Point | None, ...]]:
     """The points of a line along the grid with the crossings on it, which are given in their order; and for each point
     the crossing that it is."""
-    points: List[Position] = [line[0]]
-    marks: List[Optional[Point]] = [None]
+    points: list[Position] = [line[0]]
+    marks: list[Point | None] = [None]
     left = list(crossings)
     for (x, y), end in zip(line, line[1:]):
         across, up = sorted((x, end[0])), sorted((y, end[1]))
@@ -181,7 +182,7 @@ def _with_crossings(
 # ---- Curves as chains of lines
 
 
-def flat(stroke: Stroke, steps: int = 16) -> List[Position]:
+def flat(stroke: Stroke, steps: int = 16) -> list[Position]:
     """The points of a stroke as a chain of short straight lines, for what knows no curves."""
     if not stroke.curved:
         return list(stroke.points)
@@ -219,7 +220,7 @@ def with_arrows(result: Planarization, scene: Scene) -> Scene:
     return replace(scene, strokes=tuple(strokes))
 
 
-def _head(line: Sequence[Position], node: NodeShape, unit: float) -> Tuple[Position, ...]:
+def _head(line: Sequence[Position], node: NodeShape, unit: float) -> tuple[Position, ...]:
     """The triangle of an arrow whose tip is where a line comes to the rim of the node at its end."""
     place = len(line) - 1
     while place > 1 and _is_in(node, line[place - 1]):

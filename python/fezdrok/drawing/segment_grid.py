@@ -3,34 +3,36 @@ all pairs."""
 
 from __future__ import annotations
 
+from collections.abc import Iterable, Iterator, Sequence
 from math import sqrt
-from typing import Dict, Iterable, Iterator, List, Sequence, Set, Tuple
+from typing import Any
 
 #: A square of the grid: its column and its row.
-Square = Tuple[int, int]
+Square = tuple[int, int]
+#: A segment: a tuple that begins with the x and y of its one end and of its other.
+Segment = tuple[Any, ...]
 
 #: How many squares a segment passes, in the mean, at most.
 MOST_PASSED = 12
 
 
 class SegmentGrid:
-    """Segments, each a tuple that begins with the x and y of its one end and of its other, and the squares that they
-    pass: `squares[column, row]` has the places of the segments in it. Also a square that a segment only comes near to
-    may have it; none that it passes is missed."""
+    """Segments, and the squares that they pass: `squares[column, row]` has the places of the segments in it. Also a
+    square that a segment only comes near to may have it; none that it passes is missed."""
 
-    def __init__(self, segments: Sequence[Tuple]):
+    def __init__(self, segments: Sequence[Segment]):
         self.size = _square_size(segments)
-        self.squares: Dict[Square, List[int]] = {}
+        self.squares: dict[Square, list[int]] = {}
         for place, segment in enumerate(segments):
             self.add(place, segment)
 
-    def add(self, place: int, segment: Tuple) -> None:
+    def add(self, place: int, segment: Segment) -> None:
         """One more segment, by its place."""
         for square in self.passed(segment):
             self.squares.setdefault(square, []).append(place)
 
     @staticmethod
-    def of_rectangles(bounds: Sequence[Tuple[float, float, float, float]]) -> "SegmentGrid":
+    def of_rectangles(bounds: Sequence[tuple[float, float, float, float]]) -> "SegmentGrid":
         """A grid of rectangles, each the least x and y and the greatest, with the places of those in each square."""
         grid = SegmentGrid(())
         grid.size = _square_size(bounds)
@@ -40,7 +42,7 @@ class SegmentGrid:
                     grid.squares.setdefault((column, row), []).append(place)
         return grid
 
-    def passed(self, segment: Tuple) -> Iterator[Square]:
+    def passed(self, segment: Segment) -> Iterator[Square]:
         """The squares that a segment passes, column by column."""
         x, y, u, v = segment[:4]
         if x > u:
@@ -58,7 +60,7 @@ class SegmentGrid:
             for row in range(int((low - spare) // size), int((high + spare) // size) + 1):
                 yield column, row
 
-    def near(self, left: float, bottom: float, right: float, top: float) -> Set[int]:
+    def near(self, left: float, bottom: float, right: float, top: float) -> set[int]:
         """The places of all segments that come into a rectangle, and of some near it."""
         columns = range(int(left // self.size), int(right // self.size) + 1)
         rows = range(int(bottom // self.size), int(top // self.size) + 1)
@@ -69,7 +71,7 @@ class SegmentGrid:
         return {place for square in squares for place in self.squares.get(square, ())}
 
 
-def _square_size(segments: Sequence[Tuple]) -> float:
+def _square_size(segments: Sequence[Segment]) -> float:
     """The size of squares of which there are about as many as segments, but not so many that long segments pass very
     many."""
     if not segments:

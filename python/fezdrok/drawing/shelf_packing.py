@@ -2,11 +2,11 @@
 
 from __future__ import annotations
 
+from collections.abc import Sequence
 from math import sqrt
-from typing import List, Sequence, Tuple
 
 
-def shelf_packing(sizes: Sequence[Tuple[float, float]], gap: float) -> List[Tuple[float, float]]:
+def shelf_packing(sizes: Sequence[tuple[float, float]], gap: float) -> list[tuple[float, float]]:
     """The lower left corners of rectangles of these widths and heights, in rows from the left, none nearer to another
     than the gap. Higher ones come first, and a row ends where the whole would be wider than high."""
     area = sum((width + gap) * (height + gap) for width, height in sizes)

@@ -3,10 +3,11 @@
 from __future__ import annotations
 
 import warnings
+from collections.abc import Iterable, Mapping, Sequence
 from math import cos, pi, sin, sqrt
-from typing import TYPE_CHECKING, Any, Dict, Iterable, List, Mapping, Optional, Sequence
+from typing import TYPE_CHECKING, Any
 
-from ..engine.faults import PlanarWarning, wanted
+from ..engine.faults import PlanarWarning
 from ..engine.graph_edges import GraphEdge
 from ..engine.graph_pictures import Dummy
 from ..engine.results import Planarization
@@ -20,13 +21,13 @@ if TYPE_CHECKING:
     import networkx
 
 
-def positions(result: Planarization, embedding: Optional["networkx.PlanarEmbedding"] = None) -> Dict[Any, Position]:
+def positions(result: Planarization, embedding: "networkx.PlanarEmbedding | None" = None) -> dict[Any, Position]:
     """A point for each node of the embedding, such that straight lines between neighbours do not cross.
 
     The points lie in the unit disk, spread so that faces are of like size and edges pass their crossings as straight as
     they can (see `relaxation`). Where that comes to no drawing without crossings, they are those of
     `networkx.combinatorial_embedding_to_pos`, on a grid. The parts of a graph that is not connected lie side by side,
-    each in a disk whose area grows with its number of points. ModuleMissing where networkx is not there.
+    each in a disk whose area grows with its number of points.
     """
     if result.parts:
         return _side_by_side(result, [positions(part) for part in result.parts])
@@ -48,7 +49,7 @@ def positions(result: Planarization, embedding: Optional["networkx.PlanarEmbeddi
     return found
 
 
-def _spiral(count: int) -> List[Position]:
+def _spiral(count: int) -> list[Position]:
     """So many points on a spiral from the middle of the unit disk, as far from each other as its turns are."""
     found, turned = [], 2 * pi
     for _ in range(count):
@@ -58,16 +59,16 @@ def _spiral(count: int) -> List[Position]:
 
 
 def grid_positions(
-    result: Planarization, embedding: Optional["networkx.PlanarEmbedding"] = None
-) -> Dict[Any, Position]:
+    result: Planarization, embedding: "networkx.PlanarEmbedding | None" = None
+) -> dict[Any, Position]:
     """A point of the grid of whole numbers for each node of the embedding, such that straight lines between neighbours
     do not cross: those of `networkx.combinatorial_embedding_to_pos` (Chrobak and Payne, A Linear-Time Algorithm for
-    Drawing a Planar Graph on a Grid, 1995). The parts of a graph that is not connected lie side by side. ModuleMissing
-    where networkx is not there.
+    Drawing a Planar Graph on a Grid, 1995). The parts of a graph that is not connected lie side by side.
     """
     if result.parts:
         return _side_by_side(result, [grid_positions(part) for part in result.parts], True)
-    networkx = wanted("networkx", "drawings")
+    import networkx
+
     embedding = to_networkx_embedding(result) if embedding is None else embedding
     if len(embedding) < 3:
         return {node: (float(place), 0.0) for place, node in enumerate(embedding)}
@@ -77,13 +78,13 @@ def grid_positions(
 
 def _side_by_side(
     result: Planarization, places: Sequence[Mapping[Any, Position]], is_on_grid: bool = False
-) -> Dict[Any, Position]:
+) -> dict[Any, Position]:
     """The points of all parts, by the names that they have in the whole; points of a grid stay such."""
     scales = [1.0 if is_on_grid else sqrt(len(part)) for part in places]
     least = [tuple(min(place[axis] for place in part.values()) for axis in (0, 1)) for part in places]
     most = [tuple(max(place[axis] for place in part.values()) for axis in (0, 1)) for part in places]
     sizes = [(scale * (far[0] - near[0]), scale * (far[1] - near[1])) for scale, near, far in zip(scales, least, most)]
-    found: Dict[Any, Position] = {}
+    found: dict[Any, Position] = {}
     for part, scale, (left, bottom), (x, y), (_, edge, crossing) in zip(
         places, scales, least, shelf_packing(sizes, 1.0), result.offsets
     ):
@@ -101,7 +102,7 @@ def _name_in_whole(result: Planarization, name: Any, edge: int, crossing: int) -
     return Dummy(name.kind, of, result.layer)
 
 
-def places_between(embedding: "networkx.PlanarEmbedding", pos: Mapping[Any, Position]) -> Dict[Any, Position]:
+def places_between(embedding: "networkx.PlanarEmbedding", pos: Mapping[Any, Position]) -> dict[Any, Position]:
     """A point for each node of the embedding, those of `pos` among them: each other one at the mean of its neighbours,
     a crossing where the lines between opposite neighbours meet. KeyError where a node of the graph has no point."""
     places = {node: pos[node] for node in embedding if node in pos or not embedding.nodes[node]["dummy"]}
@@ -132,7 +133,7 @@ def _steps_aside(embedding: "networkx.PlanarEmbedding", bend: Any, first: Any, s
     return group.index(bend) - group.index(second)
 
 
-def chain(result: Planarization, embedding: "networkx.PlanarEmbedding", edge_id: int) -> List[Any]:
+def chain(result: Planarization, embedding: "networkx.PlanarEmbedding", edge_id: int) -> list[Any]:
     """The nodes of the embedding along an edge, from the node of its end `a` to that of its end `b`."""
     edge = result.edge_of[edge_id]
     names = [result.name_of(point) for point in result.picture.path(edge_id)]

@@ -8,9 +8,10 @@ is right; with every curve straight it is.
 
 from __future__ import annotations
 
+from collections.abc import Container, Mapping, Sequence
 from dataclasses import dataclass, replace
 from math import hypot, sqrt
-from typing import Any, Dict, List, Mapping, Optional, Sequence, Tuple
+from typing import Any
 
 from ..engine.pictures import Point
 from ..engine.results import Planarization
@@ -39,7 +40,7 @@ class Chains:
     places: Mapping[Any, Position]
 
     @property
-    def segments(self) -> List[Tuple[Any, ...]]:
+    def segments(self) -> list[tuple[Any, ...]]:
         """The straight lines between neighbours: both places, the edge id, and the names of both ends."""
         return [
             (*self.places[start], *self.places[end], edge_id, start, end)
@@ -50,7 +51,7 @@ class Chains:
 
 def true_scene(
     chains: Chains, is_curved: bool, labels: bool = True, color: str = PLAIN
-) -> Tuple[Scene, List[Defect]]:
+) -> tuple[Scene, list[Defect]]:
     """A scene with straight or with curved lines, and what is false in it: nothing, unless its straight lines
     themselves are false with all decimals that there may be."""
     scene, false = straight_scene(chains, labels, color), []
@@ -79,11 +80,11 @@ def straight_scene(chains: Chains, labels: bool = True, color: str = PLAIN) -> S
         for edge_id, chain in chains.nodes.items()
     ]
     dots = tuple(places[result.name_of(point)] for point in result.picture.points if point.is_crossing)
-    unit, nodes = _sized(chains, [label_of(node) if labels else "" for node in result.node_of])
+    unit, nodes = sized_nodes(chains, [label_of(node) if labels else "" for node in result.node_of])
     return Scene(unit, tuple(strokes), nodes, dots, legend)
 
 
-def _marks(result: Planarization, edge_id: int, chain: Sequence[Any]) -> Tuple[Optional[Point], ...]:
+def _marks(result: Planarization, edge_id: int, chain: Sequence[Any]) -> tuple[Point | None, ...]:
     """For each node of an edge's chain the point of the picture that it is."""
     point_of = {result.name_of(point): point for point in result.picture.path(edge_id)}
     return tuple(point_of.get(node) for node in chain)
@@ -92,7 +93,7 @@ def _marks(result: Planarization, edge_id: int, chain: Sequence[Any]) -> Tuple[O
 # ---- Nodes that have room
 
 
-def _sized(chains: Chains, labels: Sequence[str]) -> Tuple[float, Tuple[NodeShape, ...]]:
+def sized_nodes(chains: Chains, labels: Sequence[str]) -> tuple[float, tuple[NodeShape, ...]]:
     """How many pixels a step of the places is, and the nodes: so many that the drawing has room for its points, and up
     to twice as many where nodes would lie on anything else. A node that does all the same is made smaller."""
     xs, ys = zip(*chains.places.values())
@@ -112,7 +113,7 @@ def _sized(chains: Chains, labels: Sequence[str]) -> Tuple[float, Tuple[NodeShap
     )
 
 
-def _scales(chains: Chains, sizes: Sequence[Tuple[float, float]], unit: float) -> List[float]:
+def _scales(chains: Chains, sizes: Sequence[tuple[float, float]], unit: float) -> list[float]:
     """By how much each node has to be made smaller, at so many pixels a step, to lie on nothing; else 1."""
     lines = [(*(unit * it for it in row[:4]), *row[4:]) for row in chains.segments]
     grid = SegmentGrid(lines)
@@ -159,7 +160,7 @@ def _reach(start: Position, end: Position, right: float, up: float) -> float:
 # ---- Curves that are drawn nearer to their chords
 
 
-def _curved(chains: Chains, scene: Scene, false: List[Defect]) -> Tuple[Scene, List[Defect]]:
+def _curved(chains: Chains, scene: Scene, false: list[Defect]) -> tuple[Scene, list[Defect]]:
     """The scene with its straight lines made curves, of which those that meet what they must not reach less far; and
     what stays false. What is false with straight lines, which may be as the points are the caller's, is let be."""
     ways = crossing_ways(chains.result, chains.nodes, chains.places)
@@ -169,7 +170,7 @@ def _curved(chains: Chains, scene: Scene, false: List[Defect]) -> Tuple[Scene, L
         for edge_id, chain in chains.nodes.items()
         if not is_as_good_as_straight([chains.places[node] for node in chain])
     }
-    reaches: Dict[Piece, float] = {}
+    reaches: dict[Piece, float] = {}
     less_reach = LESS_REACH if len(scene.nodes) <= MANY else LESS_REACH_OF_MANY
     strokes = {it.edge_id: _curve(chains, it, ways, reaches, bent) for it in scene.strokes}
     page = Page(replace(scene, strokes=tuple(strokes.values())))
@@ -190,9 +191,9 @@ def _curved(chains: Chains, scene: Scene, false: List[Defect]) -> Tuple[Scene, L
 def _curve(
     chains: Chains,
     stroke: Stroke,
-    ways: Mapping[Tuple[int, Any], Position],
+    ways: Mapping[tuple[int, Any], Position],
     reaches: Mapping[Piece, float],
-    bent: Sequence[int],
+    bent: Container[int],
 ) -> Stroke:
     """A stroke as a curve, each of whose pieces reaches as far as it may."""
     if stroke.edge_id not in bent:

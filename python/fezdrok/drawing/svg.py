@@ -8,7 +8,8 @@ drawing's own, so that several drawings may stand on one page of HTML.
 from __future__ import annotations
 
 import re
-from typing import Dict, Hashable, Iterable, List, NamedTuple, Optional, Sequence
+from collections.abc import Hashable, Iterable, Sequence
+from typing import NamedTuple
 from xml.etree.ElementTree import Element, SubElement, tostring
 from zlib import crc32
 
@@ -33,15 +34,15 @@ class Paint(NamedTuple):
     the colour of the text around the document. Where there is none for crossings, these are bridges."""
 
     node: str = "#d9e8f6"
-    crossing: Optional[str] = None
-    background: Optional[str] = "#fff"
+    crossing: str | None = None
+    background: str | None = "#fff"
 
     def ink(self, color: str) -> str:
         """The colour of lines, or of letters beside them, that are of this colour on a background."""
         return "currentColor" if self.background is None and color in (PLAIN, FORBIDDEN, RIM, LETTERS) else color
 
 
-def svg_of(result: Planarization, scene: Scene, paint: Paint = Paint(), prefix: Optional[str] = None) -> str:
+def svg_of(result: Planarization, scene: Scene, paint: Paint = Paint(), prefix: str | None = None) -> str:
     """The scene of a planarization as an SVG document. Numbers have as few decimals as the scene says, so that small
     graphs are small files. Ids begin with the `prefix`, or else with one made from a checksum of the document.
 
@@ -114,7 +115,7 @@ def edge_words(result: Planarization, edge_id: int) -> str:
     return f"{source} {between} {target}" + "".join(f" ({it})" for it in key)
 
 
-def _text(root: Element, prefix: Optional[str]) -> str:
+def _text(root: Element, prefix: str | None) -> str:
     """The text of a document, with the prefix before its ids and where they are used: from a checksum where it is
     None."""
     for group in root.iter():
@@ -142,7 +143,7 @@ class _Writer:
         """A number of units of the page, in pixels."""
         return number(units / self.page.steps, self.scene.decimals)
 
-    def at(self, place: Position) -> List[str]:
+    def at(self, place: Position) -> list[str]:
         """The x and y of a place of the scene."""
         return [self.number(it) for it in self.page.at(place)]
 
@@ -171,7 +172,7 @@ class _Writer:
             before = letter
         return first + path
 
-    def _relative(self, piece: Sequence[PagePoint]) -> List[str]:
+    def _relative(self, piece: Sequence[PagePoint]) -> list[str]:
         """The numbers of a piece, from its first point."""
         x, y = piece[0]
         return [self.number(it) for u, v in piece[1:] for it in (u - x, v - y)]
@@ -219,7 +220,7 @@ class _Writer:
         """The nodes: each shape once, and where it is used."""
         group = _put(root, "g", fill=self.paint.node, stroke=self.paint.ink(RIM), stroke_width=".8")
         shapes = _put(group, "defs")
-        ids: Dict[Hashable, str] = {}
+        ids: dict[Hashable, str] = {}
         for node, place in zip(self.scene.nodes, self.page.nodes):
             kind = (place.right, place.down, place.is_round, node.box)
             if kind not in ids:

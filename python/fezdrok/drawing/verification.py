@@ -7,7 +7,8 @@ numbers are whole, so nothing is rounded in any test. Lines that could meet are 
 from __future__ import annotations
 
 from collections import Counter
-from typing import Dict, Iterable, Iterator, List, NamedTuple, Optional, Sequence, Set, Tuple
+from collections.abc import Iterable, Iterator, Sequence
+from typing import NamedTuple
 
 from ..engine.pictures import Dart, Point
 from ..engine.results import Planarization
@@ -15,7 +16,7 @@ from .pages import FINE, Page, PageLine, PageNode, PagePoint, flattened
 from .segment_grid import SegmentGrid
 
 #: An edge id and the place of a piece along the edge.
-Piece = Tuple[int, int]
+Piece = tuple[int, int]
 #: How far, in pixels, a curve may be from the straight lines that stand for it.
 TOLERANCE = 0.1
 
@@ -25,8 +26,8 @@ class Defect(NamedTuple):
     and `pieces` are the pieces of the edges that are at fault, each as an edge id and a place along the edge."""
 
     words: str
-    place: Tuple[float, float]
-    pieces: Tuple[Piece, ...] = ()
+    place: tuple[float, float]
+    pieces: tuple[Piece, ...] = ()
 
     def __str__(self) -> str:
         return f"{self.words} at {self.place[0]:.1f}, {self.place[1]:.1f}"
@@ -42,11 +43,11 @@ class _Straight(NamedTuple):
     v: int
     piece: Piece
     number: int
-    start: Optional[Point]
-    end: Optional[Point]
+    start: Point | None
+    end: Point | None
 
 
-def defects(result: Planarization, page: Page) -> List[Defect]:
+def defects(result: Planarization, page: Page) -> list[Defect]:
     """All that is false on a page that shows a planarization; empty where it is true."""
     return Judge(result, page).defects()
 
@@ -57,22 +58,22 @@ class Judge:
 
     def __init__(self, result: Planarization, page: Page):
         self.result, self.page, self.picture = result, page, result.picture
-        self.lines: List[_Straight] = []
-        self.places_of: Dict[int, range] = {}
-        self.gone: Set[int] = set()
-        self.found: List[Defect] = []
-        self.place_of: Dict[Point, PagePoint] = {}
-        self.leaving: Dict[Dart, Tuple[PagePoint, PagePoint, Piece]] = {}
-        self.tangents: Dict[Dart, PagePoint] = {}
+        self.lines: list[_Straight] = []
+        self.places_of: dict[int, range] = {}
+        self.gone: set[int] = set()
+        self.found: list[Defect] = []
+        self.place_of: dict[Point, PagePoint] = {}
+        self.leaving: dict[Dart, tuple[PagePoint, PagePoint, Piece]] = {}
+        self.tangents: dict[Dart, PagePoint] = {}
         self.shapes = {Point(False, result.vertex_of[node.node]): _Shape(node) for node in page.nodes}
         for line in page.lines:
             self._add(line)
         self.grid = SegmentGrid(self.lines)
-        degree = Counter(mark for line in self.lines for mark in (line.start, line.end) if mark is not None)
-        self.degree = {None: 0, **degree}
+        self.degree: Counter[Point | None] = Counter(mark for line in self.lines for mark in (line.start, line.end))
+        self.degree[None] = 0
         self.boxes = SegmentGrid.of_rectangles([shape.bounds for shape in self.shapes.values()])
 
-    def defects(self) -> List[Defect]:
+    def defects(self) -> list[Defect]:
         """What is false."""
         hubs = [self._hub(line) for line in self.lines]
         seen = set()
@@ -90,12 +91,12 @@ class Judge:
         self._judge_overlaps()
         return self._told()
 
-    def drawn_otherwise(self, lines: Sequence[PageLine]) -> List[Defect]:
+    def drawn_otherwise(self, lines: Sequence[PageLine]) -> list[Defect]:
         """What is false about these edges where they are drawn like this from now on."""
         first = len(self.lines)
-        for line in lines:
-            self.gone.update(self.places_of[line.edge_id])
-            self._add(line)
+        for drawn in lines:
+            self.gone.update(self.places_of[drawn.edge_id])
+            self._add(drawn)
         for place in range(first, len(self.lines)):
             self.grid.add(place, self.lines[place])
         for place in range(first, len(self.lines)):
@@ -105,7 +106,7 @@ class Judge:
             for other in others - self.gone:
                 if other < place and (hub is None or self._hub(self.lines[other]) != hub):
                     self._judge_pair(other, place)
-        self._judge_orders({point for line in lines for point in self.picture.path(line.edge_id)})
+        self._judge_orders({point for drawn in lines for point in self.picture.path(drawn.edge_id)})
         own, shapes = self._judge_ends(), list(self.shapes.items())
         for line in self.lines[first:]:
             left, right = sorted((line.x, line.u))
@@ -115,9 +116,9 @@ class Judge:
                 self._judge_shape(shape, line, (line.piece, point) in own)
         return self._told()
 
-    def _told(self) -> List[Defect]:
+    def _told(self) -> list[Defect]:
         """What was found, each defect once."""
-        merged: Dict[Tuple[str, Tuple[float, float]], Dict[Piece, None]] = {}
+        merged: dict[tuple[str, tuple[float, float]], dict[Piece, None]] = {}
         for words, place, pieces in self.found:
             merged.setdefault((words, place), {}).update(dict.fromkeys(pieces))
         self.found = []
@@ -165,7 +166,7 @@ class Judge:
 
     # ---- Lines that meet
 
-    def _hub(self, line: _Straight) -> Optional[Point]:
+    def _hub(self, line: _Straight) -> Point | None:
         """The end of a line at which most lines end."""
         return line.start if self.degree[line.start] >= self.degree[line.end] else line.end
 
@@ -182,8 +183,8 @@ class Judge:
     # ---- The order round points
 
     def _judge_orders(self, points: Iterable[Point]) -> None:
-        """The edges leave each node, and pass each crossing, in the clockwise order of the picture: by the straight lines
-        that stand for them, and by the tangents of their curves."""
+        """The edges leave each node, and pass each crossing, in the clockwise order of the picture: by the straight
+        lines that stand for them, and by the tangents of their curves."""
         for point in points:
             darts = [dart for dart in self.picture.around(point) if dart in self.leaving]
             left = [self.leaving[dart] for dart in darts]
@@ -197,7 +198,7 @@ class Judge:
 
     # ---- Nodes
 
-    def _judge_ends(self) -> Set[Tuple[Piece, Point]]:
+    def _judge_ends(self) -> set[tuple[Piece, Point]]:
         """The edges of a node come to its shape; the pieces that end at points, each with its point."""
         own = set()
         for dart, (end, _, piece) in self.leaving.items():
@@ -303,13 +304,13 @@ def _way(at: PagePoint, end: PagePoint, beside: PagePoint) -> PagePoint:
     return beside[0] - end[0], beside[1] - end[1]
 
 
-def _pairs(places: Sequence[int], hubs: Sequence[Optional[Point]]) -> Iterator[Tuple[int, int]]:
+def _pairs(places: Sequence[int], hubs: Sequence[Point | None]) -> Iterator[tuple[int, int]]:
     """All pairs of lines of which not both come from one hub, the lesser first. Two lines that do meet elsewhere only
     where they have one direction, which the order round the hub tells."""
-    groups: Dict[Optional[Point], List[int]] = {}
+    groups: dict[Point | None, list[int]] = {}
     for place in places:
         groups.setdefault(hubs[place], []).append(place)
-    before: List[int] = []
+    before: list[int] = []
     for hub, group in groups.items():
         for number, place in enumerate(group):
             for other in before if hub is not None else (*before, *group[:number]):
@@ -352,7 +353,7 @@ def _meeting(first: _Straight, second: _Straight) -> PagePoint:
     return max(min(start, end), min(other_start, other_end))
 
 
-def _shared_end(first: _Straight, second: _Straight) -> Optional[PagePoint]:
+def _shared_end(first: _Straight, second: _Straight) -> PagePoint | None:
     """The end that two lines share, if they do: they follow each other along an edge, or end at one point."""
     if first.piece[0] == second.piece[0] and abs(first.number - second.number) == 1:
         return (first.u, first.v) if first.number < second.number else (first.x, first.y)
@@ -364,11 +365,12 @@ def _shared_end(first: _Straight, second: _Straight) -> Optional[PagePoint]:
 
 
 def _tangent(piece: Sequence[PagePoint]) -> PagePoint:
-    """A point on the tangent of a piece at its beginning, FINE times as large: the first of its points that is another."""
+    """A point on the tangent of a piece at its beginning, FINE times as large: the first of its points that is
+    another."""
     x, y = next((it for it in piece if it != piece[0]), piece[0])
     return x * FINE, y * FINE
 
 
-def _distinct(points: Sequence[PagePoint]) -> List[PagePoint]:
+def _distinct(points: Sequence[PagePoint]) -> list[PagePoint]:
     """The points without those that are equal to the one before."""
     return [point for place, point in enumerate(points) if place == 0 or point != points[place - 1]]

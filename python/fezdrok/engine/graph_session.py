@@ -207,6 +207,12 @@ class GraphSession(Generic[Result]):
         }
         return replace(self._source, **now, prices=self.prices[:kinds], reports=(*self._reports, report))
 
+    def to_html(self) -> str:
+        """A page of HTML that steps through the calls of this session, with the names of the nodes; see
+        `fezdrok.to_html`. After `compact`, those since then."""
+        self._settle()
+        return self._session.to_html(self._node_of)
+
     def compact(self) -> Renumbered:
         """Begins anew with the ids of edges and crossings from 0 on, as `Session.compact`, and gives the new id of each
         old one. The names stay. In the result the next report begins from the picture with the new ids. Where this is

@@ -6,7 +6,7 @@ import json
 from collections.abc import Callable, Sequence
 from operator import index
 from types import TracebackType
-from typing import Any, NamedTuple, TypeVar
+from typing import Any, ClassVar, NamedTuple, TypeVar
 
 from .faults import Fault, ProgramFailed, SessionClosed
 from .line_process import HASTE, TOGETHER, LineProcess
@@ -84,6 +84,9 @@ class Session:
     ()
     Counts(vertices=3, crossings=0, edges=3, segments=3, faces=2)
     """
+
+    #: What makes pages of reports: the package sets it.
+    pager: ClassVar[Callable[..., str] | None] = None
 
     def __init__(
         self,
@@ -165,6 +168,13 @@ class Session:
     def report(self) -> Report:
         """The start, each call so far with its reply, and the picture now; `Planarizer.replay` accepts it."""
         return self._ask("report", Report.from_json)
+
+    def to_html(self, names: Sequence[Any] | None = None) -> str:
+        """A page of HTML that steps through the calls so far, with these names for the vertices; see
+        `fezdrok.to_html`. After `compact`, those since then."""
+        pager = type(self).pager
+        assert pager is not None, "the package fezdrok was not imported"
+        return pager(self.report(), names=names, program=self._program.path)
 
     def compact(self) -> Renumbered:
         """Begins anew from the picture of now, with the ids of edges and crossings from 0 on in the order in which they

@@ -158,7 +158,7 @@ def picture_of(
         ids.update((frozenset(pair), len(edges) + place) for place, pair in enumerate(fresh))
         edges.extend(fresh)
     _judge_connected(rotations)
-    lists = [_from_least([ids[frozenset((node, other))] for other in around]) for node, around in rotations.items()]
+    lists = [from_least([ids[frozenset((node, other))] for other in around]) for node, around in rotations.items()]
     rows = tuple(Edge(number, vertex[u], vertex[v], kind(u, v)) for number, (u, v) in enumerate(edges))
     return Picture(tuple(lists), rows, (), len(rows), 0), edges
 
@@ -173,7 +173,7 @@ def _judge_connected(rotations: Mapping[Node, Sequence[Node]]) -> None:
         raise ValueError("the embedding is not connected")
 
 
-def _from_least(around: list[int]) -> tuple[int, ...]:
+def from_least(around: list[int]) -> tuple[int, ...]:
     """The same cycle, listed from its least id on."""
     place = around.index(min(around))
     return tuple(around[place:] + around[:place])

@@ -17,6 +17,7 @@ from pathlib import Path
 from typing import Any, NamedTuple
 
 from ..engine.faults import PlanarError, PlanarWarning, wanted
+from .graphml_groups import read_graphml
 
 
 class GraphFileError(PlanarError, ValueError):
@@ -48,17 +49,21 @@ def format_of(path: str, name: str | None = None) -> Format:
 def graph_of(data: bytes, form: Format) -> Any:
     """The graph of the bytes of a file; GraphFileError where they are not of this format.
 
-    A graph without parallel edges is no multigraph, whatever the format says.
+    A graph without parallel edges is no multigraph, whatever the format says. A PlanarWarning says what of the file is
+    not in the graph.
     """
     try:
-        with warnings.catch_warnings():
+        with warnings.catch_warnings(record=True) as told:
             warnings.simplefilter("ignore")
+            warnings.simplefilter("always", PlanarWarning)
             graph = form.read(data)
     except (PlanarError, MemoryError, KeyboardInterrupt):
         raise
     except Exception as fault:  # the readers of networkx raise whatever comes
         said = " ".join(str(fault).split())
         raise GraphFileError(f"it is no {form.name}: {said[:200] or type(fault).__name__}") from fault
+    for it in told:
+        warnings.warn(str(it.message), PlanarWarning, stacklevel=2)
     return _simple(graph)
 
 
@@ -163,14 +168,6 @@ def _with_texts(graph: Any, known: Callable[[str, Any], Any]) -> Any:
     if often > 1:
         raise GraphFileError(f"{often} nodes have the name {name!r} as text")
     return networkx.relabel_nodes(_plain(graph, known), {node: str(node) for node in graph})
-
-
-def _read_graphml(data: bytes) -> Any:
-    import networkx
-
-    if len(re.findall(rb"<graph[\s>]", data)) > 1:
-        raise GraphFileError("it has graphs within others, as groups of yEd, which networkx does not read")
-    return networkx.read_graphml(BytesIO(data))
 
 
 def _write_graphml(graph: Any) -> bytes:
@@ -403,7 +400,7 @@ def _write_cytoscape(graph: Any) -> bytes:
 FORMATS = {
     form.name: form
     for form in (
-        Format("graphml", (".graphml",), _read_graphml, _write_graphml),
+        Format("graphml", (".graphml",), read_graphml, _write_graphml),
         Format("gml", (".gml",), _read_gml, _write_gml),
         Format("gexf", (".gexf",), _read_gexf, _write_gexf),
         Format("pajek", (".net", ".pajek", ".paj"), _read_pajek, _write_pajek),

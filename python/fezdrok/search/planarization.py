@@ -24,6 +24,7 @@ from .options import (
 )
 from .progress import Clock, Progress, ProgressOption, line_ended, progress_function
 from .search_picture import SavedPicture
+from .starts import judge_start, part_of_start
 
 logger = logging.getLogger("fezdrok")
 
@@ -78,6 +79,7 @@ def planarize(
     price: Pricing = None,
     forbidden: Iterable[GraphEdge] | None = None,
     *,
+    start: Planarization | None = None,
     objective: Objective | None = None,
     effort: EffortName = "default",
     begin: Begin | None = None,
@@ -116,6 +118,10 @@ def planarize(
         the product of the prices of both edges. None is as `forbidden`. At most 64 prices may differ.
     forbidden : list of edges, optional
         Edges that have no crossing.
+    start : Planarization, optional
+        A planarization of the same graph from which the search goes on, as one that `from_positions` made, in the
+        place of beginning anew: its picture is the first. The prices are those that are given now, and `begin`, `order`
+        and `tries` count for nothing.
     objective : {"crossings", "cost"}, optional
         What is to be as small as can be, then the other; without it the cost where a price is not 1, and else the
         number of crossings.
@@ -158,7 +164,8 @@ def planarize(
     Raises
     ------
     ValueError
-        Where the graph has no node or a loop, and where an option cannot be used; the message names it.
+        Where the graph has no node or a loop, where the start is of another graph or has a crossing on an edge that
+        must not be crossed, and where an option cannot be used; the message names it.
     NotPlanarized
         Where edges that must not be crossed cannot be drawn without crossings, where they part the ends of another, or
         where the limits do not suffice; it names the edge.
@@ -183,6 +190,7 @@ def planarize(
     >>> planarize([("a", "b"), ("b", "c"), ("c", "a")], forbidden=[("a", "b")]).crossings
     0
     """
+    unused = {"begin": begin, "order": None if order == "given" else order, "tries": tries}
     begin, numbers = judged_effort(effort, begin, tries, rounds, shakes)
     order, seed, clock = judged_order(order), whole("seed", seed), Clock(judged_seconds(seconds))
     judge_call(limits, program)
@@ -191,6 +199,8 @@ def planarize(
     tell = progress_function(progress)
     source = read_graph(graph, price, forbidden, round_prices, objective)
     judge_forbidden(source)
+    if start is not None:
+        judge_start(start, source, unused)
     if not isinstance(order, str):
         order = [source.edges[place] for place in places_of("order", source.edges, order, source.graph.is_directed())]
     results: list[Planarization] = []
@@ -202,8 +212,13 @@ def planarize(
                 results.append(single(part.graph, part.nodes[0], part.prices))
                 continue
             search = Search(part, numbers, limits, program, clock, tell)
-            search.run(begin, _order_in(part, order, len(sources)), seed)
-            results.append(_result(search))
+            if start is None:
+                search.run(begin, _order_in(part, order, len(sources)), seed)
+                results.append(_result(search))
+            else:
+                begun = part_of_start(start, part)
+                search.go_on(_saved(begun, part), seed)
+                results.append(_better(begun, search))
             failures += search.failures
             if search.is_ended:
                 numbers = Effort(1, 0, 0)
