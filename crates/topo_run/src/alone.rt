@@ -49,9 +49,7 @@ fn carry_out<F: PriceFn, T: Gate>(
                     (prices_of (F.may_return book.entry.now.tariff)) 0 (call_of command.entry.now)
                     reply book.entry.now book.exit.now) }
                 ensures same_book { IsSameBook book.entry.now book.exit.now }
-            {
-                book.enter(alloc, 0, call_of(*command))
-            },
+            { book.enter(alloc, 0, call_of(*command)) },
         );
         if made.is_err() {
             return false;

@@ -149,7 +149,7 @@ none_made price start old mid new list n (Err e) done receipts failed number lat
 none_made price start old mid new list n (Ok a) done receipts failed number later = cc
 
 -- the same of equal passes
-pub receipt_of_same : {T E : Type 0} (price : Pricing) (start : Shown) (a b old new : PassState) {call : Call} (r : Result T E) → a ≡ old → b ≡ new
+pub receipt_of_same : {T E : Type 0} (price : Pricing) (start : Shown) (a b old new : PassState) (call : Call) (r : Result T E) → a ≡ old → b ≡ new
     → OnOk r (HasReceiptOf price start a b call) → OnOk r (HasReceiptOf price start old new call)
-receipt_of_same price start a b old new {call} r first second made =
+receipt_of_same price start a b old new call r first second made =
     subst (λ (s : PassState). OnOk r (HasReceiptOf price start s new call)) first (subst (λ (s : PassState). OnOk r (HasReceiptOf price start a s call)) second made)

@@ -1,7 +1,7 @@
 //! The locked service.
 
 ghost use Rattle.std.specs.Prelude.{◌≡◌, ◌+◌, ◌<◌, ◌≤◌, []};
-ghost use Rattle.std.specs.Prelude.{true, false, IfOk, IsErr, OnErr, Some, is_some};
+ghost use Rattle.std.specs.Prelude.{true, false, IfOk, OnErr, Some, is_some};
 ghost use Rattle.topo_core.specs.History.{IsPrefix};
 ghost use Rattle.topo_core.specs.declared.calls.Call.TheVariants.{Grow, Insert, Delete};
 ghost use Rattle.topo_versions.specs.Names.{prices_named};

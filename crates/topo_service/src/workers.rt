@@ -1,6 +1,6 @@
 //! Lists of commands, each with a pass in a thread of its own.
 
-ghost use Rattle.std.specs.Prelude.{◌≡◌, ◌<◌, ◌≤◌, ◌-◌, ◌++◌, ◌∷◌, ℕ, [], length};
+ghost use Rattle.std.specs.Prelude.{◌≡◌, ◌<◌, ◌≤◌, ◌-◌, ℕ, [], length};
 ghost use Rattle.std.specs.Prelude.{map, IfOk, IfSome, OnErr, OnOk, slice_index_or, vec_capacity};
 ghost use Rattle.std.specs.Fn.{FnOnceReturnsAtMut};
 ghost use Rattle.topo_core.specs.History.{IsPrefix, call_of};
@@ -200,9 +200,7 @@ fn work<F: PriceFn, K: ServiceBrand<F>, W: VersionWriter<F, K>, R: Wait, T: Gate
                 ensures later { IsPrefix pass.entry.now.seen pass.exit.now.seen }
                 ensures unchanged { OnErr result
                     (pass.exit.now.receipts ≡ pass.entry.now.receipts) }
-            {
-                carry_out(rt, service, pass, *command)
-            },
+            { carry_out(rt, service, pass, *command) },
         );
         if made.is_err() {
             return;

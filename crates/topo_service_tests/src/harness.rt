@@ -321,7 +321,14 @@ fn run_made<F: PriceFn + Drop + Send + Sync, K: ServiceBrand<F> + Send + Sync, R
     let ends = match (gate, passes.first_mut()) {
         (Round::Viewed(edges), Some(first)) => {
             let view = &first.view()?;
-            run_workers(rt, rt.alloc(), service, passes, lists, &EarlierView { view, edges })?
+            run_workers(
+                rt,
+                rt.alloc(),
+                service,
+                passes,
+                lists,
+                &EarlierView { view, edges },
+            )?
         }
         _ => run_workers(rt, rt.alloc(), service, passes, lists, gate)?,
     };

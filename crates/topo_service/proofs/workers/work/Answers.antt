@@ -16,7 +16,7 @@ loop-index-preserved g c =
     let made = c.between-made.ensures in
     let number : c.between-made.new.state.number ≡ c.loop-index.pass.number =
     ap (λ (s : PassState). s.number) (sym made.leaves) ∙ made.met.0 ∙ ap (λ (s : PassState). s.number) made.shows in
-    let receipt = receipt_of_same price start made.shown.now made.left.now c.loop-index.pass c.between-made.new.state c.between-made.result made.shows
+    let receipt = receipt_of_same price start made.shown.now made.left.now c.loop-index.pass c.between-made.new.state _ c.between-made.result made.shows
     made.leaves made.met.1.0 in
     one_made price start c.args.pass.now c.loop-index.pass c.between-made.new.state c.args.list.now c.loop-index.index _ c.between-made.result
     c.loop-index.invariant receipt (sym c.is_err.ensures.value ∙ c.if-is_err.false) number
