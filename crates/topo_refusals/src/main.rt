@@ -12,6 +12,7 @@ use std::io;
 use std::sync::Wait;
 use std::thread::Threads;
 
+mod alone_list;
 mod book_calls;
 mod book_replays;
 mod book_scripts;
@@ -26,6 +27,7 @@ mod service_views;
 mod services;
 mod worker_lists;
 
+use alone_list::run_alone;
 use book_scripts::{APEXES, BASE, BookScript, CHORDS, run_script};
 use embeddings::embed;
 use picture_reads::loaded;
@@ -41,13 +43,15 @@ fn run_on<R: Console>(rt: &R, named: &Named, script: &BookScript) -> Result<()> 
     told
 }
 
-/// The calls on one picture after the other, those of an embedding, and those of a service.
+/// The calls on one picture after the other, those of an embedding, those of a service, and a script
+/// of one list.
 fn run<R: Threads + Wait + Console + Sync>(rt: &R) -> Result<()> {
     run_on(rt, &BIPYRAMID, &APEXES)?;
     run_on(rt, &BARRIER, &BASE)?;
     run_on(rt, &HEXAGON, &CHORDS)?;
     embed(rt)?;
-    serve(rt)
+    serve(rt)?;
+    run_alone(rt)
 }
 
 /// Each run ends with the same status, so that any fault shows as other output.

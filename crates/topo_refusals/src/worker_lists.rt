@@ -61,6 +61,20 @@ impl Watch {
         }
     }
 
+    /// Begins anew.
+    pub(crate) fn begin(&self) {
+        self.begun.store(0, Ordering::SeqCst);
+        self.ended.store(0, Ordering::SeqCst);
+        self.is_amiss.store(false, Ordering::SeqCst);
+    }
+
+    /// Whether each command that was seen to begin was seen to end, in order.
+    pub(crate) fn has_ended_each(&self) -> bool {
+        let begun = self.begun.load(Ordering::SeqCst);
+        let ended = self.ended.load(Ordering::SeqCst);
+        begun == ended && !self.is_amiss.load(Ordering::SeqCst)
+    }
+
     /// Notes that a price is asked for.
     pub(crate) fn ask(&self) {
         let _ = self.asked.fetch_add(1, Ordering::SeqCst);
@@ -114,9 +128,7 @@ fn run_list<
     watch: &Watch,
     lists: &[Vec<Command>],
 ) -> Result<WorkerEnd, AllocError> {
-    watch.begun.store(0, Ordering::SeqCst);
-    watch.ended.store(0, Ordering::SeqCst);
-    watch.is_amiss.store(false, Ordering::SeqCst);
+    watch.begin();
     let Some(workers) = passes.get_mut(CALLER..CALLER + 1) else {
         return Err(AllocError);
     };

@@ -55,15 +55,8 @@ pub fn run_script<F: PriceFn + Drop + Send + Sync, R: Threads + Wait + Sync, T: 
     let Ok(heading) = heading_of(alloc, script, &start) else {
         return Err(RunFault::Memory);
     };
-    run_from(
-        rt,
-        alloc,
-        heading,
-        script.workers.as_slice(),
-        start,
-        tariff,
-        gate,
-    )
+    let setting = Setting { heading, start };
+    run_from(rt, alloc, setting, script.workers.as_slice(), tariff, gate)
 }
 
 /// What a report says before its history.
@@ -72,6 +65,13 @@ struct Heading {
     limits: LimitRows,
     prices: Listed<Option<u32>>,
     start: Rows,
+}
+
+/// What a run begins with: what its report says before its history, and the picture of the start.
+#[derive(Drop)]
+struct Setting {
+    heading: Heading,
+    start: Picture,
 }
 
 /// What a report says of a run with this script and this start, before its history.
@@ -100,21 +100,22 @@ fn limit_rows(limits: &Limits) -> LimitRows
     }
 }
 
-/// The report of a run of these lists from this start, below its heading.
+/// The report of a run of these lists in a setting.
 fn run_from<F: PriceFn + Drop + Send + Sync, R: Threads + Wait + Sync, T: Gate>(
     rt: &R,
     alloc: Global,
-    heading: Heading,
+    setting: Setting,
     lists: &[Listed<Command>],
-    start: Picture,
     tariff: Arc<Tariff<F>>,
     gate: &T,
 ) -> Result<Report, RunFault>
-    requires { AnswersPrices (F.may_return (arc_value tariff)) heading.prices }
-    ensures report { IfOk result (IsReportBelow heading lists.now start.limits start.rows) }
+    requires { AnswersPrices (F.may_return (arc_value tariff)) setting.heading.prices }
+    ensures report { IfOk result
+        (IsReportBelow setting.heading lists.now setting.start.limits setting.start.rows) }
     ensures seats { OnOk result (length lists.now ≤ MAX_PASSES) }
     ensures fault { IfErr result (IsOfRun lists.now) }
 {
+    let Setting { heading, start } = setting;
     let outcome = run_lists(rt, alloc, start, tariff, lists, gate)?;
     Ok(Report {
         limits: heading.limits,
@@ -125,26 +126,26 @@ fn run_from<F: PriceFn + Drop + Send + Sync, R: Threads + Wait + Sync, T: Gate>(
     })
 }
 
-/// The same at the prices that a closure answers.
+/// The report of a run of these lists in a setting, at the prices that a closure answers.
 fn asked_report<F: PriceFn + Drop + Send + Sync, R: Threads + Wait + Sync, T: Gate>(
     rt: &R,
     alloc: Global,
-    heading: Heading,
+    setting: Setting,
     lists: &[Listed<Command>],
-    start: Picture,
     ask: F,
     gate: &T,
 ) -> Result<Report, RunFault>
     requires callable { F.is_callable ask }
     requires promise { IsPromise (F.may_return ask) }
-    requires own { AnswersPrices (F.may_return ask) heading.prices }
-    ensures report { IfOk result (IsReportBelow heading lists.now start.limits start.rows) }
+    requires own { AnswersPrices (F.may_return ask) setting.heading.prices }
+    ensures report { IfOk result
+        (IsReportBelow setting.heading lists.now setting.start.limits setting.start.rows) }
     ensures fault { IfErr result (IsOfRun lists.now) }
 {
     let Ok(tariff) = Arc::new(alloc, Tariff::new(ask)) else {
         return Err(RunFault::Memory);
     };
-    run_from(rt, alloc, heading, lists, start, tariff, gate)
+    run_from(rt, alloc, setting, lists, tariff, gate)
 }
 
 /// The rows of a start: those that a script gave for it, and else those of the picture itself.
@@ -188,5 +189,6 @@ pub(crate) fn priced_report<R: Threads + Wait + Sync, T: Gate>(
         prices,
         start: rows,
     };
-    asked_report(rt, alloc, heading, workers.as_slice(), start, table, gate)
+    let setting = Setting { heading, start };
+    asked_report(rt, alloc, setting, workers.as_slice(), table, gate)
 }

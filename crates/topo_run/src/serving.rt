@@ -122,8 +122,8 @@ fn run_all<
     }
 }
 
-/// Runs the lists on a new service from the start that K names: the history, and the picture at the
-/// end.
+/// Runs the lists on a new service, from the start and at the prices that K names: the history, and
+/// the picture at the end.
 fn serve<
     F: PriceFn + Drop + Send + Sync,
     K: ServiceBrand<F> + Send + Sync,
@@ -133,21 +133,23 @@ fn serve<
     rt: &R,
     alloc: Global,
     fresh: FreshService,
-    start: Picture,
-    tariff: Arc<Tariff<F>>,
+    beginning: (Picture, Arc<Tariff<F>>),
     lists: &[Vec<Command>],
     gate: &T,
 ) -> Result<RunOutcome, RunFault>
     requires ledger { (fresh.blank.name ≡ K.name) × (fresh.blank.parts ≡ K.parts) }
     requires parts { K.parts ≡ MAX_PASSES }
     requires list { fresh.log.seen.book ≡ K.book }
-    requires start { start ≡ K.start }
-    requires prices { K.closure ≡ Some (arc_value tariff) }
-    ensures run { IfOk result (λ outcome. IsRun (prices_of (F.may_return (arc_value tariff)))
-        start.limits start.rows (map commands lists.now) outcome.history outcome.picture) }
+    requires start { beginning.0 ≡ K.start }
+    requires prices { K.closure ≡ Some (arc_value beginning.1) }
+    ensures run { IfOk result
+        (λ outcome. IsRun (prices_of (F.may_return (arc_value beginning.1)))
+        beginning.0.limits beginning.0.rows (map commands lists.now) outcome.history
+        outcome.picture) }
     ensures seats { OnOk result (length lists.now ≤ MAX_PASSES) }
     ensures fault { IfErr result (IsOfService (map commands lists.now)) }
 {
+    let (start, tariff) = beginning;
     let places = lists.len().max(1).min(MAX_PASSES as usize) as u32;
     let Ok(mut service) = Service::<F, K>::with_places(alloc, fresh, start, tariff, places) else {
         return Err(RunFault::Memory);
@@ -185,7 +187,8 @@ fn run_together<F: PriceFn + Drop + Send + Sync, R: Threads + Wait + Sync, T: Ga
         return Err(RunFault::Memory);
     };
     let fresh = FreshService::new();
-    serve::<F, Brand, R, T>(rt, alloc, fresh, start, tariff, copies.as_slice(), gate)
+    let beginning = (start, tariff);
+    serve::<F, Brand, R, T>(rt, alloc, fresh, beginning, copies.as_slice(), gate)
 }
 
 /// Carries out lists of commands from a start, each in a thread of its own, and says what they have

@@ -3,7 +3,7 @@ use Rattle.std.specs.Arc.{arc_value}
 use Rattle.topo_run.proofs.serving.run_together.Given as goal
 
 abbrev pub ghosts-serve-K-ServiceBrand : goal.ghosts-serve-K-ServiceBrand
-ghosts-serve-K-ServiceBrand g a = record { start = a.start; closure = Some (arc_value a.tariff) }
+ghosts-serve-K-ServiceBrand g a = record { start = a.beginning.0; closure = Some (arc_value a.beginning.1) }
 
 abbrev pub ghosts-serve-K-LogBrand : goal.ghosts-serve-K-LogBrand
 ghosts-serve-K-LogBrand g a = record { book = a.fresh.log.seen.book }

@@ -27,8 +27,8 @@ unreachable-requires g c =
 pub returns-in-Ok-close-clause-run : goal.returns-in-Ok-close-clause-run
 returns-in-Ok-close-clause-run g c =
     let lists = map commands c.args.lists.now in
-    let own = arc_value c.args.tariff in
-    let start = c.args.start in
+    let own = arc_value c.args.beginning.1 in
+    let start = c.args.beginning.0 in
     let book = c.in-Ok-close.book in
     let closed = c.in-Ok-close.ensures in
     let run : IsRun (prices_of (g.F.PriceFn.may_return own)) start.limits start.rows lists book.history book.picture.rows =
