@@ -32,6 +32,7 @@ pub(crate) enum Round {
 
 /// A view that was taken before a run, and how many edges it shows when the first command of worker
 /// 0 has ended.
+#[derive(Drop)]
 pub(crate) struct EarlierView<'a, F: PriceFn, K: ServiceBrand<F>> {
     pub view: &'a Version<F, K>,
     pub edges: &'a AtomicUsize,
