@@ -99,7 +99,7 @@ class Near(unittest.TestCase):
             ({"near": 5}, "near is 5: it must be a Drawing"),
             ({"near": along}, "an orthogonal drawing has points of its own: leave near out"),
             ({"near": near, "style": "orthogonal"}, "leave near out"),
-            ({"near": near, "pos": nx.circular_layout(result.graph)}, "pos and near both say"),
+            ({"near": near, "pos": {node: (node, node * node) for node in result.graph}}, "pos and near both say"),
         ):
             with self.assertRaisesRegex(ValueError, message):
                 drawing_of(result, **words)

@@ -108,7 +108,7 @@ class Positions(unittest.TestCase):
 class Starts(unittest.TestCase):
     def test_a_search_goes_on_from_positions(self):
         graph = nx.complete_graph(8)
-        start = from_positions(graph, nx.circular_layout(graph) | {0: (0.31, 0.17)})
+        start = from_positions(graph, {node: (x, x * x) for node, x in enumerate((0, 1, 3, 7, 12, 20, 30, 44))})
         self.assertGreater(start.crossings, 40)
         self.assertEqual(planarize(graph, start=start, effort="quick").picture.crossings, start.picture.crossings)
         result = planarize(graph, start=start)

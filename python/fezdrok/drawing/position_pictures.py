@@ -65,7 +65,7 @@ def from_positions(graph: Any, pos: Mapping[Node, Any], *, price: Pricing = None
     >>> from fezdrok import from_positions
     >>> from_positions(nx.complete_graph(4), {0: (0, 0), 1: (3, 0), 2: (3, 3), 3: (0, 3)}).crossing_pairs
     [((0, 2), (1, 3))]
-    >>> from_positions(nx.complete_graph(5), nx.circular_layout(range(5))).crossings
+    >>> from_positions(nx.complete_graph(5), {node: (node, node * node) for node in range(5)}).crossings
     5
     """
     source = read_graph(graph, price)
