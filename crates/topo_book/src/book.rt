@@ -334,6 +334,17 @@ impl<F: PriceFn> Book<F> {
         )
     }
 
+    /// The reply that a call would have now. It is not carried out, and not entered.
+    pub fn due_reply(&mut self, alloc: Global, call: Call) -> Result<Reply, AllocError>
+        ensures due { IfOk result (IsDue (prices_of (F.may_return self.old.tariff))
+            self.old.picture.limits self.old.picture.rows call) }
+        ensures no_memory { IfOk result (λ reply. reply ≢ Refused Memory) }
+        ensures unchanged { IsUnchanged self.old self.new }
+        ensures same_book { IsSameBook self.old self.new }
+    {
+        self.decide_where_cached(alloc, call, RouteSource::Search)
+    }
+
     /// Makes a call ready to be entered, on a picture of its own, with the place of its entry
     /// reserved. The book is as it was, whatever the answer.
     #[tactic(auto, using(crate::proofs::SourceLaws::nothing_is_owed))]

@@ -124,6 +124,14 @@ impl Picture {
         )
     }
 
+    /// Its rows as they are kept, each of which is looked up by its id.
+    pub fn kept_rows(&self) -> &KeptRows
+        ensures rows { result.now ≡ self.now.rows }
+        ensures lawful { IsPicture self.now.limits self.now.rows }
+    {
+        self.embedded.rows()
+    }
+
     /// A copy of its rows.
     pub fn rows(&self, alloc: Global) -> Result<Rows, AllocError>
         ensures rows { IfOk result (λ r. r ≡ self.now.rows) }

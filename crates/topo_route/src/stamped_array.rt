@@ -169,17 +169,18 @@ impl StampedArray {
         }
     }
 
-    /// Whether the number at a place is above this one. It is not read off for that, if an epoch may
-    /// have this one.
+    /// Whether the number at a place is above this one.
     pub(crate) fn is_above(&self, place: u32, number: u64) -> bool
         requires { place < length self.now }
         ensures { IsTrue result ↔ number < slice_index self.now place }
     {
-        if number >= MAX_SPAN as u64 {
-            return self.get(place) > number;
+        let place = place as usize;
+        let there = self.words[place] - self.base;
+        if there < self.span {
+            there as u64 > number
+        } else {
+            beside(self.wide.as_slice(), place) > number
         }
-        let there = self.words[place as usize] - self.base;
-        there as u64 > number || there >= self.span
     }
 
     /// The number at a place, and the greatest past the end.
