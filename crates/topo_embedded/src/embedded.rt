@@ -217,8 +217,8 @@ impl Embedded {
         }
     }
 
-    // The half of a dart.
-    fn half_of(&self, dart: Dart) -> Half
+    /// The half of a dart.
+    pub fn half_of(&self, dart: Dart) -> Half
         requires { has_dart (darts self.now.rows) dart ≡ true }
         ensures { result ≡ half_in self.now dart }
     {
