@@ -23,6 +23,7 @@
 
 mod apart;
 pub mod counts;
+mod faces;
 pub mod laws;
 pub mod picture;
 

@@ -2,12 +2,14 @@
 
 use crate::apart::lies_apart;
 use crate::counts::{Counts, counted};
+use crate::faces::face_from;
 use std::alloc::{AllocError, Global};
 use std::marker::Model;
 use topo_changes::KeptRows;
 use topo_changes::copies::copy_rows;
 use topo_changes::growth::one_listed;
 use topo_core::calls::Refusal;
+use topo_core::darts::Dart;
 use topo_core::ids::{EdgeId, VertexId};
 use topo_core::limits::Limits;
 use topo_core::listed::Listed;
@@ -64,6 +66,7 @@ impl Picture {
     ghost use Rattle.topo_rows.specs.Loading.{FailsFirst};
     ghost use Rattle.topo_rows.specs.Shown.{IsPicture};
     ghost use Rattle.topo_picture.specs.Ends.{HasVertices, IsEndsRefusal};
+    ghost use Rattle.topo_picture.specs.Faces.{IsFaceOf};
     ghost use Rattle.topo_picture.specs.Totals.{AreCountsOf};
     ghost use Rattle.topo_picture.specs.Undoing.{IsShownOn};
     ghost use Rattle.topo_core.specs.declared.rows.Rows.{Rows};
@@ -130,6 +133,21 @@ impl Picture {
         ensures lawful { IsPicture self.now.limits self.now.rows }
     {
         self.embedded.rows()
+    }
+
+    /// The darts of the face on the left of a dart, from it on, each followed by the next dart along
+    /// the face; none where the picture has no such dart.
+    pub fn face(&self, alloc: Global, dart: Dart) -> Result<Option<Listed<Dart>>, AllocError>
+        ensures { IfOk result (IsFaceOf self.now.rows dart) }
+    {
+        let Some(edge) = self.embedded.find_edge(dart.edge.number()) else {
+            return Ok(None);
+        };
+        if dart.seg as usize > edge.crossings.len() {
+            return Ok(None);
+        }
+        let found = face_from(alloc, &self.embedded, dart)?;
+        Ok(Some(found))
     }
 
     /// A copy of its rows.

@@ -69,7 +69,7 @@ fn price_table(prices: &[Option<u32>]) -> [Option<u32>; KINDS]
 }
 
 /// The price of a kind: 1 past the end of the list.
-fn price_of_kind(prices: &[Option<u32>], kind: usize) -> Option<u32>
+pub fn price_of_kind(prices: &[Option<u32>], kind: usize) -> Option<u32>
     ensures { result ≡ price_of_kind prices.now kind }
 {
     match prices.get(kind) {

@@ -1,0 +1,167 @@
+-- The text that answers a line, and where the session stands behind it.
+use Rattle.std.specs.Prelude.{◌≡◌, ◌≢◌, ◌⊎◌, ⊤, ℕ, List, ◌++◌, Option, None, Some, option_map, unwrap_or, Ok, Err, Result, String, string_bytes}
+use Rattle.serde_json.specs.Written.{compact_text}
+use Rattle.topo_core.specs.declared.calls.Command.{Command}
+use Rattle.topo_core.specs.declared.calls.Reply.{Reply}
+use Rattle.topo_core.specs.declared.darts.Dart.{Dart}
+use Rattle.topo_core.specs.declared.rows.Rows.{Rows}
+use Rattle.topo_core.specs.History.{call_of}
+use Rattle.topo_core.specs.Picture.{edge_row}
+use Rattle.topo_forms.specs.declared.sessions.Asked.{Asked as Asking}
+use Rattle.topo_forms.specs.declared.sessions.Line.{Line}
+use Rattle.topo_forms.specs.declared.sessions.Frame.TheVariants.{Opening}
+use Rattle.topo_forms.specs.declared.sessions.Opening.{Opening as Opened}
+use Rattle.topo_forms.specs.declared.sessions.Request.{Request}
+use Rattle.topo_forms.specs.declared.sessions.Request.TheVariants.{Carry, Counts as AskCounts, Picture as AskPicture, Report as AskReport, About}
+use Rattle.topo_forms.specs.declared.sessions.Request.TheVariants.{Route, Edge, Vertex, Face, Open}
+use Rattle.topo_forms.specs.Reads.{Read}
+use Rattle.topo_picture.specs.declared.counts.Counts.{Counts}
+use Rattle.topo_picture.specs.Faces.{IsFaceOf}
+use Rattle.topo_picture.specs.Totals.{AreCountsOf}
+use Rattle.topo_script.specs.Pictures.{rows_text}
+use Rattle.topo_script.specs.ReportTexts.{reply_data, report_text}
+use Rattle.topo_settings.specs.declared.fault.RunFault.{RunFault}
+use Rattle.topo_settings.specs.declared.fault.RunFault.TheVariants.{Memory, Script}
+use Rattle.topo_settings.specs.Settings.{IsUnsound, start_of}
+use Rattle.topo_session.specs.Questions.{edge_asked, vertex_asked}
+use Rattle.topo_session.specs.Standings.{Enters, IsOpened, IsRouteReply, Standing, report_so_far}
+use Rattle.topo_session.specs.Texts.{about_text, counts_text, edge_data, face_data, fault_text, framed, no_dart_text, no_edge_text}
+use Rattle.topo_session.specs.Texts.{no_vertex_text, not_open_text, route_reply_data, vertex_data}
+
+-- ---- Answers of a session
+
+-- the text is that of the counts of the picture
+pub record TellsCounts (rows : Rows) (text : List ℕ) : Type 0 where
+  pub counts : Counts
+  pub counted : AreCountsOf rows counts
+  pub told : text ≡ counts_text counts
+
+-- another picture begins, and the text is that of its counts
+pub record Opens (opening : Opened) (text : List ℕ) (new : Standing) : Type 0 where
+  pub opened : IsOpened opening new
+  pub told : TellsCounts (start_of opening.start) text
+
+-- the command is carried out by a step, which is the last of the history from now on, and the text is its reply
+pub record CarriesOut (caller : ℕ) (command : Command) (text : List ℕ) (old new : Standing) : Type 0 where
+  pub reply : Reply
+  pub entered : Enters caller (call_of command) reply old new
+  pub told : text ≡ compact_text (reply_data reply)
+
+-- the text tells the route that an edge of kind 0 would take now, or why there would be none
+pub record TellsRoute (s : Standing) (u v : ℕ) (text : List ℕ) : Type 0 where
+  pub reply : Reply
+  pub due : IsRouteReply s u v reply
+  pub told : text ≡ compact_text (route_reply_data reply)
+
+-- what is told where there are no such darts: that there is no such edge, or that the edge has no such segment
+abbrev pub no_face_text : Rows → Dart → List ℕ
+no_face_text rows d = unwrap_or (option_map (λ _. no_dart_text) (edge_row rows d.edge)) no_edge_text
+
+abbrev pub face_text : Rows → Dart → Option (List Dart) → List ℕ
+face_text rows d None = no_face_text rows d
+face_text rows d (Some darts) = compact_text (face_data darts)
+
+-- the text tells the face on the left of the dart, or why there is none
+pub record TellsFace (rows : Rows) (d : Dart) (text : List ℕ) : Type 0 where
+  pub found : Option (List Dart)
+  pub is : IsFaceOf rows d found
+  pub told : text ≡ face_text rows d found
+
+abbrev pub edge_text : Standing → ℕ → List ℕ
+edge_text s e = unwrap_or (option_map (λ found. compact_text (edge_data found)) (edge_asked s.prices s.picture e)) no_edge_text
+
+abbrev pub vertex_text : Standing → ℕ → List ℕ
+vertex_text s v = unwrap_or (option_map (λ found. compact_text (vertex_data found)) (vertex_asked s.picture v)) no_vertex_text
+
+-- The text answers a request, and the session stands so behind it. Only a command changes the picture, and an opening puts
+-- another in its place.
+abbrev pub Answers : ℕ → Request → List ℕ → Standing → Standing → Type 0
+Answers caller (Carry command) text old new = CarriesOut caller command text old new
+Answers caller AskCounts text old new = TellsCounts old.picture text × (new ≡ old)
+Answers caller AskPicture text old new = (text ≡ rows_text old.picture) × (new ≡ old)
+Answers caller AskReport text old new = (text ≡ report_text (report_so_far old)) × (new ≡ old)
+Answers caller About text old new = (text ≡ about_text) × (new ≡ old)
+Answers caller (Route u v) text old new = TellsRoute old u v text × (new ≡ old)
+Answers caller (Edge e) text old new = (text ≡ edge_text old e) × (new ≡ old)
+Answers caller (Vertex v) text old new = (text ≡ vertex_text old v) × (new ≡ old)
+Answers caller (Face d) text old new = TellsFace old.picture d text × (new ≡ old)
+Answers caller (Open opening) text old new = Opens opening text new
+
+-- The fault of a request is none but that of an opening: of its limits, its prices or its start. Any request may be out of
+-- memory.
+abbrev pub IsFaultOfRequest : Request → RunFault → Type 0
+IsFaultOfRequest (Open opening) fault = IsUnsound opening.limits opening.prices opening.start fault
+IsFaultOfRequest request fault = fault ≡ Memory
+
+-- What a request that is at fault leaves: all is as it was. Where it is out of memory it may be done, and only the text lost.
+abbrev pub LeavesBy : RunFault → ℕ → Request → Standing → Standing → Type 0
+LeavesBy Memory caller request old new = (new ≡ old) ⊎ ((text : List ℕ) × Answers caller request text old new)
+LeavesBy _ caller request old new = new ≡ old
+
+-- ---- One request, whether a session is open or not
+
+-- where no session is open, only these two requests are answered, and each other one is told so
+abbrev pub AnswersClosed : Request → List ℕ → Option Standing → Type 0
+AnswersClosed About text new = (text ≡ about_text) × (new ≡ None)
+AnswersClosed (Open opening) text new = (s : Standing) × (new ≡ Some s) × Opens opening text s
+AnswersClosed request text new = (text ≡ not_open_text) × (new ≡ None)
+
+-- the text answers what was asked without fault
+abbrev pub Responds : Asking → List ℕ → Option Standing → Option Standing → Type 0
+Responds asked text None new = AnswersClosed asked.request text new
+Responds asked text (Some s) new = (t : Standing) × (new ≡ Some t) × Answers asked.caller asked.request text s t
+
+-- what a line asks for is answered without fault
+abbrev pub RespondsTo : Read Asking → List ℕ → Option Standing → Option Standing → Type 0
+RespondsTo (Err script) text old new = ⊥
+RespondsTo (Ok asked) text old new = Responds asked text old new
+
+-- what a line asks for has this fault, which may be out of memory
+abbrev pub IsFaultOfAsked : Read Asking → RunFault → Type 0
+IsFaultOfAsked asked Memory = ⊤
+IsFaultOfAsked (Err script) fault = fault ≡ Script script
+IsFaultOfAsked (Ok asked) fault = IsFaultOfRequest asked.request fault
+
+-- what a fault leaves: all is as it was, and out of memory what was asked may be done, and only the text lost
+abbrev pub Leaves : RunFault → Read Asking → Option Standing → Option Standing → Type 0
+Leaves Memory asked old new = (new ≡ old) ⊎ ((text : List ℕ) × RespondsTo asked text old new)
+Leaves _ asked old new = new ≡ old
+
+-- ---- Lines
+
+-- a fault is told, and nothing changes
+pub record TellsFault (asked : Read Asking) (text : List ℕ) (old new : Option Standing) : Type 0 where
+  pub fault : RunFault
+  pub not_memory : fault ≢ Memory
+  pub is : IsFaultOfAsked asked fault
+  pub told : text ≡ fault_text fault
+  pub same : new ≡ old
+
+-- what a line asks for is answered, or its fault is told
+abbrev pub AnswersAsked : Read Asking → List ℕ → Option Standing → Option Standing → Type 0
+AnswersAsked asked text old new = RespondsTo asked text old new ⊎ TellsFault asked text old new
+
+-- the text is the one that was found, or that of the fault
+abbrev pub TellsOutcome : Result String RunFault → List ℕ → Type 0
+TellsOutcome (Ok found) text = text ≡ string_bytes found
+TellsOutcome (Err fault) text = (fault ≢ Memory) × (text ≡ fault_text fault)
+
+-- the line is answered, in an envelope where it came in one
+pub record AnswersLine (line : Line) (text : List ℕ) (old new : Option Standing) : Type 0 where
+  pub inner : List ℕ
+  pub answers : AnswersAsked line.asked inner old new
+  pub told : text ≡ framed line.frame inner
+
+-- the first line is answered, where no session is open: an opening as it is, by what it opens alone
+pub record AnswersFirst (line : Line) (text : List ℕ) (new : Option Standing) : Type 0 where
+  pub answers : AnswersLine line text None new
+  pub opens : line.frame ≡ Opening → RespondsTo line.asked text None new
+
+-- a line has no answer: all is as it was, or what it asks for is done, and only the text is lost
+abbrev pub LosesLine : Line → Option Standing → Option Standing → Type 0
+LosesLine line old new = (new ≡ old) ⊎ ((text : List ℕ) × AnswersAsked line.asked text old new)
+
+-- the first line is an opening as it is, and it has this fault
+pub record IsBadOpening (line : Line) (fault : RunFault) : Type 0 where
+  pub frame : line.frame ≡ Opening
+  pub is : IsFaultOfAsked line.asked fault

@@ -1,0 +1,150 @@
+-- The texts that answer a line.
+use Rattle.std.specs.Prelude.{ℕ, List, [], ◌∷◌, ◌++◌, codes, decimal, string_bytes, String, Option, None, Some}
+use Rattle.serde_json.specs.Data.{Data, string, array, object, no_items, item, no_members, member}
+use Rattle.serde_json.specs.Written.{compact_text}
+use Rattle.topo_core.specs.declared.calls.Refusal.TheVariants.{NoEdge}
+use Rattle.topo_core.specs.declared.calls.Reply.{Reply}
+use Rattle.topo_core.specs.declared.calls.Reply.TheVariants.{Grown, Inserted, Deleted, Refused}
+use Rattle.topo_core.specs.declared.darts.Dart.{Dart}
+use Rattle.topo_core.specs.declared.routes.Inserted.{Inserted as Made}
+use Rattle.topo_forms.specs.declared.fault.ScriptFault.{ScriptFault}
+use Rattle.topo_forms.specs.declared.fault.ScriptFault.TheVariants.{Memory as NoMemory, NotJson, TooLong, BadShape, BadVersion, BadNumber}
+use Rattle.topo_forms.specs.declared.path.Path.{Path}
+use Rattle.topo_forms.specs.declared.sessions.Frame.{Frame}
+use Rattle.topo_forms.specs.declared.sessions.Frame.TheVariants.{Opening, Bare, Envelope}
+use Rattle.topo_forms.specs.declared.sessions.LineId.{LineId}
+use Rattle.topo_forms.specs.declared.sessions.LineId.TheVariants.{Text, Number}
+use Rattle.topo_forms.specs.FaultTexts.{fault_name as script_name, fault_number as script_number}
+use Rattle.topo_forms.specs.Paths.{path_text}
+use Rattle.topo_picture.specs.declared.counts.Counts.{Counts}
+use Rattle.topo_price.specs.declared.table.PriceFault.TheVariants.{BadPrice}
+use Rattle.topo_script.specs.Pictures.{list_data, number_data, sign_data}
+use Rattle.topo_script.specs.ReportTexts.{dart_data, price_data, reply_data}
+use Rattle.topo_session.specs.declared.edges.EdgeAnswer.{EdgeAnswer}
+use Rattle.topo_session.specs.declared.edges.Meeting.{Meeting}
+use Rattle.topo_session.specs.declared.vertices.End.{End}
+use Rattle.topo_session.specs.declared.vertices.End.TheVariants.{A, B}
+use Rattle.topo_session.specs.declared.vertices.VertexAnswer.{VertexAnswer}
+use Rattle.topo_settings.specs.declared.fault.RunFault.{RunFault}
+use Rattle.topo_settings.specs.declared.fault.RunFault.TheVariants.{Memory, Script, BadLimits, Price, Load, NoSeat, Mismatch}
+use Rattle.topo_settings.specs.declared.fault.RunFault.TheVariants.{WrongReply, WrongPicture, ReadFault, WriteFault}
+use Rattle.topo_settings.specs.Statuses.{fault_name, fault_number}
+
+-- ---- Values
+
+abbrev pub counts_data : Counts → Data
+counts_data counts = object
+    (member (codes "crossings") (number_data counts.crossings)
+    (member (codes "edges") (number_data counts.edges)
+    (member (codes "faces") (number_data counts.faces)
+    (member (codes "segments") (number_data counts.segments)
+    (member (codes "vertices") (number_data counts.vertices) no_members)))))
+
+-- a route without the edge that would take it
+abbrev pub route_data : Made → Data
+route_data made = object
+    (member (codes "crossed") (list_data dart_data made.route.crossed)
+    (member (codes "end") (number_data made.route.end)
+    (member (codes "price") (number_data made.price)
+    (member (codes "start") (number_data made.route.start) no_members))))
+
+-- what is told of the reply that an insertion would have
+abbrev pub route_reply_data : Reply → Data
+route_reply_data (Grown vertex edge) = reply_data (Grown vertex edge)
+route_reply_data (Inserted made) = route_data made
+route_reply_data (Deleted edge) = reply_data (Deleted edge)
+route_reply_data (Refused why) = reply_data (Refused why)
+
+abbrev pub meeting_data : Meeting → Data
+meeting_data m = array (item (number_data m.crossing) (item (number_data m.other) (item (sign_data m.sign) no_items)))
+
+abbrev pub edge_data : EdgeAnswer → Data
+edge_data e = object
+    (member (codes "a") (number_data e.a)
+    (member (codes "b") (number_data e.b)
+    (member (codes "crossings") (list_data meeting_data e.crossings)
+    (member (codes "id") (number_data e.id)
+    (member (codes "kind") (number_data e.kind)
+    (member (codes "price") (price_data e.price) no_members))))))
+
+abbrev pub end_data : End → Data
+end_data A = string (codes "a")
+end_data B = string (codes "b")
+
+abbrev pub vertex_data : VertexAnswer → Data
+vertex_data v = object (member (codes "edges") (list_data number_data v.edges) (member (codes "ends") (list_data end_data v.ends) no_members))
+
+abbrev pub face_data : List Dart → Data
+face_data darts = object (member (codes "darts") (list_data dart_data darts) no_members)
+
+-- ---- Texts
+
+abbrev pub counts_text : Counts → List ℕ
+counts_text counts = compact_text (counts_data counts)
+
+abbrev pub no_edge_text : List ℕ
+no_edge_text = compact_text (reply_data (Refused NoEdge))
+
+abbrev pub no_vertex_text : List ℕ
+no_vertex_text = codes "{\"refused\":[1,\"NoVertex\"]}"
+
+abbrev pub no_dart_text : List ℕ
+no_dart_text = codes "{\"refused\":[71,\"NoDart\"]}"
+
+abbrev pub not_open_text : List ℕ
+not_open_text = codes "{\"fault\":[72,\"NotOpen\"]}"
+
+-- what the program is, and which requests it knows
+abbrev pub about_text : List ℕ
+about_text = codes "{\"limits\":{\"crossings\":1048576,\"edges\":65536,\"vertices\":65536},\"program\":\"planar\",\"requests\":[\"about\",\"counts\",\"delete\",\"edge\",\"face\",\"grow\",\"insert\",\"open\",\"picture\",\"planned\",\"report\",\"route\",\"vertex\"],\"version\":\"0.5.0\"}"
+
+-- ---- Faults
+
+-- a fault with its number and its name
+abbrev pub numbered_text : ℕ → List ℕ → List ℕ
+numbered_text number name = codes "{\"fault\":[" ++ (decimal number ++ (codes ",\"" ++ (name ++ codes "\"]}")))
+
+-- a fault with its number, its name and its path
+abbrev pub placed_text : ScriptFault → Path → List ℕ
+placed_text fault path =
+    codes "{\"fault\":[" ++ (decimal (script_number fault) ++ (codes ",\"" ++ (script_name fault ++ (codes "\",\"" ++ (path_text path ++ codes "\"]}")))))
+
+-- what is told of a line that is of no form
+abbrev pub script_fault_text : ScriptFault → List ℕ
+script_fault_text NoMemory = numbered_text (script_number NoMemory) (script_name NoMemory)
+script_fault_text NotJson = numbered_text (script_number NotJson) (script_name NotJson)
+script_fault_text TooLong = numbered_text (script_number TooLong) (script_name TooLong)
+script_fault_text (BadShape path) = placed_text (BadShape path) path
+script_fault_text BadVersion = numbered_text (script_number BadVersion) (script_name BadVersion)
+script_fault_text (BadNumber path) = placed_text (BadNumber path) path
+
+-- a price that is none, with its kind
+abbrev pub priced_text : ℕ → List ℕ → ℕ → List ℕ
+priced_text number name kind = codes "{\"fault\":[" ++ (decimal number ++ (codes ",\"" ++ (name ++ (codes "\"," ++ (decimal kind ++ codes "]}")))))
+
+-- what is told of a fault, of a line or of what it opens
+abbrev pub fault_text : RunFault → List ℕ
+fault_text Memory = numbered_text (fault_number Memory) (fault_name Memory)
+fault_text (Script fault) = script_fault_text fault
+fault_text BadLimits = numbered_text (fault_number BadLimits) (fault_name BadLimits)
+fault_text (Price (BadPrice kind)) = priced_text (fault_number (Price (BadPrice kind))) (fault_name (Price (BadPrice kind))) kind
+fault_text (Load fault) = numbered_text (fault_number (Load fault)) (fault_name (Load fault))
+fault_text NoSeat = numbered_text (fault_number NoSeat) (fault_name NoSeat)
+fault_text (Mismatch list place) = numbered_text (fault_number (Mismatch list place)) (fault_name (Mismatch list place))
+fault_text (WrongReply place) = numbered_text (fault_number (WrongReply place)) (fault_name (WrongReply place))
+fault_text WrongPicture = numbered_text (fault_number WrongPicture) (fault_name WrongPicture)
+fault_text ReadFault = numbered_text (fault_number ReadFault) (fault_name ReadFault)
+fault_text WriteFault = numbered_text (fault_number WriteFault) (fault_name WriteFault)
+
+-- ---- Envelopes
+
+abbrev pub id_data : LineId → Data
+id_data (Text text) = string (string_bytes text)
+id_data (Number n) = number_data n
+
+-- an answer as it stands in its line: an envelope's has the id that the envelope had
+abbrev pub framed : Frame → List ℕ → List ℕ
+framed Opening answer = answer
+framed Bare answer = answer
+framed (Envelope None) answer = codes "{\"answer\":" ++ (answer ++ codes "}")
+framed (Envelope (Some id)) answer = codes "{\"answer\":" ++ (answer ++ (codes ",\"id\":" ++ (compact_text (id_data id) ++ codes "}")))

@@ -1,0 +1,314 @@
+//! Lines and their answers.
+
+ghost use Rattle.std.specs.Prelude.{◌≡◌, ◌≢◌, ◌⊎◌, ℕ, List, IfErr, IfOk, OnErr, MatchResult};
+ghost use Rattle.std.specs.Prelude.{Err, None, Ok, string_bytes};
+ghost use Rattle.serde_json.specs.Written.{compact_text};
+ghost use Rattle.topo_core.specs.declared.calls.Reply.TheVariants.{Refused};
+ghost use Rattle.topo_forms.specs.Sessions.{line_of};
+ghost use Rattle.topo_script.specs.Pictures.{rows_text};
+ghost use Rattle.topo_script.specs.ReportTexts.{reply_data, report_text};
+ghost use Rattle.topo_session.specs.Answers.{Answers, AnswersClosed, AnswersFirst, AnswersLine};
+ghost use Rattle.topo_session.specs.Answers.{CarriesOut, IsBadOpening, IsFaultOfAsked, IsFaultOfRequest};
+ghost use Rattle.topo_session.specs.Answers.{Leaves, LeavesBy, LosesLine, Opens, RespondsTo};
+ghost use Rattle.topo_session.specs.Answers.{TellsCounts, TellsFace, TellsOutcome, TellsRoute};
+ghost use Rattle.topo_session.specs.Answers.{edge_text, vertex_text};
+ghost use Rattle.topo_session.specs.Standings.{report_so_far};
+ghost use Rattle.topo_settings.specs.declared.fault.RunFault.TheVariants.{Memory};
+ghost use Rattle.topo_settings.specs.Settings.{IsUnsound};
+
+use crate::session::Session;
+use crate::tables::FromTable;
+use crate::texts::{fault_text, face_text, framed, route_text, text_like, text_of};
+use std::alloc::{AllocError, Global};
+use std::mem;
+use topo_core::calls::{Call, Command, Refusal, Reply};
+use topo_core::darts::Dart;
+use topo_forms::sessions::{Asked, Frame, Line};
+use topo_forms::{Opening, Request, ScriptFault, read_line};
+use topo_price::tariff::PriceFn;
+use topo_script::{picture_text, report};
+use topo_settings::RunFault;
+
+/// What the program is, how large a picture may be, and which requests there are.
+const ABOUT: &str = "{\"limits\":{\"crossings\":1048576,\"edges\":65536,\"vertices\":65536},\"program\":\"planar\",\"requests\":[\"about\",\"counts\",\"delete\",\"edge\",\"face\",\"grow\",\"insert\",\"open\",\"picture\",\"planned\",\"report\",\"route\",\"vertex\"],\"version\":\"0.5.0\"}";
+
+/// Carries a command out, and gives the text of its reply. A planned insertion is looked for as any
+/// other.
+fn carry<F: PriceFn>(
+    alloc: Global,
+    session: &mut Session<F>,
+    caller: u32,
+    command: Command,
+) -> Result<String, AllocError>
+    ensures carried { IfOk result
+        (λ text. CarriesOut caller command (string_bytes text) session.old session.new) }
+    ensures lost { OnErr result ((session.new ≡ session.old)
+        ⊎ ((text : List ℕ) × CarriesOut caller command text session.old session.new)) }
+{
+    let reply = match command {
+        Command::Plain(Call::Grow { u, position, kind }) => {
+            session.grow(alloc, caller, u, position, kind)?
+        }
+        Command::Plain(Call::Insert { u, v, kind }) => session.insert(alloc, caller, u, v, kind)?,
+        Command::Plain(Call::Delete { edge }) => session.delete(alloc, caller, edge)?,
+        Command::Planned { u, v, kind } => session.insert(alloc, caller, u, v, kind)?,
+    };
+    text_of(alloc, &reply)
+}
+
+/// The text of the route that an edge of kind 0 would take now.
+fn tell_route<F: PriceFn>(
+    alloc: Global,
+    session: &mut Session<F>,
+    u: u32,
+    v: u32,
+) -> Result<String, AllocError>
+    ensures told { IfOk result (λ text. TellsRoute session.old u v (string_bytes text)) }
+    ensures same { session.new ≡ session.old }
+{
+    let reply = session.route(alloc, u, v)?;
+    route_text(alloc, &reply)
+}
+
+/// The text of a refusal.
+fn refusal_text(alloc: Global, why: Refusal) -> Result<String, AllocError>
+    ensures { IfOk result (λ text. string_bytes text ≡ compact_text (reply_data (Refused why))) }
+{
+    text_of(alloc, &Reply::Refused(why))
+}
+
+/// The text of an edge.
+fn tell_edge<F: PriceFn>(
+    alloc: Global,
+    session: &Session<F>,
+    edge: u32,
+) -> Result<String, AllocError>
+    ensures { IfOk result (λ text. string_bytes text ≡ edge_text session.now edge) }
+{
+    match session.edge(alloc, edge)? {
+        Some(found) => text_of(alloc, &found),
+        None => refusal_text(alloc, Refusal::NoEdge),
+    }
+}
+
+/// The text of a vertex.
+fn tell_vertex<F: PriceFn>(
+    alloc: Global,
+    session: &Session<F>,
+    vertex: u32,
+) -> Result<String, AllocError>
+    ensures { IfOk result (λ text. string_bytes text ≡ vertex_text session.now vertex) }
+{
+    match session.vertex(alloc, vertex)? {
+        Some(found) => text_of(alloc, &found),
+        None => refusal_text(alloc, Refusal::NoVertex),
+    }
+}
+
+/// The text of a face.
+fn tell_face<F: PriceFn>(
+    alloc: Global,
+    session: &Session<F>,
+    dart: Dart,
+) -> Result<String, AllocError>
+    ensures { IfOk result (λ text. TellsFace session.now.picture dart (string_bytes text)) }
+{
+    match session.face(alloc, dart)? {
+        Some(darts) => face_text(alloc, &darts),
+        None => if session.has_edge(dart.edge.number()) {
+            text_like(alloc, "{\"refused\":[71,\"NoDart\"]}")
+        } else {
+            refusal_text(alloc, Refusal::NoEdge)
+        },
+    }
+}
+
+/// The text of counts.
+fn tell_counts<F: PriceFn>(alloc: Global, session: &Session<F>) -> Result<String, AllocError>
+    ensures { IfOk result (λ text. TellsCounts session.now.picture (string_bytes text)) }
+{
+    text_of(alloc, &session.counts())
+}
+
+/// The text of the picture.
+fn tell_picture<F: PriceFn>(alloc: Global, session: &Session<F>) -> Result<String, AllocError>
+    ensures { IfOk result (λ text. string_bytes text ≡ rows_text session.now.picture) }
+{
+    let rows = session.picture().rows(alloc)?;
+    picture_text(alloc, &rows)
+}
+
+/// The text of the report so far.
+fn tell_report<F: PriceFn>(alloc: Global, session: &Session<F>) -> Result<String, AllocError>
+    ensures { IfOk result
+        (λ text. string_bytes text ≡ report_text (report_so_far session.now)) }
+{
+    let made = session.report(alloc)?;
+    report(alloc, &made)
+}
+
+/// Opens a session, and gives the text of its counts.
+fn open<F: FromTable>(alloc: Global, opening: Opening) -> Result<(Session<F>, String), RunFault>
+    ensures opened { IfOk result (λ made. Opens opening (string_bytes made.1) made.0) }
+    ensures fault { IfErr result (IsUnsound opening.limits opening.prices opening.start) }
+{
+    let session = Session::open(alloc, opening)?;
+    match tell_counts(alloc, &session) {
+        Ok(text) => Ok((session, text)),
+        Err(_) => Err(RunFault::Memory),
+    }
+}
+
+/// Puts another picture in place of the one of a session.
+fn open_another<F: FromTable>(
+    alloc: Global,
+    session: &mut Session<F>,
+    opening: Opening,
+) -> Result<String, RunFault>
+    ensures opened { IfOk result (λ text. Opens opening (string_bytes text) session.new) }
+    ensures fault { IfErr result (IsUnsound opening.limits opening.prices opening.start) }
+    ensures unchanged { OnErr result (session.new ≡ session.old) }
+{
+    let (another, text) = open(alloc, opening)?;
+    let before = mem::replace(session, another);
+    drop(before);
+    Ok(text)
+}
+
+/// A text, or out of memory as the fault that it is.
+fn or_memory(text: Result<String, AllocError>) -> Result<String, RunFault>
+    ensures { MatchResult text (λ text. result ≡ Ok text) (λ _. result ≡ Err Memory) }
+{
+    match text {
+        Ok(text) => Ok(text),
+        Err(_) => Err(RunFault::Memory),
+    }
+}
+
+impl<F: FromTable> Session<F> {
+    /// The text that answers a request of this caller.
+    pub fn answer(
+        &mut self,
+        alloc: Global,
+        caller: u32,
+        request: Request,
+    ) -> Result<String, RunFault>
+        ensures answer { IfOk result
+            (λ text. Answers caller request (string_bytes text) self.old self.new) }
+        ensures fault { IfErr result (IsFaultOfRequest request) }
+        ensures left { IfErr result (λ fault. LeavesBy fault caller request self.old self.new) }
+    {
+        match request {
+            Request::Carry(command) => or_memory(carry(alloc, self, caller, command)),
+            Request::Counts => or_memory(tell_counts(alloc, self)),
+            Request::Picture => or_memory(tell_picture(alloc, self)),
+            Request::Report => or_memory(tell_report(alloc, self)),
+            Request::About => or_memory(text_like(alloc, ABOUT)),
+            Request::Route { u, v } => or_memory(tell_route(alloc, self, u, v)),
+            Request::Edge(edge) => or_memory(tell_edge(alloc, self, edge)),
+            Request::Vertex(vertex) => or_memory(tell_vertex(alloc, self, vertex)),
+            Request::Face(dart) => or_memory(tell_face(alloc, self, dart)),
+            Request::Open(opening) => open_another(alloc, self, opening),
+        }
+    }
+}
+
+/// The text that answers a request where no session is open.
+fn answer_closed<F: FromTable>(
+    alloc: Global,
+    session: &mut Option<Session<F>>,
+    request: Request,
+) -> Result<String, RunFault>
+    requires { session.old ≡ None }
+    ensures answer { IfOk result
+        (λ text. AnswersClosed request (string_bytes text) session.new) }
+    ensures fault { IfErr result (IsFaultOfRequest request) }
+    ensures unchanged { OnErr result (session.new ≡ session.old) }
+{
+    match request {
+        Request::About => or_memory(text_like(alloc, ABOUT)),
+        Request::Open(opening) => {
+            let (opened, text) = open(alloc, opening)?;
+            *session = Some(opened);
+            Ok(text)
+        }
+        _ => or_memory(text_like(alloc, "{\"fault\":[72,\"NotOpen\"]}")),
+    }
+}
+
+/// The text that answers what a line asks for, or its fault.
+pub fn respond<F: FromTable>(
+    alloc: Global,
+    session: &mut Option<Session<F>>,
+    asked: Result<Asked, ScriptFault>,
+) -> Result<String, RunFault>
+    ensures answer { IfOk result
+        (λ text. RespondsTo asked (string_bytes text) session.old session.new) }
+    ensures fault { IfErr result (IsFaultOfAsked asked) }
+    ensures left { IfErr result (λ fault. Leaves fault asked session.old session.new) }
+{
+    match asked {
+        Ok(Asked { caller, request }) => {
+            if let Some(open) = session {
+                return open.answer(alloc, caller, request);
+            }
+            answer_closed(alloc, session, request)
+        }
+        Err(ScriptFault::Memory) => Err(RunFault::Memory),
+        Err(fault) => Err(RunFault::Script(fault)),
+    }
+}
+
+/// An answer, or the text of a fault.
+fn tell(alloc: Global, outcome: Result<String, RunFault>) -> Result<String, AllocError>
+    ensures { IfOk result (λ text. TellsOutcome outcome (string_bytes text)) }
+{
+    match outcome {
+        Ok(text) => Ok(text),
+        Err(RunFault::Memory) => Err(AllocError),
+        Err(fault) => fault_text(alloc, fault),
+    }
+}
+
+/// Answers a line, which stands here without its line feed. A line that is of no form, and an opening
+/// that is at fault, is answered by its first fault, and changes nothing. The answer has no line
+/// feed. Out of memory, all is as it was, or what was asked is done and only the text is lost.
+pub fn answer<F: FromTable>(
+    alloc: Global,
+    session: &mut Option<Session<F>>,
+    line: &[u8],
+) -> Result<String, AllocError>
+    ensures answered { IfOk result
+        (λ text. AnswersLine (line_of false line.now) (string_bytes text)
+        session.old session.new) }
+    ensures lost { OnErr result (LosesLine (line_of false line.now) session.old session.new) }
+{
+    let Line { frame, asked } = read_line(alloc, false, line);
+    let outcome = respond(alloc, session, asked);
+    let text = tell(alloc, outcome)?;
+    framed(alloc, frame, text)
+}
+
+/// Answers the first line, where no session is open. It may be an opening as it is, and a fault of
+/// that is no answer.
+pub fn answer_first<F: FromTable>(
+    alloc: Global,
+    session: &mut Option<Session<F>>,
+    line: &[u8],
+) -> Result<String, RunFault>
+    requires { session.old ≡ None }
+    ensures answered { IfOk result
+        (λ text. AnswersFirst (line_of true line.now) (string_bytes text) session.new) }
+    ensures fault { IfErr result (λ fault. fault ≢ Memory
+        → IsBadOpening (line_of true line.now) fault) }
+{
+    let Line { frame, asked } = read_line(alloc, true, line);
+    let outcome = respond(alloc, session, asked);
+    if let Frame::Opening = frame {
+        return outcome;
+    }
+    let Ok(text) = tell(alloc, outcome) else {
+        return Err(RunFault::Memory);
+    };
+    or_memory(framed(alloc, frame, text))
+}

@@ -1,0 +1,243 @@
+//! The texts of answers.
+
+ghost use Rattle.std.specs.Prelude.{◌≡◌, ◌++◌, IfOk, OnOk, codes, decimal, string_bytes};
+ghost use Rattle.serde_json.specs.Written.{compact_text};
+ghost use Rattle.topo_forms.specs.Paths.{path_text};
+ghost use Rattle.topo_session.specs.Texts.{counts_data, edge_data, end_data, face_data};
+ghost use Rattle.topo_session.specs.Texts.{fault_text, framed, id_data, meeting_data};
+ghost use Rattle.topo_session.specs.Texts.{numbered_text, priced_text, route_data};
+ghost use Rattle.topo_session.specs.Texts.{route_reply_data, script_fault_text, vertex_data};
+
+use crate::edges::{EdgeAnswer, Meeting};
+use crate::vertices::{End, VertexAnswer};
+use serde_json::Value;
+use std::alloc::{AllocError, Global};
+use topo_core::calls::Reply;
+use topo_core::darts::Dart;
+use topo_core::listed::Listed;
+use topo_core::routes::Inserted;
+use topo_forms::path::Path;
+use topo_forms::sessions::{Frame, LineId};
+use topo_forms::ScriptFault;
+use topo_picture::Counts;
+use topo_price::table::PriceFault;
+use topo_script::written::{Written, write_after, write_next};
+use topo_settings::RunFault;
+
+impl Written for Counts {
+    ghost value = { counts_data };
+
+    fn write(&self, out: &mut String) -> Result<(), AllocError> {
+        write_after(out, "{\"crossings\":", &self.crossings)?;
+        write_after(out, ",\"edges\":", &self.edges)?;
+        write_after(out, ",\"faces\":", &self.faces)?;
+        write_after(out, ",\"segments\":", &self.segments)?;
+        write_after(out, ",\"vertices\":", &self.vertices)?;
+        out.push('}')
+    }
+}
+
+impl Written for Meeting {
+    ghost value = { meeting_data };
+
+    fn write(&self, out: &mut String) -> Result<(), AllocError> {
+        write_after(out, "[", &self.crossing)?;
+        write_next(out, &self.other)?;
+        write_next(out, &self.sign)?;
+        out.push(']')
+    }
+}
+
+impl Written for EdgeAnswer {
+    ghost value = { edge_data };
+
+    fn write(&self, out: &mut String) -> Result<(), AllocError> {
+        write_after(out, "{\"a\":", &self.a)?;
+        write_after(out, ",\"b\":", &self.b)?;
+        write_after(out, ",\"crossings\":", &self.crossings)?;
+        write_after(out, ",\"id\":", &self.id)?;
+        write_after(out, ",\"kind\":", &self.kind)?;
+        write_after(out, ",\"price\":", &self.price)?;
+        out.push('}')
+    }
+}
+
+impl Written for End {
+    ghost value = { end_data };
+
+    fn write(&self, out: &mut String) -> Result<(), AllocError> {
+        match self {
+            End::A => out.push_str("\"a\""),
+            End::B => out.push_str("\"b\""),
+        }
+    }
+}
+
+impl Written for VertexAnswer {
+    ghost value = { vertex_data };
+
+    fn write(&self, out: &mut String) -> Result<(), AllocError> {
+        write_after(out, "{\"edges\":", &self.edges)?;
+        write_after(out, ",\"ends\":", &self.ends)?;
+        out.push('}')
+    }
+}
+
+/// Writes a route without the edge that would take it.
+fn write_route(out: &mut String, made: &Inserted) -> Result<(), AllocError>
+    ensures { OnOk result
+        (string_bytes out.new ≡ string_bytes out.old ++ compact_text (route_data made.now)) }
+{
+    write_after(out, "{\"crossed\":", &made.route.crossed)?;
+    write_after(out, ",\"end\":", &made.route.end)?;
+    write_after(out, ",\"price\":", &made.price)?;
+    write_after(out, ",\"start\":", &made.route.start)?;
+    out.push('}')
+}
+
+/// Writes the reply that an insertion would have.
+fn write_route_reply(out: &mut String, reply: &Reply) -> Result<(), AllocError>
+    ensures { OnOk result
+        (string_bytes out.new ≡ string_bytes out.old ++ compact_text (route_reply_data reply.now)) }
+{
+    match reply {
+        Reply::Inserted(made) => write_route(out, made),
+        _ => reply.write(out),
+    }
+}
+
+/// The text of the reply that an insertion would have.
+pub fn route_text(alloc: Global, reply: &Reply) -> Result<String, AllocError>
+    ensures { IfOk result (λ text. string_bytes text ≡ compact_text (route_reply_data reply.now)) }
+{
+    let mut text = String::new(alloc);
+    write_route_reply(&mut text, reply)?;
+    Ok(text)
+}
+
+/// The text of the darts of a face.
+pub fn face_text(alloc: Global, darts: &Listed<Dart>) -> Result<String, AllocError>
+    ensures { IfOk result (λ text. string_bytes text ≡ compact_text (face_data darts.now)) }
+{
+    let mut text = String::new(alloc);
+    write_after(&mut text, "{\"darts\":", darts)?;
+    text.push('}')?;
+    Ok(text)
+}
+
+/// The text of a value.
+pub fn text_of<T: Written>(alloc: Global, value: &T) -> Result<String, AllocError>
+    ensures { IfOk result (λ text. string_bytes text ≡ compact_text (T.value value.now)) }
+{
+    let mut text = String::new(alloc);
+    value.write(&mut text)?;
+    Ok(text)
+}
+
+/// A text of these letters.
+pub fn text_like(alloc: Global, letters: &str) -> Result<String, AllocError>
+    ensures { IfOk result (λ text. string_bytes text ≡ letters.now) }
+{
+    let mut text = String::new(alloc);
+    text.push_str(letters)?;
+    Ok(text)
+}
+
+/// The text of a fault with its number and its name.
+fn numbered_text(alloc: Global, number: u32, name: &str) -> Result<String, AllocError>
+    ensures { IfOk result (λ text. string_bytes text ≡ numbered_text number name.now) }
+{
+    format!(in alloc; "{{\"fault\":[{number},\"{name}\"]}}")
+}
+
+/// The text of a fault with its number, its name and its path.
+fn placed_text(alloc: Global, number: u32, name: &str, path: Path) -> Result<String, AllocError>
+    ensures { IfOk result
+        (λ text. string_bytes text ≡ codes "{\"fault\":[" ++ (decimal number
+        ++ (codes ",\"" ++ (name.now ++ (codes "\",\"" ++ (path_text path ++ codes "\"]}")))))) }
+{
+    format!(in alloc; "{{\"fault\":[{number},\"{name}\",\"{path}\"]}}")
+}
+
+/// The text of a fault with its number, its name and a kind.
+fn priced_text(alloc: Global, number: u32, name: &str, kind: u8) -> Result<String, AllocError>
+    ensures { IfOk result (λ text. string_bytes text ≡ priced_text number name.now kind) }
+{
+    format!(in alloc; "{{\"fault\":[{number},\"{name}\",{kind}]}}")
+}
+
+/// The text of a fault of a line.
+fn script_fault_text(alloc: Global, fault: ScriptFault) -> Result<String, AllocError>
+    ensures { IfOk result (λ text. string_bytes text ≡ script_fault_text fault) }
+{
+    let number = fault.number();
+    let name = fault.name();
+    match fault {
+        ScriptFault::Memory => numbered_text(alloc, number, name),
+        ScriptFault::NotJson => numbered_text(alloc, number, name),
+        ScriptFault::TooLong => numbered_text(alloc, number, name),
+        ScriptFault::BadShape(path) => placed_text(alloc, number, name, path),
+        ScriptFault::BadVersion => numbered_text(alloc, number, name),
+        ScriptFault::BadNumber(path) => placed_text(alloc, number, name, path),
+    }
+}
+
+/// The text of a fault, of a line or of what it opens.
+pub fn fault_text(alloc: Global, fault: RunFault) -> Result<String, AllocError>
+    ensures { IfOk result (λ text. string_bytes text ≡ fault_text fault) }
+{
+    let number = fault.number();
+    let name = fault.name();
+    match fault {
+        RunFault::Script(fault) => script_fault_text(alloc, fault),
+        RunFault::Price(PriceFault::BadPrice(kind)) => priced_text(alloc, number, name, kind),
+        RunFault::Memory => numbered_text(alloc, number, name),
+        RunFault::BadLimits => numbered_text(alloc, number, name),
+        RunFault::Load(_) => numbered_text(alloc, number, name),
+        RunFault::NoSeat => numbered_text(alloc, number, name),
+        RunFault::Mismatch(_, _) => numbered_text(alloc, number, name),
+        RunFault::WrongReply(_) => numbered_text(alloc, number, name),
+        RunFault::WrongPicture => numbered_text(alloc, number, name),
+        RunFault::ReadFault => numbered_text(alloc, number, name),
+        RunFault::WriteFault => numbered_text(alloc, number, name),
+    }
+}
+
+/// The text of an id.
+fn id_text(alloc: Global, id: LineId) -> Result<String, AllocError>
+    ensures { IfOk result (λ text. string_bytes text ≡ compact_text (id_data id)) }
+{
+    match id {
+        LineId::Text(text) => Value::String(text).to_string(alloc),
+        LineId::Number(number) => text_of(alloc, &number),
+    }
+}
+
+/// An answer as it stands in its line.
+pub fn framed(alloc: Global, frame: Frame, answer: String) -> Result<String, AllocError>
+    ensures { IfOk result (λ text. string_bytes text ≡ framed frame (string_bytes answer)) }
+{
+    match frame {
+        Frame::Opening => Ok(answer),
+        Frame::Bare => Ok(answer),
+        Frame::Envelope(None) => enveloped(alloc, &answer),
+        Frame::Envelope(Some(id)) => enveloped_as(alloc, id, &answer),
+    }
+}
+
+/// An answer in an envelope without an id.
+fn enveloped(alloc: Global, answer: &str) -> Result<String, AllocError>
+    ensures { IfOk result (λ text. string_bytes text
+        ≡ codes "{\"answer\":" ++ (answer.now ++ codes "}")) }
+{
+    format!(in alloc; "{{\"answer\":{answer}}}")
+}
+
+/// An answer in an envelope with this id.
+fn enveloped_as(alloc: Global, id: LineId, answer: &str) -> Result<String, AllocError>
+    ensures { IfOk result (λ text. string_bytes text ≡ codes "{\"answer\":" ++ (answer.now
+        ++ (codes ",\"id\":" ++ (compact_text (id_data id) ++ codes "}")))) }
+{
+    let id = id_text(alloc, id)?;
+    format!(in alloc; "{{\"answer\":{answer},\"id\":{id}}}")
+}
