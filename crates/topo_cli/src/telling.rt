@@ -12,7 +12,7 @@ use topo_settings::writing::write_text;
 
 /// The room for the line of a fault, in bytes. The longest has 149: `planar: 54 BadNumber $`, six
 /// indices of 20 digits, each behind a `/`, and the line feed.
-const MAX_FAULT_LINE_BYTES: usize = 160;
+const MAX_FAULT_LINE_BYTES: usize = 176;
 
 /// Writes the line of a fault, and gives whether the writer took it and passed it on. The line is
 /// laid out first, which takes no memory.

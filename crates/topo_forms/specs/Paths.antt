@@ -2,7 +2,7 @@
 use Rattle.std.specs.Prelude.{ℕ, List, [], ◌++◌, codes, decimal, Option, Some, None, is_none, if◌then◌else◌}
 use Rattle.topo_forms.specs.declared.path.Key.{Key}
 use Rattle.topo_forms.specs.declared.path.Key.TheVariants.{A, B, Call, Caller, Crossed, Crossings, Deleted, Edge, Edges, End, History}
-use Rattle.topo_forms.specs.declared.path.Key.TheVariants.{Id, Kind, Limits, Newcomer, NextCrossing, NextEdge, Picture, Price, Prices}
+use Rattle.topo_forms.specs.declared.path.Key.TheVariants.{Id, Kind, Limits, Newcomer, NextCrossing, NextEdge, Open, Picture, Price, Prices}
 use Rattle.topo_forms.specs.declared.path.Key.TheVariants.{Refused, Reply, Rotations, Sign, Start, Version, Vertex, Vertices, Workers}
 use Rattle.topo_forms.specs.declared.path.Step.{Step}
 use Rattle.topo_forms.specs.declared.path.Step.TheVariants.{Member, Element}
@@ -27,6 +27,7 @@ key_name Limits = codes "limits"
 key_name Newcomer = codes "newcomer"
 key_name NextCrossing = codes "next_crossing"
 key_name NextEdge = codes "next_edge"
+key_name Open = codes "open"
 key_name Picture = codes "picture"
 key_name Price = codes "price"
 key_name Prices = codes "prices"
@@ -42,7 +43,7 @@ key_name Workers = codes "workers"
 
 -- the whole text
 abbrev pub whole : Path
-whole = record { first = None; second = None; third = None; fourth = None; fifth = None; sixth = None }
+whole = record { first = None; second = None; third = None; fourth = None; fifth = None; sixth = None; seventh = None }
 
 -- one step further: the first place that is free takes it
 unfoldable pub under : Path → Step → Path
@@ -51,8 +52,9 @@ under path step =
     if is_none path.second then record path { second = Some step } else (
     if is_none path.third then record path { third = Some step } else (
     if is_none path.fourth then record path { fourth = Some step } else (
-    if is_none path.fifth then record path { fifth = Some step } else
-    record path { sixth = Some step }))))
+    if is_none path.fifth then record path { fifth = Some step } else (
+    if is_none path.sixth then record path { sixth = Some step } else
+    record path { seventh = Some step })))))
 
 abbrev pub member_of : Path → Key → Path
 member_of path key = under path (Member key)
@@ -71,4 +73,4 @@ three_text a b c = step_text a ++ (step_text b ++ step_text c)
 
 -- a path as it is printed
 abbrev pub path_text : Path → List ℕ
-path_text path = codes "$" ++ (three_text path.first path.second path.third ++ three_text path.fourth path.fifth path.sixth)
+path_text path = codes "$" ++ (three_text path.first path.second path.third ++ (three_text path.fourth path.fifth path.sixth ++ step_text path.seventh))

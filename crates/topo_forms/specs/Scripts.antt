@@ -38,10 +38,11 @@ limits_form path d = do
 unfoldable pub nulls_of : ℕ → Read Bool
 nulls_of version = if version == 1 then Ok false else (if version == 2 then Ok true else Err BadVersion)
 
-unfoldable pub nulls_in : Data → Read Bool
-nulls_in d = do
-  _ ← passes (BadShape whole) (is_some (as_object d))
-  version ← member_form number_form whole Version d
+-- whether the version of a script, an opening or a report lets a price be null
+unfoldable pub nulls_in : Path → Data → Read Bool
+nulls_in path d = do
+  _ ← passes (BadShape path) (is_some (as_object d))
+  version ← member_form number_form path Version d
   nulls_of version
 
 unfoldable pub some_price : Path → Data → Read (Option ℕ)
@@ -79,7 +80,7 @@ workers_form path d = do
 
 unfoldable pub script_form : Data → Read Script
 script_form d = do
-  nulls ← nulls_in d
+  nulls ← nulls_in whole d
   _ ← has_keys whole (Version ∷ Workers ∷ []) (Limits ∷ Prices ∷ Start ∷ []) d
   limits ← member_or greatest_limits limits_form whole Limits d
   prices ← member_or [] (prices_form nulls) whole Prices d
@@ -95,7 +96,7 @@ script_of bytes = value_of 1048576 bytes >>= λ d. script_form d
 
 unfoldable pub report_form : Data → Read Report
 report_form d = do
-  nulls ← nulls_in d
+  nulls ← nulls_in whole d
   _ ← has_keys whole (History ∷ Limits ∷ Picture ∷ Prices ∷ Start ∷ Version ∷ []) [] d
   history ← member_form (list_form entry_form) whole History d
   limits ← member_form limits_form whole Limits d

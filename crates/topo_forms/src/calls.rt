@@ -14,7 +14,7 @@ use std::alloc::Global;
 use topo_core::calls::{Call, Command};
 
 /// Whether a value is an array of so many elements that begins with a word.
-fn begins(word: &str, count: usize, value: &Value) -> bool
+pub(crate) fn begins(word: &str, count: usize, value: &Value) -> bool
     ensures { result ≡ begins word.now count (view value.now) }
 {
     if element_count(value) != count {

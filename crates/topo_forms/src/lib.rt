@@ -1,7 +1,7 @@
 //! The JSON forms of the project, read: scripts, pictures, reports, and the lines of a session.
 //!
-//! `read_script`, `read_rows`, `read_report`, `read_opening` and `read_request` give what the
-//! definitions of `specs/` give on the value of a text: the form, or its first fault with its path.
+//! `read_script`, `read_rows`, `read_report` and `read_line` give what the definitions of `specs/`
+//! give on the value of a text: the form, or its first fault with its path.
 //! `docs/FORMATS.md` has the forms in words.
 #![tactic(auto)]
 
@@ -9,6 +9,7 @@ mod calls;
 pub mod fault;
 pub mod form;
 mod lexing;
+pub mod lines;
 pub mod path;
 pub mod prices;
 mod reader;
@@ -29,8 +30,9 @@ mod token_settings;
 mod tokens;
 
 pub use fault::ScriptFault;
+pub use lines::{Asked, Frame, IdText, Line, LineId, read_line};
 pub use reports::Report;
 pub use row_forms::read_rows;
 pub use script_forms::{read_report, read_script};
 pub use scripts::{LimitRows, Script};
-pub use sessions::{Opening, Request, read_opening, read_request};
+pub use sessions::{Opening, Request};

@@ -26,6 +26,7 @@ pub enum Key {
     Newcomer,
     NextCrossing,
     NextEdge,
+    Open,
     Picture,
     Price,
     Prices,
@@ -63,6 +64,7 @@ impl Key {
             Key::Newcomer => "newcomer",
             Key::NextCrossing => "next_crossing",
             Key::NextEdge => "next_edge",
+            Key::Open => "open",
             Key::Picture => "picture",
             Key::Price => "price",
             Key::Prices => "prices",
@@ -87,8 +89,8 @@ pub enum Step {
 }
 
 /// A place in a text: the steps that lead there from the whole. It is printed as `$` and then, for
-/// each step, `/` and the key or the index. No form nests deeper than six steps, and a path holds
-/// no more.
+/// each step, `/` and the key or the index. No form nests deeper than seven steps, and a path
+/// holds no more.
 #[derive(Clone, Copy, Debug, PartialEq, Eq)]
 pub struct Path {
     pub first: Option<Step>,
@@ -97,6 +99,7 @@ pub struct Path {
     pub fourth: Option<Step>,
     pub fifth: Option<Step>,
     pub sixth: Option<Step>,
+    pub seventh: Option<Step>,
 }
 
 impl Path {
@@ -110,6 +113,7 @@ impl Path {
         fourth: None,
         fifth: None,
         sixth: None,
+        seventh: None,
     };
 
     /// The path of what one step leads to.
@@ -124,7 +128,8 @@ impl Path {
             third,
             fourth,
             fifth,
-            sixth: _,
+            sixth,
+            seventh: _,
         } = self;
         if first.is_none() {
             Path {
@@ -151,9 +156,14 @@ impl Path {
                 fifth: step,
                 ..self
             }
-        } else {
+        } else if sixth.is_none() {
             Path {
                 sixth: step,
+                ..self
+            }
+        } else {
+            Path {
+                seventh: step,
                 ..self
             }
         }
@@ -211,6 +221,7 @@ impl fmt::Display for Path {
     fn fmt<W: fmt::Write>(&self, f: &mut fmt::Formatter<W>) -> fmt::Result {
         f.write_str("$")?;
         write_three(&self.first, &self.second, &self.third, f)?;
-        write_three(&self.fourth, &self.fifth, &self.sixth, f)
+        write_three(&self.fourth, &self.fifth, &self.sixth, f)?;
+        write_step(&self.seventh, f)
     }
 }

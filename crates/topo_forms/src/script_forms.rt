@@ -84,12 +84,12 @@ pub(crate) fn nulls_of(version: u32) -> Result<bool, ScriptFault>
     }
 }
 
-/// Whether a price may be null in the version of a script or a report.
-pub(crate) fn read_nulls(alloc: Global, value: &Value) -> Result<bool, ScriptFault>
-    ensures { Gives result (nulls_in (view value.now)) }
+/// Whether a price may be null in the version of a script, an opening or a report.
+pub(crate) fn read_nulls(alloc: Global, path: Path, value: &Value) -> Result<bool, ScriptFault>
+    ensures { Gives result (nulls_in path (view value.now)) }
 {
-    check_object(Path::WHOLE, value)?;
-    let version = read_member(alloc, Path::WHOLE, Key::Version, value)?;
+    check_object(path, value)?;
+    let version = read_member(alloc, path, Key::Version, value)?;
     nulls_of(version)
 }
 
@@ -103,28 +103,30 @@ pub(crate) const GREATEST_LIMITS: LimitRows = LimitRows {
 /// The prices of a report.
 fn read_price_member(
     alloc: Global,
+    path: Path,
     nulls: bool,
     value: &Value,
 ) -> Result<Listed<Option<u32>>, ScriptFault>
-    ensures { Gives result (member_form (prices_form nulls) whole Prices (view value.now)) }
+    ensures { Gives result (member_form (prices_form nulls) path Prices (view value.now)) }
 {
-    let path = Path::WHOLE.member(Key::Prices);
+    let path = path.member(Key::Prices);
     match value.get(Key::Prices.name()) {
         Some(prices) => read_prices(alloc, nulls, path, prices),
         None => Err(ScriptFault::BadShape(path)),
     }
 }
 
-/// The prices of a script, which may be missing.
+/// The prices of a script or an opening, which may be missing.
 fn read_prices_or_none(
     alloc: Global,
+    path: Path,
     nulls: bool,
     value: &Value,
 ) -> Result<Listed<Option<u32>>, ScriptFault>
-    ensures { Gives result (member_or [] (prices_form nulls) whole Prices (view value.now)) }
+    ensures { Gives result (member_or [] (prices_form nulls) path Prices (view value.now)) }
 {
     if has_key(Key::Prices, value) {
-        read_price_member(alloc, nulls, value)
+        read_price_member(alloc, path, nulls, value)
     } else {
         Ok(Listed::from_vec(Vec::new(alloc)))
     }
@@ -133,18 +135,18 @@ fn read_prices_or_none(
 /// The limits, the prices and the start of a script or an opening, each of which may be missing.
 pub(crate) fn read_settings(
     alloc: Global,
+    path: Path,
     nulls: bool,
     value: &Value,
 ) -> Result<(LimitRows, Listed<Option<u32>>, Option<Rows>), ScriptFault>
     ensures { Gives result (all_three
-        (member_or greatest_limits limits_form whole Limits (view value.now))
-        (member_or [] (prices_form nulls) whole Prices (view value.now))
-        (member_or None start_form whole Start (view value.now))) }
+        (member_or greatest_limits limits_form path Limits (view value.now))
+        (member_or [] (prices_form nulls) path Prices (view value.now))
+        (member_or None start_form path Start (view value.now))) }
 {
-    let whole = Path::WHOLE;
-    let limits = read_member_or(alloc, whole, Key::Limits, value, GREATEST_LIMITS)?;
-    let prices = read_prices_or_none(alloc, nulls, value)?;
-    let start = read_member_or(alloc, whole, Key::Start, value, None)?;
+    let limits = read_member_or(alloc, path, Key::Limits, value, GREATEST_LIMITS)?;
+    let prices = read_prices_or_none(alloc, path, nulls, value)?;
+    let start = read_member_or(alloc, path, Key::Start, value, None)?;
     Ok((limits, prices, start))
 }
 
@@ -209,10 +211,10 @@ impl Form for Script {
 
     // It stands nowhere but at the whole of a text.
     fn read(alloc: Global, _path: Path, value: &Value) -> Result<Self, ScriptFault> {
-        let nulls = read_nulls(alloc, value)?;
+        let nulls = read_nulls(alloc, Path::WHOLE, value)?;
         let optional = [Key::Limits, Key::Prices, Key::Start];
         check_keys(Path::WHOLE, &[Key::Version, Key::Workers], &optional, value)?;
-        let (limits, prices, start) = read_settings(alloc, nulls, value)?;
+        let (limits, prices, start) = read_settings(alloc, Path::WHOLE, nulls, value)?;
         match read_workers_member(alloc, value) {
             Ok(workers) => Ok(Script {
                 limits,
@@ -247,7 +249,7 @@ fn prices_and_start(
     ensures { Gives result (both (member_form (prices_form nulls) whole Prices (view value.now))
         (member_form rows_form whole Start (view value.now))) }
 {
-    let prices = read_price_member(alloc, nulls, value)?;
+    let prices = read_price_member(alloc, Path::WHOLE, nulls, value)?;
     let start = read_member(alloc, Path::WHOLE, Key::Start, value)?;
     Ok((prices, start))
 }
@@ -257,8 +259,8 @@ impl Form for Report {
 
     // It stands nowhere but at the whole of a text.
     fn read(alloc: Global, _path: Path, value: &Value) -> Result<Self, ScriptFault> {
-        let nulls = read_nulls(alloc, value)?;
         let whole = Path::WHOLE;
+        let nulls = read_nulls(alloc, whole, value)?;
         let keys = [
             Key::History,
             Key::Limits,

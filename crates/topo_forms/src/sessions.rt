@@ -1,27 +1,23 @@
-//! What a session reads: its opening, and what a line asks for.
+//! What a session can be asked for: its opening, and what a line of it asks for.
 
-ghost use Rattle.std.specs.Prelude.{◌≡◌};
 ghost use Rattle.serde_json.specs.View.{view};
 ghost use Rattle.topo_forms.specs.Reads.{Gives};
-ghost use Rattle.topo_forms.specs.Sessions.{carry_form, opening_form, opening_of};
-ghost use Rattle.topo_forms.specs.Sessions.{request_form, request_of};
+ghost use Rattle.topo_forms.specs.Sessions.{carry_form, opening_form, opened_form};
+ghost use Rattle.topo_forms.specs.Sessions.{route_form, edge_form, vertex_form, face_form};
+ghost use Rattle.topo_forms.specs.Sessions.{open_form, look_form, request_form};
 
+use crate::calls::begins;
 use crate::fault::ScriptFault;
-use crate::form::{Form, check_keys, is_text, read_value};
+use crate::form::{Form, check_keys, has_key, is_text, read_element, read_elements, read_member};
 use crate::path::{Key, Path};
-use crate::row_forms::MAX_PICTURE_BYTES;
 use crate::script_forms::{read_nulls, read_settings};
 use crate::scripts::LimitRows;
-use crate::tokens::read_tokens;
 use serde_json::Value;
 use std::alloc::Global;
 use topo_core::calls::Command;
+use topo_core::darts::Dart;
 use topo_core::listed::Listed;
 use topo_core::rows::Rows;
-
-/// The greatest number of bytes that a line of a session may have, but the first, which may have as
-/// many as a picture.
-pub const MAX_LINE_BYTES: usize = 65_536;
 
 /// What a session begins with: a script without its lists. No start is the first picture.
 #[derive(Drop, Debug)]
@@ -32,7 +28,7 @@ pub struct Opening {
 }
 
 /// What a line of a session asks for.
-#[derive(Clone, Copy, Debug, PartialEq, Eq)]
+#[derive(Drop, Debug)]
 pub enum Request {
     /// To carry a command out.
     Carry(Command),
@@ -42,17 +38,28 @@ pub enum Request {
     Picture,
     /// The report so far.
     Report,
+    /// What the program is.
+    About,
+    /// The cheapest route between two vertices.
+    Route { u: u32, v: u32 },
+    /// An edge.
+    Edge(u32),
+    /// A vertex.
+    Vertex(u32),
+    /// The face beside a dart.
+    Face(Dart),
+    /// To begin anew.
+    Open(Opening),
 }
 
 impl Form for Opening {
-    ghost form = { λ path. opening_form };
+    ghost form = { opening_form };
 
-    // It stands nowhere but at the whole of a text.
-    fn read(alloc: Global, _path: Path, value: &Value) -> Result<Self, ScriptFault> {
-        let nulls = read_nulls(alloc, value)?;
+    fn read(alloc: Global, path: Path, value: &Value) -> Result<Self, ScriptFault> {
+        let nulls = read_nulls(alloc, path, value)?;
         let optional = [Key::Limits, Key::Prices, Key::Start];
-        check_keys(Path::WHOLE, &[Key::Version], &optional, value)?;
-        let (limits, prices, start) = read_settings(alloc, nulls, value)?;
+        check_keys(path, &[Key::Version], &optional, value)?;
+        let (limits, prices, start) = read_settings(alloc, path, nulls, value)?;
         Ok(Opening {
             limits,
             prices,
@@ -61,14 +68,49 @@ impl Form for Opening {
     }
 }
 
-/// The opening of a session that bytes spell.
-pub fn read_opening(alloc: Global, bytes: &[u8]) -> Result<Opening, ScriptFault>
-    ensures { Gives result (opening_of bytes.now) }
+fn read_route(alloc: Global, path: Path, value: &Value) -> Result<Request, ScriptFault>
+    ensures { Gives result (route_form path (view value.now)) }
 {
-    match read_tokens(alloc, MAX_PICTURE_BYTES, bytes) {
-        Some(opening) => Ok(opening),
-        None => read_value(alloc, MAX_PICTURE_BYTES, bytes),
-    }
+    let u = read_element(alloc, path, 1, value)?;
+    let v = read_element(alloc, path, 2, value)?;
+    Ok(Request::Route { u, v })
+}
+
+fn read_edge(alloc: Global, path: Path, value: &Value) -> Result<Request, ScriptFault>
+    ensures { Gives result (edge_form path (view value.now)) }
+{
+    let edge = read_element(alloc, path, 1, value)?;
+    Ok(Request::Edge(edge))
+}
+
+fn read_vertex(alloc: Global, path: Path, value: &Value) -> Result<Request, ScriptFault>
+    ensures { Gives result (vertex_form path (view value.now)) }
+{
+    let vertex = read_element(alloc, path, 1, value)?;
+    Ok(Request::Vertex(vertex))
+}
+
+fn read_face(alloc: Global, path: Path, value: &Value) -> Result<Request, ScriptFault>
+    ensures { Gives result (face_form path (view value.now)) }
+{
+    let (edge, seg, way) = read_elements(alloc, path, 1, value)?;
+    Ok(Request::Face(Dart { edge, seg, way }))
+}
+
+/// An opening, as what is asked for.
+pub(crate) fn read_opened(alloc: Global, path: Path, value: &Value) -> Result<Request, ScriptFault>
+    ensures { Gives result (opened_form path (view value.now)) }
+{
+    let opening = Opening::read(alloc, path, value)?;
+    Ok(Request::Open(opening))
+}
+
+fn read_open(alloc: Global, path: Path, value: &Value) -> Result<Request, ScriptFault>
+    ensures { Gives result (open_form path (view value.now)) }
+{
+    check_keys(path, &[Key::Open], &[], value)?;
+    let opening = read_member(alloc, path, Key::Open, value)?;
+    Ok(Request::Open(opening))
 }
 
 fn read_carry(alloc: Global, path: Path, value: &Value) -> Result<Request, ScriptFault>
@@ -78,29 +120,41 @@ fn read_carry(alloc: Global, path: Path, value: &Value) -> Result<Request, Scrip
     Ok(Request::Carry(command))
 }
 
+/// What an array or an object asks for.
+#[tactic(auto, unfolding(crate::specs::Sessions::look_form))]
+fn read_look(alloc: Global, path: Path, value: &Value) -> Result<Request, ScriptFault>
+    ensures { Gives result (look_form path (view value.now)) }
+{
+    if begins("route", 3, value) {
+        read_route(alloc, path, value)
+    } else if begins("edge", 2, value) {
+        read_edge(alloc, path, value)
+    } else if begins("vertex", 2, value) {
+        read_vertex(alloc, path, value)
+    } else if begins("face", 4, value) {
+        read_face(alloc, path, value)
+    } else if has_key(Key::Open, value) {
+        read_open(alloc, path, value)
+    } else {
+        read_carry(alloc, path, value)
+    }
+}
+
 impl Form for Request {
     ghost form = { request_form };
 
     #[tactic(auto, unfolding(crate::specs::Sessions::request_form))]
     fn read(alloc: Global, path: Path, value: &Value) -> Result<Self, ScriptFault> {
-        if is_text("counts", value) {
+        if is_text("about", value) {
+            Ok(Request::About)
+        } else if is_text("counts", value) {
             Ok(Request::Counts)
         } else if is_text("picture", value) {
             Ok(Request::Picture)
         } else if is_text("report", value) {
             Ok(Request::Report)
         } else {
-            read_carry(alloc, path, value)
+            read_look(alloc, path, value)
         }
-    }
-}
-
-/// What a line asks for, without its line feed.
-pub fn read_request(alloc: Global, line: &[u8]) -> Result<Request, ScriptFault>
-    ensures { Gives result (request_of line.now) }
-{
-    match read_tokens::<Command>(alloc, MAX_LINE_BYTES, line) {
-        Some(command) => Ok(Request::Carry(command)),
-        None => read_value(alloc, MAX_LINE_BYTES, line),
     }
 }

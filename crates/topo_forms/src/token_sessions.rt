@@ -11,7 +11,7 @@ use crate::tokens::FromTokens;
 use std::alloc::Global;
 
 impl FromTokens for Opening {
-    ghost form = { λ path. opening_form };
+    ghost form = { opening_form };
 
     ghost nesting = { 5 };
 

@@ -163,12 +163,17 @@ fn faults_at_paths(rt: HostRuntime) -> Result<(), Fail> {
     let workers = Path::WHOLE.member(Key::Workers);
     let deep = workers.element(0).element(3).element(1);
     let sixth = deep.member(Key::Call).member(Key::NextEdge);
+    let seventh = sixth.member(Key::Open);
     let faults = [
         (ScriptFault::BadShape(workers), "52 BadShape $/workers"),
         (ScriptFault::BadNumber(deep), "54 BadNumber $/workers/0/3/1"),
         (
             ScriptFault::BadNumber(sixth),
             "54 BadNumber $/workers/0/3/1/call/next_edge",
+        ),
+        (
+            ScriptFault::BadShape(seventh),
+            "52 BadShape $/workers/0/3/1/call/next_edge/open",
         ),
     ];
     for (fault, text) in faults {
@@ -179,16 +184,16 @@ fn faults_at_paths(rt: HostRuntime) -> Result<(), Fail> {
 }
 
 /// The room that the program has for the line of a fault.
-const MAX_FAULT_LINE_BYTES: usize = 160;
+const MAX_FAULT_LINE_BYTES: usize = 176;
 
 #[test]
 fn the_longest_line(rt: HostRuntime) -> Result<(), Fail> {
     let mut path = Path::WHOLE;
-    for _ in 0..6 {
+    for _ in 0..7 {
         path = path.element(usize::MAX);
     }
     let fault = RunFault::Script(ScriptFault::BadNumber(path));
     let line = format!(in rt.alloc(); "planar: {fault}\n")?;
-    assert!(rt; line.len() == 149 && line.len() <= MAX_FAULT_LINE_BYTES);
+    assert!(rt; line.len() == 170 && line.len() <= MAX_FAULT_LINE_BYTES);
     Ok(())
 }

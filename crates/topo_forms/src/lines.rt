@@ -1,0 +1,314 @@
+//! The lines of a session.
+
+ghost use Rattle.std.specs.Prelude.{◌≡◌, None, string_bytes};
+ghost use Rattle.serde_json.specs.View.{view};
+ghost use Rattle.topo_forms.specs.declared.path.Key.TheVariants.{Caller};
+ghost use Rattle.topo_forms.specs.Paths.{whole};
+ghost use Rattle.topo_forms.specs.Reads.{Gives, member_form, member_or};
+ghost use Rattle.topo_forms.specs.Sessions.{text_id, number_id, id_form, some_id, caller_form};
+ghost use Rattle.topo_forms.specs.Sessions.{envelope_head, envelope_asked, envelope_line};
+ghost use Rattle.topo_forms.specs.Sessions.{bare_asked, opened_form, request_form, is_opening};
+ghost use Rattle.topo_forms.specs.Sessions.{line_form, line_limit, line_of, ReadsLine};
+
+use crate::fault::ScriptFault;
+use crate::form::{
+    Form, check_keys, has_key, is_text, parse, read_member, read_member_or, read_number,
+};
+use crate::path::{Key, Path};
+use crate::row_forms::MAX_PICTURE_BYTES;
+use crate::sessions::{Opening, Request, read_opened};
+use crate::tokens::read_tokens;
+use serde_json::Value;
+use std::alloc::Global;
+use std::marker::Model;
+use topo_core::calls::Command;
+use topo_core::limits::MAX_PASSES;
+
+/// The greatest number of bytes that a line of a session may have which is neither the first one
+/// nor an object. The first one and an object may have as many as a picture.
+pub const MAX_LINE_BYTES: usize = 65_536;
+
+/// The greatest number of bytes that the text of an id may have.
+pub const MAX_ID_BYTES: usize = 256;
+
+/// The text of an id, which contracts see as its bytes.
+#[derive(Debug)]
+pub struct IdText {
+    text: String,
+}
+
+impl Drop for IdText {
+    fn drop(self) {
+        let IdText { text } = self;
+        drop(text);
+    }
+}
+
+impl Model for IdText {
+    ghost use Rattle.std.specs.Prelude.{List, ℕ};
+
+    ghost Value = { List ℕ };
+
+    ghost view = { λ id. string_bytes id.text };
+}
+
+impl IdText {
+    /// The text itself.
+    pub fn as_str(&self) -> &str
+        ensures { result.now ≡ self.now }
+    {
+        self.text.as_str()
+    }
+}
+
+/// The id of a line, which its answer repeats.
+#[derive(Drop, Debug)]
+pub enum LineId {
+    Text(IdText),
+    Number(u32),
+}
+
+/// Who asks, and for what.
+#[derive(Drop, Debug)]
+pub struct Asked {
+    pub caller: u32,
+    pub request: Request,
+}
+
+/// How a line asks.
+#[derive(Drop, Debug)]
+pub enum Frame {
+    /// It is the opening itself, the first line of a session.
+    Opening,
+    /// It is the request itself.
+    Bare,
+    /// It is an object around the request, which may have an id.
+    Envelope(Option<LineId>),
+}
+
+/// A line of a session: how it asks, and for what, or its first fault.
+#[derive(Drop, Debug)]
+pub struct Line {
+    pub frame: Frame,
+    pub asked: Result<Asked, ScriptFault>,
+}
+
+/// A text of at most 256 bytes.
+fn read_text_id(alloc: Global, path: Path, text: &str) -> Result<LineId, ScriptFault>
+    ensures { Gives result (text_id path text.now) }
+{
+    if text.len() > MAX_ID_BYTES {
+        return Err(ScriptFault::BadShape(path));
+    }
+    match String::from_str(alloc, text) {
+        Ok(text) => Ok(LineId::Text(IdText { text })),
+        Err(_) => Err(ScriptFault::Memory),
+    }
+}
+
+fn read_number_id(alloc: Global, path: Path, value: &Value) -> Result<LineId, ScriptFault>
+    ensures { Gives result (number_id path (view value.now)) }
+{
+    let number = u32::read(alloc, path, value)?;
+    Ok(LineId::Number(number))
+}
+
+impl Form for LineId {
+    ghost form = { id_form };
+
+    fn read(alloc: Global, path: Path, value: &Value) -> Result<Self, ScriptFault> {
+        match value.as_str() {
+            Some(text) => read_text_id(alloc, path, text),
+            None => read_number_id(alloc, path, value),
+        }
+    }
+}
+
+impl Form for Option<LineId> {
+    ghost form = { some_id };
+
+    fn read(alloc: Global, path: Path, value: &Value) -> Result<Self, ScriptFault> {
+        let id = LineId::read(alloc, path, value)?;
+        Ok(Some(id))
+    }
+}
+
+/// The id of an envelope, if it has one.
+fn read_head(alloc: Global, value: &Value) -> Result<Option<LineId>, ScriptFault>
+    ensures { Gives result (envelope_head (view value.now)) }
+{
+    check_keys(Path::WHOLE, &[Key::Call], &[Key::Caller, Key::Id], value)?;
+    read_member_or(alloc, Path::WHOLE, Key::Id, value, None)
+}
+
+/// A caller's number.
+fn read_caller(path: Path, value: &Value) -> Result<u32, ScriptFault>
+    ensures { result ≡ caller_form path (view value.now) }
+{
+    let caller = read_number(u64::from(MAX_PASSES) - 1, path, value)?;
+    Ok(caller as u32)
+}
+
+/// The caller of an envelope, where it names one.
+fn read_caller_member(value: &Value) -> Result<u32, ScriptFault>
+    ensures { Gives result (member_form caller_form whole Caller (view value.now)) }
+{
+    let path = Path::WHOLE.member(Key::Caller);
+    match value.get(Key::Caller.name()) {
+        Some(caller) => read_caller(path, caller),
+        None => Err(ScriptFault::BadShape(path)),
+    }
+}
+
+/// The caller of an envelope: 0 where it names none.
+fn read_caller_or(value: &Value) -> Result<u32, ScriptFault>
+    ensures { Gives result (member_or 0 caller_form whole Caller (view value.now)) }
+{
+    if has_key(Key::Caller, value) {
+        read_caller_member(value)
+    } else {
+        Ok(0)
+    }
+}
+
+/// Who asks by an envelope, and for what.
+fn read_asked(alloc: Global, value: &Value) -> Result<Asked, ScriptFault>
+    ensures { Gives result (envelope_asked (view value.now)) }
+{
+    let caller = read_caller_or(value)?;
+    let request = read_member(alloc, Path::WHOLE, Key::Call, value)?;
+    Ok(Asked { caller, request })
+}
+
+/// A line with an envelope.
+fn read_envelope(alloc: Global, value: &Value) -> Line
+    ensures { ReadsLine result (envelope_line (view value.now)) }
+{
+    match read_head(alloc, value) {
+        Ok(id) => Line {
+            frame: Frame::Envelope(id),
+            asked: read_asked(alloc, value),
+        },
+        Err(fault) => Line {
+            frame: Frame::Envelope(None),
+            asked: Err(fault),
+        },
+    }
+}
+
+/// A line that is the opening itself, as that of caller 0.
+fn asked_opening(alloc: Global, value: &Value) -> Result<Asked, ScriptFault>
+    ensures { Gives result (bare_asked opened_form (view value.now)) }
+{
+    let request = read_opened(alloc, Path::WHOLE, value)?;
+    Ok(Asked { caller: 0, request })
+}
+
+/// A line that is the request itself, as that of caller 0.
+fn asked_bare(alloc: Global, value: &Value) -> Result<Asked, ScriptFault>
+    ensures { Gives result (bare_asked request_form (view value.now)) }
+{
+    let request = Request::read(alloc, Path::WHOLE, value)?;
+    Ok(Asked { caller: 0, request })
+}
+
+/// Whether a first line without an envelope is the opening itself.
+fn is_opening(value: &Value) -> bool
+    ensures { result ≡ is_opening (view value.now) }
+{
+    !has_key(Key::Open, value) && !is_text("about", value)
+}
+
+/// The line that a value is.
+#[tactic(auto, unfolding(crate::specs::Sessions::line_form))]
+fn line_from(alloc: Global, first: bool, value: &Value) -> Line
+    ensures { ReadsLine result (line_form first (view value.now)) }
+{
+    if has_key(Key::Call, value) {
+        read_envelope(alloc, value)
+    } else if first && is_opening(value) {
+        Line {
+            frame: Frame::Opening,
+            asked: asked_opening(alloc, value),
+        }
+    } else {
+        Line {
+            frame: Frame::Bare,
+            asked: asked_bare(alloc, value),
+        }
+    }
+}
+
+/// How many bytes a line may have.
+fn line_limit(first: bool, bytes: &[u8]) -> usize
+    ensures { result ≡ line_limit first bytes.now }
+{
+    if first || bytes.first() == Some(&b'{') {
+        MAX_PICTURE_BYTES
+    } else {
+        MAX_LINE_BYTES
+    }
+}
+
+/// The frame of a line that is no value.
+fn frame_without_value(first: bool) -> Frame {
+    if first { Frame::Opening } else { Frame::Bare }
+}
+
+/// A line, read by way of its value.
+fn line_of_value(alloc: Global, first: bool, bytes: &[u8]) -> Line
+    ensures { ReadsLine result (line_of first bytes.now) }
+{
+    match parse(alloc, line_limit(first, bytes), bytes) {
+        Ok(value) => line_from(alloc, first, &value),
+        Err(fault) => Line {
+            frame: frame_without_value(first),
+            asked: Err(fault),
+        },
+    }
+}
+
+/// The first line of a session. An opening is read from its tokens, if it can be, so that a picture
+/// in it takes little memory.
+fn read_first(alloc: Global, bytes: &[u8]) -> Line
+    ensures { ReadsLine result (line_of true bytes.now) }
+{
+    match read_tokens::<Opening>(alloc, MAX_PICTURE_BYTES, bytes) {
+        Some(opening) => Line {
+            frame: Frame::Opening,
+            asked: Ok(Asked {
+                caller: 0,
+                request: Request::Open(opening),
+            }),
+        },
+        None => line_of_value(alloc, true, bytes),
+    }
+}
+
+/// A later line. A command is read from its tokens, if it can be, since that is quicker.
+fn read_later(alloc: Global, bytes: &[u8]) -> Line
+    ensures { ReadsLine result (line_of false bytes.now) }
+{
+    match read_tokens::<Command>(alloc, MAX_LINE_BYTES, bytes) {
+        Some(command) => Line {
+            frame: Frame::Bare,
+            asked: Ok(Asked {
+                caller: 0,
+                request: Request::Carry(command),
+            }),
+        },
+        None => line_of_value(alloc, false, bytes),
+    }
+}
+
+/// The line that bytes spell, which stand here without their line feed. Out of memory, how it asks
+/// may be lost with what it asks for.
+pub fn read_line(alloc: Global, first: bool, bytes: &[u8]) -> Line
+    ensures { ReadsLine result (line_of first bytes.now) }
+{
+    if first {
+        read_first(alloc, bytes)
+    } else {
+        read_later(alloc, bytes)
+    }
+}
