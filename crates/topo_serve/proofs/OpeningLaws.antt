@@ -1,48 +1,83 @@
 -- The first line of a session, and the session behind it.
-use Rattle.std.proofs.Common.{◌≡◌, ℕ, Bool, true, false, List, [], ◌∷◌, ◌++◌, Option, Result, Ok, Err, IfOk, take, length, ◌<◌, ◌≤◌}
+use Rattle.std.proofs.Common.{◌≡◌, ◌≢◌, ℕ, Bool, true, false, List, [], ◌∷◌, ◌++◌, Option, None, Ok, Err, ⊤, take, length, ◌<◌, ◌≤◌}
 use Rattle.std.proofs.Common.{inl, inr, refl, sym, ap, subst, ◌∙◌, arith, append_assoc, append-nil, length-append, ltb-true}
-use Rattle.std.specs.Io.KnownBytes.{Appends, Consumes, IsAtEnd}
+use Rattle.std.specs.Io.KnownBytes.{Appends, Consumes, IsAtEnd, Keeps}
 use Rattle.std.proofs.KnownBytes.{Appends-trans, Consumes-trans, Keeps-refl}
-use Rattle.std.proofs.lemmas.Bool.{false≢true}
-use Rattle.topo_core.specs.declared.limits.Limits.{Limits}
-use Rattle.topo_core.specs.Routes.{Pricing}
 use Rattle.topo_forms.specs.declared.fault.ScriptFault.TheVariants.{NotJson, TooLong}
-use Rattle.topo_forms.specs.declared.sessions.Opening.{Opening}
-use Rattle.topo_forms.specs.Reads.{IsFirstFault, Read, and_then}
-use Rattle.topo_forms.specs.Sessions.{opening_of}
+use Rattle.topo_forms.specs.declared.lines.Frame.TheVariants.{Opening}
+use Rattle.topo_forms.specs.declared.lines.Line.{Line}
+use Rattle.topo_forms.specs.Sessions.{line_limit, line_of}
 use Rattle.topo_settings.specs.declared.fault.RunFault.{RunFault}
-use Rattle.topo_settings.specs.declared.fault.RunFault.TheVariants.{Memory, Script, BadLimits, Price, Load}
-use Rattle.topo_settings.specs.declared.fault.RunFault.TheVariants.{ReadFault, WriteFault}
+use Rattle.topo_settings.specs.declared.fault.RunFault.TheVariants.{Memory, Script, BadLimits, Price, Load, NoSeat, Mismatch}
+use Rattle.topo_settings.specs.declared.fault.RunFault.TheVariants.{WrongReply, WrongPicture, ReadFault, WriteFault}
 use Rattle.topo_settings.specs.Reading.{IsOfReading}
-use Rattle.topo_settings.specs.Settings.{IsSound, IsUnsound, priced, start_of}
+use Rattle.topo_forms.specs.declared.lines.Asked.{Asked as Asking}
+use Rattle.topo_forms.specs.declared.scripts.LimitRows.{LimitRows}
+use Rattle.topo_forms.specs.declared.sessions.Request.{Request}
+use Rattle.topo_forms.specs.declared.sessions.Request.TheVariants.{Open}
+use Rattle.topo_core.specs.declared.rows.Rows.{Rows}
+use Rattle.topo_forms.specs.Reads.{Read}
+use Rattle.topo_settings.specs.Settings.{IsUnsound}
+use Rattle.topo_settings.specs.Writing.{AppendsPart}
+use Rattle.topo_session.specs.Answers.{AnswersFirst, IsBadOpening, IsFaultOfAsked, IsFaultOfRequest}
+use Rattle.topo_session.specs.Standings.{HasLegalHistory, Standing}
+use Rattle.topo_session.proofs.Legal.{line_legal}
 use Rattle.topo_serve.specs.declared.ahead.Part.{Part}
 use Rattle.topo_serve.specs.declared.ahead.Part.TheVariants.{More}
-use Rattle.topo_serve.specs.Answers.{Standing, TellsCounts}
 use Rattle.topo_serve.specs.Lines.{IsPlain, closed, first_line, lines_of}
-use Rattle.topo_serve.specs.Sessions.{AreAnswered, AreRead, IsCutShort, IsFaultOfOpening, IsFirstRead}
-use Rattle.topo_serve.specs.Sessions.{IsPartlyServed, IsServed, IsSession, OpensNone, ServeFailsBy, beginning}
+use Rattle.topo_serve.specs.Sessions.{AreAnswered, AreRead, IsCutShort, IsFirstRead, IsPartlyServed, IsServed, IsSession, OpensNone, ServeFailsBy}
 use Rattle.topo_serve.specs.Taking.{OverUnless, ReadsNoFeed, Takes, TakesFirst, feed_if}
-use Rattle.topo_serve.specs.Turns.{BeginFailsBy, BeginsAll, BeginsPart, OpenFailsBy, Opens}
-use Rattle.topo_serve.specs.Turns.{OpensNoneBy, ServesPart, ServesSome, Streams, streams}
-use Rattle.topo_serve.proofs.KeptLines.{json_none, kept_long, opening_kept, value_long, value_none}
-use Rattle.topo_serve.proofs.AnswerLaws.{answered_run}
-use Rattle.topo_serve.proofs.SessionLaws.{keeps_appends}
+use Rattle.topo_serve.specs.Turns.{Begins, BeginsPart, FirstFailsBy, LinesFailBy, ServesAll, ServesPart, ServesSome, Streams}
+use Rattle.topo_serve.proofs.AnswerLaws.{answered_legal}
+use Rattle.topo_serve.proofs.KeptLines.{json_none, kept_long, line_kept, value_long, value_none}
 use Rattle.topo_serve.proofs.LineLaws.{first_behind, first_of_line, first_of_plain, line_alone, line_then}
 
 -- ---- First lines
 
-opening_long : (bytes : List ℕ) → 268435456 < length bytes → opening_of bytes ≡ Err TooLong
-unfolding opening_of and_then
-opening_long bytes long = rw (value_long 268435456 bytes long) refl
+-- a first line that is too long
+line_long : (bytes : List ℕ) → 268435456 < length bytes → line_of true bytes ≡ record { frame = Opening; asked = Err TooLong }
+unfolding line_of line_limit
+line_long bytes long = rw (value_long 268435456 bytes long) refl
 
-no_json : opening_of [] ≡ Err NotJson
-unfolding opening_of and_then
-no_json = rw (value_none 268435456 [] json_none refl) refl
+-- a first line without bytes
+line_empty : line_of true [] ≡ record { frame = Opening; asked = Err NotJson }
+unfolding line_of line_limit
+line_empty = rw (value_none 268435456 [] json_none refl) refl
 
-no_opening : (opening : Opening) → opening_of [] ≡ Ok opening → ⊥
-no_opening opening e =
-    let clash : Err NotJson ≡ Ok opening = sym no_json ∙ e in
-    absurd cc
+not_empty_line : (line : Line) (text : List ℕ) (to : Option Standing) → line ≡ record { frame = Opening; asked = Err NotJson }
+    → AnswersFirst line text to → ⊥
+not_empty_line line text to is first = rw is at (first.opens (ap (λ (l : Line). l.frame) is))
+
+-- ---- The faults that a first line may have
+
+abbrev IsOfOpening : RunFault → Type 0
+IsOfOpening Memory = ⊤
+IsOfOpening (Script fault) = ⊤
+IsOfOpening BadLimits = ⊤
+IsOfOpening (Price fault) = ⊤
+IsOfOpening (Load fault) = ⊤
+IsOfOpening _ = ⊥
+
+unsound_of : (numbers : LimitRows) (prices : List (Option ℕ)) (start : Option Rows) (fault : RunFault) → IsUnsound numbers prices start fault
+    → IsOfOpening fault
+unsound_of numbers prices start Memory is = tt
+unsound_of numbers prices start (Script fault) is = tt
+unsound_of numbers prices start BadLimits is = tt
+unsound_of numbers prices start (Price fault) is = tt
+unsound_of numbers prices start (Load fault) is = tt
+unsound_of numbers prices start _ is = absurd is
+
+memory_of : (fault : RunFault) → fault ≡ Memory → IsOfOpening fault
+memory_of fault is = subst IsOfOpening (sym is) tt
+
+request_of : (request : Request) (fault : RunFault) → IsFaultOfRequest request fault → IsOfOpening fault
+request_of (Open opening) fault is = unsound_of opening.limits opening.prices opening.start fault is
+request_of _ fault is = memory_of fault is
+
+of_opening : (asked : Read Asking) (fault : RunFault) → IsFaultOfAsked asked fault → IsOfOpening fault
+of_opening asked Memory is = tt
+of_opening (Err script) fault is = subst IsOfOpening (sym is) tt
+of_opening (Ok asked) fault is = request_of asked.request fault is
 
 -- ---- A first line that is no opening
 
@@ -64,13 +99,13 @@ module _ (old_left new_left : Option (List ℕ)) (ahead line : List ℕ) (plain 
   first_whole false t over = inr (inl over.0)
 
   pub line_none : (fault : RunFault) (has_feed : Bool) (t : Takes old_left new_left [] ahead (line ++ feed_if has_feed)) → length t.read ≤ 268443649
-      → OverUnless has_feed new_left ahead → IsFaultOfOpening line fault
+      → OverUnless has_feed new_left ahead → IsBadOpening (line_of true line) fault
       → OpensNone old_left new_left fault
   line_none fault has_feed t few over first = record {
     input = t.read;
     consumed = t.consumed;
     whole = first_whole has_feed t over;
-    first = subst (λ (l : List ℕ). IsFaultOfOpening l fault) (sym (first_read has_feed t over)) first;
+    first = subst (λ (l : List ℕ). IsBadOpening (line_of true l) fault) (sym (first_read has_feed t over)) first;
     few = few;
   }
 
@@ -79,11 +114,12 @@ module _ (old_left new_left : Option (List ℕ)) (ahead line : List ℕ) (plain 
   long_none t few long =
       let first : first_line t.read ≡ line ++ first_line ahead = ap first_line (t.parted ∙ append_assoc line [] ahead) ∙ first_behind line ahead plain in
       let longer : 268435456 < length (first_line t.read) = omega (arith, ap length first, length-append line (first_line ahead)) in
+      let is = line_long (first_line t.read) longer in
       record {
         input = t.read;
         consumed = t.consumed;
         whole = inr (inr longer);
-        first = opening_long (first_line t.read) longer;
+        first = subst (λ (l : Line). IsBadOpening l (Script TooLong)) (sym is) (record { frame = refl; is = refl });
         few = few;
       }
 
@@ -97,13 +133,16 @@ pub first_so : (old_left new_left : Option (List ℕ)) (old ahead kept : List �
     → TakesFirst 268435457 old_left new_left old ahead kept q
 first_so ol nl old ahead kept part q is t = subst (TakesFirst 268435457 ol nl old ahead kept) is t
 
--- what holds of a result's value and follows from two facts of it
-pub both_so : {A E : Type 0} (r : Result A E) (P Q R : A → Type 0) → ((a : A) → P a → Q a → R a) → IfOk r P → IfOk r Q → IfOk r R
-both_so (Ok a) P Q R f p q = f a p q
-both_so (Err e) P Q R f p q = p
 
-module _ (old_left new_left : Option (List ℕ)) (old ahead kept : List ℕ) (none : old ≡ []) where
-  -- a first line that reaches further than an opening may
+-- what is told of a first line that is taken so
+module _ (old_left new_left old_held new_held : Option (List ℕ)) (old ahead kept : List ℕ) (none : old ≡ []) where
+  abbrev from : Streams
+  from = record { left = old_left; ahead = old; held = old_held }
+
+  abbrev to : Streams
+  to = record { left = new_left; ahead = ahead; held = new_held }
+
+  -- a first line that reaches further than a line may
   pub first_long : (part : Part) → part ≡ More → TakesFirst 268435457 old_left new_left old ahead kept part → OpensNone old_left new_left (Script TooLong)
   first_long part is t =
       let u = subst (λ (q : Part). TakesFirst 268435457 old_left new_left old ahead kept q) is t in
@@ -121,209 +160,227 @@ module _ (old_left new_left : Option (List ℕ)) (old ahead kept : List ℕ) (no
     few_taken : length taken.read ≤ 268443649
     few_taken = read_same old_left new_left old ahead (line ++ feed_if has_feed) 268443649 none takes taken few
 
-    pub opens_so : (opening : Opening) (fed : Bool) → opening_of kept ≡ Ok opening → fed ≡ has_feed → Opens old_left new_left ahead opening fed
-    opens_so opening fed opens same = subst (Opens old_left new_left ahead opening) (sym same) (record {
+    pub begins_so : (text : List ℕ) (session : Option Standing) → AnswersFirst (line_of true kept) text session → Appends old_held new_held (text ++ 10 ∷ [])
+        → Begins from to session has_feed
+    begins_so text session answers written = record {
       line = line;
       plain = plain;
       takes = taken;
       over = over;
-      opens = sym (opening_kept line kept is_kept) ∙ opens;
-      few = few_taken;
-    })
+      text = text;
+      answers = subst (λ (l : Line). AnswersFirst l text session) (line_kept true line kept is_kept) answers;
+      written = written;
+    }
 
-    pub none_so : (fault : RunFault) → OpensNoneBy kept fault → OpenFailsBy fault old_left new_left
-    none_so (Script fault) is = line_none old_left new_left ahead line plain (Script fault) has_feed taken few_taken over
-        (subst (λ (r : Read Opening). IsFirstFault r fault) (opening_kept line kept is_kept) is)
-    none_so _ is = absurd is
+    pub begins_part : (text : List ℕ) (session : Option Standing) → AnswersFirst (line_of true kept) text session
+        → AppendsPart old_held new_held (text ++ 10 ∷ []) → BeginsPart from to
+    begins_part text session answers written = record {
+      has_feed = has_feed;
+      line = line;
+      plain = plain;
+      takes = taken;
+      over = over;
+      text = text;
+      to = session;
+      answers = subst (λ (l : Line). AnswersFirst l text session) (line_kept true line kept is_kept) answers;
+      written = written;
+    }
+
+    bad : (fault : RunFault) → IsBadOpening (line_of true kept) fault → OpensNone old_left new_left fault
+    bad fault is = line_none old_left new_left ahead line plain fault has_feed taken few_taken over
+        (subst (λ (l : Line). IsBadOpening l fault) (line_kept true line kept is_kept) is)
+
+    -- the first line is a bad opening, and nothing is written
+    pub none_so : (fault : RunFault) → (fault ≢ Memory → IsBadOpening (line_of true kept) fault) → Keeps old_held new_held → FirstFailsBy fault from to
+    none_so fault is kept_so = bad_told fault (λ known. bad fault (is known)) kept_so
+      where
+        bad_told : (f : RunFault) → (f ≢ Memory → OpensNone old_left new_left f) → Keeps old_held new_held → FirstFailsBy f from to
+        bad_told Memory none kept = kept
+        bad_told ReadFault none kept = absurd (of_opening _ ReadFault (none (λ e. absurd cc)).first.is)
+        bad_told WriteFault none kept = absurd (of_opening _ WriteFault (none (λ e. absurd cc)).first.is)
+        bad_told (Script fault) none kept = (none (λ e. absurd cc), kept)
+        bad_told BadLimits none kept = (none (λ e. absurd cc), kept)
+        bad_told (Price fault) none kept = (none (λ e. absurd cc), kept)
+        bad_told (Load fault) none kept = (none (λ e. absurd cc), kept)
+        bad_told NoSeat none kept = (none (λ e. absurd cc), kept)
+        bad_told (Mismatch list i) none kept = (none (λ e. absurd cc), kept)
+        bad_told (WrongReply i) none kept = (none (λ e. absurd cc), kept)
+        bad_told WrongPicture none kept = (none (λ e. absurd cc), kept)
 
 -- a first line that could not be read
-pub reading_fails : (fault : RunFault) (old_left new_left : Option (List ℕ)) → IsOfReading fault → (fault ≡ ReadFault → ReadsNoFeed old_left new_left)
-    → OpenFailsBy fault old_left new_left
-reading_fails Memory old_left new_left of none = tt
-reading_fails ReadFault old_left new_left of none = none refl
-reading_fails _ old_left new_left of none = absurd of
+pub reading_fails : (fault : RunFault) (old new : Streams) → IsOfReading fault → (fault ≡ ReadFault → ReadsNoFeed old.left new.left)
+    → Keeps old.held new.held → FirstFailsBy fault old new
+reading_fails Memory old new of none kept = kept
+reading_fails ReadFault old new of none kept = (none refl, kept)
+reading_fails _ old new of none kept = absurd of
 
--- a first line that spells an opening with this fault
-pub unsound_none : (old_left new_left held : Option (List ℕ)) (ahead : List ℕ) (opening : Opening) (has_feed : Bool) (fault : RunFault)
-    → Opens old_left new_left ahead opening has_feed
-    → IsUnsound opening.limits opening.prices opening.start fault → ServeFailsBy fault old_left new_left held held
-unsound_none ol nl held ahead opening has_feed Memory o is = inl (Keeps-refl held)
-unsound_none ol nl held ahead opening has_feed BadLimits o is =
-    (line_none ol nl ahead o.line o.plain BadLimits has_feed o.takes o.few o.over (record { opening = opening; opens = o.opens; fails = is }), Keeps-refl held)
-unsound_none ol nl held ahead opening has_feed (Price fault) o is =
-    (line_none ol nl ahead o.line o.plain (Price fault) has_feed o.takes o.few o.over (record { opening = opening; opens = o.opens; fails = is }), Keeps-refl held)
-unsound_none ol nl held ahead opening has_feed (Load fault) o is =
-    (line_none ol nl ahead o.line o.plain (Load fault) has_feed o.takes o.few o.over (record { opening = opening; opens = o.opens; fails = is }), Keeps-refl held)
-unsound_none ol nl held ahead opening has_feed _ o is = absurd is
+-- ---- The session behind the first line
 
--- ---- The session behind an opening
-
-module _ (old_left mid_left new_left old_held new_held : Option (List ℕ)) (ahead last : List ℕ) (opening : Opening) (limits : Limits)
-    (sound : IsSound opening.limits opening.prices opening.start limits) where
-  abbrev price : Pricing
-  price = priced opening.prices
-
-  abbrev old : Streams
-  old = streams mid_left ahead old_held
-
-  abbrev new : Streams
-  new = streams new_left last new_held
-
-  session_of : (has_feed : Bool) (o : Opens old_left mid_left ahead opening has_feed) (counts : List ℕ) (others answers : List (List ℕ)) (to : Standing)
-      → TellsCounts (start_of opening.start) counts
-      → AreAnswered price limits others answers (beginning opening) to → IsSession (o.line ∷ others) (counts ∷ answers)
-  session_of has_feed o counts others answers to counted answered = record {
-    first = o.line;
+module _ (old mid new : Streams) (begun : Option Standing) where
+  session_of : (has_feed : Bool) (b : Begins old mid begun has_feed) (others answers : List (List ℕ)) (to : Option Standing)
+      → AreAnswered others answers begun to → IsSession (b.line ∷ others) (b.text ∷ answers)
+  session_of has_feed b others answers to answered = record {
+    first = b.line;
     others = others;
     is_first = refl;
-    opening = opening;
-    opens = o.opens;
-    limits = limits;
-    sound = sound;
-    counts = counts;
+    text = b.text;
     answers = answers;
     are_texts = refl;
-    counted = counted;
+    begun = begun;
+    begins = b.answers;
     standing = to;
     answered = answered;
-    run = answered_run price limits others answers (beginning opening) to answered refl;
+    legal = answered_legal others answers begun to answered (line_legal (line_of true b.line) b.text None begun b.answers.answers tt);
   }
 
   -- what was read behind a first line that has a line feed
-  fed_text : (o : Opens old_left mid_left ahead opening true) (read : List ℕ) → o.takes.read ++ read ≡ o.line ++ 10 ∷ (ahead ++ read)
-  fed_text o read =
-      ap (λ (t : List ℕ). t ++ read) (o.takes.parted ∙ append_assoc o.line (10 ∷ []) ahead) ∙ append_assoc o.line (10 ∷ ahead) read
+  fed_text : (b : Begins old mid begun true) (read : List ℕ) → b.takes.read ++ read ≡ b.line ++ 10 ∷ (mid.ahead ++ read)
+  fed_text b read =
+      ap (λ (t : List ℕ). t ++ read) (b.takes.parted ∙ append_assoc b.line (10 ∷ []) mid.ahead) ∙ append_assoc b.line (10 ∷ mid.ahead) read
 
-  fed_lines : (o : Opens old_left mid_left ahead opening true) (read : List ℕ) → lines_of (o.takes.read ++ read) ≡ o.line ∷ lines_of (ahead ++ read)
-  fed_lines o read = ap lines_of (fed_text o read) ∙ line_then o.line (ahead ++ read) o.plain
+  fed_lines : (b : Begins old mid begun true) (read : List ℕ) → lines_of (b.takes.read ++ read) ≡ b.line ∷ lines_of (mid.ahead ++ read)
+  fed_lines b read = ap lines_of (fed_text b read) ∙ line_then b.line (mid.ahead ++ read) b.plain
 
   -- a first line without a line feed is all that was read
-  only_line : (line : List ℕ) → IsPlain line → opening_of line ≡ Ok opening → lines_of line ≡ line ∷ []
-  only_line [] plain opens = absurd (no_opening opening opens)
-  only_line (b ∷ line) plain opens = line_alone b line plain
+  only_line : (line text : List ℕ) → IsPlain line → AnswersFirst (line_of true line) text begun → lines_of line ≡ line ∷ []
+  only_line [] text plain answers = absurd (not_empty_line (line_of true []) text begun line_empty answers)
+  only_line (c ∷ line) text plain answers = line_alone c line plain
 
-  only_lines : (o : Opens old_left mid_left ahead opening false) → lines_of o.takes.read ≡ o.line ∷ []
-  only_lines o =
-      ap lines_of (o.takes.parted ∙ ap (λ (e : List ℕ). (o.line ++ []) ++ e) o.over.1 ∙ append-nil (o.line ++ []) ∙ append-nil o.line)
-      ∙ only_line o.line o.plain o.opens
+  only_lines : (b : Begins old mid begun false) → lines_of b.takes.read ≡ b.line ∷ []
+  only_lines b =
+      ap lines_of (b.takes.parted ∙ ap (λ (e : List ℕ). (b.line ++ []) ++ e) b.over.1 ∙ append-nil (b.line ++ []) ∙ append-nil b.line)
+      ∙ only_line b.line b.text b.plain b.answers
 
-  written_first : (held : Option (List ℕ)) (counts : List ℕ) (texts : List (List ℕ)) (after : Option (List ℕ)) → Appends old_held held (counts ++ 10 ∷ [])
-      → Appends held after (closed texts)
-      → Appends old_held after (closed (counts ∷ texts))
-  written_first held counts texts after p q =
-      subst (Appends old_held after) (append_assoc counts (10 ∷ []) (closed texts)) (Appends-trans old_held held after _ _ p q)
+  written_first : (text : List ℕ) (texts : List (List ℕ)) → Appends old.held mid.held (text ++ 10 ∷ []) → Appends mid.held new.held (closed texts)
+      → Appends old.held new.held (closed (text ∷ texts))
+  written_first text texts p q =
+      subst (Appends old.held new.held) (append_assoc text (10 ∷ []) (closed texts)) (Appends-trans old.held mid.held new.held _ _ p q)
 
-  pub served : (has_feed : Bool) → Opens old_left mid_left ahead opening has_feed → BeginsAll has_feed price limits old new (beginning opening)
-      → IsServed old_left new_left old_held new_held
-  served true o is = record {
-    input = o.takes.read ++ is.rest.read;
-    consumed = Consumes-trans old_left mid_left new_left _ _ o.takes.consumed is.rest.consumed;
-    whole = is.rest.whole;
-    texts = is.counts ∷ is.rest.texts;
+  pub served : Begins old mid begun true → ServesAll mid new begun → IsServed old.left new.left old.held new.held
+  served b is = record {
+    input = b.takes.read ++ is.read;
+    consumed = Consumes-trans old.left mid.left new.left _ _ b.takes.consumed is.consumed;
+    whole = is.whole;
+    texts = b.text ∷ is.texts;
     session =
-        subst (λ (ls : List (List ℕ)). IsSession ls (is.counts ∷ is.rest.texts)) (sym (fed_lines o is.rest.read))
-        (session_of true o is.counts (lines_of (ahead ++ is.rest.read)) is.rest.texts is.rest.to is.counted is.rest.answered);
-    written = written_first is.held is.counts is.rest.texts new_held is.first is.rest.written;
-  }
-  served false o is = record {
-    input = o.takes.read;
-    consumed = subst (λ (l : Option (List ℕ)). Consumes old_left l o.takes.read) (sym is.rest.0) o.takes.consumed;
-    whole = subst IsAtEnd (sym is.rest.0) o.over.0;
-    texts = is.counts ∷ [];
-    session =
-        subst (λ (ls : List (List ℕ)). IsSession ls (is.counts ∷ [])) (sym (only_lines o))
-        (session_of false o is.counts [] [] (beginning opening) is.counted refl);
-    written = keeps_appends old_held is.held new_held (is.counts ++ 10 ∷ []) is.first is.rest.1;
+        subst (λ (ls : List (List ℕ)). IsSession ls (b.text ∷ is.texts)) (sym (fed_lines b is.read))
+        (session_of true b (lines_of (mid.ahead ++ is.read)) is.texts is.to is.answered);
+    written = written_first b.text is.texts b.written is.written;
   }
 
-  more_read : (o : Opens old_left mid_left ahead opening true) (read : List ℕ) (lines : List (List ℕ)) → AreRead (ahead ++ read) new_left lines
-      → AreRead (o.takes.read ++ read) new_left (o.line ∷ lines)
-  more_read o read lines (inl begins) = inl (record {
-    plain = (o.plain, begins.plain);
+  more_read : (b : Begins old mid begun true) (read : List ℕ) (lines : List (List ℕ)) → AreRead (mid.ahead ++ read) new.left lines
+      → AreRead (b.takes.read ++ read) new.left (b.line ∷ lines)
+  more_read b read lines (inl begins) = inl (record {
+    plain = (b.plain, begins.plain);
     rest = begins.rest;
-    joined = fed_text o read ∙ ap (λ (t : List ℕ). o.line ++ 10 ∷ t) begins.joined ∙ sym (append_assoc o.line (10 ∷ closed lines) begins.rest);
+    joined = fed_text b read ∙ ap (λ (t : List ℕ). b.line ++ 10 ∷ t) begins.joined ∙ sym (append_assoc b.line (10 ∷ closed lines) begins.rest);
   })
-  more_read o read lines (inr whole) = inr (whole.0, ap (λ (ls : List (List ℕ)). o.line ∷ ls) whole.1 ∙ sym (fed_lines o read))
+  more_read b read lines (inr whole) = inr (whole.0, ap (λ (ls : List (List ℕ)). b.line ∷ ls) whole.1 ∙ sym (fed_lines b read))
 
-  cut_short : (has_feed : Bool) → Opens old_left mid_left ahead opening has_feed → has_feed ≡ true → (counts : List ℕ)
-      → TellsCounts (start_of opening.start) counts → (held : Option (List ℕ))
-      → Appends old_held held (counts ++ 10 ∷ []) → ServesSome price limits (streams mid_left ahead held) new (beginning opening)
-      → IsCutShort old_left new_left old_held new_held
-  cut_short false o fed counts counted held first rest = absurd (false≢true fed)
-  cut_short true o fed counts counted held first rest = record {
-    input = o.takes.read ++ rest.read;
-    consumed = Consumes-trans old_left mid_left new_left _ _ o.takes.consumed rest.consumed;
-    lines = o.line ∷ rest.lines;
-    are_read = more_read o rest.read rest.lines rest.are_read;
-    texts = counts ∷ rest.texts;
-    session = session_of true o counts rest.lines rest.texts rest.to counted rest.answered;
-    written = written_first held counts rest.texts new_held first rest.written;
+  cut_short : Begins old mid begun true → ServesSome mid new begun → IsCutShort old.left new.left old.held new.held
+  cut_short b rest = record {
+    input = b.takes.read ++ rest.read;
+    consumed = Consumes-trans old.left mid.left new.left _ _ b.takes.consumed rest.consumed;
+    lines = b.line ∷ rest.lines;
+    are_read = more_read b rest.read rest.lines rest.are_read;
+    texts = b.text ∷ rest.texts;
+    session = session_of true b rest.lines rest.texts rest.to rest.answered;
+    written = written_first b.text rest.texts b.written rest.written;
   }
 
-  cut_later : (has_feed : Bool) → Opens old_left mid_left ahead opening has_feed → has_feed ≡ true → (counts : List ℕ)
-      → TellsCounts (start_of opening.start) counts → (held : Option (List ℕ))
-      → Appends old_held held (counts ++ 10 ∷ []) → ServesPart price limits (streams mid_left ahead held) new (beginning opening)
-      → IsPartlyServed old_left new_left old_held new_held
-  cut_later false o fed counts counted held first rest = absurd (false≢true fed)
-  cut_later true o fed counts counted held first rest = record {
-    input = o.takes.read ++ rest.read;
-    consumed = Consumes-trans old_left mid_left new_left _ _ o.takes.consumed rest.consumed;
-    lines = o.line ∷ rest.lines;
-    are_read = more_read o rest.read rest.lines rest.are_read;
-    texts = counts ∷ rest.texts;
-    session = session_of true o counts rest.lines rest.texts rest.to counted rest.answered;
+  cut_later : Begins old mid begun true → ServesPart mid new begun → IsPartlyServed old.left new.left old.held new.held
+  cut_later b rest = record {
+    input = b.takes.read ++ rest.read;
+    consumed = Consumes-trans old.left mid.left new.left _ _ b.takes.consumed rest.consumed;
+    lines = b.line ∷ rest.lines;
+    are_read = more_read b rest.read rest.lines rest.are_read;
+    texts = b.text ∷ rest.texts;
+    session = session_of true b rest.lines rest.texts rest.to rest.answered;
     written = record {
-      given = counts ∷ rest.written.given;
+      given = b.text ∷ rest.written.given;
       last = rest.written.last;
-      are_texts = ap (λ (ts : List (List ℕ)). counts ∷ ts) rest.written.are_texts;
+      are_texts = ap (λ (ts : List (List ℕ)). b.text ∷ ts) rest.written.are_texts;
       part = rest.written.part;
       rest = rest.written.rest;
       split = rest.written.split;
       appended =
-          subst (Appends old_held new_held) (append_assoc counts (10 ∷ []) (closed rest.written.given ++ rest.written.part)
-          ∙ sym (append_assoc counts (10 ∷ closed rest.written.given) rest.written.part))
-          (Appends-trans old_held held new_held _ _ first rest.written.appended);
+          subst (Appends old.held new.held) (append_assoc b.text (10 ∷ []) (closed rest.written.given ++ rest.written.part)
+          ∙ sym (append_assoc b.text (10 ∷ closed rest.written.given) rest.written.part))
+          (Appends-trans old.held mid.held new.held _ _ b.written rest.written.appended);
     };
   }
 
-  first_line_read : (has_feed : Bool) (o : Opens old_left mid_left ahead opening has_feed) → new_left ≡ mid_left → AreRead o.takes.read new_left (o.line ∷ [])
-  first_line_read true o same = inl (record { plain = (o.plain, tt); rest = ahead; joined = o.takes.parted })
-  first_line_read false o same = inr (subst IsAtEnd (sym same) o.over.0, sym (only_lines o))
+  -- lines behind the first one, until a fault
+  pub then_fails : (fault : RunFault) → Begins old mid begun true → LinesFailBy fault mid new begun
+      → ServeFailsBy fault old.left new.left old.held new.held
+  then_fails Memory b is = inr (cut_short b is)
+  then_fails ReadFault b is = inr (cut_short b is)
+  then_fails WriteFault b is = cut_later b is
+  then_fails _ b is = absurd is
 
-  cut_first : (has_feed : Bool) → Opens old_left mid_left ahead opening has_feed → BeginsPart old new (beginning opening)
-      → IsPartlyServed old_left new_left old_held new_held
-  cut_first has_feed o is = record {
-    input = o.takes.read;
-    consumed = subst (λ (l : Option (List ℕ)). Consumes old_left l o.takes.read) (sym is.unread) o.takes.consumed;
-    lines = o.line ∷ [];
-    are_read = first_line_read has_feed o is.unread;
-    texts = is.counts ∷ [];
-    session = session_of has_feed o is.counts [] [] (beginning opening) is.counted refl;
+-- the first line is all that there is
+pub served_one : (old new : Streams) (begun : Option Standing) → Begins old new begun false → IsServed old.left new.left old.held new.held
+served_one old new begun b = record {
+  input = b.takes.read;
+  consumed = b.takes.consumed;
+  whole = b.over.0;
+  texts = b.text ∷ [];
+  session =
+      subst (λ (ls : List (List ℕ)). IsSession ls (b.text ∷ [])) (sym (only_lines old new new begun b))
+      (session_of old new new begun false b [] [] begun refl);
+  written = subst (Appends old.held new.held) (sym (append-nil (b.text ++ 10 ∷ []) )) b.written;
+}
+
+-- of the answer to the first line only a part is written
+module _ (old new : Streams) (is : BeginsPart old new) where
+  first_line_read : (has_feed : Bool) (t : Takes old.left new.left [] new.ahead (is.line ++ feed_if has_feed)) → OverUnless has_feed new.left new.ahead
+      → AreRead t.read new.left (is.line ∷ [])
+  first_line_read true t over = inl (record { plain = (is.plain, tt); rest = new.ahead; joined = t.parted })
+  first_line_read false t over = inr (over.0, sym (
+      ap lines_of (t.parted ∙ ap (λ (e : List ℕ). (is.line ++ []) ++ e) over.1 ∙ append-nil (is.line ++ []) ∙ append-nil is.line)
+      ∙ only_line old new new is.to is.line is.text is.plain is.answers))
+
+  cut_first : IsPartlyServed old.left new.left old.held new.held
+  cut_first = record {
+    input = is.takes.read;
+    consumed = is.takes.consumed;
+    lines = is.line ∷ [];
+    are_read = first_line_read is.has_feed is.takes is.over;
+    texts = is.text ∷ [];
+    session = record {
+      first = is.line;
+      others = [];
+      is_first = refl;
+      text = is.text;
+      answers = [];
+      are_texts = refl;
+      begun = is.to;
+      begins = is.answers;
+      standing = is.to;
+      answered = refl;
+      legal = line_legal (line_of true is.line) is.text None is.to is.answers.answers tt;
+    };
     written = record {
       given = [];
-      last = is.counts;
+      last = is.text;
       are_texts = refl;
-      part = is.part.part;
-      rest = is.part.rest;
-      split = is.part.split;
-      appended = is.part.appended;
+      part = is.written.part;
+      rest = is.written.rest;
+      split = is.written.split;
+      appended = is.written.appended;
     };
   }
 
-  pub fails : (fault : RunFault) (has_feed : Bool) → Opens old_left mid_left ahead opening has_feed
-      → BeginFailsBy fault has_feed price limits old new (beginning opening)
-      → ServeFailsBy fault old_left new_left old_held new_held
-  fails Memory has_feed o (inl kept) = inl kept
-  fails Memory has_feed o (inr is) = inr (cut_short has_feed o is.fed is.counts is.counted is.held is.first is.rest)
-  fails ReadFault has_feed o is = inr (cut_short has_feed o is.fed is.counts is.counted is.held is.first is.rest)
-  fails WriteFault has_feed o (inl part) = cut_first has_feed o part
-  fails WriteFault has_feed o (inr is) = cut_later has_feed o is.fed is.counts is.counted is.held is.first is.rest
-  fails _ has_feed o is = absurd is
-
--- a first line that could not be read, or is no opening
-pub open_fails : (fault : RunFault) (old_left new_left held : Option (List ℕ)) → OpenFailsBy fault old_left new_left
-    → ServeFailsBy fault old_left new_left held held
-open_fails Memory old_left new_left held is = inl (Keeps-refl held)
-open_fails (Script fault) old_left new_left held is = (is, Keeps-refl held)
-open_fails ReadFault old_left new_left held is = inl (is, Keeps-refl held)
-open_fails _ old_left new_left held is = absurd is
+-- the first line fails
+pub first_fails : (fault : RunFault) (old new : Streams) → FirstFailsBy fault old new → ServeFailsBy fault old.left new.left old.held new.held
+first_fails Memory old new is = inl is
+first_fails ReadFault old new is = inl is
+first_fails WriteFault old new is = cut_first old new is
+first_fails (Script fault) old new is = is
+first_fails BadLimits old new is = is
+first_fails (Price fault) old new is = is
+first_fails (Load fault) old new is = is
+first_fails NoSeat old new is = of_opening _ NoSeat is.0.first.is
+first_fails (Mismatch list i) old new is = of_opening _ (Mismatch list i) is.0.first.is
+first_fails (WrongReply i) old new is = of_opening _ (WrongReply i) is.0.first.is
+first_fails WrongPicture old new is = of_opening _ WrongPicture is.0.first.is

@@ -3,27 +3,20 @@ use Rattle.std.proofs.Common.{◌≡◌, ◌==◌, ℕ, Bool, true, false, List,
 use Rattle.std.proofs.Common.{length, suc, inl, inr, refl, sym, ap, subst, ◌∙◌, append_assoc, append-nil}
 use Rattle.std.specs.Io.KnownBytes.{Appends, Consumes, Keeps}
 use Rattle.std.proofs.KnownBytes.{Appends-nil, Appends-trans, Consumes-trans}
-use Rattle.topo_core.specs.declared.limits.Limits.{Limits}
-use Rattle.topo_core.specs.Routes.{Pricing}
-use Rattle.topo_settings.specs.declared.fault.RunFault.{RunFault}
-use Rattle.topo_settings.specs.declared.fault.RunFault.TheVariants.{Memory}
-use Rattle.topo_settings.specs.declared.fault.RunFault.TheVariants.{ReadFault, WriteFault}
-use Rattle.topo_book.specs.Books.{BookState}
-use Rattle.topo_forms.specs.declared.sessions.Opening.{Opening}
-use Rattle.topo_forms.specs.declared.sessions.Request.{Request}
-use Rattle.topo_forms.specs.Reads.{Read}
-use Rattle.topo_rows.specs.Shown.{Shown}
 use Rattle.std.proofs.lemmas.Bool.{false≢true}
-use Rattle.topo_serve.specs.Answers.{Answers, Standing, standing_of}
+use Rattle.topo_forms.specs.declared.lines.Line.{Line}
+use Rattle.topo_settings.specs.declared.fault.RunFault.{RunFault}
+use Rattle.topo_settings.specs.declared.fault.RunFault.TheVariants.{Memory, ReadFault, WriteFault}
+use Rattle.topo_session.specs.Answers.{AnswersLine}
+use Rattle.topo_session.specs.Standings.{Standing}
 use Rattle.topo_serve.specs.Lines.{IsPlain, closed, lines_of}
-use Rattle.topo_serve.specs.Sessions.{AreAnswered, AreRead, begins_at}
+use Rattle.topo_serve.specs.Sessions.{AreAnswered, AreRead}
 use Rattle.topo_serve.specs.Taking.{IsOver, OverUnless, Takes, TakesLine, feed_if}
-use Rattle.topo_serve.specs.Turns.{AnswerFailsBy, BeginFailsBy, BeginsAll, BeginsSome, HasServed, IsAnsweredBy, IsCutBy}
-use Rattle.topo_serve.specs.Turns.{IsOpened, IsTurn, LineFailsBy, LinesFailBy, OfLine, OpenedFailsBy, RestServed}
+use Rattle.topo_serve.specs.Turns.{AnswerFailsBy, HasServed, IsAnsweredBy, IsCutBy, IsTurn, LineFailsBy, LinesFailBy, OfLine}
 use Rattle.topo_serve.specs.Turns.{ServesAll, ServesPart, ServesSome, Stays, Stops, Streams, TurnFailsBy}
 use Rattle.topo_serve.proofs.AnswerLaws.{answered_snoc}
 use Rattle.topo_serve.proofs.LineLaws.{closed_snoc, line_alone, lines_closed, plain_snoc}
-use Rattle.topo_serve.proofs.KeptLines.{request_kept}
+use Rattle.topo_serve.proofs.KeptLines.{line_kept}
 use Rattle.topo_serve.proofs.TakingLaws.{takes_none, takes_trans}
 
 -- ---- Known bytes
@@ -36,8 +29,8 @@ keeps_appends (Some x) (Some y) (Some z) bs p q = q ∙ p
 
 -- ---- Turns
 
-pub served_none : (price : Pricing) (limits : Limits) (at : Streams) (from : Standing) → HasServed price limits at at from from
-served_none price limits at from = record {
+pub served_none : (at : Streams) (from : Option Standing) → HasServed at at from from
+served_none at from = record {
   lines = [];
   plain = tt;
   takes = takes_none at.left at.ahead;
@@ -46,18 +39,18 @@ served_none price limits at from = record {
   written = Appends-nil at.held;
 }
 
-module _ (price : Pricing) (limits : Limits) (old mid new : Streams) (from now : Standing) (is : HasServed price limits old mid from now) where
+module _ (old mid new : Streams) (from now : Option Standing) (is : HasServed old mid from now) where
   -- a line is taken behind the others
   taken_more : (taken : List ℕ) → Takes mid.left new.left mid.ahead new.ahead taken → Takes old.left new.left old.ahead new.ahead (closed is.lines ++ taken)
   taken_more taken takes = takes_trans old.left mid.left new.left old.ahead mid.ahead new.ahead (closed is.lines) taken is.takes takes
 
-  pub turn_on : (to : Standing) → IsTurn price limits mid new now to true → HasServed price limits old new from to
+  pub turn_on : (to : Option Standing) → IsTurn mid new now to true → HasServed old new from to
   turn_on to turn = record {
     lines = is.lines ++ turn.line ∷ [];
     plain = plain_snoc is.lines turn.line is.plain turn.plain;
     takes = subst (Takes old.left new.left old.ahead new.ahead) (sym (closed_snoc is.lines turn.line)) (taken_more (turn.line ++ 10 ∷ []) turn.takes);
     texts = is.texts ++ turn.told.text ∷ [];
-    answered = answered_snoc price limits turn.line turn.told.text is.lines is.texts from now to is.answered turn.told.answers;
+    answered = answered_snoc turn.line turn.told.text is.lines is.texts from now to is.answered turn.told.answers;
     written = subst (Appends old.held new.held) (sym (closed_snoc is.texts turn.told.text))
         (Appends-trans old.held mid.held new.held _ _ is.written turn.told.written);
   }
@@ -70,8 +63,8 @@ module _ (price : Pricing) (limits : Limits) (old mid new : Streams) (from now :
       ∙ lines_closed is.lines last is.plain
 
   -- the turn at the end of the input
-  ends_with : (to : Standing) (line : List ℕ) → IsPlain line → Takes mid.left new.left mid.ahead new.ahead (line ++ []) → IsOver new.left new.ahead
-      → OfLine false line (IsAnsweredBy price limits line mid.held new.held now to) (Stays mid.held new.held now to) → ServesAll price limits old new from
+  ends_with : (to : Option Standing) (line : List ℕ) → IsPlain line → Takes mid.left new.left mid.ahead new.ahead (line ++ []) → IsOver new.left new.ahead
+      → OfLine false line (IsAnsweredBy line mid.held new.held now to) (Stays mid.held new.held now to) → ServesAll old new from
   ends_with to [] plain takes over told =
       let t = taken_more [] takes in
       record {
@@ -80,7 +73,7 @@ module _ (price : Pricing) (limits : Limits) (old mid new : Streams) (from now :
         whole = over.0;
         texts = is.texts;
         to = now;
-        answered = subst (λ (ls : List (List ℕ)). AreAnswered price limits ls is.texts from now)
+        answered = subst (λ (ls : List (List ℕ)). AreAnswered ls is.texts from now)
             (sym (all_lines [] t over.1 ∙ append-nil is.lines)) is.answered;
         written = keeps_appends old.held mid.held new.held (closed is.texts) is.written told.1;
       }
@@ -95,19 +88,19 @@ module _ (price : Pricing) (limits : Limits) (old mid new : Streams) (from now :
         texts = is.texts ++ told.text ∷ [];
         to = to;
         answered =
-            subst (λ (ls : List (List ℕ)). AreAnswered price limits ls (is.texts ++ told.text ∷ []) from to) (sym all)
-            (answered_snoc price limits (b ∷ line) told.text is.lines is.texts from now to is.answered told.answers);
+            subst (λ (ls : List (List ℕ)). AreAnswered ls (is.texts ++ told.text ∷ []) from to) (sym all)
+            (answered_snoc (b ∷ line) told.text is.lines is.texts from now to is.answered told.answers);
         written = subst (Appends old.held new.held) (sym (closed_snoc is.texts told.text))
             (Appends-trans old.held mid.held new.held _ _ is.written told.written);
       }
 
-  pub turn_last : (to : Standing) → IsTurn price limits mid new now to false → ServesAll price limits old new from
+  pub turn_last : (to : Option Standing) → IsTurn mid new now to false → ServesAll old new from
   turn_last to turn = ends_with to turn.line turn.plain turn.takes turn.over turn.told
 
   -- ---- Faults
 
   -- lines were answered, and then only read
-  stops : Stops mid new → ServesSome price limits old new from
+  stops : Stops mid new → ServesSome old new from
   stops stop =
       let read = is.takes.read ++ stop.0.read in
       record {
@@ -129,7 +122,7 @@ module _ (price : Pricing) (limits : Limits) (old mid new : Streams) (from now :
 
   -- the last answer is cut, of a line that was read
   cut_off : (line : List ℕ) (read : List ℕ) → Consumes old.left new.left read → AreRead (old.ahead ++ read) new.left (is.lines ++ line ∷ [])
-      → IsCutBy price limits line mid.held new.held now → ServesPart price limits old new from
+      → IsCutBy line mid.held new.held now → ServesPart old new from
   cut_off line read consumed are_read cut = record {
     read = read;
     consumed = consumed;
@@ -137,7 +130,7 @@ module _ (price : Pricing) (limits : Limits) (old mid new : Streams) (from now :
     are_read = are_read;
     texts = is.texts ++ cut.text ∷ [];
     to = cut.new;
-    answered = answered_snoc price limits line cut.text is.lines is.texts from now cut.new is.answered cut.answers;
+    answered = answered_snoc line cut.text is.lines is.texts from now cut.new is.answered cut.answers;
     written = record {
       given = is.texts;
       last = cut.text;
@@ -151,7 +144,7 @@ module _ (price : Pricing) (limits : Limits) (old mid new : Streams) (from now :
 
   breaks : (has_feed : Bool) (line : List ℕ) → IsPlain line → Takes mid.left new.left mid.ahead new.ahead (line ++ feed_if has_feed)
       → OverUnless has_feed new.left new.ahead
-      → OfLine has_feed line (IsCutBy price limits line mid.held new.held now) ⊥ → ServesPart price limits old new from
+      → OfLine has_feed line (IsCutBy line mid.held new.held now) ⊥ → ServesPart old new from
   breaks true line plain takes over told =
       let t = taken_more (line ++ 10 ∷ []) takes in
       cut_off line t.read t.consumed
@@ -168,50 +161,11 @@ module _ (price : Pricing) (limits : Limits) (old mid new : Streams) (from now :
       let all = all_lines ((b ∷ line) ++ []) t over.1 ∙ ap (λ (ls : List (List ℕ)). is.lines ++ ls) alone in
       cut_off (b ∷ line) t.read t.consumed (inr (over.0, sym all)) told
 
-  pub turn_fails : (fault : RunFault) → TurnFailsBy fault price limits mid new now → LinesFailBy fault price limits old new from
+  pub turn_fails : (fault : RunFault) → TurnFailsBy fault mid new now → LinesFailBy fault old new from
   turn_fails Memory fails = stops fails
   turn_fails ReadFault fails = stops fails
   turn_fails WriteFault fails = breaks fails.has_feed fails.line fails.plain fails.takes fails.over fails.told
   turn_fails _ fails = absurd fails
-
--- ---- The answer to the opening
-
-module _ (has_feed : Bool) (price : Pricing) (limits : Limits) (old new : Streams) (from : Standing) where
-  pub first_fails : (fault : RunFault) → new.left ≡ old.left → OpenedFailsBy fault from.picture old.held new.held
-      → BeginFailsBy fault has_feed price limits old new from
-  first_fails Memory unread is = inl is
-  first_fails WriteFault unread is = inl (record { counts = is.counts; counted = is.counted; unread = unread; part = is.part })
-  first_fails _ unread is = absurd is
-
-  module _ (held : Option (List ℕ)) (is : IsOpened from.picture old.held held) where
-    pub then_done : has_feed ≡ false → new.left ≡ old.left → Keeps held new.held → BeginsAll has_feed price limits old new from
-    then_done fed left kept = record {
-      counts = is.counts;
-      counted = is.counted;
-      held = held;
-      first = is.first;
-      rest = subst (λ (b : Bool). RestServed b price limits (record old { held = held }) new from) (sym fed) (left, kept);
-    }
-
-    pub then_all : has_feed ≡ true → ServesAll price limits (record old { held = held }) new from → BeginsAll has_feed price limits old new from
-    then_all fed all = record {
-      counts = is.counts;
-      counted = is.counted;
-      held = held;
-      first = is.first;
-      rest = subst (λ (b : Bool). RestServed b price limits (record old { held = held }) new from) (sym fed) all;
-    }
-
-    then_some : (fault : RunFault) → has_feed ≡ true → LinesFailBy fault price limits (record old { held = held }) new from
-        → BeginsSome fault has_feed price limits old new from
-    then_some fault fed rest = record { fed = fed; counts = is.counts; counted = is.counted; held = held; first = is.first; rest = rest }
-
-    pub then_fails : (fault : RunFault) → has_feed ≡ true → LinesFailBy fault price limits (record old { held = held }) new from
-        → BeginFailsBy fault has_feed price limits old new from
-    then_fails Memory fed some = inr (then_some Memory fed some)
-    then_fails ReadFault fed some = then_some ReadFault fed some
-    then_fails WriteFault fed some = inr (then_some WriteFault fed some)
-    then_fails _ fed some = absurd some
 
 -- ---- One turn, of what was kept of its line
 
@@ -233,34 +187,34 @@ of_kept n true line kept some other none is f told = f told
 of_kept n false [] kept some other none is f told = rw is at told
 of_kept n false (b ∷ line) kept some other none is f told = f (rw is at told)
 
-module _ (price : Pricing) (limits : Limits) (old new : Streams) (from : Standing) (has_feed : Bool) (kept : List ℕ)
-    (t : TakesLine 65537 old.left new.left old.ahead new.ahead kept has_feed) where
-  answered_kept : (to : Standing) → IsAnsweredBy price limits kept old.held new.held from to → IsAnsweredBy price limits t.line old.held new.held from to
+module _ (old new : Streams) (from : Option Standing) (has_feed : Bool) (kept : List ℕ)
+    (t : TakesLine 268435457 old.left new.left old.ahead new.ahead kept has_feed) where
+  answered_kept : (to : Option Standing) → IsAnsweredBy kept old.held new.held from to → IsAnsweredBy t.line old.held new.held from to
   answered_kept to a = record {
     text = a.text;
-    answers = subst (λ (r : Read Request). Answers price limits r a.text from to) (request_kept t.line kept t.is_kept) a.answers;
+    answers = subst (λ (l : Line). AnswersLine l a.text from to) (line_kept false t.line kept t.is_kept) a.answers;
     written = a.written;
   }
 
-  cut_kept : IsCutBy price limits kept old.held new.held from → IsCutBy price limits t.line old.held new.held from
+  cut_kept : IsCutBy kept old.held new.held from → IsCutBy t.line old.held new.held from
   cut_kept a = record {
     text = a.text;
     new = a.new;
-    answers = subst (λ (r : Read Request). Answers price limits r a.text from a.new) (request_kept t.line kept t.is_kept) a.answers;
+    answers = subst (λ (l : Line). AnswersLine l a.text from a.new) (line_kept false t.line kept t.is_kept) a.answers;
     written = a.written;
   }
 
-  pub turn_made : (to : Standing) → OfLine has_feed kept (IsAnsweredBy price limits kept old.held new.held from to) (Stays old.held new.held from to)
-      → IsTurn price limits old new from to has_feed
+  pub turn_made : (to : Option Standing) → OfLine has_feed kept (IsAnsweredBy kept old.held new.held from to) (Stays old.held new.held from to)
+      → IsTurn old new from to has_feed
   turn_made to told = record {
     line = t.line;
     plain = t.plain;
     takes = t.takes;
     over = t.over;
-    told = of_kept 65536 has_feed t.line kept _ _ _ t.is_kept (answered_kept to) told;
+    told = of_kept 268435456 has_feed t.line kept _ _ _ t.is_kept (answered_kept to) told;
   }
 
-  pub turn_told : (fault : RunFault) → LineFailsBy fault has_feed price limits kept old.held new.held from → TurnFailsBy fault price limits old new from
+  pub turn_told : (fault : RunFault) → LineFailsBy fault has_feed kept old.held new.held from → TurnFailsBy fault old new from
   turn_told Memory is = (record { read = t.takes.read; consumed = t.takes.consumed }, is)
   turn_told WriteFault is = record {
     has_feed = has_feed;
@@ -268,25 +222,17 @@ module _ (price : Pricing) (limits : Limits) (old new : Streams) (from : Standin
     plain = t.plain;
     takes = t.takes;
     over = t.over;
-    told = of_kept 65536 has_feed t.line kept _ _ _ t.is_kept cut_kept is;
+    told = of_kept 268435456 has_feed t.line kept _ _ _ t.is_kept cut_kept is;
   }
   turn_told _ is = absurd is
 
-pub line_fails : (fault : RunFault) (has_feed : Bool) (price : Pricing) (limits : Limits) (line : List ℕ) (old_held new_held : Option (List ℕ))
-    (from : Standing)
-    → ((some : Type 0) → some → OfLine has_feed line some ⊥) → AnswerFailsBy fault price limits line old_held new_held from
-    → LineFailsBy fault has_feed price limits line old_held new_held from
-line_fails Memory has_feed price limits line oh nh from of is = is
-line_fails WriteFault has_feed price limits line oh nh from of is = of _ is
-line_fails _ has_feed price limits line oh nh from of is = absurd is
-
--- ---- A book that has begun
-
-pub begun_so : {F : Type 0} (P : Limits → Standing → Type 0) (book : BookState F) (start : Shown) (opening : Opening) → book.start ≡ start
-    → book.history ≡ [] → book.picture ≡ start → P book.picture.limits (standing_of opening book) → P start.limits (begins_at opening start.rows)
-begun_so P book start opening begin empty picture p =
-    let at : standing_of opening book ≡ begins_at opening start.rows = rw (begin, empty, picture) refl in
-    subst (λ (s : Shown). P s.limits (begins_at opening start.rows)) picture (subst (P book.picture.limits) at p)
+pub line_fails : (fault : RunFault) (has_feed : Bool) (line : List ℕ) (old_held new_held : Option (List ℕ))
+    (from : Option Standing)
+    → ((some : Type 0) → some → OfLine has_feed line some ⊥) → AnswerFailsBy fault line old_held new_held from
+    → LineFailsBy fault has_feed line old_held new_held from
+line_fails Memory has_feed line oh nh from of is = is
+line_fails WriteFault has_feed line oh nh from of is = of _ is
+line_fails _ has_feed line oh nh from of is = absurd is
 
 pub not_empty : (line : List ℕ) (test : Bool) → test ≡ (length line == 0) → test ≡ false → line ≡ [] → ⊥
 not_empty [] test is unmet none = false≢true (sym unmet ∙ is)

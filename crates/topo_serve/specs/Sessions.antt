@@ -1,14 +1,12 @@
 -- What a session reads and writes.
-use Rattle.std.specs.Prelude.{◌≡◌, ◌⊎◌, ◌<◌, ◌≤◌, ℕ, List, [], ◌∷◌, ◌++◌, length, Option, None, Some, ⊤}
+use Rattle.std.specs.Prelude.{◌≡◌, ◌⊎◌, ◌<◌, ◌≤◌, ℕ, List, [], ◌∷◌, ◌++◌, length, Option, None}
 use Rattle.std.specs.Io.KnownBytes.{Appends, Consumes, IsAtEnd, Keeps}
-use Rattle.topo_core.specs.History.{Replays}
 use Rattle.topo_forms.specs.Sessions.{line_of}
 use Rattle.topo_settings.specs.declared.fault.RunFault.{RunFault}
 use Rattle.topo_settings.specs.declared.fault.RunFault.TheVariants.{Memory, Script, BadLimits, Price, Load, NoSeat, Mismatch}
 use Rattle.topo_settings.specs.declared.fault.RunFault.TheVariants.{WrongReply, WrongPicture, ReadFault, WriteFault}
-use Rattle.topo_settings.specs.Settings.{priced}
 use Rattle.topo_session.specs.Answers.{AnswersFirst, AnswersLine, IsBadOpening}
-use Rattle.topo_session.specs.Standings.{Standing}
+use Rattle.topo_session.specs.Standings.{HasLegalHistory, Standing}
 use Rattle.topo_serve.specs.Lines.{BeginsWith, closed, first_line, lines_of}
 use Rattle.topo_serve.specs.Taking.{ReadsNoFeed}
 
@@ -21,11 +19,6 @@ AreAnswered [] (text ∷ texts) old new = ⊥
 AreAnswered (line ∷ lines) [] old new = ⊥
 AreAnswered (line ∷ lines) (text ∷ texts) old new =
     (next : Option Standing) × AnswersLine (line_of false line) text old next × AreAnswered lines texts next new
-
--- the history leads from the start to the picture, each entry by a step, at the prices and under the limits of the opening
-abbrev pub IsLegal : Option Standing → Type 0
-IsLegal None = ⊤
-IsLegal (Some s) = Replays (priced s.prices) s.limits s.start s.history s.picture
 
 -- ---- Sessions
 
@@ -42,7 +35,7 @@ pub record IsSession (lines texts : List (List ℕ)) : Type 0 where
   pub begins : AnswersFirst (line_of true first) text begun
   pub standing : Option Standing
   pub answered : AreAnswered others answers begun standing
-  pub legal : IsLegal standing
+  pub legal : HasLegalHistory standing
 
 -- ---- What a session reads
 

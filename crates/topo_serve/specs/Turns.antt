@@ -3,8 +3,7 @@ use Rattle.std.specs.Prelude.{◌≡◌, ◌⊎◌, ◌≤◌, ℕ, Bool, true, 
 use Rattle.std.specs.Io.KnownBytes.{Appends, Consumes, IsAtEnd, Keeps}
 use Rattle.topo_forms.specs.Sessions.{line_of}
 use Rattle.topo_settings.specs.declared.fault.RunFault.{RunFault}
-use Rattle.topo_settings.specs.declared.fault.RunFault.TheVariants.{Memory, Script, BadLimits, Price, Load, NoSeat, Mismatch}
-use Rattle.topo_settings.specs.declared.fault.RunFault.TheVariants.{WrongReply, WrongPicture, ReadFault, WriteFault}
+use Rattle.topo_settings.specs.declared.fault.RunFault.TheVariants.{Memory, ReadFault, WriteFault}
 use Rattle.topo_settings.specs.Writing.{AppendsPart}
 use Rattle.topo_session.specs.Answers.{AnswersFirst, AnswersLine}
 use Rattle.topo_session.specs.Standings.{Standing}
@@ -169,11 +168,4 @@ abbrev pub FirstFailsBy : RunFault → Streams → Streams → Type 0
 FirstFailsBy Memory old new = Keeps old.held new.held
 FirstFailsBy ReadFault old new = ReadsNoFeed old.left new.left × Keeps old.held new.held
 FirstFailsBy WriteFault old new = BeginsPart old new
-FirstFailsBy (Script fault) old new = OpensNone old.left new.left (Script fault) × Keeps old.held new.held
-FirstFailsBy BadLimits old new = OpensNone old.left new.left BadLimits × Keeps old.held new.held
-FirstFailsBy (Price fault) old new = OpensNone old.left new.left (Price fault) × Keeps old.held new.held
-FirstFailsBy (Load fault) old new = OpensNone old.left new.left (Load fault) × Keeps old.held new.held
-FirstFailsBy NoSeat old new = ⊥
-FirstFailsBy (Mismatch list i) old new = ⊥
-FirstFailsBy (WrongReply i) old new = ⊥
-FirstFailsBy WrongPicture old new = ⊥
+FirstFailsBy fault old new = OpensNone old.left new.left fault × Keeps old.held new.held

@@ -7,9 +7,9 @@ use Rattle.topo_core.specs.declared.darts.Dart.{Dart}
 use Rattle.topo_core.specs.declared.rows.Rows.{Rows}
 use Rattle.topo_core.specs.History.{call_of}
 use Rattle.topo_core.specs.Picture.{edge_row}
-use Rattle.topo_forms.specs.declared.sessions.Asked.{Asked as Asking}
-use Rattle.topo_forms.specs.declared.sessions.Line.{Line}
-use Rattle.topo_forms.specs.declared.sessions.Frame.TheVariants.{Opening}
+use Rattle.topo_forms.specs.declared.lines.Asked.{Asked as Asking}
+use Rattle.topo_forms.specs.declared.lines.Line.{Line}
+use Rattle.topo_forms.specs.declared.lines.Frame.TheVariants.{Opening}
 use Rattle.topo_forms.specs.declared.sessions.Opening.{Opening as Opened}
 use Rattle.topo_forms.specs.declared.sessions.Request.{Request}
 use Rattle.topo_forms.specs.declared.sessions.Request.TheVariants.{Carry, Counts as AskCounts, Picture as AskPicture, Report as AskReport, About}

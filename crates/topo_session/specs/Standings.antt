@@ -1,5 +1,5 @@
 -- Where a session stands, and what calls make of it.
-use Rattle.std.specs.Prelude.{◌≡◌, ℕ, List, [], ◌∷◌, ◌++◌, Option}
+use Rattle.std.specs.Prelude.{◌≡◌, ℕ, List, [], ◌∷◌, ◌++◌, Option, None, Some, ⊤}
 use Rattle.topo_book.specs.Books.{BookState, IsDue}
 use Rattle.topo_core.specs.declared.calls.Call.{Call}
 use Rattle.topo_core.specs.declared.calls.Call.TheVariants.{Insert}
@@ -7,6 +7,7 @@ use Rattle.topo_core.specs.declared.calls.Entry.{Entry}
 use Rattle.topo_core.specs.declared.calls.Reply.{Reply}
 use Rattle.topo_core.specs.declared.limits.Limits.{Limits}
 use Rattle.topo_core.specs.declared.rows.Rows.{Rows}
+use Rattle.topo_core.specs.History.{Replays}
 use Rattle.topo_core.specs.Steps.{Step}
 use Rattle.topo_forms.specs.declared.reports.Report.{Report}
 use Rattle.topo_forms.specs.declared.scripts.LimitRows.{LimitRows}
@@ -46,3 +47,8 @@ pub record Enters (caller : ℕ) (call : Call) (reply : Reply) (old new : Standi
 -- the reply that an insertion of an edge of kind 0 would have now
 abbrev pub IsRouteReply : Standing → ℕ → ℕ → Reply → Type 0
 IsRouteReply s u v reply = IsDue (priced s.prices) s.limits s.picture (Insert u v 0) reply
+
+-- the history leads from the start to the picture, each entry by a step, at the prices and under the limits of the opening
+abbrev pub HasLegalHistory : Option Standing → Type 0
+HasLegalHistory None = ⊤
+HasLegalHistory (Some s) = Replays (priced s.prices) s.limits s.start s.history s.picture

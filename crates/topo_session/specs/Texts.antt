@@ -1,5 +1,5 @@
 -- The texts that answer a line.
-use Rattle.std.specs.Prelude.{ℕ, List, [], ◌∷◌, ◌++◌, codes, decimal, string_bytes, String, Option, None, Some}
+use Rattle.std.specs.Prelude.{ℕ, List, [], ◌∷◌, ◌++◌, codes, decimal, Option, None, Some}
 use Rattle.serde_json.specs.Data.{Data, string, array, object, no_items, item, no_members, member}
 use Rattle.serde_json.specs.Written.{compact_text}
 use Rattle.topo_core.specs.declared.calls.Refusal.TheVariants.{NoEdge}
@@ -10,10 +10,10 @@ use Rattle.topo_core.specs.declared.routes.Inserted.{Inserted as Made}
 use Rattle.topo_forms.specs.declared.fault.ScriptFault.{ScriptFault}
 use Rattle.topo_forms.specs.declared.fault.ScriptFault.TheVariants.{Memory as NoMemory, NotJson, TooLong, BadShape, BadVersion, BadNumber}
 use Rattle.topo_forms.specs.declared.path.Path.{Path}
-use Rattle.topo_forms.specs.declared.sessions.Frame.{Frame}
-use Rattle.topo_forms.specs.declared.sessions.Frame.TheVariants.{Opening, Bare, Envelope}
-use Rattle.topo_forms.specs.declared.sessions.LineId.{LineId}
-use Rattle.topo_forms.specs.declared.sessions.LineId.TheVariants.{Text, Number}
+use Rattle.topo_forms.specs.declared.lines.Frame.{Frame}
+use Rattle.topo_forms.specs.declared.lines.Frame.TheVariants.{Opening, Bare, Envelope}
+use Rattle.topo_forms.specs.declared.lines.LineId.{LineId}
+use Rattle.topo_forms.specs.declared.lines.LineId.TheVariants.{Text, Number}
 use Rattle.topo_forms.specs.FaultTexts.{fault_name as script_name, fault_number as script_number}
 use Rattle.topo_forms.specs.Paths.{path_text}
 use Rattle.topo_picture.specs.declared.counts.Counts.{Counts}
@@ -139,7 +139,7 @@ fault_text WriteFault = numbered_text (fault_number WriteFault) (fault_name Writ
 -- ---- Envelopes
 
 abbrev pub id_data : LineId → Data
-id_data (Text text) = string (string_bytes text)
+id_data (Text text) = string text
 id_data (Number n) = number_data n
 
 -- an answer as it stands in its line: an envelope's has the id that the envelope had

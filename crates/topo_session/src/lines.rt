@@ -18,13 +18,12 @@ ghost use Rattle.topo_settings.specs.Settings.{IsUnsound};
 
 use crate::session::Session;
 use crate::tables::FromTable;
-use crate::texts::{fault_text, face_text, framed, route_text, text_like, text_of};
+use crate::texts::{counts_text, fault_text, face_text, framed, route_text, text_like, text_of};
 use std::alloc::{AllocError, Global};
 use std::mem;
 use topo_core::calls::{Call, Command, Refusal, Reply};
 use topo_core::darts::Dart;
-use topo_forms::sessions::{Asked, Frame, Line};
-use topo_forms::{Opening, Request, ScriptFault, read_line};
+use topo_forms::{Asked, Frame, Line, Opening, Request, ScriptFault, read_line};
 use topo_price::tariff::PriceFn;
 use topo_script::{picture_text, report};
 use topo_settings::RunFault;
@@ -127,7 +126,7 @@ fn tell_face<F: PriceFn>(
 fn tell_counts<F: PriceFn>(alloc: Global, session: &Session<F>) -> Result<String, AllocError>
     ensures { IfOk result (λ text. TellsCounts session.now.picture (string_bytes text)) }
 {
-    text_of(alloc, &session.counts())
+    counts_text(alloc, &session.counts())
 }
 
 /// The text of the picture.
@@ -286,7 +285,7 @@ pub fn answer<F: FromTable>(
     let Line { frame, asked } = read_line(alloc, false, line);
     let outcome = respond(alloc, session, asked);
     let text = tell(alloc, outcome)?;
-    framed(alloc, frame, text)
+    framed(alloc, &frame, text)
 }
 
 /// Answers the first line, where no session is open. It may be an opening as it is, and a fault of
@@ -310,5 +309,5 @@ pub fn answer_first<F: FromTable>(
     let Ok(text) = tell(alloc, outcome) else {
         return Err(RunFault::Memory);
     };
-    or_memory(framed(alloc, frame, text))
+    or_memory(framed(alloc, &frame, text))
 }

@@ -1,9 +1,10 @@
 //! The texts of answers.
 
 ghost use Rattle.std.specs.Prelude.{◌≡◌, ◌++◌, IfOk, OnOk, codes, decimal, string_bytes};
+ghost use Rattle.serde_json.specs.Data.{string};
 ghost use Rattle.serde_json.specs.Written.{compact_text};
 ghost use Rattle.topo_forms.specs.Paths.{path_text};
-ghost use Rattle.topo_session.specs.Texts.{counts_data, edge_data, end_data, face_data};
+ghost use Rattle.topo_session.specs.Texts.{counts_text, edge_data, end_data, face_data};
 ghost use Rattle.topo_session.specs.Texts.{fault_text, framed, id_data, meeting_data};
 ghost use Rattle.topo_session.specs.Texts.{numbered_text, priced_text, route_data};
 ghost use Rattle.topo_session.specs.Texts.{route_reply_data, script_fault_text, vertex_data};
@@ -17,24 +18,31 @@ use topo_core::darts::Dart;
 use topo_core::listed::Listed;
 use topo_core::routes::Inserted;
 use topo_forms::path::Path;
-use topo_forms::sessions::{Frame, LineId};
-use topo_forms::ScriptFault;
+use topo_forms::{Frame, LineId, ScriptFault};
 use topo_picture::Counts;
 use topo_price::table::PriceFault;
 use topo_script::written::{Written, write_after, write_next};
 use topo_settings::RunFault;
 
-impl Written for Counts {
-    ghost value = { counts_data };
+/// Writes counts at the end of a text.
+fn write_counts(out: &mut String, counts: &Counts) -> Result<(), AllocError>
+    ensures { OnOk result (string_bytes out.new ≡ string_bytes out.old ++ counts_text counts.now) }
+{
+    write_after(out, "{\"crossings\":", &counts.crossings)?;
+    write_after(out, ",\"edges\":", &counts.edges)?;
+    write_after(out, ",\"faces\":", &counts.faces)?;
+    write_after(out, ",\"segments\":", &counts.segments)?;
+    write_after(out, ",\"vertices\":", &counts.vertices)?;
+    out.push_str("}")
+}
 
-    fn write(&self, out: &mut String) -> Result<(), AllocError> {
-        write_after(out, "{\"crossings\":", &self.crossings)?;
-        write_after(out, ",\"edges\":", &self.edges)?;
-        write_after(out, ",\"faces\":", &self.faces)?;
-        write_after(out, ",\"segments\":", &self.segments)?;
-        write_after(out, ",\"vertices\":", &self.vertices)?;
-        out.push('}')
-    }
+/// The text of counts.
+pub fn counts_text(alloc: Global, counts: &Counts) -> Result<String, AllocError>
+    ensures { IfOk result (λ text. string_bytes text ≡ counts_text counts.now) }
+{
+    let mut text = String::new(alloc);
+    write_counts(&mut text, counts)?;
+    Ok(text)
 }
 
 impl Written for Meeting {
@@ -203,19 +211,27 @@ pub fn fault_text(alloc: Global, fault: RunFault) -> Result<String, AllocError>
     }
 }
 
+/// The JSON text of a text.
+fn quoted(alloc: Global, text: &str) -> Result<String, AllocError>
+    ensures { IfOk result (λ quoted. string_bytes quoted ≡ compact_text (string text.now)) }
+{
+    let text = String::from_str(alloc, text)?;
+    Value::String(text).to_string(alloc)
+}
+
 /// The text of an id.
-fn id_text(alloc: Global, id: LineId) -> Result<String, AllocError>
-    ensures { IfOk result (λ text. string_bytes text ≡ compact_text (id_data id)) }
+fn id_text(alloc: Global, id: &LineId) -> Result<String, AllocError>
+    ensures { IfOk result (λ text. string_bytes text ≡ compact_text (id_data id.now)) }
 {
     match id {
-        LineId::Text(text) => Value::String(text).to_string(alloc),
-        LineId::Number(number) => text_of(alloc, &number),
+        LineId::Text(text) => quoted(alloc, text.as_str()),
+        LineId::Number(number) => text_of(alloc, number),
     }
 }
 
 /// An answer as it stands in its line.
-pub fn framed(alloc: Global, frame: Frame, answer: String) -> Result<String, AllocError>
-    ensures { IfOk result (λ text. string_bytes text ≡ framed frame (string_bytes answer)) }
+pub fn framed(alloc: Global, frame: &Frame, answer: String) -> Result<String, AllocError>
+    ensures { IfOk result (λ text. string_bytes text ≡ framed frame.now (string_bytes answer)) }
 {
     match frame {
         Frame::Opening => Ok(answer),
@@ -234,9 +250,9 @@ fn enveloped(alloc: Global, answer: &str) -> Result<String, AllocError>
 }
 
 /// An answer in an envelope with this id.
-fn enveloped_as(alloc: Global, id: LineId, answer: &str) -> Result<String, AllocError>
+fn enveloped_as(alloc: Global, id: &LineId, answer: &str) -> Result<String, AllocError>
     ensures { IfOk result (λ text. string_bytes text ≡ codes "{\"answer\":" ++ (answer.now
-        ++ (codes ",\"id\":" ++ (compact_text (id_data id) ++ codes "}")))) }
+        ++ (codes ",\"id\":" ++ (compact_text (id_data id.now) ++ codes "}")))) }
 {
     let id = id_text(alloc, id)?;
     format!(in alloc; "{{\"answer\":{answer},\"id\":{id}}}")
