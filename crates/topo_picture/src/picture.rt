@@ -146,7 +146,7 @@ impl Picture {
         if dart.seg as usize > edge.crossings.len() {
             return Ok(None);
         }
-        let found = face_from(alloc, &self.embedded, dart)?;
+        let found = face_from(alloc, &self.embedded, &dart)?;
         Ok(Some(found))
     }
 

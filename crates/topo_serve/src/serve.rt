@@ -169,7 +169,10 @@ fn answer_if<F: FromTable, O: Write>(
     ensures fault { IfErr result (λ fault. LineFailsBy fault has_feed line.now
         (O.contents writer.old) (O.contents writer.new) session.old) }
 {
-    if !has_feed && line.is_empty() {
+    if has_feed {
+        return answer_one(alloc, session, line, writer);
+    }
+    if line.is_empty() {
         return Ok(());
     }
     answer_one(alloc, session, line, writer)
