@@ -7,7 +7,7 @@ use Rattle.std.proofs.lemmas.Bool.{and_parts, and_right, ltb-true, ltb-false}
 use Rattle.std.proofs.lemmas.Map.Text.{is_eq-slice_cmp}
 use Rattle.std.proofs.lemmas.Slice.Eq.{bytes_eq-Decides}
 use Rattle.serde_json.specs.Data.{Data, string, object, Members, no_members, member}
-use Rattle.serde_json.specs.Find.{at, get_member}
+use Rattle.serde_json.specs.Find.{at, as_str, get_member}
 use Rattle.topo_core.specs.declared.calls.Command.{Command}
 use Rattle.topo_forms.specs.declared.fault.ScriptFault.{ScriptFault}
 use Rattle.topo_forms.specs.declared.fault.ScriptFault.TheVariants.{Memory, BadShape}
@@ -26,10 +26,20 @@ use Rattle.topo_forms.specs.CallForms.{begins, call_form, command_form, plain_fo
 use Rattle.topo_forms.specs.Paths.{key_name, whole}
 use Rattle.topo_forms.specs.Reads.{Read, and_then, passes, json_of, is_text, element_count, has_key, is_known, all_known, all_there, has_keys, value_of, IsFirstFault, Gives}
 use Rattle.topo_forms.specs.Scripts.{nulls_in}
-use Rattle.topo_forms.specs.Sessions.{carry_form, look_form, request_form, opening_form, opened_form, bare_asked, envelope_head, envelope_asked, envelope_line}
+use Rattle.topo_forms.specs.Sessions.{text_id, number_id, id_form, carry_form, look_form, request_form, opening_form, opened_form, bare_asked, envelope_head, envelope_asked, envelope_line}
 use Rattle.topo_forms.specs.Sessions.{line_form, line_limit, line_or, line_of, frame_without, has_brace, ReadsLine}
 use Rattle.topo_forms.proofs.Bytes.{too_long, within}
 use Rattle.topo_forms.proofs.Steps.{went}
+
+-- ---- Ids
+
+pub text_there : (path : Path) (d : Data) {text : List ℕ} (r : Read LineId) → Some text ≡ as_str d → Gives r (text_id path text) → Gives r (id_form path d)
+unfolding id_form
+text_there path d r is h = rw (sym is) h
+
+pub no_text_there : (path : Path) (d : Data) (r : Read LineId) → None ≡ as_str d → Gives r (number_id path d) → Gives r (id_form path d)
+unfolding id_form
+no_text_there path d r is h = rw (sym is) h
 
 -- ---- What is read may be told
 
@@ -79,18 +89,15 @@ equal_names name other e = (bytes_eq-Decides name other).0 (sym (is_eq-slice_cmp
 unknown_name : (required optional : List Key) (name : List ℕ) (ms : Members) → is_known required name ≡ false → is_known optional name ≡ false
     → all_known required optional ms ≡ true → get_member name ms ≡ None
 unknown_name required optional name no_members r o known = refl
-unknown_name required optional name (member other d ms) r o known = by (slice_cmp nat_cmp name other) refl
+unknown_name required optional name (member other d ms) r o known =
+    let both = and_parts (is_known required other || is_known optional other) (all_known required optional ms) known in
+    by (slice_cmp nat_cmp name other) refl both.0 (unknown_name required optional name ms r o both.1)
   where
-    both : ((is_known required other || is_known optional other) ≡ true) × (all_known required optional ms ≡ true)
-    both = and_parts (is_known required other || is_known optional other) (all_known required optional ms) known
-
-    rest : get_member name ms ≡ None
-    rest = unknown_name required optional name ms r o both.1
-
-    by : (is : Ordering) → slice_cmp nat_cmp name other ≡ is → match_ordering is (get_member name ms) (Some d) (get_member name ms) ≡ None
-    by Less e = rest
-    by Greater e = rest
-    by Equal e =
+    by : (is : Ordering) → slice_cmp nat_cmp name other ≡ is → (is_known required other || is_known optional other) ≡ true → get_member name ms ≡ None
+        → match_ordering is (get_member name ms) (Some d) (get_member name ms) ≡ None
+    by Less e some rest = rest
+    by Greater e some rest = rest
+    by Equal e some rest =
         let same = equal_names name other e in
         let none : (is_known required other || is_known optional other) ≡ false =
             subst (λ n. (is_known required n || is_known optional n) ≡ false) same (rw (r, o) refl) in
@@ -238,7 +245,8 @@ command_line : (d : Data) (command : Command) → command_form whole d ≡ Ok co
     → line_form false d ≡ record { frame = Bare; asked = Ok (record { caller = 0; request = Carry command }) }
 unfolding line_form bare_asked
 command_line d command e =
-    let asked = went (request_form whole d) (λ (r : Request). Ok (record { caller = 0; request = r })) (Carry command) (carry_read whole d command e) in
+    let asked : bare_asked request_form d ≡ Ok (record { caller = 0; request = Carry command }) =
+        went (request_form whole d) _ (Carry command) (carry_read whole d command e) in
     rw (no_key Call whole d command e, asked) refl
 
 -- more bytes may be there
