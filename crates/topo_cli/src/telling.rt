@@ -10,7 +10,7 @@ use std::io;
 use topo_settings::RunFault;
 use topo_settings::writing::write_text;
 
-/// The room for the line of a fault, in bytes. The longest has 149: `planar: 54 BadNumber $`, six
+/// The room for the line of a fault, in bytes. The longest has 170: `planar: 54 BadNumber $`, seven
 /// indices of 20 digits, each behind a `/`, and the line feed.
 const MAX_FAULT_LINE_BYTES: usize = 176;
 

@@ -2,6 +2,7 @@ pub mod Bytes
 pub mod Fronts
 pub mod Items
 pub mod Letters
+pub mod LineLaws
 pub mod Lookups
 pub mod Objects
 pub mod PriceLists

@@ -149,7 +149,7 @@ unfolding has_keys and_then
 report_keys history limits picture prices start version = refl
 
 version_read : (n : ℕ) (nulls : Bool) (history limits picture prices start version : Data) → ((path : Path) → number_form path version ≡ Ok n)
-    → nulls_of n ≡ Ok nulls → nulls_in (report_object history limits picture prices start version) ≡ Ok nulls
+    → nulls_of n ≡ Ok nulls → nulls_in whole (report_object history limits picture prices start version) ≡ Ok nulls
 unfolding nulls_in
 version_read n nulls history limits picture prices start version read of =
     went _ _ tt refl ∙ went _ _ n

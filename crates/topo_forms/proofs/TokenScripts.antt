@@ -151,10 +151,10 @@ all_found (Some l) None (Some s) v w = record { limits = refl; prices = refl; st
 all_found (Some l) (Some p) None v w = record { limits = refl; prices = refl; start = refl; version = refl; workers = refl }
 all_found (Some l) (Some p) (Some s) v w = record { limits = refl; prices = refl; start = refl; version = refl; workers = refl }
 
-pub version_read : (n : ℕ) (nulls : Bool) (ms : Members) (v : Data) → get (key_name Version) (object ms) ≡ Some v → ((path : Path) → number_form path v ≡ Ok n)
-    → nulls_of n ≡ Ok nulls → nulls_in (object ms) ≡ Ok nulls
+pub version_read : (path : Path) (n : ℕ) (nulls : Bool) (ms : Members) (v : Data) → get (key_name Version) (object ms) ≡ Some v → ((path : Path) → number_form path v ≡ Ok n)
+    → nulls_of n ≡ Ok nulls → nulls_in path (object ms) ≡ Ok nulls
 unfolding nulls_in
-version_read n nulls ms v there read of = went _ _ tt refl ∙ went _ _ n (member_read number_form whole Version (object ms) there read) ∙ of
+version_read path n nulls ms v there read of = went _ _ tt refl ∙ went _ _ n (member_read number_form path Version (object ms) there read) ∙ of
 
 script_read : {x : Script} {n : ℕ} {l p s : Option Data} (v w : Data) {nulls : Bool} → nulls_of n ≡ Ok nulls
     → AreFront l p s nulls x.limits x.prices x.start → ((path : Path) → number_form path v ≡ Ok n) → ((path : Path) → workers_form path w ≡ Ok x.workers)
@@ -163,7 +163,7 @@ unfolding script_form
 script_read {x} {n} {l} {p} {s} v w {nulls} of front version workers =
     let d = script_object l p s v w in
     let there = all_found l p s v w in
-    went _ _ nulls (version_read n nulls (script_members l p s v w) v there.version version of)
+    went _ _ nulls (version_read whole n nulls (script_members l p s v w) v there.version version of)
     ∙ went _ _ tt (script_keys l p s v w)
     ∙ went _ _ x.limits (optional_read limits_form greatest_limits whole Limits d l x.limits there.limits front.of_limits)
     ∙ went _ _ x.prices (optional_read (prices_form nulls) [] whole Prices d p x.prices there.prices front.of_prices)

@@ -1,12 +1,15 @@
 -- The forms of what a session reads: its opening, what it can be asked for, and its lines.
 use Rattle.std.specs.Prelude.{◌≡◌, ◌⊎◌, ℕ, ◌==◌, nat_le, Bool, true, false, not, ◌&&◌, ◌||◌, List, [], ◌∷◌, length, codes, Option, Some, None, option_map, unwrap_or}
 use Rattle.std.specs.Prelude.{if◌then◌else◌, Ok, Err}
+use Rattle.json.specs.Ascii as ascii
+use Rattle.json.specs.Word.{head}
 use Rattle.serde_json.specs.Data.{Data}
 use Rattle.serde_json.specs.Find.{as_str}
 use Rattle.topo_forms.specs.declared.fault.ScriptFault.TheVariants.{Memory, BadShape}
 use Rattle.topo_forms.specs.declared.path.Key.TheVariants.{Call, Caller, Id, Limits, Open, Prices, Start, Version}
 use Rattle.topo_forms.specs.declared.path.Path.{Path}
 use Rattle.topo_forms.specs.declared.lines.Asked.{Asked}
+use Rattle.topo_forms.specs.declared.lines.Frame.{Frame}
 use Rattle.topo_forms.specs.declared.lines.Frame.TheVariants.{Opening as AsOpening, Bare, Envelope}
 use Rattle.topo_forms.specs.declared.lines.Line.{Line}
 use Rattle.topo_forms.specs.declared.lines.LineId.{LineId}
@@ -166,19 +169,22 @@ line_form first d =
     if first && is_opening d then record { frame = AsOpening; asked = bare_asked opened_form d } else
     record { frame = Bare; asked = bare_asked request_form d })
 
--- the first byte is an opening brace
+-- the first byte opens an object
 abbrev pub has_brace : List ℕ → Bool
-has_brace [] = false
-has_brace (b ∷ bs) = b == 123
+has_brace bytes = head bytes == ascii.open_brace
 
 -- how many bytes a line may have: an object, which may have a picture in it, as many as a picture
 unfoldable pub line_limit : Bool → List ℕ → ℕ
 line_limit first bytes = if first || has_brace bytes then 268435456 else 65536
 
--- a line that is no value is at fault, as a first one or as a later one without an envelope
+-- how a line that is no value asks
+abbrev pub frame_without : Bool → Frame
+frame_without first = if first then AsOpening else Bare
+
+-- a line as a value, or the fault of its bytes
 abbrev pub line_or : Bool → Read Data → Line
 line_or first (Ok d) = line_form first d
-line_or first (Err fault) = record { frame = if first then AsOpening else Bare; asked = Err fault }
+line_or first (Err fault) = record { frame = frame_without first; asked = Err fault }
 
 -- the line that bytes spell, which stand here without their line feed
 unfoldable pub line_of : Bool → List ℕ → Line

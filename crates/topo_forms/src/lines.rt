@@ -1,6 +1,6 @@
 //! The lines of a session.
 
-ghost use Rattle.std.specs.Prelude.{◌≡◌, None, string_bytes};
+ghost use Rattle.std.specs.Prelude.{◌≡◌, true, false};
 ghost use Rattle.serde_json.specs.View.{view};
 ghost use Rattle.topo_forms.specs.declared.path.Key.TheVariants.{Caller};
 ghost use Rattle.topo_forms.specs.Paths.{whole};
@@ -8,7 +8,8 @@ ghost use Rattle.topo_forms.specs.Reads.{Gives, member_form, member_or};
 ghost use Rattle.topo_forms.specs.Sessions.{text_id, number_id, id_form, some_id, caller_form};
 ghost use Rattle.topo_forms.specs.Sessions.{envelope_head, envelope_asked, envelope_line};
 ghost use Rattle.topo_forms.specs.Sessions.{bare_asked, opened_form, request_form, is_opening};
-ghost use Rattle.topo_forms.specs.Sessions.{line_form, line_limit, line_of, ReadsLine};
+ghost use Rattle.topo_forms.specs.Sessions.{has_brace, line_form, line_limit, frame_without};
+ghost use Rattle.topo_forms.specs.Sessions.{line_of, ReadsLine};
 
 use crate::fault::ScriptFault;
 use crate::form::{
@@ -31,6 +32,9 @@ pub const MAX_LINE_BYTES: usize = 65_536;
 /// The greatest number of bytes that the text of an id may have.
 pub const MAX_ID_BYTES: usize = 256;
 
+/// The greatest number of a caller.
+const GREATEST_CALLER: u64 = MAX_PASSES as u64 - 1;
+
 /// The text of an id, which contracts see as its bytes.
 #[derive(Debug)]
 pub struct IdText {
@@ -45,7 +49,7 @@ impl Drop for IdText {
 }
 
 impl Model for IdText {
-    ghost use Rattle.std.specs.Prelude.{List, ℕ};
+    ghost use Rattle.std.specs.Prelude.{List, ℕ, string_bytes};
 
     ghost Value = { List ℕ };
 
@@ -145,7 +149,7 @@ fn read_head(alloc: Global, value: &Value) -> Result<Option<LineId>, ScriptFault
 fn read_caller(path: Path, value: &Value) -> Result<u32, ScriptFault>
     ensures { result ≡ caller_form path (view value.now) }
 {
-    let caller = read_number(u64::from(MAX_PASSES) - 1, path, value)?;
+    let caller = read_number(GREATEST_CALLER, path, value)?;
     Ok(caller as u32)
 }
 
@@ -220,7 +224,7 @@ fn is_opening(value: &Value) -> bool
 }
 
 /// The line that a value is.
-#[tactic(auto, unfolding(crate::specs::Sessions::line_form))]
+#[tactic(auto, using(crate::proofs::LineLaws::reads_asked), unfolding(crate::specs::Sessions::line_form))]
 fn line_from(alloc: Global, first: bool, value: &Value) -> Line
     ensures { ReadsLine result (line_form first (view value.now)) }
 {
@@ -239,19 +243,32 @@ fn line_from(alloc: Global, first: bool, value: &Value) -> Line
     }
 }
 
+/// Whether the first byte opens an object.
+fn has_brace(bytes: &[u8]) -> bool
+    ensures { result ≡ has_brace bytes.now }
+{
+    if bytes.is_empty() {
+        return false;
+    }
+    bytes[0] == b'{'
+}
+
 /// How many bytes a line may have.
+#[tactic(auto, unfolding(crate::specs::Sessions::line_limit))]
 fn line_limit(first: bool, bytes: &[u8]) -> usize
     ensures { result ≡ line_limit first bytes.now }
 {
-    if first || bytes.first() == Some(&b'{') {
+    if first || has_brace(bytes) {
         MAX_PICTURE_BYTES
     } else {
         MAX_LINE_BYTES
     }
 }
 
-/// The frame of a line that is no value.
-fn frame_without_value(first: bool) -> Frame {
+/// How a line that is no value asks.
+fn frame_without(first: bool) -> Frame
+    ensures { result ≡ frame_without first }
+{
     if first { Frame::Opening } else { Frame::Bare }
 }
 
@@ -262,7 +279,7 @@ fn line_of_value(alloc: Global, first: bool, bytes: &[u8]) -> Line
     match parse(alloc, line_limit(first, bytes), bytes) {
         Ok(value) => line_from(alloc, first, &value),
         Err(fault) => Line {
-            frame: frame_without_value(first),
+            frame: frame_without(first),
             asked: Err(fault),
         },
     }

@@ -242,7 +242,7 @@ unfolding nulls_of
 version_back true = refl
 version_back false = refl
 
-nulls_back : (r : Report) → nulls_in (report_data r) ≡ Ok (has_null r.prices)
+nulls_back : (r : Report) → nulls_in whole (report_data r) ≡ Ok (has_null r.prices)
 unfolding nulls_in
 nulls_back r =
     went _ _ tt refl

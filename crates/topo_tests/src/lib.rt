@@ -20,6 +20,8 @@ mod generated;
 #[cfg(test)]
 mod guided;
 #[cfg(test)]
+mod lines;
+#[cfg(test)]
 mod permutations;
 #[cfg(test)]
 mod picture_rows;
