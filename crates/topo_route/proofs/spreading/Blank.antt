@@ -17,17 +17,6 @@ reads_number base span word beside h = ap (λ (b : Bool). cond {A = ℕ} b (word
 pub reads_beside : (base span word beside : ℕ) → span ≤ word - base → read_from base span word beside ≡ beside
 reads_beside base span word beside h = ap (λ (b : Bool). cond {A = ℕ} b (word - base) beside) (le-ltb (word - base) span h)
 
--- a word that lies above the base by more than a number says more than the number
-pub reads_more : (base span word beside number : ℕ) → number < beside → number < word - base → number < read_from base span word beside
-reads_more base span word beside number fits more = elim (cases_lt (word - base) span) [
-  | inl less ↦ let is = reads_number base span word beside less in omega arith
-  | inr past ↦ let is = reads_beside base span word beside past in omega arith
-]
-
--- and no other does
-pub reads_no_more : (base span word beside number : ℕ) → word - base < span → word - base ≤ number → read_from base span word beside ≤ number
-reads_no_more base span word beside number fits low = let is = reads_number base span word beside (omega arith) in omega arith
-
 pub all_long : (base span len : ℕ) (words : List ℕ) (beside : ℕ → ℕ) → len ≤ length words → length (read_all base span len words beside) ≡ len
 all_long base span zero words beside many = refl
 all_long base span (suc len) [] beside many = absurd (omega arith)
