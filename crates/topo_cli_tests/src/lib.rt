@@ -15,6 +15,8 @@ mod own_prices;
 #[cfg(test)]
 mod program;
 #[cfg(test)]
+mod questions;
+#[cfg(test)]
 mod reads;
 #[cfg(test)]
 mod serving;

@@ -9,8 +9,8 @@ fn check<R: TestRuntime>(rt: &R, read: &str, answers: &str) {
     writes(rt, Verb::Serve, &mut reader, Ok(()), answers);
 }
 
-/// A triangle with a chord outside that crosses nothing, then an edge that must cross one.
-const LOOKS: &str = "\
+/// Questions on a triangle with a vertex more outside it.
+const TRIANGLE: &str = "\
 {\"version\":2,\"prices\":[3,null]}
 [\"grow\",0,0,1]
 [\"insert\",1,2,0]
@@ -28,3 +28,120 @@ const LOOKS: &str = "\
 [\"route\",1,1]
 [\"route\",1,4]
 ";
+
+/// The answers.
+const TRIANGLE_ANSWERS: &str = "\
+{\"crossings\":0,\"edges\":1,\"faces\":1,\"segments\":1,\"vertices\":2}
+{\"edge\":1,\"vertex\":2}
+{\"crossed\":[],\"edge\":2,\"end\":0,\"price\":0,\"start\":0}
+{\"edge\":3,\"vertex\":3}
+{\"edges\":[0,3,1],\"ends\":[\"a\",\"a\",\"a\"]}
+{\"a\":0,\"b\":2,\"crossings\":[],\"id\":1,\"kind\":1,\"price\":null}
+{\"a\":1,\"b\":2,\"crossings\":[],\"id\":2,\"kind\":0,\"price\":3}
+{\"refused\":[4,\"NoEdge\"]}
+{\"refused\":[1,\"NoVertex\"]}
+{\"darts\":[[0,0,\"forward\"],[2,0,\"forward\"],[1,0,\"back\"]]}
+{\"darts\":[[0,0,\"back\"],[3,0,\"forward\"],[3,0,\"back\"],[1,0,\"forward\"],[2,0,\"back\"]]}
+{\"refused\":[71,\"NoDart\"]}
+{\"refused\":[4,\"NoEdge\"]}
+{\"crossed\":[],\"end\":0,\"price\":0,\"start\":0}
+{\"refused\":[2,\"SameEnds\"]}
+{\"refused\":[1,\"NoVertex\"]}
+";
+
+/// Questions on the same with a vertex inside, and an edge that crosses a side.
+const CROSSED: &str = "\
+{\"version\":2,\"prices\":[3,null]}
+[\"grow\",0,0,1]
+[\"insert\",1,2,0]
+[\"grow\",0,1,0]
+[\"insert\",1,3,0]
+[\"grow\",2,0,0]
+[\"route\",3,4]
+[\"insert\",3,4,1]
+[\"edge\",2]
+[\"edge\",0]
+[\"edge\",6]
+[\"route\",3,4]
+[\"face\",6,1,\"forward\"]
+[\"vertex\",4]
+[\"delete\",6]
+";
+
+/// The answers.
+const CROSSED_ANSWERS: &str = "\
+{\"crossings\":0,\"edges\":1,\"faces\":1,\"segments\":1,\"vertices\":2}
+{\"edge\":1,\"vertex\":2}
+{\"crossed\":[],\"edge\":2,\"end\":0,\"price\":0,\"start\":0}
+{\"edge\":3,\"vertex\":3}
+{\"crossed\":[],\"edge\":4,\"end\":0,\"price\":0,\"start\":0}
+{\"edge\":5,\"vertex\":4}
+{\"crossed\":[[2,0,\"back\"]],\"end\":0,\"price\":3,\"start\":0}
+{\"crossed\":[[2,0,\"back\"]],\"edge\":6,\"end\":0,\"price\":3,\"start\":0}
+{\"a\":1,\"b\":2,\"crossings\":[[0,6,\"rtl\"]],\"id\":2,\"kind\":0,\"price\":3}
+{\"a\":0,\"b\":1,\"crossings\":[],\"id\":0,\"kind\":0,\"price\":3}
+{\"a\":3,\"b\":4,\"crossings\":[[0,2,\"ltr\"]],\"id\":6,\"kind\":1,\"price\":null}
+{\"crossed\":[[2,1,\"back\"]],\"end\":1,\"price\":3,\"start\":0}
+{\"darts\":[[6,1,\"forward\"],[5,0,\"back\"],[1,0,\"back\"],[0,0,\"forward\"],[2,0,\"forward\"]]}
+{\"edges\":[5,6],\"ends\":[\"b\",\"b\"]}
+{\"deleted\":6}
+";
+
+/// Lines where no session is open, envelopes, and openings.
+const ENVELOPES: &str = "\
+\"about\"
+\"counts\"
+[\"edge\",0]
+[\"grow\",0]
+{\"open\":{\"version\":1,\"limits\":{\"crossings\":0,\"edges\":0,\"vertices\":0}}}
+{\"call\":{\"open\":{\"version\":1}},\"id\":\"first\"}
+{\"call\":[\"grow\",0,0,0],\"caller\":3,\"id\":7}
+{\"call\":[\"route\",0,0]}
+{\"call\":[\"grow\",0],\"id\":\"\\u0041\\n\\\"\"}
+{\"call\":\"counts\",\"caller\":16,\"id\":1}
+{\"call\":\"counts\",\"id\":-1}
+{\"call\":\"counts\",\"id\":null}
+{\"call\":\"counts\",\"key\":1,\"id\":1}
+{\"call\":{\"call\":\"counts\"},\"id\":1}
+{\"open\":{\"version\":1,\"prices\":[1,0]}}
+{\"open\":{\"version\":3}}
+{\"call\":{\"open\":{\"version\":1,\"start\":{\"crossings\":[],\"edges\":[{\"a\":0,\"b\":1,\"crossings\":[-1],\"id\":0,\"kind\":0}],\"next_crossing\":0,\"next_edge\":1,\"rotations\":[[0],[0]]}}}}
+\"counts\"
+{\"open\":{\"version\":1}}
+\"counts\"
+";
+
+/// The answers.
+const ENVELOPES_ANSWERS: &str = "\
+{\"limits\":{\"crossings\":1048576,\"edges\":65536,\"vertices\":65536},\"program\":\"planar\",\"requests\":[\"about\",\"counts\",\"delete\",\"edge\",\"face\",\"grow\",\"insert\",\"open\",\"picture\",\"planned\",\"report\",\"route\",\"vertex\"],\"version\":\"0.5.0\"}
+{\"fault\":[72,\"NotOpen\"]}
+{\"fault\":[72,\"NotOpen\"]}
+{\"fault\":[52,\"BadShape\",\"$\"]}
+{\"fault\":[11,\"BadLimits\"]}
+{\"answer\":{\"crossings\":0,\"edges\":1,\"faces\":1,\"segments\":1,\"vertices\":2},\"id\":\"first\"}
+{\"answer\":{\"edge\":1,\"vertex\":2},\"id\":7}
+{\"answer\":{\"refused\":[2,\"SameEnds\"]}}
+{\"answer\":{\"fault\":[52,\"BadShape\",\"$/call\"]},\"id\":\"A\\n\\\"\"}
+{\"answer\":{\"fault\":[54,\"BadNumber\",\"$/caller\"]},\"id\":1}
+{\"answer\":{\"fault\":[54,\"BadNumber\",\"$/id\"]}}
+{\"answer\":{\"fault\":[52,\"BadShape\",\"$/id\"]}}
+{\"answer\":{\"fault\":[52,\"BadShape\",\"$\"]}}
+{\"answer\":{\"fault\":[52,\"BadShape\",\"$/call\"]},\"id\":1}
+{\"fault\":[10,\"BadPrice\",1]}
+{\"fault\":[53,\"BadVersion\"]}
+{\"answer\":{\"fault\":[54,\"BadNumber\",\"$/call/open/start/edges/0/crossings/0\"]}}
+{\"crossings\":0,\"edges\":2,\"faces\":1,\"segments\":2,\"vertices\":3}
+{\"crossings\":0,\"edges\":1,\"faces\":1,\"segments\":1,\"vertices\":2}
+{\"crossings\":0,\"edges\":1,\"faces\":1,\"segments\":1,\"vertices\":2}
+";
+
+#[test]
+fn questions(rt: HostRuntime) {
+    check(&rt, TRIANGLE, TRIANGLE_ANSWERS);
+    check(&rt, CROSSED, CROSSED_ANSWERS);
+}
+
+#[test]
+fn envelopes_and_openings(rt: HostRuntime) {
+    check(&rt, ENVELOPES, ENVELOPES_ANSWERS);
+}

@@ -1,5 +1,5 @@
 -- The text that answers a line, and where the session stands behind it.
-use Rattle.std.specs.Prelude.{◌≡◌, ◌≢◌, ◌⊎◌, ⊤, ℕ, List, ◌++◌, Option, None, Some, option_map, unwrap_or, Ok, Err, Result, String, string_bytes}
+use Rattle.std.specs.Prelude.{◌≡◌, ◌≢◌, ◌⊎◌, ⊤, ℕ, List, ◌++◌, Option, None, Some, option_map, unwrap_or, Ok, Err}
 use Rattle.serde_json.specs.Written.{compact_text}
 use Rattle.topo_core.specs.declared.calls.Command.{Command}
 use Rattle.topo_core.specs.declared.calls.Reply.{Reply}
@@ -140,11 +140,6 @@ pub record TellsFault (asked : Read Asking) (text : List ℕ) (old new : Option 
 -- what a line asks for is answered, or its fault is told
 abbrev pub AnswersAsked : Read Asking → List ℕ → Option Standing → Option Standing → Type 0
 AnswersAsked asked text old new = RespondsTo asked text old new ⊎ TellsFault asked text old new
-
--- the text is the one that was found, or that of the fault
-abbrev pub TellsOutcome : Result String RunFault → List ℕ → Type 0
-TellsOutcome (Ok found) text = text ≡ string_bytes found
-TellsOutcome (Err fault) text = (fault ≢ Memory) × (text ≡ fault_text fault)
 
 -- the line is answered, in an envelope where it came in one
 pub record AnswersLine (line : Line) (text : List ℕ) (old new : Option Standing) : Type 0 where

@@ -23,6 +23,17 @@ pub record Standing : Type 0 where
   pub history : List Entry
   pub picture : Rows
 
+-- where a session with these limits, these prices and this book stands
+abbrev pub standing_of : {F : Type 0} → LimitRows → List (Option ℕ) → BookState F → Standing
+standing_of numbers prices book = record {
+  numbers = numbers;
+  prices = prices;
+  limits = book.picture.limits;
+  start = book.start.rows;
+  history = book.history;
+  picture = book.picture.rows;
+}
+
 -- the report so far
 abbrev pub report_so_far : Standing → Report
 report_so_far s = record { limits = s.numbers; prices = s.prices; start = s.start; history = s.history; picture = s.picture }

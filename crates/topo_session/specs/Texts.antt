@@ -2,7 +2,7 @@
 use Rattle.std.specs.Prelude.{ℕ, List, [], ◌∷◌, ◌++◌, codes, decimal, Option, None, Some}
 use Rattle.serde_json.specs.Data.{Data, string, array, object, no_items, item, no_members, member}
 use Rattle.serde_json.specs.Written.{compact_text}
-use Rattle.topo_core.specs.declared.calls.Refusal.TheVariants.{NoEdge}
+use Rattle.topo_core.specs.declared.calls.Refusal.TheVariants.{NoEdge, NoVertex}
 use Rattle.topo_core.specs.declared.calls.Reply.{Reply}
 use Rattle.topo_core.specs.declared.calls.Reply.TheVariants.{Grown, Inserted, Deleted, Refused}
 use Rattle.topo_core.specs.declared.darts.Dart.{Dart}
@@ -86,7 +86,7 @@ abbrev pub no_edge_text : List ℕ
 no_edge_text = compact_text (reply_data (Refused NoEdge))
 
 abbrev pub no_vertex_text : List ℕ
-no_vertex_text = codes "{\"refused\":[1,\"NoVertex\"]}"
+no_vertex_text = compact_text (reply_data (Refused NoVertex))
 
 abbrev pub no_dart_text : List ℕ
 no_dart_text = codes "{\"refused\":[71,\"NoDart\"]}"

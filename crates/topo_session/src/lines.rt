@@ -1,7 +1,7 @@
 //! Lines and their answers.
 
 ghost use Rattle.std.specs.Prelude.{◌≡◌, ◌≢◌, ◌⊎◌, ℕ, List, IfErr, IfOk, OnErr, MatchResult};
-ghost use Rattle.std.specs.Prelude.{Err, None, Ok, string_bytes};
+ghost use Rattle.std.specs.Prelude.{Err, None, Ok, false, string_bytes, true};
 ghost use Rattle.serde_json.specs.Written.{compact_text};
 ghost use Rattle.topo_core.specs.declared.calls.Reply.TheVariants.{Refused};
 ghost use Rattle.topo_forms.specs.Sessions.{line_of};
@@ -10,9 +10,10 @@ ghost use Rattle.topo_script.specs.ReportTexts.{reply_data, report_text};
 ghost use Rattle.topo_session.specs.Answers.{Answers, AnswersClosed, AnswersFirst, AnswersLine};
 ghost use Rattle.topo_session.specs.Answers.{CarriesOut, IsBadOpening, IsFaultOfAsked, IsFaultOfRequest};
 ghost use Rattle.topo_session.specs.Answers.{Leaves, LeavesBy, LosesLine, Opens, RespondsTo};
-ghost use Rattle.topo_session.specs.Answers.{TellsCounts, TellsFace, TellsOutcome, TellsRoute};
+ghost use Rattle.topo_session.specs.Answers.{TellsCounts, TellsFace, TellsRoute};
 ghost use Rattle.topo_session.specs.Answers.{edge_text, vertex_text};
 ghost use Rattle.topo_session.specs.Standings.{report_so_far};
+ghost use Rattle.topo_session.specs.Texts.{fault_text};
 ghost use Rattle.topo_settings.specs.declared.fault.RunFault.TheVariants.{Memory};
 ghost use Rattle.topo_settings.specs.Settings.{IsUnsound};
 
@@ -21,7 +22,7 @@ use crate::tables::FromTable;
 use crate::texts::{counts_text, fault_text, face_text, framed, route_text, text_like, text_of};
 use std::alloc::{AllocError, Global};
 use std::mem;
-use topo_core::calls::{Call, Command, Refusal, Reply};
+use topo_core::calls::{Command, Refusal, Reply};
 use topo_core::darts::Dart;
 use topo_forms::{Asked, Frame, Line, Opening, Request, ScriptFault, read_line};
 use topo_price::tariff::PriceFn;
@@ -31,8 +32,7 @@ use topo_settings::RunFault;
 /// What the program is, how large a picture may be, and which requests there are.
 const ABOUT: &str = "{\"limits\":{\"crossings\":1048576,\"edges\":65536,\"vertices\":65536},\"program\":\"planar\",\"requests\":[\"about\",\"counts\",\"delete\",\"edge\",\"face\",\"grow\",\"insert\",\"open\",\"picture\",\"planned\",\"report\",\"route\",\"vertex\"],\"version\":\"0.5.0\"}";
 
-/// Carries a command out, and gives the text of its reply. A planned insertion is looked for as any
-/// other.
+/// Carries a command out, and gives the text of its reply.
 fn carry<F: PriceFn>(
     alloc: Global,
     session: &mut Session<F>,
@@ -44,14 +44,7 @@ fn carry<F: PriceFn>(
     ensures lost { OnErr result ((session.new ≡ session.old)
         ⊎ ((text : List ℕ) × CarriesOut caller command text session.old session.new)) }
 {
-    let reply = match command {
-        Command::Plain(Call::Grow { u, position, kind }) => {
-            session.grow(alloc, caller, u, position, kind)?
-        }
-        Command::Plain(Call::Insert { u, v, kind }) => session.insert(alloc, caller, u, v, kind)?,
-        Command::Plain(Call::Delete { edge }) => session.delete(alloc, caller, edge)?,
-        Command::Planned { u, v, kind } => session.insert(alloc, caller, u, v, kind)?,
-    };
+    let reply = session.enter(alloc, caller, command)?;
     text_of(alloc, &reply)
 }
 
@@ -112,9 +105,10 @@ fn tell_face<F: PriceFn>(
 ) -> Result<String, AllocError>
     ensures { IfOk result (λ text. TellsFace session.now.picture dart (string_bytes text)) }
 {
+    let edge = dart.edge.number();
     match session.face(alloc, dart)? {
         Some(darts) => face_text(alloc, &darts),
-        None => if session.has_edge(dart.edge.number()) {
+        None => if session.has_edge(edge) {
             text_like(alloc, "{\"refused\":[71,\"NoDart\"]}")
         } else {
             refusal_text(alloc, Refusal::NoEdge)
@@ -260,7 +254,9 @@ pub fn respond<F: FromTable>(
 
 /// An answer, or the text of a fault.
 fn tell(alloc: Global, outcome: Result<String, RunFault>) -> Result<String, AllocError>
-    ensures { IfOk result (λ text. TellsOutcome outcome (string_bytes text)) }
+    ensures { IfOk result (λ text. MatchResult outcome
+        (λ found. string_bytes text ≡ string_bytes found)
+        (λ fault. (fault ≢ Memory) × (string_bytes text ≡ fault_text fault))) }
 {
     match outcome {
         Ok(text) => Ok(text),

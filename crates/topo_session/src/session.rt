@@ -5,6 +5,7 @@ ghost use Rattle.std.specs.Prelude.{◌≢◌, is_some};
 ghost use Rattle.topo_core.specs.declared.calls.Call.TheVariants.{Delete, Grow, Insert};
 ghost use Rattle.topo_core.specs.declared.calls.Refusal.TheVariants.{Memory};
 ghost use Rattle.topo_core.specs.declared.calls.Reply.TheVariants.{Refused};
+ghost use Rattle.topo_core.specs.History.{call_of};
 ghost use Rattle.topo_core.specs.Picture.{edge_row};
 ghost use Rattle.topo_picture.specs.Faces.{IsFaceOf};
 ghost use Rattle.topo_picture.specs.Totals.{AreCountsOf};
@@ -20,7 +21,7 @@ use std::alloc::{AllocError, Global};
 use std::marker::Model;
 use std::sync::Arc;
 use topo_book::Book;
-use topo_core::calls::{Call, Entry, Reply};
+use topo_core::calls::{Call, Command, Entry, Reply};
 use topo_core::darts::Dart;
 use topo_core::listed::Listed;
 use topo_forms::{LimitRows, Opening, Report};
@@ -51,19 +52,12 @@ impl<F: PriceFn + Drop> Drop for Session<F> {
 }
 
 impl<F: PriceFn> Model for Session<F> {
-    ghost use Rattle.topo_session.specs.Standings.{Standing};
+    ghost use Rattle.topo_session.specs.Standings.{Standing, standing_of};
     ghost use Rattle.topo_settings.specs.Settings.{AnswersPrices};
 
     ghost Value = { Standing };
 
-    ghost view = { λ s. record {
-      numbers = s.limits;
-      prices = s.prices;
-      limits = s.book.start.limits;
-      start = s.book.start.rows;
-      history = s.book.history;
-      picture = s.book.picture.rows;
-    } };
+    ghost view = { λ s. standing_of s.limits s.prices s.book };
 
     ghost invariant = { λ s. AnswersPrices (F.may_return s.book.tariff) s.prices };
 }
@@ -107,6 +101,29 @@ impl<F: FromTable> Session<F> {
 }
 
 impl<F: PriceFn> Session<F> {
+    /// Carries a command out as the call of this caller. A planned insertion is looked for as any
+    /// other.
+    pub fn enter(
+        &mut self,
+        alloc: Global,
+        caller: u32,
+        command: Command,
+    ) -> Result<Reply, AllocError>
+        ensures entered { IfOk result
+            (λ reply. Enters caller (call_of command) reply self.old self.new) }
+        ensures unchanged { OnErr result (self.new ≡ self.old) }
+    {
+        let book = &mut self.book;
+        match command {
+            Command::Plain(Call::Grow { u, position, kind }) => {
+                book.grow(alloc, caller, u, position, kind)
+            }
+            Command::Plain(Call::Insert { u, v, kind }) => book.insert(alloc, caller, u, v, kind),
+            Command::Plain(Call::Delete { edge }) => book.delete(alloc, caller, edge),
+            Command::Planned { u, v, kind } => book.insert(alloc, caller, u, v, kind),
+        }
+    }
+
     /// Puts a new vertex on a new edge of this kind into the corner at `position` of `u`, or
     /// answers the first reason why not. Both are entered.
     pub fn grow(

@@ -11,10 +11,10 @@ pub trait FromTable: PriceFn + Drop {
 
     /// What answers the prices of a table.
     fn from_table(table: PriceTable) -> Self
-        ensures callable { is_callable result }
-        ensures promise { IsPromise (may_return result) }
+        ensures callable { Self.is_callable result }
+        ensures promise { IsPromise (Self.may_return result) }
         ensures own { (prices : List (Option ℕ)) → table ≡ price_table prices
-            → AnswersPrices (may_return result) prices };
+            → AnswersPrices (Self.may_return result) prices };
 }
 
 impl FromTable for PriceTable {

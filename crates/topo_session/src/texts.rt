@@ -123,13 +123,21 @@ pub fn route_text(alloc: Global, reply: &Reply) -> Result<String, AllocError>
     Ok(text)
 }
 
+/// Writes the darts of a face.
+fn write_face(out: &mut String, darts: &Listed<Dart>) -> Result<(), AllocError>
+    ensures { OnOk result
+        (string_bytes out.new ≡ string_bytes out.old ++ compact_text (face_data darts.now)) }
+{
+    write_after(out, "{\"darts\":", darts)?;
+    out.push('}')
+}
+
 /// The text of the darts of a face.
 pub fn face_text(alloc: Global, darts: &Listed<Dart>) -> Result<String, AllocError>
     ensures { IfOk result (λ text. string_bytes text ≡ compact_text (face_data darts.now)) }
 {
     let mut text = String::new(alloc);
-    write_after(&mut text, "{\"darts\":", darts)?;
-    text.push('}')?;
+    write_face(&mut text, darts)?;
     Ok(text)
 }
 
@@ -237,7 +245,10 @@ pub fn framed(alloc: Global, frame: &Frame, answer: String) -> Result<String, Al
         Frame::Opening => Ok(answer),
         Frame::Bare => Ok(answer),
         Frame::Envelope(None) => enveloped(alloc, &answer),
-        Frame::Envelope(Some(id)) => enveloped_as(alloc, id, &answer),
+        Frame::Envelope(Some(id)) => {
+            let id = id_text(alloc, id)?;
+            enveloped_as(alloc, id.as_str(), &answer)
+        }
     }
 }
 
@@ -249,11 +260,10 @@ fn enveloped(alloc: Global, answer: &str) -> Result<String, AllocError>
     format!(in alloc; "{{\"answer\":{answer}}}")
 }
 
-/// An answer in an envelope with this id.
-fn enveloped_as(alloc: Global, id: &LineId, answer: &str) -> Result<String, AllocError>
+/// An answer in an envelope with the text of an id.
+fn enveloped_as(alloc: Global, id: &str, answer: &str) -> Result<String, AllocError>
     ensures { IfOk result (λ text. string_bytes text ≡ codes "{\"answer\":" ++ (answer.now
-        ++ (codes ",\"id\":" ++ (compact_text (id_data id.now) ++ codes "}")))) }
+        ++ (codes ",\"id\":" ++ (id.now ++ codes "}")))) }
 {
-    let id = id_text(alloc, id)?;
     format!(in alloc; "{{\"answer\":{answer},\"id\":{id}}}")
 }

@@ -59,10 +59,10 @@ fn is_led<F: PriceFn>(
     alloc: Global,
     measured: &Picture,
     tariff: &Tariff<F>,
-    ends: (u32, u32),
-    plan: &Option<Plan>,
+    due: ((u32, u32), &Option<Plan>),
     work: &mut Workspace,
 ) -> Result<(), Fail> {
+    let (ends, plan) = due;
     let (u, v) = ends;
     assert!(rt; are_ends(measured, u, v));
     let found = first_route(alloc, &measured.embedded(), tariff, u, v, work)?;
@@ -103,7 +103,7 @@ fn is_agreed<F: PriceFn + Drop>(
     }
     let mut measured = picture.copy(alloc)?;
     measured.guide_searches(alloc, &tariff)?;
-    is_led(rt, alloc, &measured, &tariff, ends, &plan, work)
+    is_led(rt, alloc, &measured, &tariff, (ends, &plan), work)
 }
 
 /// Two different ones of so many vertices.

@@ -108,7 +108,7 @@ struct Run {
 }
 
 impl Run {
-    /// Makes one call. The versions that are held stay as they were. Where they are more than they
+    /// Makes one call, in place or not. The versions that are held stay as they were. Where they are more than they
     /// may be, the one held longest is dropped.
     fn go_on<F: PriceFn>(
         &mut self,
@@ -116,9 +116,9 @@ impl Run {
         alloc: Global,
         book: &mut Book<F>,
         held: &mut Vec<Held>,
-        call: Call,
-        in_place: bool,
+        turn: (Call, bool),
     ) -> Result<(), AllocError> {
+        let (call, in_place) = turn;
         let Some(most) = self.most else {
             make(alloc, book, call, &mut self.text)?;
             return write_rows(alloc, book.picture(), call, &mut self.text);
@@ -151,7 +151,7 @@ impl Run {
         let mut numbers = Numbers { state: 11 };
         for turn in 0..150 {
             let call = next_call(alloc, &mut numbers, book.picture(), None)?;
-            self.go_on(rt, alloc, book, held, call, turn % 5 == 4)?;
+            self.go_on(rt, alloc, book, held, (call, turn % 5 == 4))?;
         }
         write!(self.text, "{:?}", book.history())
     }

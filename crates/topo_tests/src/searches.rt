@@ -274,11 +274,11 @@ fn is_first<F: PriceFn>(
     rt: &impl Abort,
     alloc: Global,
     picture: &Picture,
-    tariff: &Tariff<F>,
+    prices: (&Tariff<F>, &AtomicU32),
     question: &Question,
-    asked: &AtomicU32,
     work: &mut Workspace,
 ) -> Result<(), Fail> {
+    let (tariff, asked) = prices;
     let ((u, v), at) = (question.ends, question.at);
     let name = question.on.0.name;
     assert!(rt; are_ends(picture, u, v), "{name}, {u} to {v}");
@@ -340,7 +340,7 @@ impl Story for Asking<'_> {
         let told = is_planned(rt, alloc, &frozen, tariff, question, asked);
         drop(frozen);
         told?;
-        is_first(rt, alloc, picture, tariff, question, asked, &mut *self.work)
+        is_first(rt, alloc, picture, (tariff, asked), question, &mut *self.work)
     }
 }
 

@@ -1,0 +1,37 @@
+-- Calls of a book as calls of its session.
+use Rattle.std.proofs.Common.{◌≡◌, ℕ, List, [], ◌∷◌, ◌++◌, Option, Result, Ok, Err, IfOk, refl}
+use Rattle.topo_book.specs.Books.{BookState, IsDue, IsSameBook}
+use Rattle.topo_core.specs.declared.calls.Call.{Call}
+use Rattle.topo_core.specs.declared.calls.Call.TheVariants.{Insert}
+use Rattle.topo_core.specs.declared.calls.Entry.{Entry}
+use Rattle.topo_core.specs.declared.calls.Reply.{Reply}
+use Rattle.topo_core.specs.Steps.{Step}
+use Rattle.topo_forms.specs.declared.scripts.LimitRows.{LimitRows}
+use Rattle.topo_price.specs.Prices.{Asking, prices_of}
+use Rattle.topo_settings.specs.Settings.{AnswersPrices, priced}
+use Rattle.topo_settings.proofs.Pricing.{step_so}
+use Rattle.topo_session.specs.Standings.{Enters, IsRouteReply, Standing, standing_of}
+
+module _ {F : Type 0} (answers : Asking) (numbers : LimitRows) (prices : List (Option ℕ)) (own : AnswersPrices answers prices) where
+  moved : (old new : BookState F) (entry : Entry) → new.history ≡ old.history ++ entry ∷ [] → IsSameBook old new
+      → standing_of numbers prices new
+      ≡ record (standing_of numbers prices old) { history = old.history ++ entry ∷ []; picture = new.picture.rows }
+  moved old new entry entered same = rw (entered, same.1, same.2) refl
+
+  pub entered_so : {E : Type 0} (old new : BookState F) (caller : ℕ) (call : Call) (r : Result Reply E)
+      → IfOk r (λ reply. Step (prices_of answers) old.picture.limits old.picture.rows call reply new.picture.rows)
+      → IfOk r (λ reply. new.history ≡ old.history ++ record { caller = caller; call = call; reply = reply } ∷ []) → IsSameBook old new
+      → IfOk r (λ reply. Enters caller call reply (standing_of numbers prices old) (standing_of numbers prices new))
+  entered_so old new caller call (Ok reply) step entered same = record {
+    next = new.picture.rows;
+    step = step_so (prices_of answers) (priced prices) own.only own.each old.picture.limits old.picture.rows call reply new.picture.rows step;
+    moved = moved old new (record { caller = caller; call = call; reply = reply }) entered same;
+  }
+  entered_so old new caller call (Err e) step entered same = tt
+
+  pub due_so : {E : Type 0} (old : BookState F) (u v : ℕ) (r : Result Reply E)
+      → IfOk r (IsDue (prices_of answers) old.picture.limits old.picture.rows (Insert u v 0))
+      → IfOk r (IsRouteReply (standing_of numbers prices old) u v)
+  due_so old u v (Ok reply) is =
+      (is.0, step_so (prices_of answers) (priced prices) own.only own.each old.picture.limits old.picture.rows (Insert u v 0) reply is.0 is.1)
+  due_so old u v (Err e) is = tt
