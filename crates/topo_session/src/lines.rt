@@ -22,7 +22,7 @@ use crate::tables::FromTable;
 use crate::texts::{counts_text, fault_text, face_text, framed, route_text, text_like, text_of};
 use std::alloc::{AllocError, Global};
 use std::mem;
-use topo_core::calls::{Command, Refusal, Reply};
+use topo_core::calls::{Call, Command, Refusal, Reply};
 use topo_core::darts::Dart;
 use topo_forms::{Asked, Frame, Line, Opening, Request, ScriptFault, read_line};
 use topo_price::tariff::PriceFn;
@@ -32,7 +32,8 @@ use topo_settings::RunFault;
 /// What the program is, how large a picture may be, and which requests there are.
 const ABOUT: &str = "{\"limits\":{\"crossings\":1048576,\"edges\":65536,\"vertices\":65536},\"program\":\"planar\",\"requests\":[\"about\",\"counts\",\"delete\",\"edge\",\"face\",\"grow\",\"insert\",\"open\",\"picture\",\"planned\",\"report\",\"route\",\"vertex\"],\"version\":\"0.5.0\"}";
 
-/// Carries a command out, and gives the text of its reply.
+/// Carries a command out, and gives the text of its reply. A planned insertion is looked for as any
+/// other.
 fn carry<F: PriceFn>(
     alloc: Global,
     session: &mut Session<F>,
@@ -44,8 +45,24 @@ fn carry<F: PriceFn>(
     ensures lost { OnErr result ((session.new ≡ session.old)
         ⊎ ((text : List ℕ) × CarriesOut caller command text session.old session.new)) }
 {
-    let reply = session.enter(alloc, caller, command)?;
-    text_of(alloc, &reply)
+    match command {
+        Command::Plain(Call::Grow { u, position, kind }) => {
+            let reply = session.grow(alloc, caller, u, position, kind)?;
+            text_of(alloc, &reply)
+        }
+        Command::Plain(Call::Insert { u, v, kind }) => {
+            let reply = session.insert(alloc, caller, u, v, kind)?;
+            text_of(alloc, &reply)
+        }
+        Command::Plain(Call::Delete { edge }) => {
+            let reply = session.delete(alloc, caller, edge)?;
+            text_of(alloc, &reply)
+        }
+        Command::Planned { u, v, kind } => {
+            let reply = session.insert(alloc, caller, u, v, kind)?;
+            text_of(alloc, &reply)
+        }
+    }
 }
 
 /// The text of the route that an edge of kind 0 would take now.
