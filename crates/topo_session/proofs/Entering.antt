@@ -1,5 +1,5 @@
 -- Calls of a book as calls of its session.
-use Rattle.std.proofs.Common.{◌≡◌, ℕ, List, [], ◌∷◌, ◌++◌, Option, Result, Ok, Err, IfOk, OnErr, ◌⊎◌, inr, refl}
+use Rattle.std.proofs.Common.{◌≡◌, ℕ, List, [], ◌∷◌, ◌++◌, Option, Result, Ok, Err, IfOk, OnErr, ◌⊎◌, inr, refl, subst, sym}
 use Rattle.topo_book.specs.Books.{BookState, IsDue, IsSameBook}
 use Rattle.topo_core.specs.declared.calls.Call.{Call}
 use Rattle.topo_core.specs.declared.calls.Call.TheVariants.{Insert}
@@ -51,8 +51,10 @@ pub opened_so : {F : Type 0} (opening : Opening) (book : BookState F) (p : Shown
 opened_so opening book p sound rows start empty picture = record { limits = p.limits; sound = sound; stands = rw (start, empty, picture, rows) refl }
 
 -- a call that was carried out, where the text of its reply is lost
-pub lost_so : {A E : Type 0} (caller : ℕ) (command : Command) (reply : Reply) (old new : Standing) (r : Result A E)
-    → Enters caller (call_of command) reply old new → OnErr r ((new ≡ old) ⊎ ((text : List ℕ) × CarriesOut caller command text old new))
-lost_so caller command reply old new (Ok text) entered = tt
-lost_so caller command reply old new (Err e) entered =
-    inr (compact_text (reply_data reply), record { reply = reply; entered = entered; told = refl })
+pub lost_so : {A E : Type 0} (caller : ℕ) (command : Command) (call : Call) (reply : Reply) (old new : Standing) (r : Result A E) → call_of command ≡ call
+    → Enters caller call reply old new → OnErr r ((new ≡ old) ⊎ ((text : List ℕ) × CarriesOut caller command text old new))
+lost_so caller command call reply old new (Ok text) is entered = tt
+lost_so caller command call reply old new (Err e) is entered = inr (
+  compact_text (reply_data reply),
+  record { reply = reply; entered = subst (λ (c : Call). Enters caller c reply old new) (sym is) entered; told = refl },
+)
