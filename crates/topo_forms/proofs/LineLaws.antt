@@ -1,5 +1,5 @@
 -- What the lines of a session are read as.
-use Rattle.std.proofs.Common.{◌≡◌, ℕ, ◌<◌, ◌≤◌, Bool, true, false, not, ◌&&◌, ◌||◌, ◌==◌, List, [], ◌∷◌, length, nat_lt, bytes_eq, codes, Option, Some, None, option_map, unwrap_or}
+use Rattle.std.proofs.Common.{◌≡◌, ℕ, ◌<◌, ◌≤◌, Bool, true, false, ◌||◌, ◌==◌, List, [], ◌∷◌, length, nat_lt, bytes_eq, codes, Option, Some, None, option_map, unwrap_or}
 use Rattle.std.proofs.Common.{Ordering, Less, Equal, Greater, Ok, Err, inl, inr, refl, sym, ap, subst, ◌∙◌, arith}
 use Rattle.std.specs.Ordering.{nat_cmp, is_eq, match_ordering}
 use Rattle.std.specs.Cmp.Lexicographic.{slice_cmp}
@@ -100,7 +100,7 @@ unknown_name required optional name (member other d ms) r o known =
     by Equal e some rest =
         let same = equal_names name other e in
         let none : (is_known required other || is_known optional other) ≡ false =
-            subst (λ n. (is_known required n || is_known optional n) ≡ false) same (rw (r, o) refl) in
+        subst (λ n. (is_known required n || is_known optional n) ≡ false) same (rw (r, o) refl) in
         absurd cc
 
 has_keys_by : (required optional : List Key) (path : Path) (key : Key) (ms : Members) (b : Bool) → all_known required optional ms ≡ b
@@ -230,15 +230,16 @@ unfolding request_form look_form carry_form
 carry_read path d command e =
     let apart : (word : List ℕ) → IsNoCommand word → (n : ℕ) → begins word n d ≡ false = λ word is n. no_word word n path d command is e in
     rw (
-    no_text (codes "about") path d command e,
-    no_text (codes "counts") path d command e,
-    no_text (codes "picture") path d command e,
-    no_text (codes "report") path d command e,
-    apart (codes "route") (record { planned = refl; grow = refl; insert = refl; delete = refl }) 3,
-    apart (codes "edge") (record { planned = refl; grow = refl; insert = refl; delete = refl }) 2,
-    apart (codes "vertex") (record { planned = refl; grow = refl; insert = refl; delete = refl }) 2,
-    apart (codes "face") (record { planned = refl; grow = refl; insert = refl; delete = refl }) 4,
-    no_key Open path d command e)
+      no_text (codes "about") path d command e,
+      no_text (codes "counts") path d command e,
+      no_text (codes "picture") path d command e,
+      no_text (codes "report") path d command e,
+      apart (codes "route") (record { planned = refl; grow = refl; insert = refl; delete = refl }) 3,
+      apart (codes "edge") (record { planned = refl; grow = refl; insert = refl; delete = refl }) 2,
+      apart (codes "vertex") (record { planned = refl; grow = refl; insert = refl; delete = refl }) 2,
+      apart (codes "face") (record { planned = refl; grow = refl; insert = refl; delete = refl }) 4,
+      no_key Open path d command e,
+    )
     (went (command_form path d) (λ (found : Command). Ok (Carry found)) command e)
 
 command_line : (d : Data) (command : Command) → command_form whole d ≡ Ok command
@@ -246,7 +247,7 @@ command_line : (d : Data) (command : Command) → command_form whole d ≡ Ok co
 unfolding line_form bare_asked
 command_line d command e =
     let asked : bare_asked request_form d ≡ Ok (record { caller = 0; request = Carry command }) =
-        went (request_form whole d) _ (Carry command) (carry_read whole d command e) in
+    went (request_form whole d) _ (Carry command) (carry_read whole d command e) in
     rw (no_key Call whole d command e, asked) refl
 
 -- more bytes may be there
