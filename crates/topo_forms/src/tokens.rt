@@ -118,6 +118,7 @@ pub fn last_numbers(alloc: Global, reader: &mut TokenReader<'_>) -> Option<(u32,
 }
 
 /// What a whole text of at most `limit` bytes spells.
+#[inline(always)]
 pub fn read_tokens<T: FromTokens>(alloc: Global, limit: usize, bytes: &[u8]) -> Option<T>
     ensures { IfSome result (λ a. SpellsText T.nesting T.form limit bytes.now a) }
 {
