@@ -4,7 +4,7 @@ ghost use Rattle.std.specs.Prelude.{◌≡◌, ◌≢◌, ◌⊎◌, ℕ, List, 
 ghost use Rattle.std.specs.Prelude.{Err, None, Ok, false, string_bytes, true};
 ghost use Rattle.serde_json.specs.Written.{compact_text};
 ghost use Rattle.topo_core.specs.declared.calls.Reply.TheVariants.{Refused};
-ghost use Rattle.topo_forms.specs.Sessions.{line_of};
+ghost use Rattle.topo_forms.specs.Sessions.{command_line, line_of};
 ghost use Rattle.topo_script.specs.Pictures.{rows_text};
 ghost use Rattle.topo_script.specs.ReportTexts.{reply_data, report_text};
 ghost use Rattle.topo_session.specs.Answers.{Answers, AnswersClosed, AnswersFirst, AnswersLine};
@@ -24,7 +24,7 @@ use std::alloc::{AllocError, Global};
 use std::mem;
 use topo_core::calls::{Call, Command, Refusal, Reply};
 use topo_core::darts::Dart;
-use topo_forms::{Asked, Frame, Line, Opening, Request, ScriptFault, read_line};
+use topo_forms::{Asked, Frame, Line, Opening, Request, ScriptFault, read_command, read_line};
 use topo_price::tariff::PriceFn;
 use topo_script::{picture_text, report};
 use topo_settings::RunFault;
@@ -282,10 +282,27 @@ fn tell(alloc: Global, outcome: Result<String, RunFault>) -> Result<String, Allo
     }
 }
 
-/// Answers a line, which stands here without its line feed. A line that is of no form, and an opening
-/// that is at fault, is answered by its first fault, and changes nothing. The answer has no line
-/// feed. Out of memory, all is as it was, or what was asked is done and only the text is lost.
-pub fn answer<F: FromTable>(
+/// Answers a line that is a command as it is.
+fn answer_command<F: FromTable>(
+    alloc: Global,
+    session: &mut Option<Session<F>>,
+    command: Command,
+) -> Result<String, AllocError>
+    ensures answered { IfOk result
+        (λ text. AnswersLine (command_line command) (string_bytes text)
+        session.old session.new) }
+    ensures lost { OnErr result (LosesLine (command_line command) session.old session.new) }
+{
+    let asked = Asked {
+        caller: 0,
+        request: Request::Carry(command),
+    };
+    let outcome = respond(alloc, session, Ok(asked));
+    tell(alloc, outcome)
+}
+
+/// Answers a line, whatever it asks for.
+fn answer_any<F: FromTable>(
     alloc: Global,
     session: &mut Option<Session<F>>,
     line: &[u8],
@@ -299,6 +316,26 @@ pub fn answer<F: FromTable>(
     let outcome = respond(alloc, session, asked);
     let text = tell(alloc, outcome)?;
     framed(alloc, &frame, text)
+}
+
+/// Answers a line, which stands here without its line feed. A line that is of no form, and an opening
+/// that is at fault, is answered by its first fault, and changes nothing. The answer has no line
+/// feed. Out of memory, all is as it was, or what was asked is done and only the text is lost.
+pub fn answer<F: FromTable>(
+    alloc: Global,
+    session: &mut Option<Session<F>>,
+    line: &[u8],
+) -> Result<String, AllocError>
+    ensures answered { IfOk result
+        (λ text. AnswersLine (line_of false line.now) (string_bytes text)
+        session.old session.new) }
+    ensures lost { OnErr result (LosesLine (line_of false line.now) session.old session.new) }
+{
+    // Most lines are commands, and a command as it is needs no frame.
+    match read_command(alloc, line) {
+        Some(command) => answer_command(alloc, session, command),
+        None => answer_any(alloc, session, line),
+    }
 }
 
 /// Answers the first line, where no session is open. It may be an opening as it is, and a fault of
