@@ -19,7 +19,7 @@ ghost use Rattle.topo_settings.specs.Settings.{IsUnsound};
 
 use crate::session::Session;
 use crate::tables::FromTable;
-use crate::texts::{counts_text, fault_text, face_text, framed, route_text, text_like, text_of};
+use crate::texts::{counts_text, face_text, fault_text, framed, route_text, text_like, text_of};
 use std::alloc::{AllocError, Global};
 use std::mem;
 use topo_core::calls::{Call, Command, Refusal, Reply};
@@ -30,7 +30,8 @@ use topo_script::{picture_text, report};
 use topo_settings::RunFault;
 
 /// What the program is, how large a picture may be, and which requests there are.
-const ABOUT: &str = "{\"limits\":{\"crossings\":1048576,\"edges\":65536,\"vertices\":65536},\"program\":\"planar\",\"requests\":[\"about\",\"counts\",\"delete\",\"edge\",\"face\",\"grow\",\"insert\",\"open\",\"picture\",\"planned\",\"report\",\"route\",\"vertex\"],\"version\":\"0.5.0\"}";
+const ABOUT: &str =
+    "{\"limits\":{\"crossings\":1048576,\"edges\":65536,\"vertices\":65536},\"program\":\"planar\",\"requests\":[\"about\",\"counts\",\"delete\",\"edge\",\"face\",\"grow\",\"insert\",\"open\",\"picture\",\"planned\",\"report\",\"route\",\"vertex\"],\"version\":\"0.5.0\"}";
 
 /// Carries a command out, and gives the text of its reply. A planned insertion is looked for as any
 /// other.
