@@ -1,5 +1,5 @@
 -- What is told of a line, by what was asked of its session.
-use Rattle.std.proofs.Common.{◌≡◌, ◌≢◌, ◌⊎◌, ℕ, List, Option, None, Some, Result, Ok, Err, IfOk, IfErr, inl, inr, refl, ap, subst, sym, ◌∙◌}
+use Rattle.std.proofs.Common.{◌≡◌, ◌≢◌, ◌⊎◌, ℕ, List, Option, None, Some, Result, Ok, Err, IfOk, IfErr, OnErr, inl, inr, refl, ap, subst, sym, ◌∙◌}
 use Rattle.std.specs.Prelude.{MatchResult}
 use Rattle.topo_forms.specs.declared.fault.ScriptFault.TheVariants.{Memory as NoMemory}
 use Rattle.topo_forms.specs.declared.lines.Asked.{Asked as Asking}
@@ -11,7 +11,7 @@ use Rattle.topo_forms.specs.Reads.{Read}
 use Rattle.topo_forms.specs.Sessions.{ReadsLine}
 use Rattle.topo_settings.specs.declared.fault.RunFault.{RunFault}
 use Rattle.topo_settings.specs.declared.fault.RunFault.TheVariants.{Memory}
-use Rattle.topo_session.specs.Answers.{Answers, AnswersAsked, AnswersFirst, AnswersLine, IsBadOpening, IsFaultOfAsked, Leaves, LeavesBy, RespondsTo}
+use Rattle.topo_session.specs.Answers.{Answers, AnswersAsked, AnswersFirst, AnswersLine, IsBadOpening, IsFaultOfAsked, Leaves, LeavesBy, LosesLine, RespondsTo}
 use Rattle.topo_session.specs.Standings.{Standing}
 use Rattle.topo_session.specs.Texts.{fault_text, framed}
 
@@ -39,6 +39,11 @@ left_same _ asked old new not left = left
 no_memory : (fault : RunFault) → fault ≢ Memory → IsFaultOfAsked (Err NoMemory) fault → ⊥
 no_memory Memory not is = not refl
 no_memory _ not is = is
+
+left_lost : (fault : RunFault) (asked : Read Asking) (old new : Option Standing) → Leaves fault asked old new
+    → (new ≡ old) ⊎ ((text : List ℕ) × RespondsTo asked text old new)
+left_lost Memory asked old new left = left
+left_lost _ asked old new left = inl left
 
 -- ---- A line
 
@@ -75,8 +80,21 @@ module _ (frame : Frame) (asked : Read Asking) (due : Line) (reads : ReadsLine (
       answered inner text (subst (λ (t : List ℕ). RespondsTo asked t old new) (sym told) responds) shown
   line_told bytes (Err fault) responds is left inner text told shown = faulty fault inner text told.0 is left told.1 shown
 
+  lost : (new ≡ old) ⊎ ((text : List ℕ) × RespondsTo asked text old new) → LosesLine due old new
+  lost (inl same) = inl same
+  lost (inr (text, responds)) =
+      of_due (λ line. LosesLine line old new) (inr (text, inl responds))
+      (λ memory. absurd (subst (λ (a : Read Asking). RespondsTo a text old new) memory responds))
+
   -- an opening as it is, with its fault
   pub bad_opening : frame ≡ Opening → (fault : RunFault) → IsFaultOfAsked asked fault → fault ≢ Memory → IsBadOpening due fault
   bad_opening so fault is not =
       of_due (λ line. IsBadOpening line fault) (record { frame = so; is = is })
       (λ memory. absurd (no_memory fault not (subst (λ (a : Read Asking). IsFaultOfAsked a fault) memory is)))
+
+  -- the text is lost, whatever became of the line
+  pub line_lost : {S A E : Type 0} (bytes : S → List ℕ) (r : Result S RunFault) → IfOk r (λ found. RespondsTo asked (bytes found) old new)
+      → IfErr r (λ fault. Leaves fault asked old new) → (made : Result A E) → OnErr made (LosesLine due old new)
+  line_lost bytes r responds left (Ok made) = tt
+  line_lost bytes (Ok found) responds left (Err e) = lost (inr (bytes found, responds))
+  line_lost bytes (Err fault) responds left (Err e) = lost (left_lost fault asked old new left)
