@@ -1,6 +1,7 @@
 """Sessions: what is answered at once is what a run reports, and what becomes of faults, broken programs and
 interrupts."""
 
+import fcntl
 import os
 import random
 import signal
@@ -132,13 +133,24 @@ class Calls(unittest.TestCase):
             self.assertEqual(answers[:4], due)
             self.assertEqual(session.answers([]), [])
             self.assertEqual(len(session.answers(['"counts"'] * 3640)), 3640)
-            with self.assertRaisesRegex(ValueError, "more than 32768 bytes"):
-                session.answers(['"counts"'] * 3641)
-            with self.assertRaisesRegex(ValueError, "more than 32768 bytes"):
-                session.answers(['"é"'] * 6554)
+            self.assertEqual(len(session.answers(['"é"'] * 6554)), 6554)
             with self.assertRaisesRegex(ValueError, "a line feed"):
                 session.answers(['"counts"\n"picture"'])
             self.assertEqual(Picture.from_text(session.picture_text()), session.picture())
+
+    def test_many_lines_ahead(self):
+        """Lines and answers of many times what a pipe holds, through pipes of the usual size and of one page."""
+        for room in (65536, 4096):
+            with Session() as session:
+                process = session._process
+                for end in (process._input, process._output):
+                    fcntl.fcntl(end.fileno(), fcntl.F_SETPIPE_SZ, room)
+                lines = ['["grow",0,0,0]', '["insert",0,0,0]', '"picture"', '["insert",0,0,0]'] * 100
+                answers = session.answers(lines + ['["delete",9999]'] * 19_600)
+                self.assertEqual(len(answers), 20_000)
+                self.assertEqual(answers[0], '{"edge":1,"vertex":2}')
+                self.assertEqual(answers[400:], ['{"refused":[4,"NoEdge"]}'] * 19_600)
+                self.assertEqual(len(session.report().history), 19_900)
 
     def test_faults_of_the_start(self):
         seed = Planarizer().run().picture
