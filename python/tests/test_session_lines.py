@@ -1,4 +1,5 @@
-"""The program's sessions against those of the second planarizer: random lines, each answer as it was predicted.
+"""The program's sessions against those of the second planarizer, on the examples of docs/FORMATS.md and on random lines:
+each answer is as it was predicted.
 
 FEZDROK_LINES is how many lines are tried, 20,000 where it is not set, and FEZDROK_SEED the first seed.
 """
@@ -13,8 +14,8 @@ from typing import Any
 
 from fezdrok import Picture, find_program
 
-from .reference_sessions import Lines, Told
-from .support import needs_program
+from .reference_sessions import ABOUT, NAMES, Lines, Told
+from .support import ROOT, needs_program
 
 COUNT, SEED = int(os.environ.get("FEZDROK_LINES", "20000")), int(os.environ.get("FEZDROK_SEED", "1"))
 
@@ -182,6 +183,51 @@ class RandomLines(unittest.TestCase):
         due = "NoVertex SameEnds NoPosition NoEdge BadKind Cut Full NoRoute NoDart NotOpen NotJson TooLong BadShape"
         due += " BadVersion BadNumber BadPrice BadLimits TooMany BadPath BadCrossing BadRotation NotPlanar"
         self.assertLessEqual(set(due.split()), names)
+
+
+def sessions_of_page() -> list[list[str]]:
+    """The examples of docs/FORMATS.md: the lines of each, which begin with `>`, `<` or `!`."""
+    sessions: list[list[str]] = []
+    is_open = False
+    for line in (ROOT / "docs" / "FORMATS.md").read_text().splitlines():
+        shown = line.startswith(("    > ", "    < ", "    ! "))
+        if shown:
+            sessions[-1].append(line[4:]) if is_open else sessions.append([line[4:]])
+        is_open = shown
+    return sessions
+
+
+class Page(unittest.TestCase):
+    """The examples of docs/FORMATS.md."""
+
+    @needs_program
+    def test_the_program(self):
+        for shown in sessions_of_page():
+            asked = "".join(f"{line[2:]}\n" for line in shown if line[0] == ">")
+            done = subprocess.run([find_program(), "serve"], input=asked.encode(), capture_output=True, timeout=60)
+            due = ["".join(f"{line[2:]}\n" for line in shown if line[0] == mark) for mark in "<!"]
+            self.assertEqual([done.stdout.decode(), done.stderr.decode()], due, shown[0])
+            self.assertEqual(done.returncode, 1 if due[1] else 0)
+
+    def test_the_second_planarizer(self):
+        for shown in sessions_of_page():
+            lines, told, end = Lines(), [], []
+            for line in (line for line in shown if line[0] == ">"):
+                told.append(line)
+                try:
+                    told += [] if end else [f"< {lines.answer(line[2:].encode())}"]
+                except Told as fault:
+                    end = [f"! planar: {fault}"]
+            self.assertEqual(told + end, shown)
+
+    def test_each_request_and_each_fault_is_there(self):
+        shown = "\n".join(line for session in sessions_of_page() for line in session)
+        for name in ABOUT["requests"]:
+            self.assertRegex(shown, rf"""> .*"{name}\b""")
+        refusals = {1: "NoVertex", 2: "SameEnds", 4: "NoEdge", 7: "Full", 9: "NoRoute", 71: "NoDart"}
+        for number, name in {**NAMES, **refusals}.items():
+            if number != 51:  # which takes a long line
+                self.assertRegex(shown, rf"""[<!] .*\b{number}[ ,"]+{name}""")
 
 
 def names_in(answer: str) -> list[str]:

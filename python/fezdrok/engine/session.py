@@ -58,6 +58,9 @@ class Session:
     The process begins with the session, and ends with the `with` block or by `close`. A fault of the start, of the
     limits or of the prices is a Fault here, as by `Planarizer.run`.
 
+    `route`, `edge`, `vertex`, `face`, `counts`, `picture` and `report` are questions, which change nothing. `open` begins
+    anew with another picture in the same process.
+
     A call that the program refuses changes nothing, and its reply is a Refused. Numbers that are none of the form's, as
     negative ones, are a Fault (54 BadNumber), which changes nothing either. Where the program ends before its time, the
     exception of its status is raised, with what it wrote on standard error: ProgramFailed, as for a signal, or another
@@ -187,8 +190,8 @@ class Session:
         return self._ask(["vertex", index(vertex)], VertexAnswer.from_json)
 
     def face(self, edge: int, segment: int = 0, way: str = "forward") -> tuple[Dart, ...] | Refused:
-        """The darts of the face on the left of a dart, clockwise from this one: of a segment of an edge, counted from 0 at
-        the end `a`, which is walked `forward` (from `a` to `b`) or `back`. Else the refusal 4 NoEdge, or 71 NoDart where the
+        """The darts once round the face on the left of this one, from it on: of a segment of an edge, counted from 0 at the
+        end `a`, which is walked `forward` (from `a` to `b`) or `back`. Else the refusal 4 NoEdge, or 71 NoDart where the
         edge has no such segment. Another way is a Fault (52 BadShape)."""
         return self._ask(["face", index(edge), index(segment), way], face_from_json)
 
