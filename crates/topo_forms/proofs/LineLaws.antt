@@ -1,5 +1,5 @@
 -- What the lines of a session are read as.
-use Rattle.std.proofs.Common.{◌≡◌, ℕ, ◌<◌, ◌≤◌, Bool, true, false, not, ◌&&◌, ◌||◌, ◌==◌, List, [], ◌∷◌, length, nat_lt, bytes_eq, codes, Option, Some, None, option_map, unwrap_or}
+use Rattle.std.proofs.Common.{◌≡◌, ℕ, ◌<◌, ◌≤◌, Bool, true, false, ◌||◌, ◌==◌, List, [], ◌∷◌, length, nat_lt, bytes_eq, codes, Option, Some, None, option_map, unwrap_or}
 use Rattle.std.proofs.Common.{Ordering, Less, Equal, Greater, Ok, Err, inl, inr, refl, sym, ap, subst, ◌∙◌, arith}
 use Rattle.std.specs.Ordering.{nat_cmp, is_eq, match_ordering}
 use Rattle.std.specs.Cmp.Lexicographic.{slice_cmp}
@@ -27,7 +27,7 @@ use Rattle.topo_forms.specs.Paths.{key_name, whole}
 use Rattle.topo_forms.specs.Reads.{Read, and_then, passes, json_of, is_text, element_count, has_key, is_known, all_known, all_there, has_keys, value_of, IsFirstFault, Gives}
 use Rattle.topo_forms.specs.Scripts.{nulls_in}
 use Rattle.topo_forms.specs.Sessions.{text_id, number_id, id_form, carry_form, look_form, request_form, opening_form, opened_form, bare_asked, envelope_head, envelope_asked, envelope_line}
-use Rattle.topo_forms.specs.Sessions.{line_form, line_limit, line_or, line_of, frame_without, has_brace, ReadsLine}
+use Rattle.topo_forms.specs.Sessions.{line_form, line_limit, line_or, line_of, command_line, frame_without, has_brace, ReadsLine}
 use Rattle.topo_forms.proofs.Bytes.{too_long, within}
 use Rattle.topo_forms.proofs.Steps.{went}
 
@@ -242,10 +242,9 @@ carry_read path d command e =
     )
     (went (command_form path d) (λ (found : Command). Ok (Carry found)) command e)
 
-command_line : (d : Data) (command : Command) → command_form whole d ≡ Ok command
-    → line_form false d ≡ record { frame = Bare; asked = Ok (record { caller = 0; request = Carry command }) }
+command_read : (d : Data) (command : Command) → command_form whole d ≡ Ok command → line_form false d ≡ command_line command
 unfolding line_form bare_asked
-command_line d command e =
+command_read d command e =
     let asked : bare_asked request_form d ≡ Ok (record { caller = 0; request = Carry command }) =
     went (request_form whole d) _ (Carry command) (carry_read whole d command e) in
     rw (no_key Call whole d command e, asked) refl
@@ -265,11 +264,14 @@ later_limit bytes d true h e = rw h (value_more 65536 268435456 bytes d (nat_lt 
 later_limit bytes d false h e = rw h e
 
 later_found : (bytes : List ℕ) (found : Read Data) (command : Command) → value_of 65536 bytes ≡ found → and_then found (command_form whole) ≡ Ok command
-    → line_of false bytes ≡ record { frame = Bare; asked = Ok (record { caller = 0; request = Carry command }) }
+    → line_of false bytes ≡ command_line command
 unfolding line_of and_then
-later_found bytes (Ok d) command is e = rw (later_limit bytes d (has_brace bytes) refl is) (command_line d command e)
+later_found bytes (Ok d) command is e = rw (later_limit bytes d (has_brace bytes) refl is) (command_read d command e)
 later_found bytes (Err fault) command is e = absurd cc
 
 pub later_tokens : (bytes : List ℕ) (command : Command) → and_then (value_of 65536 bytes) (command_form whole) ≡ Ok command
-    → ReadsLine (record { frame = Bare; asked = Ok (record { caller = 0; request = Carry command }) }) (line_of false bytes)
-later_tokens bytes command e = inr (sym (later_found bytes (value_of 65536 bytes) command refl e))
+    → line_of false bytes ≡ command_line command
+later_tokens bytes command e = later_found bytes (value_of 65536 bytes) command refl e
+
+pub reads_command : (bytes : List ℕ) (command : Command) → line_of false bytes ≡ command_line command → ReadsLine (command_line command) (line_of false bytes)
+reads_command bytes command e = inr (sym e)

@@ -1,10 +1,11 @@
 -- The forms of what a session reads: its opening, what it can be asked for, and its lines.
-use Rattle.std.specs.Prelude.{◌≡◌, ◌⊎◌, ℕ, ◌==◌, nat_le, Bool, true, false, not, ◌&&◌, ◌||◌, List, [], ◌∷◌, length, codes, Option, Some, None, option_map, unwrap_or}
+use Rattle.std.specs.Prelude.{◌≡◌, ◌⊎◌, ℕ, ◌==◌, nat_le, Bool, not, ◌&&◌, ◌||◌, List, [], ◌∷◌, length, codes, Option, Some, None, option_map, unwrap_or}
 use Rattle.std.specs.Prelude.{if◌then◌else◌, Ok, Err}
 use Rattle.json.specs.Ascii as ascii
 use Rattle.json.specs.Word.{head}
 use Rattle.serde_json.specs.Data.{Data}
 use Rattle.serde_json.specs.Find.{as_str}
+use Rattle.topo_core.specs.declared.calls.Command.{Command}
 use Rattle.topo_forms.specs.declared.fault.ScriptFault.TheVariants.{Memory, BadShape}
 use Rattle.topo_forms.specs.declared.path.Key.TheVariants.{Call, Caller, Id, Limits, Open, Prices, Start, Version}
 use Rattle.topo_forms.specs.declared.path.Path.{Path}
@@ -189,6 +190,10 @@ line_or first (Err fault) = record { frame = frame_without first; asked = Err fa
 -- the line that bytes spell, which stand here without their line feed
 unfoldable pub line_of : Bool → List ℕ → Line
 line_of first bytes = line_or first (value_of (line_limit first bytes) bytes)
+
+-- the line that is this command itself
+abbrev pub command_line : Command → Line
+command_line command = record { frame = Bare; asked = Ok (record { caller = 0; request = Carry command }) }
 
 -- the line is the one that is due, and only out of memory may take the place of what it asks for
 abbrev pub ReadsLine : Line → Line → Type 0

@@ -30,7 +30,7 @@ mod token_settings;
 mod tokens;
 
 pub use fault::ScriptFault;
-pub use lines::{Asked, Frame, IdText, Line, LineId, read_line};
+pub use lines::{Asked, Frame, IdText, Line, LineId, read_command, read_line};
 pub use reports::Report;
 pub use row_forms::read_rows;
 pub use script_forms::{read_report, read_script};

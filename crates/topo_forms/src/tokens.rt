@@ -1,6 +1,7 @@
 //! Forms read from the tokens of a text, without a tree of values.
 
-ghost use Rattle.std.specs.Prelude.{◌≡◌, ◌+◌, ◌<◌, ◌^◌, IfSome};
+ghost use Rattle.std.specs.Prelude.{◌≡◌, ◌+◌, ◌<◌, ◌^◌, IfSome, IsTrue};
+ghost use Rattle.std.specs.Str.{IsUtf8};
 ghost use Rattle.topo_forms.specs.Reads.{number_form, long_form, list_form};
 ghost use Rattle.topo_forms.specs.Tokens.{Spells, SpellsItems, SpellsNumber};
 ghost use Rattle.topo_forms.specs.Tokens.{SpellsNumbers, SpellsText};
@@ -117,14 +118,27 @@ pub fn last_numbers(alloc: Global, reader: &mut TokenReader<'_>) -> Option<(u32,
     Some((a, b, c))
 }
 
+/// Whether bytes are a text. A line with a command is short, and is tested at once.
+#[inline(always)]
+fn is_utf8(bytes: &[u8]) -> bool
+    ensures { IsTrue result → IsUtf8 bytes.now }
+{
+    if bytes.len() < 64 {
+        std::str::from_utf8(bytes).is_ok()
+    } else {
+        simdutf8::basic::from_utf8(bytes).is_ok()
+    }
+}
+
 /// What a whole text of at most `limit` bytes spells.
+#[inline(always)]
 pub fn read_tokens<T: FromTokens>(alloc: Global, limit: usize, bytes: &[u8]) -> Option<T>
     ensures { IfSome result (λ a. SpellsText T.nesting T.form limit bytes.now a) }
 {
     if bytes.len() > limit {
         return None;
     }
-    if simdutf8::basic::from_utf8(bytes).is_err() {
+    if !is_utf8(bytes) {
         return None;
     }
     let mut reader = TokenReader::new(bytes);

@@ -133,7 +133,6 @@ pub first_so : (old_left new_left : Option (List ℕ)) (old ahead kept : List �
     → TakesFirst 268435457 old_left new_left old ahead kept q
 first_so ol nl old ahead kept part q is t = subst (TakesFirst 268435457 ol nl old ahead kept) is t
 
-
 -- what is told of a first line that is taken so
 module _ (old_left new_left old_held new_held : Option (List ℕ)) (old ahead kept : List ℕ) (none : old ≡ []) where
   abbrev from : Streams
@@ -328,7 +327,7 @@ served_one old new begun b = record {
   session =
       subst (λ (ls : List (List ℕ)). IsSession ls (b.text ∷ [])) (sym (only_lines old new new begun b))
       (session_of old new new begun false b [] [] begun refl);
-  written = subst (Appends old.held new.held) (sym (append-nil (b.text ++ 10 ∷ []) )) b.written;
+  written = subst (Appends old.held new.held) (sym (append-nil (b.text ++ 10 ∷ []))) b.written;
 }
 
 -- of the answer to the first line only a part is written
@@ -336,9 +335,12 @@ module _ (old new : Streams) (is : BeginsPart old new) where
   first_line_read : (has_feed : Bool) (t : Takes old.left new.left [] new.ahead (is.line ++ feed_if has_feed)) → OverUnless has_feed new.left new.ahead
       → AreRead t.read new.left (is.line ∷ [])
   first_line_read true t over = inl (record { plain = (is.plain, tt); rest = new.ahead; joined = t.parted })
-  first_line_read false t over = inr (over.0, sym (
-      ap lines_of (t.parted ∙ ap (λ (e : List ℕ). (is.line ++ []) ++ e) over.1 ∙ append-nil (is.line ++ []) ∙ append-nil is.line)
-      ∙ only_line old new new is.to is.line is.text is.plain is.answers))
+  first_line_read false t over = inr (
+    over.0,
+    sym (
+        ap lines_of (t.parted ∙ ap (λ (e : List ℕ). (is.line ++ []) ++ e) over.1 ∙ append-nil (is.line ++ []) ∙ append-nil is.line)
+        ∙ only_line old new new is.to is.line is.text is.plain is.answers),
+  )
 
   cut_first : IsPartlyServed old.left new.left old.held new.held
   cut_first = record {

@@ -1,5 +1,5 @@
 -- Calls of a book as calls of its session.
-use Rattle.std.proofs.Common.{◌≡◌, ℕ, List, [], ◌∷◌, ◌++◌, Option, Result, Ok, Err, IfOk, refl}
+use Rattle.std.proofs.Common.{◌≡◌, ℕ, List, [], ◌∷◌, ◌++◌, Option, Result, Ok, Err, IfOk, OnErr, ◌⊎◌, inr, refl, subst, sym}
 use Rattle.topo_book.specs.Books.{BookState, IsDue, IsSameBook}
 use Rattle.topo_core.specs.declared.calls.Call.{Call}
 use Rattle.topo_core.specs.declared.calls.Call.TheVariants.{Insert}
@@ -10,7 +10,15 @@ use Rattle.topo_forms.specs.declared.scripts.LimitRows.{LimitRows}
 use Rattle.topo_price.specs.Prices.{Asking, prices_of}
 use Rattle.topo_settings.specs.Settings.{AnswersPrices, priced}
 use Rattle.topo_settings.proofs.Pricing.{step_so}
-use Rattle.topo_session.specs.Standings.{Enters, IsRouteReply, Standing, standing_of}
+use Rattle.serde_json.specs.Written.{compact_text}
+use Rattle.topo_core.specs.declared.calls.Command.{Command}
+use Rattle.topo_core.specs.History.{call_of}
+use Rattle.topo_forms.specs.declared.sessions.Opening.{Opening}
+use Rattle.topo_rows.specs.Shown.{Shown}
+use Rattle.topo_script.specs.ReportTexts.{reply_data}
+use Rattle.topo_settings.specs.Settings.{IsSound, start_of}
+use Rattle.topo_session.specs.Answers.{CarriesOut}
+use Rattle.topo_session.specs.Standings.{Enters, IsOpened, IsRouteReply, Standing, standing_of}
 
 module _ {F : Type 0} (answers : Asking) (numbers : LimitRows) (prices : List (Option ℕ)) (own : AnswersPrices answers prices) where
   moved : (old new : BookState F) (entry : Entry) → new.history ≡ old.history ++ entry ∷ [] → IsSameBook old new
@@ -35,3 +43,18 @@ module _ {F : Type 0} (answers : Asking) (numbers : LimitRows) (prices : List (O
   due_so old u v (Ok reply) is =
       (is.0, step_so (prices_of answers) (priced prices) own.only own.each old.picture.limits old.picture.rows (Insert u v 0) reply is.0 is.1)
   due_so old u v (Err e) is = tt
+
+-- a session that an opening opened
+pub opened_so : {F : Type 0} (opening : Opening) (book : BookState F) (p : Shown) → IsSound opening.limits opening.prices opening.start p.limits
+    → p.rows ≡ start_of opening.start → book.start ≡ p → book.history ≡ [] → book.picture ≡ p
+    → IsOpened opening (standing_of opening.limits opening.prices book)
+opened_so opening book p sound rows start empty picture = record { limits = p.limits; sound = sound; stands = rw (start, empty, picture, rows) refl }
+
+-- a call that was carried out, where the text of its reply is lost
+pub lost_so : {A E : Type 0} (caller : ℕ) (command : Command) (call : Call) (reply : Reply) (old new : Standing) (r : Result A E) → call_of command ≡ call
+    → Enters caller call reply old new → OnErr r ((new ≡ old) ⊎ ((text : List ℕ) × CarriesOut caller command text old new))
+lost_so caller command call reply old new (Ok text) is entered = tt
+lost_so caller command call reply old new (Err e) is entered = inr (
+  compact_text (reply_data reply),
+  record { reply = reply; entered = subst (λ (c : Call). Enters caller c reply old new) (sym is) entered; told = refl },
+)

@@ -1,3 +1,4 @@
 pub mod Entering
 pub mod Legal
 pub mod QuestionLaws
+pub mod Responding

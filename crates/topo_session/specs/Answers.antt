@@ -7,6 +7,7 @@ use Rattle.topo_core.specs.declared.darts.Dart.{Dart}
 use Rattle.topo_core.specs.declared.rows.Rows.{Rows}
 use Rattle.topo_core.specs.History.{call_of}
 use Rattle.topo_core.specs.Picture.{edge_row}
+use Rattle.topo_forms.specs.declared.fault.ScriptFault.TheVariants.{Memory as NoMemory}
 use Rattle.topo_forms.specs.declared.lines.Asked.{Asked as Asking}
 use Rattle.topo_forms.specs.declared.lines.Line.{Line}
 use Rattle.topo_forms.specs.declared.lines.Frame.TheVariants.{Opening}
@@ -119,6 +120,7 @@ RespondsTo (Ok asked) text old new = Responds asked text old new
 -- what a line asks for has this fault, which may be out of memory
 abbrev pub IsFaultOfAsked : Read Asking → RunFault → Type 0
 IsFaultOfAsked asked Memory = ⊤
+IsFaultOfAsked (Err NoMemory) fault = ⊥
 IsFaultOfAsked (Err script) fault = fault ≡ Script script
 IsFaultOfAsked (Ok asked) fault = IsFaultOfRequest asked.request fault
 

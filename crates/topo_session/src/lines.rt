@@ -4,7 +4,7 @@ ghost use Rattle.std.specs.Prelude.{◌≡◌, ◌≢◌, ◌⊎◌, ℕ, List, 
 ghost use Rattle.std.specs.Prelude.{Err, None, Ok, false, string_bytes, true};
 ghost use Rattle.serde_json.specs.Written.{compact_text};
 ghost use Rattle.topo_core.specs.declared.calls.Reply.TheVariants.{Refused};
-ghost use Rattle.topo_forms.specs.Sessions.{line_of};
+ghost use Rattle.topo_forms.specs.Sessions.{command_line, line_of};
 ghost use Rattle.topo_script.specs.Pictures.{rows_text};
 ghost use Rattle.topo_script.specs.ReportTexts.{reply_data, report_text};
 ghost use Rattle.topo_session.specs.Answers.{Answers, AnswersClosed, AnswersFirst, AnswersLine};
@@ -19,20 +19,22 @@ ghost use Rattle.topo_settings.specs.Settings.{IsUnsound};
 
 use crate::session::Session;
 use crate::tables::FromTable;
-use crate::texts::{counts_text, fault_text, face_text, framed, route_text, text_like, text_of};
+use crate::texts::{counts_text, face_text, fault_text, framed, route_text, text_like, text_of};
 use std::alloc::{AllocError, Global};
 use std::mem;
-use topo_core::calls::{Command, Refusal, Reply};
+use topo_core::calls::{Call, Command, Refusal, Reply};
 use topo_core::darts::Dart;
-use topo_forms::{Asked, Frame, Line, Opening, Request, ScriptFault, read_line};
+use topo_forms::{Asked, Frame, Line, Opening, Request, ScriptFault, read_command, read_line};
 use topo_price::tariff::PriceFn;
 use topo_script::{picture_text, report};
 use topo_settings::RunFault;
 
 /// What the program is, how large a picture may be, and which requests there are.
-const ABOUT: &str = "{\"limits\":{\"crossings\":1048576,\"edges\":65536,\"vertices\":65536},\"program\":\"planar\",\"requests\":[\"about\",\"counts\",\"delete\",\"edge\",\"face\",\"grow\",\"insert\",\"open\",\"picture\",\"planned\",\"report\",\"route\",\"vertex\"],\"version\":\"0.5.0\"}";
+const ABOUT: &str =
+    "{\"limits\":{\"crossings\":1048576,\"edges\":65536,\"vertices\":65536},\"program\":\"planar\",\"requests\":[\"about\",\"counts\",\"delete\",\"edge\",\"face\",\"grow\",\"insert\",\"open\",\"picture\",\"planned\",\"report\",\"route\",\"vertex\"],\"version\":\"0.5.0\"}";
 
-/// Carries a command out, and gives the text of its reply.
+/// Carries a command out, and gives the text of its reply. A planned insertion is looked for as any
+/// other.
 fn carry<F: PriceFn>(
     alloc: Global,
     session: &mut Session<F>,
@@ -44,8 +46,24 @@ fn carry<F: PriceFn>(
     ensures lost { OnErr result ((session.new ≡ session.old)
         ⊎ ((text : List ℕ) × CarriesOut caller command text session.old session.new)) }
 {
-    let reply = session.enter(alloc, caller, command)?;
-    text_of(alloc, &reply)
+    match command {
+        Command::Plain(Call::Grow { u, position, kind }) => {
+            let reply = session.grow(alloc, caller, u, position, kind)?;
+            text_of(alloc, &reply)
+        }
+        Command::Plain(Call::Insert { u, v, kind }) => {
+            let reply = session.insert(alloc, caller, u, v, kind)?;
+            text_of(alloc, &reply)
+        }
+        Command::Plain(Call::Delete { edge }) => {
+            let reply = session.delete(alloc, caller, edge)?;
+            text_of(alloc, &reply)
+        }
+        Command::Planned { u, v, kind } => {
+            let reply = session.insert(alloc, caller, u, v, kind)?;
+            text_of(alloc, &reply)
+        }
+    }
 }
 
 /// The text of the route that an edge of kind 0 would take now.
@@ -265,10 +283,27 @@ fn tell(alloc: Global, outcome: Result<String, RunFault>) -> Result<String, Allo
     }
 }
 
-/// Answers a line, which stands here without its line feed. A line that is of no form, and an opening
-/// that is at fault, is answered by its first fault, and changes nothing. The answer has no line
-/// feed. Out of memory, all is as it was, or what was asked is done and only the text is lost.
-pub fn answer<F: FromTable>(
+/// Answers a line that is a command as it is.
+fn answer_command<F: FromTable>(
+    alloc: Global,
+    session: &mut Option<Session<F>>,
+    command: Command,
+) -> Result<String, AllocError>
+    ensures answered { IfOk result
+        (λ text. AnswersLine (command_line command) (string_bytes text)
+        session.old session.new) }
+    ensures lost { OnErr result (LosesLine (command_line command) session.old session.new) }
+{
+    let asked = Asked {
+        caller: 0,
+        request: Request::Carry(command),
+    };
+    let outcome = respond(alloc, session, Ok(asked));
+    tell(alloc, outcome)
+}
+
+/// Answers a line, whatever it asks for.
+fn answer_any<F: FromTable>(
     alloc: Global,
     session: &mut Option<Session<F>>,
     line: &[u8],
@@ -282,6 +317,26 @@ pub fn answer<F: FromTable>(
     let outcome = respond(alloc, session, asked);
     let text = tell(alloc, outcome)?;
     framed(alloc, &frame, text)
+}
+
+/// Answers a line, which stands here without its line feed. A line that is of no form, and an opening
+/// that is at fault, is answered by its first fault, and changes nothing. The answer has no line
+/// feed. Out of memory, all is as it was, or what was asked is done and only the text is lost.
+pub fn answer<F: FromTable>(
+    alloc: Global,
+    session: &mut Option<Session<F>>,
+    line: &[u8],
+) -> Result<String, AllocError>
+    ensures answered { IfOk result
+        (λ text. AnswersLine (line_of false line.now) (string_bytes text)
+        session.old session.new) }
+    ensures lost { OnErr result (LosesLine (line_of false line.now) session.old session.new) }
+{
+    // Most lines are commands, and a command as it is needs no frame.
+    match read_command(alloc, line) {
+        Some(command) => answer_command(alloc, session, command),
+        None => answer_any(alloc, session, line),
+    }
 }
 
 /// Answers the first line, where no session is open. It may be an opening as it is, and a fault of

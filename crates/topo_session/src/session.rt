@@ -1,16 +1,15 @@
 //! A session with one picture.
 
-ghost use Rattle.std.specs.Prelude.{◌≡◌, ◌++◌, ◌∷◌, [], IfErr, IfOk, OnErr, option_copied};
+ghost use Rattle.std.specs.Prelude.{◌≡◌, ◌++◌, ◌∷◌, [], IfErr, IfOk, OnErr};
 ghost use Rattle.std.specs.Prelude.{◌≢◌, is_some};
 ghost use Rattle.topo_core.specs.declared.calls.Call.TheVariants.{Delete, Grow, Insert};
 ghost use Rattle.topo_core.specs.declared.calls.Refusal.TheVariants.{Memory};
 ghost use Rattle.topo_core.specs.declared.calls.Reply.TheVariants.{Refused};
-ghost use Rattle.topo_core.specs.History.{call_of};
 ghost use Rattle.topo_core.specs.Picture.{edge_row};
 ghost use Rattle.topo_picture.specs.Faces.{IsFaceOf};
 ghost use Rattle.topo_picture.specs.Totals.{AreCountsOf};
 ghost use Rattle.topo_price.specs.Prices.{IsPromise};
-ghost use Rattle.topo_settings.specs.Settings.{AnswersPrices, IsUnsound};
+ghost use Rattle.topo_settings.specs.Settings.{IsSound, IsUnsound, price_table, start_of};
 ghost use Rattle.topo_session.specs.Questions.{edge_asked, vertex_asked};
 ghost use Rattle.topo_session.specs.Standings.{Enters, IsOpened, IsRouteReply, report_so_far};
 
@@ -21,11 +20,12 @@ use std::alloc::{AllocError, Global};
 use std::marker::Model;
 use std::sync::Arc;
 use topo_book::Book;
-use topo_core::calls::{Call, Command, Entry, Reply};
+use topo_core::calls::{Call, Entry, Reply};
 use topo_core::darts::Dart;
 use topo_core::listed::Listed;
 use topo_forms::{LimitRows, Opening, Report};
 use topo_picture::{Counts, Picture};
+use topo_price::table::PriceTable;
 use topo_price::tariff::{PriceFn, Tariff};
 use topo_settings::RunFault;
 use topo_settings::settings::{price_of_kind, validate};
@@ -62,6 +62,19 @@ impl<F: PriceFn> Model for Session<F> {
     ghost invariant = { λ s. AnswersPrices (F.may_return s.book.tariff) s.prices };
 }
 
+/// The prices of all kinds and the picture that an opening sets.
+fn set(alloc: Global, opening: &Opening) -> Result<(PriceTable, Picture), RunFault>
+    ensures prices { IfOk result (λ made. made.0 ≡ price_table opening.now.prices) }
+    ensures sound { IfOk result
+        (λ made. IsSound opening.now.limits opening.now.prices opening.now.start made.1.limits) }
+    ensures rows { IfOk result (λ made. made.1.rows ≡ start_of opening.now.start) }
+    ensures fault { IfErr result
+        (IsUnsound opening.now.limits opening.now.prices opening.now.start) }
+{
+    let prices = opening.prices.as_slice();
+    validate(alloc, opening.limits, prices, opening.start.as_ref())
+}
+
 /// The book of a session.
 fn begin<F: PriceFn + Drop>(alloc: Global, start: Picture, ask: F) -> Result<Book<F>, AllocError>
     requires callable { F.is_callable ask }
@@ -82,12 +95,12 @@ impl<F: FromTable> Session<F> {
         ensures opened { IfOk result (IsOpened opening) }
         ensures fault { IfErr result (IsUnsound opening.limits opening.prices opening.start) }
     {
+        let (table, picture) = set(alloc, &opening)?;
         let Opening {
             limits,
             prices,
             start,
         } = opening;
-        let (table, picture) = validate(alloc, limits, prices.as_slice(), start.as_ref())?;
         drop(start);
         match begin(alloc, picture, F::from_table(table)) {
             Ok(book) => Ok(Session {
@@ -101,29 +114,6 @@ impl<F: FromTable> Session<F> {
 }
 
 impl<F: PriceFn> Session<F> {
-    /// Carries a command out as the call of this caller. A planned insertion is looked for as any
-    /// other.
-    pub fn enter(
-        &mut self,
-        alloc: Global,
-        caller: u32,
-        command: Command,
-    ) -> Result<Reply, AllocError>
-        ensures entered { IfOk result
-            (λ reply. Enters caller (call_of command) reply self.old self.new) }
-        ensures unchanged { OnErr result (self.new ≡ self.old) }
-    {
-        let book = &mut self.book;
-        match command {
-            Command::Plain(Call::Grow { u, position, kind }) => {
-                book.grow(alloc, caller, u, position, kind)
-            }
-            Command::Plain(Call::Insert { u, v, kind }) => book.insert(alloc, caller, u, v, kind),
-            Command::Plain(Call::Delete { edge }) => book.delete(alloc, caller, edge),
-            Command::Planned { u, v, kind } => book.insert(alloc, caller, u, v, kind),
-        }
-    }
-
     /// Puts a new vertex on a new edge of this kind into the corner at `position` of `u`, or
     /// answers the first reason why not. Both are entered.
     pub fn grow(

@@ -43,12 +43,7 @@ fn edges_of(alloc: Global, around: &Rotation) -> Result<Listed<u32>, AllocError>
 }
 
 /// The ends of these edges at `v`.
-fn ends_at(
-    alloc: Global,
-    rows: &KeptRows,
-    v: u32,
-    edges: &[u32],
-) -> Result<Listed<End>, AllocError>
+fn ends_at(alloc: Global, rows: &KeptRows, v: u32, edges: &[u32]) -> Result<Listed<End>, AllocError>
     ensures { IfOk result (λ ends. ends ≡ map (end_at rows.now v) edges.now) }
 {
     let mut ends = Vec::with_capacity(alloc, edges.len())?;

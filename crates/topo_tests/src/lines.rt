@@ -4,7 +4,7 @@ use std::alloc::{AllocError, Global};
 use std::process::Abort;
 use std::test::Fail;
 use topo_forms::lines::{MAX_ID_BYTES, MAX_LINE_BYTES};
-use topo_forms::{Asked, Frame, Line, LineId, Request, ScriptFault, read_line};
+use topo_forms::{Asked, Frame, Line, LineId, Request, ScriptFault, read_command, read_line};
 
 /// How a line asks: its id stands behind the word.
 fn frame_text(alloc: Global, frame: &Frame) -> Result<String, AllocError> {
@@ -33,10 +33,7 @@ fn asked_text(alloc: Global, asked: &Asked) -> Result<String, AllocError> {
 }
 
 /// What is asked for, or the fault.
-fn outcome_text(
-    alloc: Global,
-    outcome: &Result<Asked, ScriptFault>,
-) -> Result<String, AllocError> {
+fn outcome_text(alloc: Global, outcome: &Result<Asked, ScriptFault>) -> Result<String, AllocError> {
     match outcome {
         Ok(asked) => asked_text(alloc, asked),
         Err(fault) => format!(in alloc; "{fault}"),
@@ -61,8 +58,14 @@ fn read_text(alloc: Global, first: bool, bytes: &[u8]) -> Result<String, AllocEr
 /// First lines, and what they are read as.
 const FIRST: &[(&str, &str)] = &[
     (r#"{"version":1}"#, "opening 0 open with 0 prices"),
-    (r#" {"v\u0065rsion":2,"prices":[null,3]}"#, "opening 0 open with 2 prices"),
-    (r#"{"version":2,"prices":[null,3]}"#, "opening 0 open with 2 prices"),
+    (
+        r#" {"v\u0065rsion":2,"prices":[null,3]}"#,
+        "opening 0 open with 2 prices",
+    ),
+    (
+        r#"{"version":2,"prices":[null,3]}"#,
+        "opening 0 open with 2 prices",
+    ),
     (r#"{"version":1,"call":2}"#, "envelope 52 BadShape $"),
     (r#"{"version":1,"open":2}"#, "bare 52 BadShape $"),
     (r#"{"version":1,"x":2}"#, "opening 52 BadShape $"),
@@ -78,9 +81,18 @@ const FIRST: &[(&str, &str)] = &[
 
 /// Later lines without an envelope, and what they are read as.
 const BARE: &[(&str, &str)] = &[
-    (r#"["grow",1,2,3]"#, "0 Carry(Plain(Grow { u: 1, position: 2, kind: 3 }))"),
-    (r#"[ "insert",1,2,3]"#, "0 Carry(Plain(Insert { u: 1, v: 2, kind: 3 }))"),
-    (r#"["planned",1,2,3]"#, "0 Carry(Planned { u: 1, v: 2, kind: 3 })"),
+    (
+        r#"["grow",1,2,3]"#,
+        "0 Carry(Plain(Grow { u: 1, position: 2, kind: 3 }))",
+    ),
+    (
+        r#"[ "insert",1,2,3]"#,
+        "0 Carry(Plain(Insert { u: 1, v: 2, kind: 3 }))",
+    ),
+    (
+        r#"["planned",1,2,3]"#,
+        "0 Carry(Planned { u: 1, v: 2, kind: 3 })",
+    ),
     (r#"["d\u0065lete",1]"#, "0 Carry(Plain(Delete { edge: 1 }))"),
     (r#""about""#, "0 About"),
     (r#""counts""#, "0 Counts"),
@@ -95,10 +107,16 @@ const BARE: &[(&str, &str)] = &[
     (r#"["edge",1,2]"#, "52 BadShape $"),
     (r#"["vertex",1]"#, "0 Vertex(1)"),
     (r#"["vertex",4294967296]"#, "54 BadNumber $/1"),
-    (r#"["face",1,2,"back"]"#, "0 Face(Dart { edge: EdgeId(1), seg: 2, way: Back })"),
+    (
+        r#"["face",1,2,"back"]"#,
+        "0 Face(Dart { edge: EdgeId(1), seg: 2, way: Back })",
+    ),
     (r#"["face",1,2,"left"]"#, "52 BadShape $/3"),
     (r#"["face",1,2]"#, "52 BadShape $"),
-    (r#"{"open":{"version":2,"prices":[null]}}"#, "0 open with 1 prices"),
+    (
+        r#"{"open":{"version":2,"prices":[null]}}"#,
+        "0 open with 1 prices",
+    ),
     (r#"{"open":{"version":1},"x":1}"#, "52 BadShape $"),
     (r#"{"open":{"version":1,"x":1}}"#, "52 BadShape $/open"),
     (r#"{"open":{"version":3}}"#, "53 BadVersion"),
@@ -111,16 +129,31 @@ const ENVELOPES: &[(&str, &str)] = &[
     (r#"{"call":"counts"}"#, "0 Counts"),
     (r#"{"call":"counts","call":"report"}"#, "0 Report"),
     (r#"{"caller":15,"call":["edge",2]}"#, "15 Edge(2)"),
-    (r#"{"id":"a\u00e9\n","call":"about"}"#, "'a\u{e9}\n' 0 About"),
+    (
+        r#"{"id":"a\u00e9\n","call":"about"}"#,
+        "'a\u{e9}\n' 0 About",
+    ),
     (r#"{"id":"","call":"about"}"#, "'' 0 About"),
     (r#"{"id":4294967295,"call":"about"}"#, "4294967295 0 About"),
     (r#"{"id":4294967296,"call":"about"}"#, "54 BadNumber $/id"),
     (r#"{"id":null,"call":"about"}"#, "52 BadShape $/id"),
-    (r#"{"id":1,"caller":16,"call":"about"}"#, "1 54 BadNumber $/caller"),
-    (r#"{"id":1,"caller":"0","call":"x"}"#, "1 52 BadShape $/caller"),
+    (
+        r#"{"id":1,"caller":16,"call":"about"}"#,
+        "1 54 BadNumber $/caller",
+    ),
+    (
+        r#"{"id":1,"caller":"0","call":"x"}"#,
+        "1 52 BadShape $/caller",
+    ),
     (r#"{"id":1,"call":"x"}"#, "1 52 BadShape $/call"),
-    (r#"{"id":1,"call":{"call":"about"}}"#, "1 52 BadShape $/call"),
-    (r#"{"id":1,"call":["face",1,2,3]}"#, "1 52 BadShape $/call/3"),
+    (
+        r#"{"id":1,"call":{"call":"about"}}"#,
+        "1 52 BadShape $/call",
+    ),
+    (
+        r#"{"id":1,"call":["face",1,2,3]}"#,
+        "1 52 BadShape $/call/3",
+    ),
     (r#"{"id":1,"x":1,"call":"about"}"#, "52 BadShape $"),
     (
         concat!(
@@ -169,11 +202,21 @@ fn padded(alloc: Global, text: &str, len: usize) -> Result<String, AllocError> {
 const LONG: &[(bool, &str, usize, &str)] = &[
     (false, r#"["edge",1]"#, 0, "bare 0 Edge(1)"),
     (false, r#"["edge",1]"#, 1, "bare 51 TooLong"),
-    (false, r#"["delete",1]"#, 0, "bare 0 Carry(Plain(Delete { edge: 1 }))"),
+    (
+        false,
+        r#"["delete",1]"#,
+        0,
+        "bare 0 Carry(Plain(Delete { edge: 1 }))",
+    ),
     (false, r#"["delete",1]"#, 1, "bare 51 TooLong"),
     (false, r#" {"call":"about"}"#, 1, "bare 51 TooLong"),
     (false, r#"{"call":"about"}"#, 1, "envelope 0 About"),
-    (false, r#"{"open":{"version":1}}"#, 1, "bare 0 open with 0 prices"),
+    (
+        false,
+        r#"{"open":{"version":1}}"#,
+        1,
+        "bare 0 open with 0 prices",
+    ),
     (true, r#""about""#, 1, "bare 0 About"),
     (true, r#" {"version":1}"#, 1, "opening 0 open with 0 prices"),
 ];
@@ -202,4 +245,24 @@ fn long_ids(rt: HostRuntime) -> Result<(), Fail> {
     let read = with_id(rt.alloc(), MAX_ID_BYTES + 1)?;
     assert!(rt; read.as_str() == "envelope 52 BadShape $/id");
     Ok(())
+}
+
+/// Lines, and whether they are read as a command from their tokens.
+const COMMANDS: &[(&str, bool)] = &[
+    (r#"["grow",1,2,3]"#, true),
+    (r#" [ "insert",1,2,3]"#, true),
+    (r#"["planned",1,2,3]"#, true),
+    (r#"["delete",4294967295]"#, true),
+    (r#"["delete",4294967296]"#, false),
+    (r#"["edge",1]"#, false),
+    (r#""counts""#, false),
+    (r#"{"call":["delete",1]}"#, false),
+];
+
+#[test]
+fn commands_are_read_from_their_tokens(rt: HostRuntime) {
+    for (text, is_command) in COMMANDS {
+        let read = read_command(rt.alloc(), text.as_bytes());
+        assert!(rt; read.is_some() == *is_command, "{text}");
+    }
 }

@@ -340,7 +340,14 @@ impl Story for Asking<'_> {
         let told = is_planned(rt, alloc, &frozen, tariff, question, asked);
         drop(frozen);
         told?;
-        is_first(rt, alloc, picture, (tariff, asked), question, &mut *self.work)
+        is_first(
+            rt,
+            alloc,
+            picture,
+            (tariff, asked),
+            question,
+            &mut *self.work,
+        )
     }
 }
 
