@@ -253,6 +253,10 @@ class Questions(unittest.TestCase):
             self.assertEqual(session.report().start, before)
             session.compact()
             self.assertEqual((session.counts().edges, session.prices), (5, ()))
+            with mock.patch.object(line_process.os, "read", side_effect=KeyboardInterrupt):
+                with self.assertRaises(KeyboardInterrupt):
+                    session.open(prices=[1])
+            self.assertTrue(session.is_closed)
 
 
 @needs_program

@@ -1,5 +1,5 @@
-"""The program's sessions against those of the second planarizer, on the examples of docs/FORMATS.md and on random lines:
-each answer is as it was predicted.
+"""The program's sessions against those of the second planarizer, on the examples of docs/FORMATS.md and on random
+lines: each answer is as it was predicted.
 
 FEZDROK_LINES is how many lines are tried, 20,000 where it is not set, and FEZDROK_SEED the first seed.
 """
@@ -27,11 +27,12 @@ JUNK = (
 KEYS = ("call", "caller", "id", "open", "version", "limits", "prices", "start", "x", "edges", "crossings", "")
 #: Lines that are no value, or that are written in another way than the rest.
 TEXTS = (
-    b"", b" ", b"[", b'"counts', b'"counts" ', b'\t["edge",0]\r', b'["edge",-0]', b'["edge",1e2]', b'["edge",0]]', b"nul",
-    b'["\\u0065dge",0]', b'"\\ud800"', b'"\xff"', b'["edge",1e400]', b'{"call":"counts","call":"about"}', b"NaN",
+    b"", b" ", b"[", b'"counts', b'"counts" ', b'\t["edge",0]\r', b'["edge",-0]', b'["edge",1e2]', b'["edge",0]]',
+    b"nul", b'["\\u0065dge",0]', b'"\\ud800"', b'"\xff"', b'["edge",1e400]', b'{"call":"counts","call":"about"}', b"NaN",
     b'{"id":1,"call":"\\u0063ounts"}', b"[" * 127 + b"]" * 127, b"[" * 128 + b"]" * 128, b"\xef\xbb\xbf1", b'"a\tb"',
     b" " * 65527 + b'"counts"' + b" ", b" " * 65528 + b'"counts" ', b'{"call":"counts"' + b" " * 70000 + b"}",
-    b'{"id":"\\u00e9\\u0001\\/","call":"counts"}', b'["edge",0', b"{}", b'{"call":}', b'["route",00,1]', b'["edge",1.0]',
+    b'{"id":"\\u00e9\\u0001\\/","call":"counts"}', b'["edge",0', b"{}", b'{"call":}', b'["route",00,1]',
+    b'["edge",1.0]',
 )
 
 
@@ -219,6 +220,23 @@ class Page(unittest.TestCase):
                 except Told as fault:
                     end = [f"! planar: {fault}"]
             self.assertEqual(told + end, shown)
+
+    @needs_program
+    def test_long_lines(self):
+        """A line may have 65,536 bytes, and one that begins with a brace, and the first, more."""
+        asked = [
+            b'{"version":1' + b" " * 70_000 + b"}",
+            b'"counts"' + b" " * 65_528,
+            b'"counts"' + b" " * 65_529,
+            b" " + b'{"call":"counts"}' + b" " * 65_519,
+            b'{"call":"counts"}' + b" " * 70_000,
+        ]
+        lines = Lines()
+        due = [lines.answer(line) for line in asked]
+        too_long = '{"fault":[51,"TooLong"]}'
+        self.assertEqual([answer == too_long for answer in due], [False, False, True, True, False])
+        done = subprocess.run([find_program(), "serve"], input=b"\n".join(asked), capture_output=True, timeout=60)
+        self.assertEqual(done.stdout.decode().splitlines(), due)
 
     def test_each_request_and_each_fault_is_there(self):
         shown = "\n".join(line for session in sessions_of_page() for line in session)

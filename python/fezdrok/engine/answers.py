@@ -9,8 +9,8 @@ from .reports import Limits, Refused
 
 
 class Route(NamedTuple):
-    """What an insertion would do: from the corner at position `start` of its first end, over the crossed darts in order,
-    to the corner at position `end` of its other end. `price` is the sum of the prices of what it would cross.
+    """What an insertion would do: from the corner at position `start` of its first end, over the crossed darts in
+    order, to the corner at position `end` of its other end. `price` is the sum of the prices of what it would cross.
 
     The crossing with the place i in `crossed` would have the id `next_crossing + i` of the picture now.
 

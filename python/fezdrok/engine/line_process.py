@@ -97,8 +97,8 @@ class LineProcess:
         return self.ask_all([line])[0]
 
     def ask_all(self, lines: Sequence[str]) -> list[bytes]:
-        """The answers to several lines, as `ask`. While the process takes no more of the lines, its answers are read, so
-        there may be any number of them."""
+        """The answers to several lines, as `ask`. While the process takes no more of the lines, its answers are read,
+        so there may be any number of them."""
         if not lines:
             return []
         if self._owed:

@@ -58,8 +58,8 @@ class Session:
     The process begins with the session, and ends with the `with` block or by `close`. A fault of the start, of the
     limits or of the prices is a Fault here, as by `Planarizer.run`.
 
-    `route`, `edge`, `vertex`, `face`, `counts`, `picture` and `report` are questions, which change nothing. `open` begins
-    anew with another picture in the same process.
+    `route`, `edge`, `vertex`, `face`, `counts`, `picture` and `report` are questions, which change nothing. `open`
+    begins anew with another picture in the same process.
 
     A call that the program refuses changes nothing, and its reply is a Refused. Numbers that are none of the form's, as
     negative ones, are a Fault (54 BadNumber), which changes nothing either. Where the program ends before its time, the
@@ -67,8 +67,8 @@ class Session:
     PlanarError. The session is then closed, and every further call is SessionClosed.
 
     A call that was interrupted, as by Ctrl-C, may have been carried out; `report` says whether it was. The session goes
-    on, but where the next call is interrupted while it waits for the end of that one; and it may be over where
-    `compact` is interrupted, or `answers` to more than 512 bytes. A session is for one thread.
+    on, but where `open` is interrupted, or the next call while it waits for the end of that one; and it may be over
+    where `compact` is interrupted, or `answers` to more than 512 bytes. A session is for one thread.
 
     Parameters
     ----------
@@ -170,15 +170,22 @@ class Session:
         the prices are at fault, as by `Planarizer.run`, that is a Fault, and all is as it was.
         """
         given = Planarizer(start, limits, prices)
-        counts: Counts = self._ask({"open": _opening(given)}, _counts)
+        request = {"open": _opening(given)}
+        try:
+            counts: Counts = self._ask(request, _counts)
+        except Fault:
+            raise
+        except BaseException:
+            self.close()  # whether it was opened is not known
+            raise
         self._given = given
         return counts
 
     # ---- What there is now
 
     def route(self, u: int, v: int) -> Route | Refused:
-        """What `insert(u, v)` would do now, without doing it, or the refusal that it would have: 1 NoVertex, 2 SameEnds,
-        7 Full or 9 NoRoute. Nothing is entered in the report, and no id is taken."""
+        """What `insert(u, v)` would do now, without doing it, or the refusal that it would have: 1 NoVertex,
+        2 SameEnds, 7 Full or 9 NoRoute. Nothing is entered in the report, and no id is taken."""
         return self._ask(["route", index(u), index(v)], Route.from_json)
 
     def edge(self, edge: int) -> EdgeAnswer | Refused:
@@ -190,9 +197,9 @@ class Session:
         return self._ask(["vertex", index(vertex)], VertexAnswer.from_json)
 
     def face(self, edge: int, segment: int = 0, way: str = "forward") -> tuple[Dart, ...] | Refused:
-        """The darts once round the face on the left of this one, from it on: of a segment of an edge, counted from 0 at the
-        end `a`, which is walked `forward` (from `a` to `b`) or `back`. Else the refusal 4 NoEdge, or 71 NoDart where the
-        edge has no such segment. Another way is a Fault (52 BadShape)."""
+        """The darts once round the face on the left of this one, from it on: of a segment of an edge, counted from 0 at
+        the end `a`, which is walked `forward` (from `a` to `b`) or `back`. Else the refusal 4 NoEdge, or 71 NoDart
+        where the edge has no such segment. Another way is a Fault (52 BadShape)."""
         return self._ask(["face", index(edge), index(segment), way], face_from_json)
 
     def about(self) -> About:
