@@ -28,7 +28,8 @@ KEYS = ("call", "caller", "id", "open", "version", "limits", "prices", "start", 
 #: Lines that are no value, or that are written in another way than the rest.
 TEXTS = (
     b"", b" ", b"[", b'"counts', b'"counts" ', b'\t["edge",0]\r', b'["edge",-0]', b'["edge",1e2]', b'["edge",0]]',
-    b"nul", b'["\\u0065dge",0]', b'"\\ud800"', b'"\xff"', b'["edge",1e400]', b'{"call":"counts","call":"about"}', b"NaN",
+    b"nul", b'["\\u0065dge",0]', b'"\\ud800"', b'"\xff"', b'["edge",1e400]', b'{"call":"counts","call":"about"}',
+    b"NaN",
     b'{"id":1,"call":"\\u0063ounts"}', b"[" * 127 + b"]" * 127, b"[" * 128 + b"]" * 128, b"\xef\xbb\xbf1", b'"a\tb"',
     b" " * 65527 + b'"counts"' + b" ", b" " * 65528 + b'"counts" ', b'{"call":"counts"' + b" " * 70000 + b"}",
     b'{"id":"\\u00e9\\u0001\\/","call":"counts"}', b'["edge",0', b"{}", b'{"call":}', b'["route",00,1]',
