@@ -27,7 +27,8 @@ use Rattle.topo_serve.specs.declared.ahead.Part.TheVariants.{More}
 use Rattle.topo_serve.specs.Lines.{IsPlain, closed, first_line, lines_of}
 use Rattle.topo_serve.specs.Sessions.{AreAnswered, AreRead, IsCutShort, IsFirstRead, IsPartlyServed, IsServed, IsSession, OpensNone, ServeFailsBy}
 use Rattle.topo_serve.specs.Taking.{OverUnless, ReadsNoFeed, Takes, TakesFirst, feed_if}
-use Rattle.topo_serve.specs.Turns.{Begins, BeginsPart, FirstFailsBy, LinesFailBy, ServesAll, ServesPart, ServesSome, Streams}
+use Rattle.topo_serve.specs.Turns.{Begins, BeginsPart, FirstFailsBy, FirstLineFailsBy, IsBegunBy, IsPartlyBegunBy, LinesFailBy}
+use Rattle.topo_serve.specs.Turns.{ServesAll, ServesPart, ServesSome, Streams}
 use Rattle.topo_serve.proofs.AnswerLaws.{answered_legal}
 use Rattle.topo_serve.proofs.KeptLines.{json_none, kept_long, line_kept, value_long, value_none}
 use Rattle.topo_serve.proofs.LineLaws.{first_behind, first_of_line, first_of_plain, line_alone, line_then}
@@ -159,52 +160,51 @@ module _ (old_left new_left old_held new_held : Option (List ℕ)) (old ahead ke
     few_taken : length taken.read ≤ 268443649
     few_taken = read_same old_left new_left old ahead (line ++ feed_if has_feed) 268443649 none takes taken few
 
-    pub begins_so : (text : List ℕ) (session : Option Standing) → AnswersFirst (line_of true kept) text session → Appends old_held new_held (text ++ 10 ∷ [])
-        → Begins from to session has_feed
-    begins_so text session answers written = record {
+    pub begins_so : (session : Option Standing) → IsBegunBy kept old_held new_held session → Begins from to session has_feed
+    begins_so session is = record {
       line = line;
       plain = plain;
       takes = taken;
       over = over;
-      text = text;
-      answers = subst (λ (l : Line). AnswersFirst l text session) (line_kept true line kept is_kept) answers;
-      written = written;
+      text = is.text;
+      answers = subst (λ (l : Line). AnswersFirst l is.text session) (line_kept true line kept is_kept) is.answers;
+      written = is.written;
     }
 
-    pub begins_part : (text : List ℕ) (session : Option Standing) → AnswersFirst (line_of true kept) text session
-        → AppendsPart old_held new_held (text ++ 10 ∷ []) → BeginsPart from to
-    begins_part text session answers written = record {
+    begins_part : IsPartlyBegunBy kept old_held new_held → BeginsPart from to
+    begins_part is = record {
       has_feed = has_feed;
       line = line;
       plain = plain;
       takes = taken;
       over = over;
-      text = text;
-      to = session;
-      answers = subst (λ (l : Line). AnswersFirst l text session) (line_kept true line kept is_kept) answers;
-      written = written;
+      text = is.text;
+      to = is.to;
+      answers = subst (λ (l : Line). AnswersFirst l is.text is.to) (line_kept true line kept is_kept) is.answers;
+      written = is.written;
     }
 
-    bad : (fault : RunFault) → IsBadOpening (line_of true kept) fault → OpensNone old_left new_left fault
-    bad fault is = line_none old_left new_left ahead line plain fault has_feed taken few_taken over
-        (subst (λ (l : Line). IsBadOpening l fault) (line_kept true line kept is_kept) is)
+    bad : (fault : RunFault) → IsBadOpening (line_of true kept) fault × Keeps old_held new_held
+        → OpensNone old_left new_left fault × Keeps old_held new_held
+    bad fault is = (
+      line_none old_left new_left ahead line plain fault has_feed taken few_taken over
+          (subst (λ (l : Line). IsBadOpening l fault) (line_kept true line kept is_kept) is.0),
+      is.1,
+    )
 
-    -- the first line is a bad opening, and nothing is written
-    pub none_so : (fault : RunFault) → (fault ≢ Memory → IsBadOpening (line_of true kept) fault) → Keeps old_held new_held → FirstFailsBy fault from to
-    none_so fault is kept_so = bad_told fault (λ known. bad fault (is known)) kept_so
-      where
-        bad_told : (f : RunFault) → (f ≢ Memory → OpensNone old_left new_left f) → Keeps old_held new_held → FirstFailsBy f from to
-        bad_told Memory none kept = kept
-        bad_told ReadFault none kept = absurd (of_opening _ ReadFault (none (λ e. absurd cc)).first.is)
-        bad_told WriteFault none kept = absurd (of_opening _ WriteFault (none (λ e. absurd cc)).first.is)
-        bad_told (Script fault) none kept = (none (λ e. absurd cc), kept)
-        bad_told BadLimits none kept = (none (λ e. absurd cc), kept)
-        bad_told (Price fault) none kept = (none (λ e. absurd cc), kept)
-        bad_told (Load fault) none kept = (none (λ e. absurd cc), kept)
-        bad_told NoSeat none kept = (none (λ e. absurd cc), kept)
-        bad_told (Mismatch list i) none kept = (none (λ e. absurd cc), kept)
-        bad_told (WrongReply i) none kept = (none (λ e. absurd cc), kept)
-        bad_told WrongPicture none kept = (none (λ e. absurd cc), kept)
+    -- what is told of the answer is told of the first line
+    pub first_told : (fault : RunFault) → FirstLineFailsBy fault kept old_held new_held → FirstFailsBy fault from to
+    first_told Memory is = is
+    first_told WriteFault is = begins_part is
+    first_told ReadFault is = absurd (of_opening _ ReadFault is.0.is)
+    first_told (Script fault) is = bad (Script fault) is
+    first_told BadLimits is = bad BadLimits is
+    first_told (Price fault) is = bad (Price fault) is
+    first_told (Load fault) is = bad (Load fault) is
+    first_told NoSeat is = bad NoSeat is
+    first_told (Mismatch list i) is = bad (Mismatch list i) is
+    first_told (WrongReply i) is = bad (WrongReply i) is
+    first_told WrongPicture is = bad WrongPicture is
 
 -- a first line that could not be read
 pub reading_fails : (fault : RunFault) (old new : Streams) → IsOfReading fault → (fault ≡ ReadFault → ReadsNoFeed old.left new.left)

@@ -5,7 +5,7 @@ use Rattle.topo_forms.specs.Sessions.{line_of}
 use Rattle.topo_settings.specs.declared.fault.RunFault.{RunFault}
 use Rattle.topo_settings.specs.declared.fault.RunFault.TheVariants.{Memory, ReadFault, WriteFault}
 use Rattle.topo_settings.specs.Writing.{AppendsPart}
-use Rattle.topo_session.specs.Answers.{AnswersFirst, AnswersLine}
+use Rattle.topo_session.specs.Answers.{AnswersFirst, AnswersLine, IsBadOpening}
 use Rattle.topo_session.specs.Standings.{Standing}
 use Rattle.topo_serve.specs.Lines.{ArePlain, IsPlain, closed, lines_of}
 use Rattle.topo_serve.specs.Sessions.{AppendsAllButLast, AreAnswered, AreRead, OpensNone}
@@ -140,6 +140,25 @@ LinesFailBy WriteFault old new from = ServesPart old new from
 LinesFailBy _ old new from = ⊥
 
 -- ---- The first line, and all turns behind it
+
+-- the first line is answered, and the answer is written with a line feed
+pub record IsBegunBy (line : List ℕ) (old_held new_held : Option (List ℕ)) (to : Option Standing) : Type 0 where
+  pub text : List ℕ
+  pub answers : AnswersFirst (line_of true line) text to
+  pub written : Appends old_held new_held (text ++ 10 ∷ [])
+
+-- the first line is answered, but only a part of the answer is written
+pub record IsPartlyBegunBy (line : List ℕ) (old_held new_held : Option (List ℕ)) : Type 0 where
+  pub text : List ℕ
+  pub to : Option Standing
+  pub answers : AnswersFirst (line_of true line) text to
+  pub written : AppendsPart old_held new_held (text ++ 10 ∷ [])
+
+-- what is told of the answer to the first line
+abbrev pub FirstLineFailsBy : RunFault → List ℕ → Option (List ℕ) → Option (List ℕ) → Type 0
+FirstLineFailsBy Memory line old_held new_held = Keeps old_held new_held
+FirstLineFailsBy WriteFault line old_held new_held = IsPartlyBegunBy line old_held new_held
+FirstLineFailsBy fault line old_held new_held = IsBadOpening (line_of true line) fault × Keeps old_held new_held
 
 -- the first line is taken and answered
 pub record Begins (old new : Streams) (to : Option Standing) (has_feed : Bool) : Type 0 where

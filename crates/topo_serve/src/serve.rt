@@ -5,7 +5,8 @@ ghost use Rattle.std.specs.Prelude.{string_bytes};
 ghost use Rattle.std.specs.Io.KnownBytes.{Appends};
 ghost use Rattle.topo_session.specs.Standings.{Standing};
 ghost use Rattle.topo_serve.specs.Sessions.{IsServed, ServeFailsBy};
-ghost use Rattle.topo_serve.specs.Turns.{AnswerFailsBy, Begins, FirstFailsBy, IsAnsweredBy};
+ghost use Rattle.topo_serve.specs.Turns.{AnswerFailsBy, Begins, FirstFailsBy, FirstLineFailsBy};
+ghost use Rattle.topo_serve.specs.Turns.{IsAnsweredBy, IsBegunBy};
 ghost use Rattle.topo_serve.specs.Turns.{IsTurn, LineFailsBy, LinesFailBy, OfLine, ServesAll};
 ghost use Rattle.topo_serve.specs.Turns.{Stays, TurnFailsBy, WriteFailsBy, streams};
 
@@ -98,14 +99,34 @@ fn serve_first<F: FromTable, I: Read, O: Write>(
         (streams (I.remaining reader.new) ahead.new (O.contents writer.new))) }
 {
     let mut line = Vec::new(alloc);
-    let has_feed = match ahead.take_first(MAX_PICTURE_BYTES + 1, reader, &mut line)? {
-        Part::Feed => true,
-        Part::More => return Err(RunFault::Script(ScriptFault::TooLong)),
-        Part::End => false,
-    };
-    let text = answer_first(alloc, session, line.as_slice())?;
-    write_answer(writer, text)?;
-    Ok(has_feed)
+    match ahead.take_first(MAX_PICTURE_BYTES + 1, reader, &mut line)? {
+        Part::Feed => {
+            begin(alloc, session, line.as_slice(), writer)?;
+            Ok(true)
+        }
+        Part::More => Err(RunFault::Script(ScriptFault::TooLong)),
+        Part::End => {
+            begin(alloc, session, line.as_slice(), writer)?;
+            Ok(false)
+        }
+    }
+}
+
+/// Answers the first line, and writes the answer.
+fn begin<F: FromTable, O: Write>(
+    alloc: Global,
+    session: &mut Option<Session<F>>,
+    line: &[u8],
+    writer: &mut O,
+) -> Result<(), RunFault>
+    requires { session.old ≡ None }
+    ensures begun { IfOk result
+        (λ _. IsBegunBy line.now (O.contents writer.old) (O.contents writer.new) session.new) }
+    ensures fault { IfErr result (λ fault. FirstLineFailsBy fault line.now
+        (O.contents writer.old) (O.contents writer.new)) }
+{
+    let text = answer_first(alloc, session, line)?;
+    write_answer(writer, text)
 }
 
 /// Reads one line after another until the input ends, and answers each before it reads the next.
