@@ -1,4 +1,5 @@
-"""Sessions of the second planarizer: what `planar serve` answers to each line, written from docs/FORMATS.md alone."""
+"""Sessions of the second planarizer: what `planar serve` answers to each line, by the rules of docs/FORMATS.md, without a
+line of the program."""
 
 from __future__ import annotations
 
