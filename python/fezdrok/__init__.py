@@ -12,6 +12,7 @@ from .drawing.qualities import Quality, quality
 from .drawing.step_pages import to_html
 from .drawing.straight_layout import chain, positions
 from .drawing.verification import Defect
+from .engine.answers import About, EdgeAnswer, Meeting, Route, VertexAnswer
 from .engine.faults import (
     Fault, FaultError, MemoryFault, MemoryFaultError, ModuleMissing, ModuleMissingError, NoReport, NoReportError,
     NotPlanarized, NotPlanarizedError, OtherReport, OtherReportError, PlanarError, PlanarWarning, ProgramFailed,
@@ -35,6 +36,7 @@ from .search.planarization import Prepared, planarize, prepare, reinsert
 from .search.progress import Progress
 
 __all__ = [
+    "About",
     "Bar",
     "Box",
     "Counts",
@@ -47,6 +49,7 @@ __all__ = [
     "Drawing",
     "Dummy",
     "Edge",
+    "EdgeAnswer",
     "Entry",
     "FalseDrawing",
     "Fault",
@@ -57,6 +60,7 @@ __all__ = [
     "Insert",
     "Inserted",
     "Limits",
+    "Meeting",
     "MemoryFault",
     "MemoryFaultError",
     "ModuleMissing",
@@ -88,6 +92,7 @@ __all__ = [
     "Refused",
     "Renumbered",
     "Report",
+    "Route",
     "Segment",
     "Session",
     "SessionClosed",
@@ -96,6 +101,7 @@ __all__ = [
     "UnfinishedError",
     "UsageRefused",
     "UsageRefusedError",
+    "VertexAnswer",
     "VerificationError",
     "chain",
     "draw",

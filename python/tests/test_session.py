@@ -1,6 +1,7 @@
 """Sessions: what is answered at once is what a run reports, and what becomes of faults, broken programs and
 interrupts."""
 
+import fcntl
 import os
 import random
 import signal
@@ -11,8 +12,9 @@ import unittest
 from unittest import mock
 
 from fezdrok import (
-    Counts, Deleted, Fault, Grown, Inserted, Limits, MemoryFault, Picture, PlanarError, Planarizer, ProgramFailed,
-    ProgramNotFound, ProgramNotStarted, Refused, Renumbered, Session, SessionClosed, UsageRefused,
+    Counts, Dart, Deleted, EdgeAnswer, Fault, Grown, Inserted, Limits, Meeting, MemoryFault, Picture, PlanarError,
+    Planarizer, ProgramFailed, ProgramNotFound, ProgramNotStarted, Refused, Renumbered, Route, Session, SessionClosed,
+    UsageRefused, VertexAnswer, __version__,
 )
 from fezdrok.engine import line_process
 
@@ -132,13 +134,24 @@ class Calls(unittest.TestCase):
             self.assertEqual(answers[:4], due)
             self.assertEqual(session.answers([]), [])
             self.assertEqual(len(session.answers(['"counts"'] * 3640)), 3640)
-            with self.assertRaisesRegex(ValueError, "more than 32768 bytes"):
-                session.answers(['"counts"'] * 3641)
-            with self.assertRaisesRegex(ValueError, "more than 32768 bytes"):
-                session.answers(['"é"'] * 6554)
+            self.assertEqual(len(session.answers(['"é"'] * 6554)), 6554)
             with self.assertRaisesRegex(ValueError, "a line feed"):
                 session.answers(['"counts"\n"picture"'])
             self.assertEqual(Picture.from_text(session.picture_text()), session.picture())
+
+    def test_many_lines_ahead(self):
+        """Lines and answers of many times what a pipe holds, through pipes of the usual size and of one page."""
+        for room in (65536, 4096):
+            with Session() as session:
+                process = session._process
+                for end in (process._input, process._output):
+                    fcntl.fcntl(end.fileno(), fcntl.F_SETPIPE_SZ, room)
+                lines = ['["grow",0,0,0]', '["insert",0,0,0]', '"picture"', '["insert",0,0,0]'] * 100
+                answers = session.answers(lines + ['["delete",9999]'] * 19_600)
+                self.assertEqual(len(answers), 20_000)
+                self.assertEqual(answers[0], '{"edge":1,"vertex":2}')
+                self.assertEqual(answers[400:], ['{"refused":[4,"NoEdge"]}'] * 19_600)
+                self.assertEqual(len(session.report().history), 19_900)
 
     def test_faults_of_the_start(self):
         seed = Planarizer().run().picture
@@ -159,6 +172,91 @@ class Calls(unittest.TestCase):
             replies = [session.insert(u, v) for u in range(5) for v in range(u)]
             self.assertIn(Refused(9, "NoRoute"), replies)
             self.assertEqual(session.counts().crossings, 0)
+
+
+@needs_program
+class Questions(unittest.TestCase):
+    def crossed(self, session):
+        """A triangle with a vertex inside and one outside, and an edge between these, which crosses the edge 0."""
+        session.grow(1)
+        session.insert(2, 0, kind=1)
+        session.grow(0)
+        session.grow(0, 1)
+
+    def test_a_route_is_what_the_insertion_does(self):
+        with Session(prices=[3, 7]) as session:
+            self.crossed(session)
+            before = session.picture()
+            route = session.route(3, 4)
+            self.assertEqual(route, Route((Dart(0, 0),), 0, 0, 3))
+            self.assertEqual((session.picture(), session.report().replies[-1]), (before, Grown(4, 4)))
+            self.assertEqual(session.insert(3, 4), Inserted(5, *route))
+            self.assertEqual(session.picture().edge(5).crossings, (before.next_crossing,))
+
+    def test_edges_vertices_and_faces(self):
+        with Session(prices=[3, 7, None]) as session:
+            self.crossed(session)
+            session.insert(3, 4, kind=2)
+            picture = session.picture()
+            self.assertEqual(session.edge(0), EdgeAnswer(0, 0, 1, 0, 3, (Meeting(0, 5, "ltr"),)))
+            self.assertEqual(session.edge(5), EdgeAnswer(5, 3, 4, 2, None, (Meeting(0, 0, "rtl"),)))
+            self.assertEqual(session.vertex(0), VertexAnswer((0, 4, 2, 3), ("a", "a", "b", "a")))
+            for dart in picture.darts:
+                self.assertEqual(session.face(*dart[:2], dart.way), picture.face(dart))
+            self.assertEqual(session.face(0), picture.face(Dart(0, 0)))
+
+    def test_refusals_and_faults(self):
+        with Session(limits=Limits(9, 1, 0)) as session:
+            self.assertEqual(session.route(0, 2), Refused(1, "NoVertex"))
+            self.assertEqual(session.route(0, 0), Refused(2, "SameEnds"))
+            self.assertEqual(session.route(0, 1), Refused(7, "Full"))
+            self.assertEqual((session.edge(1), session.face(1)), (Refused(4, "NoEdge"), Refused(4, "NoEdge")))
+            self.assertEqual(session.vertex(2), Refused(1, "NoVertex"))
+            self.assertEqual(session.face(0, 1), Refused(71, "NoDart"))
+            for call, due in (
+                (lambda: session.face(0, 0, "left"), "52 BadShape $/3"),
+                (lambda: session.edge(-1), "54 BadNumber $/1"),
+                (lambda: session.route(0, 2**32), "54 BadNumber $/2"),
+            ):
+                with self.assertRaises(Fault) as caught:
+                    call()
+                self.assertEqual(str(caught.exception), due)
+            with self.assertRaises(TypeError):
+                session.vertex("0")
+            self.assertEqual(session.report().history, ())
+
+    def test_what_the_program_is(self):
+        with Session() as session:
+            about = session.about()
+        self.assertEqual((about.program, about.version, about.limits), ("planar", __version__, Limits()))
+        self.assertLessEqual({"about", "face", "grow", "open", "route"}, set(about.requests))
+
+    def test_another_picture_in_the_same_process(self):
+        with Session(prices=[3]) as session:
+            self.crossed(session)
+            before, process = session.picture(), session.process_id
+            wrong = Picture(((0,), ()), before.edges[:1], (), 1, 0)
+            for words, due in (
+                ({"prices": [0]}, "10 BadPrice 0"),
+                ({"limits": Limits(1, 1, 1)}, "11 BadLimits"),
+                ({"start": wrong}, "23 BadRotation"),
+                ({"limits": Limits(2, -1, 1)}, "54 BadNumber $/open/limits/edges"),
+            ):
+                with self.assertRaises(Fault) as caught:
+                    session.open(**words)
+                self.assertEqual(str(caught.exception), due)
+                self.assertEqual((session.picture(), session.prices, session.limits), (before, (3,), Limits()))
+            self.assertEqual(session.open(limits=Limits(3), prices=[None]), Counts(2, 0, 1, 1, 1))
+            self.assertEqual((session.prices, session.limits, session.process_id), ((None,), Limits(3), process))
+            self.assertEqual(session.report(), Planarizer(limits=Limits(3), prices=[None]).run())
+            self.assertEqual(session.open(before).edges, 5)
+            self.assertEqual(session.report().start, before)
+            session.compact()
+            self.assertEqual((session.counts().edges, session.prices), (5, ()))
+            with mock.patch.object(line_process.os, "read", side_effect=KeyboardInterrupt):
+                with self.assertRaises(KeyboardInterrupt):
+                    session.open(prices=[1])
+            self.assertTrue(session.is_closed)
 
 
 @needs_program

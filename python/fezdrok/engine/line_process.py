@@ -3,6 +3,7 @@
 from __future__ import annotations
 
 import os
+import select
 import subprocess
 import tempfile
 from collections.abc import Sequence
@@ -18,8 +19,6 @@ PATIENCE, HASTE = 3.0, 0.5
 #: How many bytes are read in one call, and how many every pipe takes wholly or not at all.
 _ROOM = 65536
 _AT_ONCE = 512
-#: How many bytes an empty pipe takes at once, whatever the process does.
-TOGETHER = 32768
 
 #: Two lines that are always refused and change nothing, and the answer to the second, which differs from that to the
 #: first.
@@ -47,6 +46,7 @@ class LineProcess:
             raise ProgramNotStarted(f"{path} cannot be run: {refused.strerror or refused}") from refused
         assert self._process.stdin is not None and self._process.stdout is not None
         self._input, self._output = self._process.stdin, self._process.stdout
+        os.set_blocking(self._input.fileno(), False)  # our end alone: the program waits for its input
 
     def _begun(self, path: str) -> "subprocess.Popen[bytes]":
         """The process. It is killed when the writing end of a pipe is closed, which is open as long as this is
@@ -97,9 +97,8 @@ class LineProcess:
         return self.ask_all([line])[0]
 
     def ask_all(self, lines: Sequence[str]) -> list[bytes]:
-        """The answers to several lines, as `ask`. All lines are written before the first answer is read, so together
-        they may have TOGETHER bytes: of more, the process could wait for its answers to be read, and this for the lines
-        to be."""
+        """The answers to several lines, as `ask`. While the process takes no more of the lines, its answers are read,
+        so there may be any number of them."""
         if not lines:
             return []
         if self._owed:
@@ -137,7 +136,10 @@ class LineProcess:
         is_at_once = len(left) <= _AT_ONCE
         try:
             while left:
-                left = left[os.write(self._input.fileno(), left) :]
+                try:
+                    left = left[os.write(self._input.fileno(), left) :]
+                except BlockingIOError:
+                    self._wait_for_room()
         except BrokenPipeError:
             self._fail()
         except BaseException:
@@ -145,14 +147,26 @@ class LineProcess:
                 self.end()
             raise
 
+    def _wait_for_room(self) -> None:
+        """Waits until the process takes more, or answers, which is read ahead."""
+        ends = select.poll()
+        ends.register(self._input, select.POLLOUT)
+        ends.register(self._output, select.POLLIN)
+        if self._output.fileno() in dict(ends.poll()):
+            self._read_ahead()
+
+    def _read_ahead(self) -> None:
+        """Waits for more of the answers, and keeps it."""
+        more = os.read(self._output.fileno(), _ROOM)
+        if not more:
+            self._fail()
+        self._ahead += more
+
     def _read(self) -> bytes:
         seen = 0
         while (at := self._ahead.find(b"\n", seen)) < 0:
             seen = len(self._ahead)
-            more = os.read(self._output.fileno(), _ROOM)
-            if not more:
-                self._fail()
-            self._ahead += more
+            self._read_ahead()
         answer = bytes(self._ahead[:at])
         del self._ahead[: at + 1]
         return answer

@@ -8,9 +8,10 @@ from operator import index
 from types import TracebackType
 from typing import Any, ClassVar, NamedTuple, TypeVar
 
+from .answers import About, EdgeAnswer, Route, VertexAnswer, face_from_json
 from .faults import Fault, ProgramFailed, SessionClosed
-from .line_process import HASTE, TOGETHER, LineProcess
-from .pictures import Counts, Crossing, Edge, Picture, json_text
+from .line_process import HASTE, LineProcess
+from .pictures import Counts, Crossing, Dart, Edge, Picture, json_text
 from .planarizer import Planarizer
 from .program import PathLike, Program
 from .reports import (
@@ -57,14 +58,17 @@ class Session:
     The process begins with the session, and ends with the `with` block or by `close`. A fault of the start, of the
     limits or of the prices is a Fault here, as by `Planarizer.run`.
 
+    `route`, `edge`, `vertex`, `face`, `counts`, `picture` and `report` are questions, which change nothing. `open`
+    begins anew with another picture in the same process.
+
     A call that the program refuses changes nothing, and its reply is a Refused. Numbers that are none of the form's, as
     negative ones, are a Fault (54 BadNumber), which changes nothing either. Where the program ends before its time, the
     exception of its status is raised, with what it wrote on standard error: ProgramFailed, as for a signal, or another
     PlanarError. The session is then closed, and every further call is SessionClosed.
 
     A call that was interrupted, as by Ctrl-C, may have been carried out; `report` says whether it was. The session goes
-    on, but where the next call is interrupted while it waits for the end of that one; and it may be over where
-    `compact` is interrupted, or `answers` to more than 512 bytes. A session is for one thread.
+    on, but where `open` is interrupted, or the next call while it waits for the end of that one; and it may be over
+    where `compact` is interrupted, or `answers` to more than 512 bytes. A session is for one thread.
 
     Parameters
     ----------
@@ -125,8 +129,7 @@ class Session:
 
     def _begun(self, start: Picture | None) -> LineProcess:
         """A process that has begun with this picture."""
-        opening = Planarizer(start, self._given.limits, self._given.prices).script()
-        del opening["workers"]
+        opening = _opening(Planarizer(start, self._given.limits, self._given.prices))
         process = LineProcess(self._program.path)
         try:
             _understood(process, process.ask(json_text(opening)), _counts)
@@ -155,7 +158,53 @@ class Session:
     def _call(self, call: Call) -> Any:
         return self._ask(call.to_json(), reply_from_json)
 
+    def open(
+        self,
+        start: Picture | None = None,
+        limits: Limits | None = None,
+        prices: Sequence[int | None] | None = None,
+    ) -> Counts:
+        """Begins anew with another picture in the same process, and gives its counts: many small graphs in one session.
+
+        The words are those of the class. The picture and the report of before are gone. Where the start, the limits or
+        the prices are at fault, as by `Planarizer.run`, that is a Fault, and all is as it was.
+        """
+        given = Planarizer(start, limits, prices)
+        request = {"open": _opening(given)}
+        try:
+            counts: Counts = self._ask(request, _counts)
+        except Fault:
+            raise
+        except BaseException:
+            self.close()  # whether it was opened is not known
+            raise
+        self._given = given
+        return counts
+
     # ---- What there is now
+
+    def route(self, u: int, v: int) -> Route | Refused:
+        """What `insert(u, v)` would do now, without doing it, or the refusal that it would have: 1 NoVertex,
+        2 SameEnds, 7 Full or 9 NoRoute. Nothing is entered in the report, and no id is taken."""
+        return self._ask(["route", index(u), index(v)], Route.from_json)
+
+    def edge(self, edge: int) -> EdgeAnswer | Refused:
+        """The ends, the kind, the price and the crossings of an edge, or the refusal 4 NoEdge."""
+        return self._ask(["edge", index(edge)], EdgeAnswer.from_json)
+
+    def vertex(self, vertex: int) -> VertexAnswer | Refused:
+        """The edges round a vertex, clockwise from the least id, or the refusal 1 NoVertex."""
+        return self._ask(["vertex", index(vertex)], VertexAnswer.from_json)
+
+    def face(self, edge: int, segment: int = 0, way: str = "forward") -> tuple[Dart, ...] | Refused:
+        """The darts once round the face on the left of this one, from it on: of a segment of an edge, counted from 0 at
+        the end `a`, which is walked `forward` (from `a` to `b`) or `back`. Else the refusal 4 NoEdge, or 71 NoDart
+        where the edge has no such segment. Another way is a Fault (52 BadShape)."""
+        return self._ask(["face", index(edge), index(segment), way], face_from_json)
+
+    def about(self) -> About:
+        """What the program is: its version, the greatest limits, and which requests it knows."""
+        return self._ask("about", About.from_json)
 
     def counts(self) -> Counts:
         """How many vertices, crossings, edges, segments and faces the picture has, as the program counts them."""
@@ -198,14 +247,11 @@ class Session:
         """The answers to several lines of docs/FORMATS.md in order, as the program writes them, also where they are
         faults.
 
-        All lines are written before the first answer is read, which saves turns through the pipes. Together they may
-        have 32,768 bytes, their line feeds among them (else ValueError). A line that has a line feed in it is a
-        ValueError: it would have more than one answer.
+        No line waits for the answer before it, which saves turns through the pipes; there may be any number of lines. A
+        line that has a line feed in it is a ValueError: it would have more than one answer.
         """
         if any("\n" in request for request in requests):
             raise ValueError("a line has a line feed in it")
-        if sum(len(request.encode()) for request in requests) + len(requests) > TOGETHER:
-            raise ValueError(f"the lines have more than {TOGETHER} bytes together")
         return self._asked(requests, lambda process, answers: [answer.decode() for answer in answers])
 
     def _ask(self, request: Any, read: Callable[[Any], Value]) -> Value:
@@ -239,6 +285,13 @@ class Session:
         process, self._process = self._process, None
         if process is not None:
             process.end(HASTE)
+
+
+def _opening(given: Planarizer) -> dict[str, Any]:
+    """The opening of a session, which is a script without its lists."""
+    opening = given.script()
+    del opening["workers"]
+    return opening
 
 
 def _understood(process: LineProcess, answer: bytes, read: Callable[[Any], Value]) -> Value:
