@@ -10,7 +10,8 @@ Drawings, 1999, where the orders are given). It is done for one axis and then th
 
 from __future__ import annotations
 
-from collections.abc import Container, Mapping, Sequence
+from collections.abc import Collection, Mapping, Sequence
+from typing import NamedTuple
 
 from .flows import Arc, least_cost_flow
 from .meshes import Mesh, rectangles
@@ -28,24 +29,41 @@ SIDE = 3
 MANY = 3000
 
 
+class Spacing(NamedTuple):
+    """How far apart what lies side by side is at least: twice the distance is the sum of what both have in `halves`,
+    node by node; but bars that the links of `near` join, as sides of boxes, need be 1 apart alone where neither has one
+    of the `points`. `side` is how much a side of a box counts beside other links."""
+
+    halves: Sequence[int]
+    near: Collection[tuple[int, int]] = ()
+    points: Collection[int] = ()
+    side: int = SIDE
+
+
 def compact_mesh(
-    mesh: Mesh, sides: Container[tuple[int, int]] = (), room: tuple[Room, Room] = ({}, {}), by_flow: bool = True
+    mesh: Mesh,
+    sides: Collection[tuple[int, int]] = (),
+    room: tuple[Room, Room] = ({}, {}),
+    by_flow: bool = True,
+    spacing: Spacing | None = None,
 ) -> Places:
     """A point of the grid for each node of a connected mesh, so that links meet in nodes alone and run as they should.
 
-    `sides` are the links, as start and end to the east or north, that are sides of boxes: they count SIDE times, so
-    that boxes are small. `room[axis]` says of two nodes, of which the second lies further along the axis, how far apart
-    they have to be; what is not named is at least 1 apart. With `by_flow` False the links have the lengths that longest
-    paths give them. The least coordinates are 0. 
+    `sides` are the links, as start and end to the east or north, that are sides of boxes: they count more, so that
+    boxes are small. `room[axis]` says of two nodes, of which the second lies further along the axis, how far apart they
+    have to be; what is not named is apart as the `spacing` says, or else at least 1. With `by_flow` False the links have
+    the lengths that longest paths give them. The least coordinates are 0.
     """
+    spacing = Spacing([1] * len(mesh.links)) if spacing is None else spacing
     cut = rectangles(mesh)
-    axes = [_first_axis(cut, axis)[: len(mesh.links)] for axis in (0, 1)]
+    scale = max(spacing.halves)
+    axes = [[scale * it for it in _first_axis(cut, axis)[: len(mesh.links)]] for axis in (0, 1)]
     bars = [_bars(mesh, axis) for axis in (0, 1)]
-    pulls = [_pull(mesh, axis, bars[axis], sides) for axis in (0, 1)]
+    pulls = [_pull(mesh, axis, bars[axis], sides, spacing.side) for axis in (0, 1)]
     length = None
     for _ in range(ROUNDS if len(mesh.links) <= MANY else 1):
         for axis in (0, 1):
-            gaps = _gaps_seen(bars[axis], axes[axis], axes[1 - axis], room[axis])
+            gaps = _gaps_seen(bars[axis], axes[axis], axes[1 - axis], room[axis], spacing)
             axes[axis] = _shorter(pulls[axis], bars[axis], gaps, by_flow)
         before, length = length, sum(map(_length, pulls, bars, axes))
         if before is not None and length >= before:
@@ -101,37 +119,63 @@ def _longest(count: int, gaps: Gaps) -> list[int]:
     return place
 
 
-def _gaps_seen(bar: Sequence[int], along: Sequence[int], across: Sequence[int], room: Room) -> Gaps:
+def _gaps_seen(
+    bar: Sequence[int], along: Sequence[int], across: Sequence[int], room: Room, spacing: Spacing
+) -> Gaps:
     """The gaps between bars that see each other: on each level, a line across which bars lie, each keeps its distance
     from the next.
 
-    A bar lies on all levels from its lowest node to its highest. What keeps its order on each level cannot come to
-    lie on another or beyond it.
+    A bar lies on all levels from its lowest node to its highest, and on those beside them that are nearer than what it
+    has there. What keeps its order on each level cannot come to lie on another or beyond it.
     """
-    least: dict[int, int] = {}
-    most: dict[int, int] = {}
-    place: dict[int, int] = {}
-    for node, it in enumerate(bar):
-        least[it] = min(across[node], least.get(it, across[node]))
-        most[it] = max(across[node], most.get(it, across[node]))
-        place[it] = along[node]
-    levels: dict[int, list[int]] = {}
-    for it in sorted(place, key=place.__getitem__):
-        for level in range(least[it], most[it] + 1):
-            levels.setdefault(level, []).append(it)
-    gaps = {pair: 1 for around in levels.values() for pair in zip(around, around[1:])}
+    base, most = min(spacing.halves), max(spacing.halves)
+    place: dict[int, int] = dict(zip(bar, along))
+    first: dict[int, int] = {}
+    last: dict[int, int] = {}
+    ranges: list[tuple[int, int, int, int]] = []
+    for node, (it, level, half) in enumerate(zip(bar, across, spacing.halves)):
+        first[it] = min(2 * level - base, first.get(it, 2 * level))
+        last[it] = max(2 * level + base, last.get(it, 2 * level))
+        if half > base:
+            ranges.append((it, 2 * level - half, 2 * level + half, half + most * (node in spacing.points)))
+    ranges += [(it, first[it], last[it], base) for it in place]
+    for start, end in spacing.near:
+        if bar[start] == bar[end] and across[start] < across[end]:
+            half = max(spacing.halves[start], spacing.halves[end])
+            ranges.append((bar[start], 2 * across[start] - half, 2 * across[end] + half, half))
+    levels = sorted({level for _, start, end, _ in ranges for level in (start, end)})
+    number = {level: place for place, level in enumerate(levels)}
+    seen: list[dict[int, int]] = [{} for _ in levels]
+    for it, start, end, half in ranges:
+        for level in range(number[start], number[end]):
+            seen[level][it] = max(half, seen[level].get(it, 0))
+    near = {(bar[start], bar[end]) for start, end in spacing.near}
+    gaps: Gaps = {}
+    for around in seen:
+        before: list[int] = []
+        group: list[int] = []
+        for it in sorted(around, key=place.__getitem__):
+            if group and place[it] > place[group[0]]:
+                before, group = group, []
+            group.append(it)
+            for other in before:
+                one, two = around[other], around[it]
+                is_near = max(one, two) <= most and (other, it) in near
+                gap = 1 if is_near else (one - most * (one > most) + two - most * (two > most) + 1) // 2
+                if gap > gaps.get((other, it), 0):
+                    gaps[other, it] = gap
     for (start, end), gap in room.items():
         pair = bar[start], bar[end]
         gaps[pair] = max(gap, gaps.get(pair, 1))
     return gaps
 
 
-def _pull(mesh: Mesh, axis: int, bar: Sequence[int], sides: Container[tuple[int, int]]) -> list[int]:
+def _pull(mesh: Mesh, axis: int, bar: Sequence[int], sides: Collection[tuple[int, int]], side: int) -> list[int]:
     """What each bar counts in the total length: the links that end at it less those that start from it."""
     pull = [0] * (max(bar) + 1)
     for start, around in enumerate(mesh.links):
         if axis in around:
-            weight = SIDE if (start, around[axis]) in sides else 1
+            weight = side if (start, around[axis]) in sides else 1
             pull[bar[start]] -= weight
             pull[bar[around[axis]]] += weight
     return pull

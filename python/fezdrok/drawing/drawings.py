@@ -19,7 +19,7 @@ from .labels import LETTER_HEIGHT
 from .near_lines import near_chains
 from .orthogonal_layout import orthogonal_drawing
 from .pages import Page
-from .scenes import PLAIN, Position, Scene, flat, grid_sizes, orthogonal_scene
+from .scenes import PLAIN, Position, Scene, flat, grid_of, orthogonal_scene
 from .straight_layout import chain, grid_positions, places_between, positions
 from .straight_scenes import Chains, true_scene
 from .svg import Paint, svg_of
@@ -84,6 +84,7 @@ def drawing_of(
     pos: Mapping[Any, Position] | None = None,
     keep_pos: bool = False,
     near: Drawing | None = None,
+    node_size: str = "fixed",
     labels: bool = True,
     edge_color: str = PLAIN,
 ) -> Drawing:
@@ -100,8 +101,10 @@ def drawing_of(
     if style == "orthogonal":
         if pos is not None:
             raise ValueError("an orthogonal drawing has points of its own: leave pos out")
-        sizes = grid_sizes(result.node_of) if labels else None
-        scene = orthogonal_scene(result, orthogonal_drawing(result, sizes), labels, edge_color)
+        unit, sizes = grid_of(result, labels, node_size == "fixed")
+        scene = orthogonal_scene(
+            result, orthogonal_drawing(result, sizes, node_size=node_size), unit, labels, edge_color
+        )
         false = defects(result, Page(scene))
         if false:
             raise AssertionError(f"an orthogonal drawing is false: {false[0]}")
@@ -171,6 +174,7 @@ def to_svg(
     pos: Mapping[Any, Position] | None = None,
     keep_pos: bool = False,
     near: Drawing | None = None,
+    node_size: str = "fixed",
     labels: bool = True,
     node_color: str = "#d9e8f6",
     edge_color: str = PLAIN,
@@ -181,7 +185,7 @@ def to_svg(
     """A planarization drawn as an SVG document, without matplotlib. The words are those of `Drawing.to_svg`, and the
     others those of `draw`."""
     drawing = drawing_of(
-        result, style=style, pos=pos, keep_pos=keep_pos, near=near, labels=labels, edge_color=edge_color
+        result, style=style, pos=pos, keep_pos=keep_pos, near=near, node_size=node_size, labels=labels, edge_color=edge_color
     )
     return drawing.to_svg(
         node_color=node_color, crossing_color=crossing_color, background=background, prefix=prefix
@@ -199,6 +203,7 @@ def draw(
     pos: Mapping[Any, Position] | None = None,
     keep_pos: bool = False,
     near: Drawing | None = None,
+    node_size: str = "fixed",
     labels: bool = True,
     node_color: Any = "#d9e8f6",
     edge_color: Any = PLAIN,
@@ -218,7 +223,7 @@ def draw(
     """
     patches = wanted("matplotlib.patches", "drawings by draw")
     scene = drawing_of(
-        result, style=style, pos=pos, keep_pos=keep_pos, near=near, labels=labels, edge_color=edge_color
+        result, style=style, pos=pos, keep_pos=keep_pos, near=near, node_size=node_size, labels=labels, edge_color=edge_color
     ).scene
     ax = _fresh_axes(scene) if ax is None else ax
     for stroke in scene.strokes:

@@ -3,7 +3,7 @@
 from __future__ import annotations
 
 from collections.abc import Iterable, Sequence
-from dataclasses import dataclass
+from dataclasses import dataclass, replace
 from math import atan2, degrees, dist, pi
 from statistics import fmean, median
 
@@ -84,7 +84,7 @@ def quality(drawing: Drawing) -> Quality:
         max(turns),
         fmean(turns),
         _share(turn > LARGE_TURN for turn in turns),
-        sum(_bends(line) for line in page.lines),
+        sum(_bends(page.line(replace(stroke, rounding=0.0))) for stroke in drawing.scene.strokes),
         covered / (width * height),
         max(lengths) / (median(lengths) or 1.0),
         width * height / page.steps**2,
