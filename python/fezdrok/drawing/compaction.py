@@ -10,7 +10,8 @@ Drawings, 1999, where the orders are given). It is done for one axis and then th
 
 from __future__ import annotations
 
-from collections.abc import Collection, Mapping, Sequence
+from bisect import bisect_left, insort
+from collections.abc import Collection, Iterable, Iterator, Mapping, Sequence
 from typing import NamedTuple
 
 from .flows import Arc, least_cost_flow
@@ -54,22 +55,41 @@ def compact_mesh(
     have to be; what is not named is apart as the `spacing` says, or else at least 1. With `by_flow` False the links have
     the lengths that longest paths give them. The least coordinates are 0.
     """
-    spacing = Spacing([1] * len(mesh.links)) if spacing is None else spacing
     cut = rectangles(mesh)
-    scale = max(spacing.halves)
-    axes = [[scale * it for it in _first_axis(cut, axis)[: len(mesh.links)]] for axis in (0, 1)]
+    axes = [_first_axis(cut, axis)[: len(mesh.links)] for axis in (0, 1)]
     bars = [_bars(mesh, axis) for axis in (0, 1)]
+    even = Spacing([1] * len(mesh.links))
+    rounds = ROUNDS if len(mesh.links) <= MANY else 1
+    if spacing is not None:
+        axes = _shortened(mesh, axes, bars, sides, ({}, {}), by_flow and rounds > 1, even, 1)
+        most = max(spacing.halves)
+        axes = [[most * it for it in axis] for axis in axes]
+    axes = _shortened(mesh, axes, bars, sides, room, by_flow, spacing or even, rounds)
+    least = [min(axis) for axis in axes]
+    return [(x - least[0], y - least[1]) for x, y in zip(*axes)]
+
+
+def _shortened(
+    mesh: Mesh,
+    axes: list[list[int]],
+    bars: list[list[int]],
+    sides: Collection[tuple[int, int]],
+    room: tuple[Room, Room],
+    by_flow: bool,
+    spacing: Spacing,
+    rounds: int,
+) -> list[list[int]]:
+    """The coordinates along both axes made shorter, one axis after the other, so many times at most."""
     pulls = [_pull(mesh, axis, bars[axis], sides, spacing.side) for axis in (0, 1)]
     length = None
-    for _ in range(ROUNDS if len(mesh.links) <= MANY else 1):
+    for _ in range(rounds):
         for axis in (0, 1):
             gaps = _gaps_seen(bars[axis], axes[axis], axes[1 - axis], room[axis], spacing)
             axes[axis] = _shorter(pulls[axis], bars[axis], gaps, by_flow)
         before, length = length, sum(map(_length, pulls, bars, axes))
         if before is not None and length >= before:
             break
-    least = [min(axis) for axis in axes]
-    return [(x - least[0], y - least[1]) for x, y in zip(*axes)]
+    return axes
 
 
 def _bars(mesh: Mesh, axis: int) -> list[int]:
@@ -143,31 +163,57 @@ def _gaps_seen(
         if bar[start] == bar[end] and across[start] < across[end]:
             half = max(spacing.halves[start], spacing.halves[end])
             ranges.append((bar[start], 2 * across[start] - half, 2 * across[end] + half, half))
-    levels = sorted({level for _, start, end, _ in ranges for level in (start, end)})
-    number = {level: place for place, level in enumerate(levels)}
-    seen: list[dict[int, int]] = [{} for _ in levels]
-    for it, start, end, half in ranges:
-        for level in range(number[start], number[end]):
-            seen[level][it] = max(half, seen[level].get(it, 0))
     near = {(bar[start], bar[end]) for start, end in spacing.near}
     gaps: Gaps = {}
-    for around in seen:
-        before: list[int] = []
-        group: list[int] = []
-        for it in sorted(around, key=place.__getitem__):
-            if group and place[it] > place[group[0]]:
-                before, group = group, []
-            group.append(it)
-            for other in before:
-                one, two = around[other], around[it]
-                is_near = max(one, two) <= most and (other, it) in near
-                gap = 1 if is_near else (one - most * (one > most) + two - most * (two > most) + 1) // 2
-                if gap > gaps.get((other, it), 0):
-                    gaps[other, it] = gap
+    for one, two, first_half, second_half in _side_by_side(place, ranges):
+        is_near = max(first_half, second_half) <= most and (one, two) in near
+        gap = 1 if is_near else ((first_half - 1) % most + (second_half - 1) % most + 3) // 2
+        if gap > gaps.get((one, two), 0):
+            gaps[one, two] = gap
     for (start, end), gap in room.items():
         pair = bar[start], bar[end]
         gaps[pair] = max(gap, gaps.get(pair, 1))
     return gaps
+
+
+def _side_by_side(
+    place: Mapping[int, int], ranges: Iterable[tuple[int, int, int, int]]
+) -> Iterator[tuple[int, int, int, int]]:
+    """Each two bars that have none between them on some level, the one before and the one behind, and what each has
+    there. `ranges` has for bars the first level, the first one behind, and what the bar has between; the most counts.
+    Of bars at one place each is beside those at the next."""
+    events: dict[int, tuple[list[tuple[int, int]], list[tuple[int, int]]]] = {}
+    for bar, start, end, half in ranges:
+        events.setdefault(start, ([], []))[1].append((bar, half))
+        events.setdefault(end, ([], []))[0].append((bar, half))
+    there: dict[int, dict[int, list[int]]] = {}
+    places: list[int] = []
+    for level in sorted(events):
+        ends, starts = events[level]
+        changed = {place[bar] for bar, _ in ends} | {place[bar] for bar, _ in starts}
+        for bar, half in ends:
+            own = there[place[bar]]
+            own[bar].remove(half)
+            if not own[bar]:
+                del own[bar]
+        for bar, half in starts:
+            if place[bar] not in there:
+                there[place[bar]] = {}
+                insort(places, place[bar])
+            there[place[bar]].setdefault(bar, []).append(half)
+        for at in changed:
+            if not there[at]:
+                del there[at]
+                del places[bisect_left(places, at)]
+        pairs = set()
+        for at in changed:
+            spot = bisect_left(places, at)
+            pairs |= {(spot - 1, spot), (spot, spot + 1)} if at in there else {(spot - 1, spot)}
+        for before, behind in pairs:
+            if before >= 0 and behind < len(places):
+                for one, its in there[places[before]].items():
+                    for other, others in there[places[behind]].items():
+                        yield one, other, max(its), max(others)
 
 
 def _pull(mesh: Mesh, axis: int, bar: Sequence[int], sides: Collection[tuple[int, int]], side: int) -> list[int]:

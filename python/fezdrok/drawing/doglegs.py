@@ -21,13 +21,14 @@ from .bends import Shape, is_box, least_bends
 #: By how many right angles an edge may turn, and what each one more counts beside others.
 MOST_TURNS = 2
 FAR = 20
-#: How often each box is looked at.
+#: Of how many edges a box stays as wide as straight edges make it, and how often each other one is looked at.
+LARGE = 400
 ROUNDS = 4
 #: How often the bends of edges that turn too far are made to count more, and how many darts all tries have at most.
 TRIES = 8
 DARTS = 20_000
-#: At a corner of a box: edges go over it clockwise, counterclockwise, or not at all.
-CLOCKWISE, BACK, NONE = range(3)
+#: At a corner of a box edges go over it clockwise, or counterclockwise.
+CLOCKWISE, BACK = range(2)
 
 
 class _End(NamedTuple):
@@ -41,10 +42,10 @@ STRAIGHT = _End(0, ())
 
 
 def shape_with_small_boxes(picture: Picture, outer: int | None = None) -> Shape:
-    """The shape of a connected picture whose boxes can be small; of several that are tried, the one in which the fewest
-    edges turn by more than two right angles, and then the one with the fewest bends. The face at the place `outer` lies
-    outside; without one the picture's outer face does, or another."""
-    boxes = [point for point in picture.points if is_box(picture, point)]
+    """The shape of a connected picture whose boxes can be small, but those of LARGE edges or more; of several that are
+    tried, the one in which the fewest edges turn by more than two right angles, and then the one with the fewest bends.
+    The face at the place `outer` lies outside; without one the picture's outer face does, or another."""
+    boxes = [it for it in picture.points if is_box(picture, it) and len(picture.rotations[it.id]) < LARGE]
     best, least = None, (0, 0)
     for shape in _tries(picture, boxes, outer):
         far = sum(it > MOST_TURNS for it in _turns(shape).values())
@@ -120,19 +121,15 @@ def _sides(shape: Shape, point: Point) -> list[list[Dart]]:
 
 def _least_turns(sides: list[list[Dart]], turns: dict[int, int]) -> dict[Dart, _End]:
     """How the edges of a box leave it, so that they turn least; `turns` is by how much they turn elsewhere."""
-    best: dict[Dart, _End] = {}
-    least = None
-    for corners in product((CLOCKWISE, BACK, NONE), repeat=4):
-        found: dict[Dart, _End] = {}
-        cost = 0
-        for place, side in enumerate(sides):
-            if side:
-                more, own = _least_on_side(side, corners[place - 1], corners[place], turns)
-                cost += more
-                found.update(own)
-        if least is None or cost < least:
-            least, best = cost, found
-    return best
+    ways = list(product((CLOCKWISE, BACK), repeat=2))
+    found = [{way: _least_on_side(side, *way, turns) for way in ways} for side in sides if side]
+    used = [place for place, side in enumerate(sides) if side]
+    best: list[tuple[int, dict[Dart, _End]]] = []
+    for corners in product((CLOCKWISE, BACK), repeat=4):
+        own = [of_side[corners[place - 1], corners[place]] for of_side, place in zip(found, used)]
+        if not best or sum(cost for cost, _ in own) < sum(cost for cost, _ in best):
+            best = own
+    return {dart: end for _, ends in best for dart, end in ends.items()}
 
 
 def _least_on_side(
