@@ -3,7 +3,7 @@
 from __future__ import annotations
 
 from collections.abc import Mapping, Sequence
-from math import hypot
+from math import atan2, cos, hypot, pi, sin
 from typing import Any
 
 from ..engine.pictures import Point
@@ -12,6 +12,8 @@ from .scenes import Position, toward
 
 #: How far the control points of a curve lie from its ends, as a part of the chord.
 REACH = 0.36
+#: The directions in which a curve may pass a point, from that of the line before to that of the line behind.
+PARTS = (0.5, 0.3, 0.7, 0.1, 0.9, 0.0, 1.0)
 
 
 def crossing_ways(
@@ -49,19 +51,14 @@ def smooth(
     """A chain of points as cubic curves that pass each of them in one direction.
 
     The direction is between those of the lines before and behind the point; where `ways` has one, it is turned toward
-    that the more, the sharper the corner is. `reaches` has for each piece how far its control points lie from its ends,
+    that the more, the sharper the corner is. A curve that would turn by more than half a circle takes those directions with
+    which it turns least. `reaches` has for each piece how far its control points lie from its ends,
     beside how far they do where nothing is in the way; with 0 it is a straight line.
     """
     lines = [toward(start, end) for start, end in zip(chain, chain[1:])]
-    passing = [lines[0]]
-    for place, (before, after) in enumerate(zip(lines, lines[1:]), 1):
-        middle = toward((0.0, 0.0), (before[0] + after[0], before[1] + after[1]))
-        way = ways[place]
-        if way is not None:
-            share = min(1.0, 1.0 - (before[0] * after[0] + before[1] * after[1]))
-            middle = toward((0.0, 0.0), (middle[0] + share * way[0], middle[1] + share * way[1]))
-        passing.append(middle if middle != (0.0, 0.0) else after)
-    passing.append(lines[-1])
+    passing = _passing(lines, ways)
+    if sum(map(_turned, passing, passing[1:], lines)) > pi:
+        passing = _least_turning(lines)
     curve: list[Position] = [chain[0]]
     for start, end, leaving, coming, part in zip(chain, chain[1:], passing, passing[1:], reaches):
         reach = REACH * part * hypot(end[0] - start[0], end[1] - start[1])
@@ -71,6 +68,46 @@ def smooth(
             end,
         ]
     return tuple(curve)
+
+
+def _passing(lines: Sequence[Position], ways: Sequence[Position | None]) -> list[Position]:
+    """The direction at each point of a chain with these lines."""
+    passing = [lines[0]]
+    for place, (before, after) in enumerate(zip(lines, lines[1:]), 1):
+        middle = toward((0.0, 0.0), (before[0] + after[0], before[1] + after[1]))
+        way = ways[place]
+        if way is not None:
+            share = min(1.0, 1.0 - (before[0] * after[0] + before[1] * after[1]))
+            middle = toward((0.0, 0.0), (middle[0] + share * way[0], middle[1] + share * way[1]))
+        passing.append(middle if middle != (0.0, 0.0) else after)
+    return [*passing, lines[-1]]
+
+
+def _least_turning(lines: Sequence[Position]) -> list[Position]:
+    """The directions at the points of a chain with these lines with which its curve turns least. At each point the
+    direction is that of the line before or behind, or one of some between; where several are as good, in the middle."""
+    choices = [[lines[0]]]
+    for before, after in zip(lines, lines[1:]):
+        parts = [(1 - part) * complex(*before) + part * complex(*after) for part in PARTS]
+        choices.append([toward((0.0, 0.0), (it.real, it.imag)) for it in parts if abs(it) > 1e-9])
+    choices.append([lines[-1]])
+    best: list[tuple[float, list[Position]]] = [(0.0, [lines[0]])]
+    for line, following in zip(lines, choices[1:]):
+        best = [
+            min(
+                ((turned + _turned(path[-1], way, line), [*path, way]) for turned, path in best),
+                key=lambda it: it[0],
+            )
+            for way in following
+        ]
+    return min(best, key=lambda it: it[0])[1]
+
+
+def _turned(start: Position, end: Position, line: Position) -> float:
+    """By how much a piece turns that begins and ends in these directions, along this line."""
+    first, last = (atan2(_cross(line, way), line[0] * way[0] + line[1] * way[1]) for way in (start, end))
+    middle = atan2(-REACH * (sin(first) + sin(last)), 2 - REACH * (cos(first) + cos(last)))
+    return abs(middle - first) + abs(last - middle)
 
 
 def _cross(first: Position, second: Position) -> float:

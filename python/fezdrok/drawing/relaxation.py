@@ -35,25 +35,30 @@ MEANS = 60
 MOVES = 60_000
 STILL = 1e-3
 #: How much triangles push, those at the ring beside others, and how much more where they are thin; how much the halves
-#: of an edge pull each other into one line, and the two edges of a crossing into a right angle.
+#: of an edge pull each other into one line, how much more with each further crossing of the edge, and how much the two
+#: edges of a crossing pull into a right angle.
 PUSH = 20.0
 PUSH_AT_RING = 0.5
 SHAPE = 0.4
 STRAIGHTEN = 0.5
+MORE = 1.0
 SQUARE = 0.7
 #: Twice the area that a triangle has at least; less cannot be told from nothing.
 LEAST_AREA = 1e-14
 
 
 def spread(
-    rotations: Mapping[Any, Sequence[Any]], crossings: frozenset[Any], outer: tuple[Any, Any]
+    rotations: Mapping[Any, Sequence[Any]],
+    crossings: frozenset[Any],
+    outer: tuple[Any, Any],
+    sweeps: int = SWEEPS,
 ) -> dict[Any, Position] | None:
     """A point in the unit disk for each node of a connected plane graph without parallel edges, which is given by the
     neighbours of each node, clockwise; at least one edge is wanted. Straight lines between neighbours do not cross.
 
     At the nodes of `crossings`, which have four neighbours, two edges pass each other; they do it as straight as they
-    can. The face on the left of the dart `outer`, a node and a neighbour, lies outside. None where the points have come
-    too near to each other to be told apart.
+    can. The face on the left of the dart `outer`, a node and a neighbour, lies outside. Points are moved at most so many
+    `sweeps` when all are there. None where the points have come too near to each other to be told apart.
     """
     filled = fill(rotations, crossings, outer)
     points = _from_few_to_many(filled)
@@ -61,7 +66,7 @@ def spread(
         return None
     if len(points) <= FEW:
         points = _at_means(filled, points)
-    _settle(filled, points)
+    _settle(filled, points, sweeps)
     return {node: points[place] for place, node in enumerate(rotations)}
 
 
@@ -109,14 +114,16 @@ def _at_means(filled: FilledGraph, points: list[Position]) -> list[Position]:
 
 class _Forces:
     """What acts on each node: its links; the triangles at it, as the other two corners and how much they push, and
-    `shape`, which says how much more thin ones do; the lines through crossings that it is a part of, as the two other
-    nodes and whether it is the crossing itself; and where right angles at crossings would put it."""
+    `shape`, which says how much more thin ones do; the lines through it, where it is a crossing, as both neighbours and
+    their weight, and those that end at it, as the crossing, the node behind it, and the weight; and where right angles
+    at crossings would put it."""
 
     def __init__(self, count: int, shape: float):
         self.shape = shape
         self.links: list[list[tuple[int, float]]] = [[] for _ in range(count)]
         self.triangles: list[list[tuple[int, int, float]]] = [[] for _ in range(count)]
-        self.lines: list[list[tuple[int, int, bool]]] = [[] for _ in range(count)]
+        self.lines: list[list[tuple[int, int, float]]] = [[] for _ in range(count)]
+        self.ends: list[list[tuple[int, int, float]]] = [[] for _ in range(count)]
         self.squared: list[list[Position]] = [[] for _ in range(count)]
         self.crossed: list[tuple[int, tuple[int, int, int, int]]] = []
 
@@ -149,10 +156,12 @@ class _Forces:
             forces.triangles[second].append((third, first, push))
             forces.triangles[third].append((first, second, push))
         forces.crossed = filled.crossed
+        passed = _crossings_along(filled.crossed)
         for node, four in filled.crossed:
             for place, other in enumerate(four):
-                forces.lines[node].append((other, four[place - 2], True))
-                forces.lines[other].append((node, four[place - 2], False))
+                weight = STRAIGHTEN * (1 + MORE * (passed[node, place % 2] - 1))
+                forces.lines[node].append((other, four[place - 2], weight))
+                forces.ends[other].append((node, four[place - 2], weight))
         return forces
 
     def square(self, points: Sequence[Position]) -> None:
@@ -174,16 +183,16 @@ class _Forces:
             total += weight
             across += weight * x
             up += weight * y
-        for first, second, is_crossing in self.lines[node]:
+        for first, second, weight in self.lines[node]:
             (x, y), (u, v) = points[first], points[second]
-            if is_crossing:
-                total += 2 * STRAIGHTEN
-                across += STRAIGHTEN * (x + u)
-                up += STRAIGHTEN * (y + v)
-            else:
-                total += STRAIGHTEN
-                across += STRAIGHTEN * (2 * x - u)
-                up += STRAIGHTEN * (2 * y - v)
+            total += 2 * weight
+            across += weight * (x + u)
+            up += weight * (y + v)
+        for first, second, weight in self.ends[node]:
+            (x, y), (u, v) = points[first], points[second]
+            total += weight
+            across += weight * (2 * x - u)
+            up += weight * (2 * y - v)
         for x, y in self.squared[node]:
             total += SQUARE
             across += SQUARE * x
@@ -229,6 +238,26 @@ class _Forces:
         return 0.0
 
 
+def _crossings_along(crossed: Sequence[tuple[int, tuple[int, int, int, int]]]) -> dict[tuple[int, int], int]:
+    """For each crossing, and for each of the two edges that pass it, which are 0 and 1 as their neighbours are round
+    it, how many crossings that edge has."""
+    around = dict(crossed)
+    found: dict[tuple[int, int], int] = {}
+    for first in ((node, place) for node in around for place in (0, 1)):
+        if first in found:
+            continue
+        line = [first]
+        for way in (0, 2):
+            (node, place), last = first, first[0]
+            place += way
+            while (following := around[node][place]) in around:
+                node, last = following, node
+                place = (around[node].index(last) + 2) % 4
+                line.append((node, place % 2))
+        found.update(dict.fromkeys(line, len(line)))
+    return found
+
+
 def _energy(
     x: float,
     y: float,
@@ -248,12 +277,12 @@ def _energy(
     return energy
 
 
-def _settle(filled: FilledGraph, points: list[Position]) -> None:
+def _settle(filled: FilledGraph, points: list[Position], sweeps: int) -> None:
     """Move the nodes that are not of the ring until they hardly move, or have been moved often; in large graphs that is
     less often."""
     forces, ring = _Forces.of_all(filled), set(filled.ring)
     moves = MOVES if len(points) <= FEW else MOVES // 2
-    for _ in range(max(LEAST_SWEEPS, min(SWEEPS, moves // len(points)))):
+    for _ in range(max(LEAST_SWEEPS, min(sweeps, moves // len(points)))):
         most = 0.0
         forces.square(points)
         for node in range(len(points)):
