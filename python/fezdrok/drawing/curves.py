@@ -51,14 +51,15 @@ def smooth(
     """A chain of points as cubic curves that pass each of them in one direction.
 
     The direction is between those of the lines before and behind the point; where `ways` has one, it is turned toward
-    that the more, the sharper the corner is. A curve that would turn by more than half a circle takes those directions with
-    which it turns least. `reaches` has for each piece how far its control points lie from its ends,
-    beside how far they do where nothing is in the way; with 0 it is a straight line.
+    that the more, the sharper the corner is. A curve that would turn by more than half a circle takes those directions
+    with which it turns least, if it then does not. `reaches` has for each piece how far its control points lie from its
+    ends, beside how far they do where nothing is in the way; with 0 it is a straight line.
     """
     lines = [toward(start, end) for start, end in zip(chain, chain[1:])]
     passing = _passing(lines, ways)
     if sum(map(_turned, passing, passing[1:], lines)) > pi:
-        passing = _least_turning(lines)
+        other = _least_turning(lines)
+        passing = other if sum(map(_turned, other, other[1:], lines)) <= pi else passing
     curve: list[Position] = [chain[0]]
     for start, end, leaving, coming, part in zip(chain, chain[1:], passing, passing[1:], reaches):
         reach = REACH * part * hypot(end[0] - start[0], end[1] - start[1])

@@ -121,8 +121,8 @@ def _sides(shape: Shape, point: Point) -> list[list[Dart]]:
 
 def _least_turns(sides: list[list[Dart]], turns: dict[int, int]) -> dict[Dart, _End]:
     """How the edges of a box leave it, so that they turn least; `turns` is by how much they turn elsewhere."""
-    ways = list(product((CLOCKWISE, BACK), repeat=2))
-    found = [{way: _least_on_side(side, *way, turns) for way in ways} for side in sides if side]
+    ways = [(first, last) for first in (CLOCKWISE, BACK) for last in (CLOCKWISE, BACK)]
+    found = [{way: _least_on_side(side, way[0], way[1], turns) for way in ways} for side in sides if side]
     used = [place for place, side in enumerate(sides) if side]
     best: list[tuple[int, dict[Dart, _End]]] = []
     for corners in product((CLOCKWISE, BACK), repeat=4):

@@ -6,7 +6,7 @@ it by matplotlib. x runs to the east, y to the north; `Scene.unit` says how many
 
 from __future__ import annotations
 
-from collections.abc import Sequence
+from collections.abc import Mapping, Sequence
 from dataclasses import dataclass, replace
 from math import ceil, hypot
 from typing import NamedTuple
@@ -52,7 +52,7 @@ class Stroke:
     """An edge. `points` are the ends of its straight lines; where it is `curved`, they are an end and then, again and
     again, two control points of a cubic curve and its other end. `marks` says of each end of a line or a curve which
     point of the picture it is; None is a bend. `head` is the triangle of an arrow, or empty. Bends between straight
-    lines are rounded with the radius `rounding`, where there is room."""
+    lines are rounded with the radius `rounding`, where there is room. `label` stands beside its middle."""
 
     edge_id: int
     points: tuple[Position, ...]
@@ -61,12 +61,13 @@ class Stroke:
     marks: tuple[Point | None, ...]
     head: tuple[Position, ...] = ()
     rounding: float = 0.0
+    label: str = ""
 
 
 class NodeShape(NamedTuple):
     """A node: its label, with a line break between lines, its middle, and its width and height. It is drawn with round
     ends, unless it is a box. `scale` is the height of its label beside that of others, which is less where there is
-    little room."""
+    little room. `color` and `rim`, the width of its rim in pixels, are its own; None is as others are."""
 
     node: Node
     label: str
@@ -75,6 +76,8 @@ class NodeShape(NamedTuple):
     height: float
     box: bool
     scale: float = 1.0
+    color: str | None = None
+    rim: float | None = None
 
 
 @dataclass(frozen=True)
@@ -132,12 +135,12 @@ def _between(part: float) -> str:
 # ---- Orthogonal drawings
 
 
-def grid_of(result: Planarization, labels: bool, is_fixed: bool) -> tuple[float, dict[Node, tuple[int, int]]]:
+def grid_of(result: Planarization, names: Mapping[Node, str], is_fixed: bool) -> tuple[float, dict[Node, tuple[int, int]]]:
     """How many pixels a step of the grid is, and the width and height in steps for the nodes whose labels are too long
     for a point of the grid, or have more lines than one. Of more than MANY nodes all are points, unless they have more
     than four edges, and the grid is so wide that the labels fit."""
     is_directed, are_many = result.graph.is_directed(), len(result.node_of) > MANY
-    shown = {node: label_of(node) if labels else "" for node in result.node_of}
+    shown = {node: label_of(name) for node, name in names.items()}
     step = STEP * (FINE_ARROW_UNIT if is_directed else FINE_UNIT)
     most = step - NODE_GAP if is_fixed else 0.93 * GRID_UNIT
     large = {node for node, it in shown.items() if not are_many and ("\n" in it or point_width(it) > most)}
@@ -159,14 +162,14 @@ def _in_steps(size: tuple[float, float], more: float, unit: float, least: int) -
 
 
 def orthogonal_scene(
-    result: Planarization, drawing: OrthogonalDrawing, unit: float, labels: bool = True, color: str = PLAIN
+    result: Planarization, drawing: OrthogonalDrawing, unit: float, names: Mapping[Node, str], color: str = PLAIN
 ) -> Scene:
     """The scene of an orthogonal drawing, where a step of the grid is so many pixels. Crossings have no mark: two lines
     cross at right angles."""
     kinds, legend = looks(result, color)
     nodes = []
     for node, box in drawing.boxes.items():
-        label = (label_in_one_line(node) if box.is_point else label_of(node)) if labels else ""
+        label = label_in_one_line(names[node]) if box.is_point else label_of(names[node])
         width, height = float(box.right - box.left), float(box.top - box.bottom)
         if box.is_point:
             width, height = point_width(label) / unit, LEAST_NODE / unit
@@ -246,6 +249,15 @@ def flat(stroke: Stroke, steps: int = 16) -> list[Position]:
                 (sum(w * x for w, (x, _) in zip(weights, piece)), sum(w * y for w, (_, y) in zip(weights, piece)))
             )
     return points
+
+
+def middle_of(stroke: Stroke) -> Position:
+    """The middle of the longest piece of a stroke, where its label stands."""
+    longest = max(pieces_of(stroke)[0], key=lambda piece: hypot(piece[-1][0] - piece[0][0], piece[-1][1] - piece[0][1]))
+    if len(longest) == 2:
+        return (longest[0][0] + longest[1][0]) / 2, (longest[0][1] + longest[1][1]) / 2
+    (x, y), (u, v), (p, q), (r, s) = longest
+    return (x + 3 * u + 3 * p + r) / 8, (y + 3 * v + 3 * q + s) / 8
 
 
 def toward(start: Position, end: Position) -> Position:

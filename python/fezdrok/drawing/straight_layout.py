@@ -5,7 +5,7 @@ from __future__ import annotations
 import warnings
 from collections.abc import Iterable, Mapping, Sequence
 from cmath import phase
-from math import cos, pi, radians, sin, sqrt
+from math import cos, dist, pi, radians, sin, sqrt
 from typing import TYPE_CHECKING, Any
 
 from ..engine.faults import PlanarWarning
@@ -27,8 +27,9 @@ MOST_TURNING = 0.02
 MOST_SMALL = 0.1
 MOST_TRIED = 600
 FEW_SWEEPS = 60
-#: Below what an angle is small.
+#: Below what an angle is small, and how far from its neighbours a node should be at least, in a disk of radius 1.
 SMALL = radians(8)
+LEAST = 0.06
 
 
 def positions(result: Planarization, embedding: "networkx.PlanarEmbedding | None" = None) -> dict[Any, Position]:
@@ -91,18 +92,26 @@ class _Faces:
             angles += [min(found)] if node in self.crossings else found if len(found) > 1 else []
         return sum(it < SMALL for it in angles) / len(angles)
 
+    def least(self, places: Mapping[Any, Position]) -> float:
+        """How near a node of the graph lies to a neighbour at least."""
+        return min(
+            dist(places[node], places[other]) for node in self.result.node_of for other in self.rotations[node]
+        )
+
     def cost(self, places: Mapping[Any, Position] | None) -> tuple[bool, float]:
         """How badly points can be read, where False comes before True: that is what can be read well."""
         if places is None:
             return True, 9.0
-        turning, small = self.turning(places), self.small(places)
-        return turning > MOST_TURNING or small > MOST_SMALL, turning + small
+        turning, small, least = self.turning(places), self.small(places), self.least(places)
+        return turning > MOST_TURNING or small > MOST_SMALL or least < LEAST, turning + small + max(0.0, LEAST - least)
 
     def best(self, before: dict[Any, Position]) -> dict[Any, Position]:
-        """The best of some points and those with other faces outside, in order, until one can be read well; of large
-        planarizations no other is tried."""
-        found = before
-        for face in range(min(len(self.result.picture.faces), MOST_TRIED // len(self.rotations))):
+        """The best of some points and those with other faces outside that have no more crossings, in order, until one
+        can be read well; of large planarizations no other is tried."""
+        found, picture = before, self.result.picture
+        crossed = [sum(picture.start(dart).is_crossing for dart in face) for face in picture.faces]
+        others = [face for face, its in enumerate(crossed) if its <= crossed[self.result.outer_face]]
+        for face in others[: MOST_TRIED // len(self.rotations)]:
             if self.cost(self.spread(face, FEW_SWEEPS)) < self.cost(found):
                 found = min(found, self.spread(face) or found, key=self.cost)
                 if not self.cost(found)[0]:

@@ -13,6 +13,7 @@ from dataclasses import dataclass, replace
 from math import hypot, sqrt
 from typing import Any
 
+from ..engine.graph_edges import Node
 from ..engine.pictures import Point
 from ..engine.results import Planarization
 from .curves import crossing_ways, is_as_good_as_straight, smooth
@@ -50,11 +51,12 @@ class Chains:
 
 
 def true_scene(
-    chains: Chains, is_curved: bool, labels: bool = True, color: str = PLAIN
+    chains: Chains, is_curved: bool, names: Mapping[Node, str], color: str = PLAIN
 ) -> tuple[Scene, list[Defect]]:
     """A scene with straight or with curved lines, and what is false in it: nothing, unless its straight lines
     themselves are false with all decimals that there may be."""
-    scene, false = straight_scene(chains, labels, color), []
+    scene = straight_scene(chains, names, color)
+    false: list[Defect] = []
     if is_curved:
         curved, false = _curved(chains, scene, [])
         if not false:
@@ -74,7 +76,7 @@ def _finished(chains: Chains, scene: Scene) -> Scene:
     return with_arrows(chains.result, scene) if chains.result.graph.is_directed() else scene
 
 
-def straight_scene(chains: Chains, labels: bool = True, color: str = PLAIN) -> Scene:
+def straight_scene(chains: Chains, names: Mapping[Node, str], color: str = PLAIN) -> Scene:
     """The scene in which edges are straight from one node of their chains to the next."""
     result, places = chains.result, chains.places
     kinds, legend = looks(result, color)
@@ -89,7 +91,7 @@ def straight_scene(chains: Chains, labels: bool = True, color: str = PLAIN) -> S
         for edge_id, chain in chains.nodes.items()
     ]
     dots = tuple(places[result.name_of(point)] for point in result.picture.points if point.is_crossing)
-    unit, nodes = sized_nodes(chains, [label_of(node) if labels else "" for node in result.node_of])
+    unit, nodes = sized_nodes(chains, [label_of(names[node]) for node in result.node_of])
     return Scene(unit, tuple(strokes), nodes, dots, legend)
 
 
