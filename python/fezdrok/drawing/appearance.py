@@ -1,4 +1,4 @@
-"""How nodes and edges are to look: all alike, by a mapping from them, or by an attribute that they have in the graph."""
+"""How nodes and edges look: all alike, by a mapping from them, or by an attribute that they have in the graph."""
 
 from __future__ import annotations
 
@@ -45,10 +45,11 @@ def node_values(result: Planarization, wish: Any, word: str) -> dict[Node, Any]:
 
 
 def edge_values(result: Planarization, wish: Any, word: str) -> dict[int, Any]:
-    """What a mapping has for edges, by their ids, or an attribute of theirs; empty where the wish is neither. ValueError
-    where a mapping has something for what is no edge."""
+    """What a mapping has for edges, by their ids, or an attribute of theirs; empty where the wish is neither.
+    ValueError where a mapping has something for what is no edge."""
     if not isinstance(wish, Mapping):
-        rows = result.graph.edges(keys=True, data=True) if result.graph.is_multigraph() else result.graph.edges(data=True)
+        keys = {"keys": True} if result.graph.is_multigraph() else {}
+        rows = result.graph.edges(data=True, **keys)
         return {result.edge_id(*edge): row[wish] for *edge, row in rows if _has(row, wish)}
     found = {}
     for edge, value in wish.items():
@@ -69,9 +70,9 @@ def is_for_all(values: Mapping[Any, Any], wish: Any) -> bool:
 
 
 def colors_of(values: Mapping[Thing, Any], wish: Any, palette: Sequence[str]) -> dict[Thing, Any]:
-    """Values as colours: those of a mapping as they are, and those of an attribute where all are as `#1b6ca8`; else each
-    value has a colour of the palette."""
-    if isinstance(wish, Mapping) or all(COLOR.fullmatch(str(value)) for value in values.values()):
+    """Values as colours: those of a mapping as they are, and those of an attribute too if they are as `#1b6ca8`; each
+    other value has a colour of the palette."""
+    if isinstance(wish, Mapping):
         return dict(values)
     known: dict[str, str] = {}
     for value in map(str, values.values()):

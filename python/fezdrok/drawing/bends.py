@@ -25,8 +25,8 @@ class Shape:
 
     `angles[d]` is the number of right angles, 0 to 4, in the corner at the start of dart d, on its left: between d and
     the next dart counterclockwise. `bends[d]` is how often d turns left; it turns right as often as its twin turns
-    left, and never both. `headings[d]` is the direction in which d starts: EAST, NORTH, WEST or SOUTH. `ends[d]` has the
-    turns that d makes at its start before all others, where it comes out of a small box (see `doglegs`).
+    left, and never both. `headings[d]` is the direction in which d starts: EAST, NORTH, WEST or SOUTH. `ends[d]` has
+    the turns that d makes at its start before all others, where it comes out of a small box (see `doglegs`).
     """
 
     picture: Picture

@@ -52,8 +52,8 @@ def compact_mesh(
 
     `sides` are the links, as start and end to the east or north, that are sides of boxes: they count more, so that
     boxes are small. `room[axis]` says of two nodes, of which the second lies further along the axis, how far apart they
-    have to be; what is not named is apart as the `spacing` says, or else at least 1. With `by_flow` False the links have
-    the lengths that longest paths give them. The least coordinates are 0.
+    have to be; what is not named is apart as the `spacing` says, or else at least 1. With `by_flow` False the links
+    have the lengths that longest paths give them. The least coordinates are 0.
     """
     cut = rectangles(mesh)
     axes = [_first_axis(cut, axis)[: len(mesh.links)] for axis in (0, 1)]

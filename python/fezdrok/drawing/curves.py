@@ -13,7 +13,14 @@ from .scenes import Position, toward
 #: How far the control points of a curve lie from its ends, as a part of the chord.
 REACH = 0.36
 #: The directions in which a curve may pass a point, from that of the line before to that of the line behind.
-PARTS = (0.5, 0.3, 0.7, 0.1, 0.9, 0.0, 1.0)
+PARTS = (0.5, 0.35, 0.65, 0.2, 0.8, 0.0, 1.0)
+#: At which places along a piece it is measured how it turns. By how much a curve turns at most, nearly half a circle;
+#: how far, in radians, its direction may then be from that in which both edges of a crossing would meet at right
+#: angles; and how much it counts, at first and then, that it has other directions than it would have else.
+STEPS = (0.15, 0.3, 0.5, 0.7, 0.85)
+MOST = 0.99 * pi
+ASIDE = pi / 2.6
+WEIGHTS = (1.6, 0.8, 0.4, 0.2, 0.0)
 
 
 def crossing_ways(
@@ -57,9 +64,12 @@ def smooth(
     """
     lines = [toward(start, end) for start, end in zip(chain, chain[1:])]
     passing = _passing(lines, ways)
-    if sum(map(_turned, passing, passing[1:], lines)) > pi:
-        other = _least_turning(lines)
-        passing = other if sum(map(_turned, other, other[1:], lines)) <= pi else passing
+    if sum(map(_turned, passing, passing[1:], lines)) > MOST:
+        for weight in WEIGHTS:
+            other = _least_turning(lines, passing, ways, weight)
+            if sum(map(_turned, other, other[1:], lines)) <= MOST:
+                passing = other
+                break
     curve: list[Position] = [chain[0]]
     for start, end, leaving, coming, part in zip(chain, chain[1:], passing, passing[1:], reaches):
         reach = REACH * part * hypot(end[0] - start[0], end[1] - start[1])
@@ -84,31 +94,50 @@ def _passing(lines: Sequence[Position], ways: Sequence[Position | None]) -> list
     return [*passing, lines[-1]]
 
 
-def _least_turning(lines: Sequence[Position]) -> list[Position]:
-    """The directions at the points of a chain with these lines with which its curve turns least. At each point the
-    direction is that of the line before or behind, or one of some between; where several are as good, in the middle."""
+def _least_turning(
+    lines: Sequence[Position], passing: Sequence[Position], ways: Sequence[Position | None], weight: float
+) -> list[Position]:
+    """The directions at the points of a chain with these lines with which its curve turns least, where it counts so
+    much that they are others than those of `passing`. At each point it is that one, that of the line before or behind,
+    or one of some between, but none that is far from that of `ways`."""
     choices = [[lines[0]]]
-    for before, after in zip(lines, lines[1:]):
+    for before, after, own, way in zip(lines, lines[1:], passing[1:], ways[1:]):
         parts = [(1 - part) * complex(*before) + part * complex(*after) for part in PARTS]
-        choices.append([toward((0.0, 0.0), (it.real, it.imag)) for it in parts if abs(it) > 1e-9])
+        others = [toward((0.0, 0.0), (it.real, it.imag)) for it in parts if abs(it) > 1e-9]
+        choices.append([own, *(it for it in others if way is None or _angle(way, it) < ASIDE)])
     choices.append([lines[-1]])
     best: list[tuple[float, list[Position]]] = [(0.0, [lines[0]])]
-    for line, following in zip(lines, choices[1:]):
+    for line, following, way in zip(lines, choices[1:], passing[1:]):
         best = [
             min(
-                ((turned + _turned(path[-1], way, line), [*path, way]) for turned, path in best),
+                (
+                    (cost + _turned(path[-1], other, line) + weight * _angle(way, other), [*path, other])
+                    for cost, path in best
+                ),
                 key=lambda it: it[0],
             )
-            for way in following
+            for other in following
         ]
     return min(best, key=lambda it: it[0])[1]
 
 
+def _angle(first: Position, second: Position) -> float:
+    """The angle between two directions."""
+    return abs(atan2(_cross(first, second), first[0] * second[0] + first[1] * second[1]))
+
+
 def _turned(start: Position, end: Position, line: Position) -> float:
     """By how much a piece turns that begins and ends in these directions, along this line."""
-    first, last = (atan2(_cross(line, way), line[0] * way[0] + line[1] * way[1]) for way in (start, end))
-    middle = atan2(-REACH * (sin(first) + sin(last)), 2 - REACH * (cos(first) + cos(last)))
-    return abs(middle - first) + abs(last - middle)
+    turn, before = 0.0, start
+    for part in STEPS:
+        near, middle, far = REACH * (1 - part) ** 2, 2 * part * (1 - part), REACH * part**2
+        x, y = (
+            (near - REACH * middle) * one + middle * along + (far - REACH * middle) * other
+            for one, along, other in zip(start, line, end)
+        )
+        turn += _angle(before, (x, y))
+        before = (x, y)
+    return turn + _angle(before, end)
 
 
 def _cross(first: Position, second: Position) -> float:

@@ -253,8 +253,8 @@ def draw(
     and with `node_size="grow"` those of more than four edges so large that edges hardly bend. Nodes have their names if
     `labels`, in several lines where they are long, and are as large as these. Edges of different prices have colours of
     their own, those that must not be crossed are dark and broad, and a legend says so; where all cost the same they
-    have `edge_color`. Directed edges have arrows. Each of `labels`, `edge_labels`, `node_color`, `node_width` (of rims),
-    `edge_color` and `edge_width` may be a mapping from nodes or edges, or the name of an attribute that these have in
+    have `edge_color`. Directed edges have arrows. Each of `labels`, `edge_labels`, `node_color`, `node_width` (of
+    rims), `edge_color` and `edge_width` may be a mapping from nodes or edges, or the name of an attribute that these have in
     the graph; the values of an attribute that are no colours, as `#1b6ca8`, have one each. `pos` gives points for the
     nodes of the graph, and if you like for those of `to_networkx_embedding(result)`; crossings without a point are put
     between their neighbours. Where these points show what is not in the picture, that is FalseDrawing, and with

@@ -1,8 +1,8 @@
 """Orthogonal drawings of a planarization: the second and third step of the topology-shape-metrics method.
 
 The first step, the planarization, says which edges cross and what bounds each face. `least_bends` makes a shape of it:
-the right angles and the bends (see `bends`), or `shape_with_small_boxes` one of more bends whose boxes can be small (see
-`doglegs`). `compact_mesh` makes coordinates of the shape (see `compaction`).
+the right angles and the bends (see `bends`), or `shape_with_small_boxes` one of more bends whose boxes can be small
+(see `doglegs`). `compact_mesh` makes coordinates of the shape (see `compaction`).
 """
 
 from __future__ import annotations

@@ -83,7 +83,7 @@ def quality(drawing: Drawing) -> Quality:
         _share(angle < SMALL_ANGLE for angle in angles),
         max(turns),
         fmean(turns),
-        _share(turn > LARGE_TURN for turn in turns),
+        _share(turn > LARGE_TURN + 1e-6 for turn in turns),
         sum(_bends(page.line(replace(stroke, rounding=0.0))) for stroke in drawing.scene.strokes),
         covered / (width * height),
         max(lengths) / (median(lengths) or 1.0),

@@ -37,7 +37,7 @@ NODE_GAP = 9.0
 ROUNDING = 4.0
 PART = 1 / 3
 #: How far the control points of a quarter of a circle are from its ends, beside its radius.
-QUARTER = 0.5523
+QUARTER = 0.55
 
 
 class Look(NamedTuple):
@@ -135,7 +135,9 @@ def _between(part: float) -> str:
 # ---- Orthogonal drawings
 
 
-def grid_of(result: Planarization, names: Mapping[Node, str], is_fixed: bool) -> tuple[float, dict[Node, tuple[int, int]]]:
+def grid_of(
+    result: Planarization, names: Mapping[Node, str], is_fixed: bool
+) -> tuple[float, dict[Node, tuple[int, int]]]:
     """How many pixels a step of the grid is, and the width and height in steps for the nodes whose labels are too long
     for a point of the grid, or have more lines than one. Of more than MANY nodes all are points, unless they have more
     than four edges, and the grid is so wide that the labels fit."""

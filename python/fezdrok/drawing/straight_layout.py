@@ -21,15 +21,15 @@ from .shelf_packing import shelf_packing
 if TYPE_CHECKING:
     import networkx
 
-#: Above which share of edges that turn by more than half a circle other faces are tried outside, until there are fewer,
-#: and fewer small angles than this; of how many points there may be in all tries, and how often these are moved at first.
+#: Above which shares of edges that turn by more than half a circle, and of small angles, other faces are tried outside;
+#: how many points there may be in all tries, and how often these are moved at first.
 MOST_TURNING = 0.02
 MOST_SMALL = 0.1
-MOST_TRIED = 600
+MOST_TRIED = 300
 FEW_SWEEPS = 60
 #: Below what an angle is small, and how far from its neighbours a node should be at least, in a disk of radius 1.
 SMALL = radians(8)
-LEAST = 0.06
+LEAST = 0.05
 
 
 def positions(result: Planarization, embedding: "networkx.PlanarEmbedding | None" = None) -> dict[Any, Position]:
@@ -50,7 +50,7 @@ def positions(result: Planarization, embedding: "networkx.PlanarEmbedding | None
         return dict.fromkeys(embedding, (0.0, 0.0))
     faces = _Faces(result, embedding)
     found = faces.spread(result.outer_face)
-    if found is not None and faces.turning(found) > MOST_TURNING:
+    if found is not None and (faces.turning(found) > MOST_TURNING or faces.small(found) > MOST_SMALL):
         found = faces.best(found)
     if found is None:
         warnings.warn("no drawing was found in which faces are of like size: its points lie on a grid", PlanarWarning)
@@ -80,7 +80,7 @@ class _Faces:
         far = 0
         for nodes in self.chains.values():
             ways = [complex(*toward(places[one], places[two])) for one, two in zip(nodes, nodes[1:])]
-            far += sum(abs(phase(two / one)) for one, two in zip(ways, ways[1:])) > pi
+            far += sum(abs(phase(two * one.conjugate())) for one, two in zip(ways, ways[1:])) > pi
         return far / len(self.chains)
 
     def small(self, places: Mapping[Any, Position]) -> float:
@@ -88,9 +88,9 @@ class _Faces:
         angles: list[float] = []
         for node, others in self.rotations.items():
             ways = [complex(*toward(places[node], places[other])) for other in others]
-            found = [abs(phase(two / one)) for one, two in zip(ways, [*ways[1:], ways[0]])]
+            found = [abs(phase(two * one.conjugate())) for one, two in zip(ways, [*ways[1:], ways[0]])]
             angles += [min(found)] if node in self.crossings else found if len(found) > 1 else []
-        return sum(it < SMALL for it in angles) / len(angles)
+        return sum(it < SMALL for it in angles) / max(1, len(angles))
 
     def least(self, places: Mapping[Any, Position]) -> float:
         """How near a node of the graph lies to a neighbour at least."""

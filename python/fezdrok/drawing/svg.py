@@ -258,7 +258,7 @@ class _Writer:
     def edge_labels(self, root: Element) -> None:
         """The labels of the edges, each on the middle of its edge, with a rim of the background round the letters."""
         words = {"font_family": "sans-serif", "font_size": number(LETTER_HEIGHT - 1), "text_anchor": "middle"}
-        rim = {"fill": "none", "stroke": self.paint.background or "none", "stroke_width": "3", "stroke_linejoin": "round"}
+        rim = {"fill": "none", "stroke": self.paint.background or "", "stroke_width": "3", "stroke_linejoin": "round"}
         for stroke in self.scene.strokes:
             if stroke.label:
                 x, y = (it / self.page.steps for it in self.page.at(middle_of(stroke)))
