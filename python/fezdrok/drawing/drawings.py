@@ -254,10 +254,10 @@ def draw(
     `labels`, in several lines where they are long, and are as large as these. Edges of different prices have colours of
     their own, those that must not be crossed are dark and broad, and a legend says so; where all cost the same they
     have `edge_color`. Directed edges have arrows. Each of `labels`, `edge_labels`, `node_color`, `node_width` (of
-    rims), `edge_color` and `edge_width` may be a mapping from nodes or edges, or the name of an attribute that these have in
-    the graph; the values of an attribute that are no colours, as `#1b6ca8`, have one each. `pos` gives points for the
-    nodes of the graph, and if you like for those of `to_networkx_embedding(result)`; crossings without a point are put
-    between their neighbours. Where these points show what is not in the picture, that is FalseDrawing, and with
+    rims), `edge_color` and `edge_width` may be a mapping from nodes or edges, or the name of an attribute that these
+    have in the graph; the values of an attribute that are no colours, as `#1b6ca8`, have one each. `pos` gives points
+    for the nodes of the graph, and if you like for those of `to_networkx_embedding(result)`; crossings without a point
+    are put between their neighbours. Where these points show what is not in the picture, that is FalseDrawing, and with
     `keep_pos` a PlanarWarning. Without `pos` the points are those of `positions`, and the drawing is true. With `near`,
     a drawing of a planarization that has most edges in common with this one, what both have lies as it lies there, and
     new edges lead through the faces between; where too much is otherwise, a PlanarWarning says so. ModuleMissing where
