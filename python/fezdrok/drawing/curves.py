@@ -3,7 +3,7 @@
 from __future__ import annotations
 
 from collections.abc import Mapping, Sequence
-from math import atan2, cos, hypot, pi, sin
+from math import atan2, hypot, pi
 from typing import Any
 
 from ..engine.pictures import Point
@@ -52,24 +52,31 @@ def is_as_good_as_straight(chain: Sequence[Position]) -> bool:
     )
 
 
-def smooth(
-    chain: Sequence[Position], ways: Sequence[Position | None], reaches: Sequence[float]
-) -> tuple[Position, ...]:
-    """A chain of points as cubic curves that pass each of them in one direction.
+def passing_ways(
+    chain: Sequence[Position], ways: Sequence[Position | None], turns_least: bool = True
+) -> list[Position]:
+    """The directions in which a curve passes the points of a chain.
 
-    The direction is between those of the lines before and behind the point; where `ways` has one, it is turned toward
-    that the more, the sharper the corner is. A curve that would turn by more than half a circle takes those directions
-    with which it turns least, if it then does not. `reaches` has for each piece how far its control points lie from its
-    ends, beside how far they do where nothing is in the way; with 0 it is a straight line.
+    They are between those of the lines before and behind a point; where `ways` has one, it is turned toward that the
+    more, the sharper the corner is. A curve that would turn by more than half a circle takes those directions with
+    which it turns least, if it `turns_least` and then does not.
     """
     lines = [toward(start, end) for start, end in zip(chain, chain[1:])]
     passing = _passing(lines, ways)
-    if sum(map(_turned, passing, passing[1:], lines)) > MOST:
+    if turns_least and sum(map(_turned, passing, passing[1:], lines)) > MOST:
         for weight in WEIGHTS:
             other = _least_turning(lines, passing, ways, weight)
             if sum(map(_turned, other, other[1:], lines)) <= MOST:
-                passing = other
-                break
+                return other
+    return passing
+
+
+def smooth(
+    chain: Sequence[Position], passing: Sequence[Position], reaches: Sequence[float]
+) -> tuple[Position, ...]:
+    """A chain of points as cubic curves that pass each of them in one direction. `reaches` has for each piece how far
+    its control points lie from its ends, beside how far they do where nothing is in the way; with 0 it is a straight
+    line."""
     curve: list[Position] = [chain[0]]
     for start, end, leaving, coming, part in zip(chain, chain[1:], passing, passing[1:], reaches):
         reach = REACH * part * hypot(end[0] - start[0], end[1] - start[1])

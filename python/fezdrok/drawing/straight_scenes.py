@@ -8,7 +8,7 @@ is right; with every curve straight it is.
 
 from __future__ import annotations
 
-from collections.abc import Container, Mapping, Sequence
+from collections.abc import Mapping, Sequence
 from dataclasses import dataclass, replace
 from math import hypot, sqrt
 from typing import Any
@@ -16,7 +16,7 @@ from typing import Any
 from ..engine.graph_edges import Node
 from ..engine.pictures import Point
 from ..engine.results import Planarization
-from .curves import crossing_ways, is_as_good_as_straight, smooth
+from .curves import crossing_ways, is_as_good_as_straight, passing_ways, smooth
 from .labels import label_of, label_size
 from .pages import Page
 from .scenes import MANY, PLAIN, NodeShape, Position, Scene, Stroke, looks, with_arrows
@@ -55,13 +55,14 @@ def true_scene(
 ) -> tuple[Scene, list[Defect]]:
     """A scene with straight or with curved lines, and what is false in it: nothing, unless its straight lines
     themselves are false with all decimals that there may be."""
-    scene = straight_scene(chains, names, color)
+    least = 1 if len(names) <= MANY else 2
+    scene = replace(straight_scene(chains, names, color), decimals=least)
     false: list[Defect] = []
     if is_curved:
         curved, false = _curved(chains, scene, [])
         if not false:
             return _finished(chains, curved), []
-    for decimals in range(1, MOST_DECIMALS + 1):
+    for decimals in range(least, MOST_DECIMALS + 1):
         scene = replace(scene, decimals=decimals)
         false = defects(chains.result, Page(scene))
         if not false:
@@ -184,9 +185,17 @@ def _curved(chains: Chains, scene: Scene, false: list[Defect]) -> tuple[Scene, l
         for edge_id, chain in chains.nodes.items()
         if not is_as_good_as_straight([chains.places[node] for node in chain])
     }
+    passing = {
+        edge_id: passing_ways(
+            [chains.places[node] for node in chains.nodes[edge_id]],
+            [ways.get((edge_id, node)) for node in chains.nodes[edge_id]],
+            len(scene.nodes) <= MANY,
+        )
+        for edge_id in bent
+    }
     reaches: dict[Piece, float] = {}
     less_reach = LESS_REACH if len(scene.nodes) <= MANY else LESS_REACH_OF_MANY
-    strokes = {it.edge_id: _curve(chains, it, ways, reaches, bent) for it in scene.strokes}
+    strokes = {it.edge_id: _curve(chains, it, passing, reaches) for it in scene.strokes}
     page = Page(replace(scene, strokes=tuple(strokes.values())))
     judge = Judge(chains.result, page)
     found, may_stay = judge.defects(), bool(false)
@@ -195,28 +204,24 @@ def _curved(chains: Chains, scene: Scene, false: list[Defect]) -> tuple[Scene, l
         pieces = {piece for its in wrong for piece in its}
         less = {piece: less_reach[now] for piece in pieces if (now := reaches.get(piece, 1.0)) and piece[0] in bent}
         may_stay = may_stay or any(less.keys().isdisjoint(its) for its in wrong)
+        if may_stay and not false:
+            return scene, found
         if not less:
             scene = replace(scene, strokes=tuple(strokes.values()))
             return scene, defects(chains.result, Page(scene)) if may_stay else []
         reaches.update(less)
-        changed = {edge_id: _curve(chains, strokes[edge_id], ways, reaches, bent) for edge_id, _ in less}
+        changed = {edge_id: _curve(chains, strokes[edge_id], passing, reaches) for edge_id, _ in less}
         strokes.update(changed)
         found = judge.drawn_otherwise([page.line(stroke) for stroke in changed.values()])
 
 
 def _curve(
-    chains: Chains,
-    stroke: Stroke,
-    ways: Mapping[tuple[int, Any], Position],
-    reaches: Mapping[Piece, float],
-    bent: Container[int],
+    chains: Chains, stroke: Stroke, passing: Mapping[int, Sequence[Position]], reaches: Mapping[Piece, float]
 ) -> Stroke:
-    """A stroke as a curve, each of whose pieces reaches as far as it may."""
-    if stroke.edge_id not in bent:
+    """A stroke as a curve, each of whose pieces reaches as far as it may; one that is as good as straight stays."""
+    if stroke.edge_id not in passing:
         return stroke
     chain = chains.nodes[stroke.edge_id]
     parts = [reaches.get((stroke.edge_id, place), 1.0) for place in range(len(chain) - 1)]
-    points = smooth(
-        [chains.places[node] for node in chain], [ways.get((stroke.edge_id, node)) for node in chain], parts
-    )
+    points = smooth([chains.places[node] for node in chain], passing[stroke.edge_id], parts)
     return replace(stroke, points=points, curved=True)
