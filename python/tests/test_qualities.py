@@ -66,14 +66,13 @@ class Bounds(unittest.TestCase):
         dense = {"K8", "scale-free, 60 nodes"}
         for (name, style), its in found.items():
             with self.subTest(name=name, style=style):
+                self.assertLessEqual(its.turning_edges, 0.02)
                 if style == "orthogonal":
                     self.assertTrue(its.node_angle in (None, 90) and its.crossing_angle in (None, 90))
-                    self.assertLessEqual(its.node_share, 0.5)
-                    self.assertLessEqual(its.turning_edges, 0.04)
+                    self.assertLessEqual(its.node_share, 0.1)
                 else:
                     self.assertLessEqual(its.node_share, 0.06)
                     self.assertLessEqual(its.small_angles, 0.1 if name in dense else 0.02)
-                    self.assertLessEqual(its.turning_edges, 0.09 if name in dense else 0.02)
                     self.assertLessEqual(its.mean_turn, 65 if name in dense else 30)
                     self.assertLessEqual(its.length_ratio, 8)
                 if style == "curved":

@@ -8,8 +8,6 @@ import signal
 import warnings
 from collections.abc import Callable, Iterator
 from contextlib import contextmanager
-from dataclasses import replace
-from html import escape
 from typing import Any
 
 from ..drawing.drawings import to_svg
@@ -25,12 +23,6 @@ from .graph_inputs import (
     DASH, Outputs, inputs_of, is_saved, name_of, read_bytes, read_graph, read_saved, without_loops,
 )
 from .streams import FAILED, NO_MEMORY, WELL, OutputLostError, complain, say, say_bytes
-
-#: The colours of nodes whose attribute has one of several values, in the order in which the values come.
-COLOURS = (
-    "#8dd3c7", "#ffffb3", "#bebada", "#fb8072", "#80b1d3", "#fdb462", "#b3de69", "#fccde5", "#d9d9d9", "#bc80bd",
-    "#ccebc5", "#ffed6f",
-)
 
 
 class Run:
@@ -261,65 +253,15 @@ def view_files(words: argparse.Namespace) -> int:
     return Run().each(words.files, work)
 
 
-# ---- Labels and colours of nodes
-
-
-class _Labelled:
-    """A node that is called by its label."""
-
-    def __init__(self, label: str):
-        self.label = label
-
-    def __str__(self) -> str:
-        return self.label
+# ---- Drawings
 
 
 def drawn(result: Planarization, style: str | None, labels: str | None, color: str | None) -> str:
     """The drawing as SVG, its nodes with the labels and in the colours that attributes of theirs say."""
-    rows = [result.graph.nodes[node] for node in result.node_of]
-    for name in {labels, color} - {None}:
-        if not any(name in row for row in rows):
-            raise ValueError(f"no node has the attribute {name!r}")
-    named = result if labels is None else _relabelled(result, labels)
-    text = to_svg(named) if style is None else to_svg(named, style=style)
-    return text if color is None else _coloured(text, [row.get(color) for row in rows])
-
-
-def _relabelled(result: Planarization, name: str) -> Planarization:
-    """The planarization with nodes that are called by their attribute; one that has none is called by its name."""
-    import networkx
-
-    label = {node: _Labelled(str(data.get(name, node))) for node, data in result.graph.nodes(data=True)}
-
-    def changed(part: Planarization) -> Planarization:
-        return replace(
-            part,
-            graph=networkx.relabel_nodes(part.graph, label),
-            node_of=tuple(label[node] for node in part.node_of),
-            edge_of={edge_id: (label[u], label[v], *key) for edge_id, (u, v, *key) in part.edge_of.items()},
-            parts=tuple(map(changed, part.parts)),
-        )
-
-    return changed(result)
-
-
-def _coloured(text: str, values: list[Any]) -> str:
-    """The drawing with a colour for each value. Its nodes stand there in their order, each as one use of its shape; a
-    value that is a colour itself, as `#ff0000`, is taken as it is."""
-    known: dict[Any, str] = {}
-    for value in values:
-        if value is not None and value not in known:
-            is_color = re.fullmatch("#([0-9A-Fa-f]{3}|[0-9A-Fa-f]{6})", str(value))
-            known[value] = str(value) if is_color else COLOURS[len(known) % len(COLOURS)]
-    colors = iter([known.get(value) for value in values])
-
-    def with_color(found: re.Match[str]) -> str:
-        color = next(colors)
-        return found[0] if color is None else f'<use fill="{escape(color)}" '
-
-    if text.count("<use ") != len(values):
-        raise ValueError("the nodes of this drawing cannot be told apart")
-    return re.sub("<use ", with_color, text)
+    if color is not None and not any(color in row for _, row in result.graph.nodes(data=True)):
+        raise ValueError(f"no node has the attribute {color!r}")
+    words: dict[str, Any] = {"style": style, "labels": labels, "node_color": color}
+    return to_svg(result, **{word: value for word, value in words.items() if value is not None})
 
 
 def style_fault(style: str | None) -> str | None:

@@ -8,8 +8,8 @@ is a box: an angle between two of its edges may be 0, and then both leave the sa
 
 from __future__ import annotations
 
-from collections.abc import Iterator
-from dataclasses import dataclass
+from collections.abc import Iterator, Mapping
+from dataclasses import dataclass, field
 from typing import Any
 
 from ..engine.pictures import Dart, Picture, Point
@@ -25,22 +25,25 @@ class Shape:
 
     `angles[d]` is the number of right angles, 0 to 4, in the corner at the start of dart d, on its left: between d and
     the next dart counterclockwise. `bends[d]` is how often d turns left; it turns right as often as its twin turns
-    left, and never both. `headings[d]` is the direction in which d starts: EAST, NORTH, WEST or SOUTH.
+    left, and never both. `headings[d]` is the direction in which d starts: EAST, NORTH, WEST or SOUTH. `ends[d]` has
+    the turns that d makes at its start before all others, where it comes out of a small box (see `doglegs`).
     """
 
     picture: Picture
     angles: dict[Dart, int]
     bends: dict[Dart, int]
     headings: dict[Dart, int]
+    ends: Mapping[Dart, tuple[int, ...]] = field(default_factory=dict)
 
     @property
     def bend_count(self) -> int:
-        """How many bends all edges have together: the cost of the flow in bends."""
-        return sum(self.bends.values())
+        """How many bends all edges have together: the cost of the flow in bends, and those at the ends."""
+        return sum(self.bends.values()) + sum(map(len, self.ends.values()))
 
     def turns(self, dart: Dart) -> tuple[int, ...]:
         """The turns of a dart from its start to its end: 1 for a left turn, -1 for a right one."""
-        return (1,) * self.bends[dart] + (-1,) * self.bends[dart.twin]
+        last = tuple(-turn for turn in reversed(self.ends.get(dart.twin, ())))
+        return (*self.ends.get(dart, ()), *(1,) * self.bends[dart], *(-1,) * self.bends[dart.twin], *last)
 
     def is_box(self, point: Point) -> bool:
         """Whether a point is drawn as a box, since it has more than four edges."""
@@ -52,11 +55,13 @@ def is_box(picture: Picture, point: Point) -> bool:
     return not point.is_crossing and len(picture.rotations[point.id]) > 4
 
 
-def least_bends(picture: Picture, outer: int) -> Shape:
+def least_bends(picture: Picture, outer: int, are_small: bool = False, dear: Mapping[int, int] = {}) -> Shape:
     """The orthogonal representation of a connected picture with the fewest bends.
 
     `outer` is the place in `picture.faces` of the face that lies outside. Of all that have the fewest bends it is one
-    in which few corners of a vertex take many of its right angles. ValueError where there is no such face.
+    in which few corners of a vertex take many of its right angles. Where boxes are to be small, a side of a box without
+    an edge counts as a bend: then others have more edges, of which all but one bend (see `doglegs`). A bend of an edge
+    that is `dear` counts so many times more. ValueError where there is no such face.
     """
     if not 0 <= outer < len(picture.faces):
         raise ValueError(f"there is no face {outer}: the picture has {len(picture.faces)}")
@@ -68,7 +73,7 @@ def least_bends(picture: Picture, outer: int) -> Shape:
         if spare > 0:
             demand["point", point] = -spare
     number_of = {node: number for number, node in enumerate(demand)}
-    arcs = list(_arcs(picture))
+    arcs = list(_arcs(picture, are_small, dear))
     flow = least_cost_flow(
         list(demand.values()),
         [Arc(number_of[start], number_of[end], capacity, cost) for start, end, _, capacity, cost in arcs],
@@ -93,7 +98,7 @@ def _due(picture: Picture, place: int, outer: int) -> int:
     return 2 * len(face) - least + (4 if place == outer else -4)
 
 
-def _arcs(picture: Picture) -> Iterator[tuple[Any, Any, Any, int, int]]:
+def _arcs(picture: Picture, are_small: bool, dear: Mapping[int, int]) -> Iterator[tuple[Any, Any, Any, int, int]]:
     """The arcs of the network: start, end, key, capacity, cost of a unit.
 
     A bend costs more than all angles together can, so bends are the fewest. The first right angle that a corner takes
@@ -107,13 +112,13 @@ def _arcs(picture: Picture) -> Iterator[tuple[Any, Any, Any, int, int]]:
         even = {quarter * len(around) // 4 for quarter in range(4)} if is_box(picture, point) else range(len(around))
         for place, dart in enumerate(around if spare > 0 else ()):
             for unit in range(spare):
-                cost = unit + (place not in even)
+                cost = unit + (place not in even) + (bend if are_small and unit and is_box(picture, point) else 0)
                 yield ("point", point), ("face", picture.face_of(dart)), ("angle", dart, unit), 1, cost
     room = 4 * (len(picture.faces) + len(picture.points)) + 2 * sum(1 for _ in picture.darts)
     for dart in picture.darts:
         left, right = picture.face_of(dart), picture.face_of(dart.twin)
         if left != right:
-            yield ("face", left), ("face", right), ("bend", dart), room, bend
+            yield ("face", left), ("face", right), ("bend", dart), room, bend * (1 + dear.get(dart.edge, 0))
 
 
 def _headings(picture: Picture, angles: dict[Dart, int], bends: dict[Dart, int]) -> dict[Dart, int]:

@@ -8,7 +8,7 @@ from __future__ import annotations
 
 from collections.abc import Sequence
 from dataclasses import replace
-from math import cos, hypot, pi, sin
+from math import cos, dist, hypot, pi, sin
 from typing import NamedTuple
 
 from ..engine.pictures import Point
@@ -51,7 +51,7 @@ def bridges(result: Planarization, scene: Scene, are_arcs: bool) -> list[Bridge]
         if are_arcs:
             start, middle, end = _around(newcomer, mark, RADIUS / scene.unit)
             below = _around(first, mark, (width / 2 + 0.5) / scene.unit)
-            above = _arc(start, middle, end, RADIUS / scene.unit)
+            above = _arc(start, middle, end)
         else:
             above = start, _, end = _around(newcomer, mark, REACH / scene.unit)
         found.append(Bridge((start, end), width, below, first.look, above, newcomer.look))
@@ -61,7 +61,7 @@ def bridges(result: Planarization, scene: Scene, are_arcs: bool) -> list[Bridge]
 def _around(stroke: Stroke, mark: Point, reach: float) -> tuple[Position, Position, Position]:
     """Three points along an edge: before a crossing, the crossing, and behind it."""
     place, step = stroke.marks.index(mark), 3 if stroke.curved else 1
-    beside = replace(stroke, points=stroke.points[step * (place - 1) : step * (place + 1) + 1])
+    beside = replace(stroke, points=stroke.points[step * (place - 1) : step * (place + 1) + 1], rounding=0.0)
     line = flat(beside, STEPS)
     middle = len(line) // 2
     return _along(line[middle::-1], reach), line[middle], _along(line[middle:], reach)
@@ -78,9 +78,10 @@ def _along(line: Sequence[Position], reach: float) -> Position:
     return line[-1]
 
 
-def _arc(start: Position, middle: Position, end: Position, radius: float) -> tuple[Position, ...]:
-    """A half circle over a point of a straight line, on its upper or left side."""
-    (x, y), (u, v) = middle, toward(start, end)
+def _arc(start: Position, middle: Position, end: Position) -> tuple[Position, ...]:
+    """A half circle over a point of a straight line between two points about as far from it, on its upper or left
+    side."""
+    (x, y), (u, v), radius = middle, toward(start, end), min(dist(start, middle), dist(middle, end))
     across, up = (-v, u) if max(u, v) > 0.5 else (v, -u)
     arc = []
     for step in range(ARC_STEPS + 1):

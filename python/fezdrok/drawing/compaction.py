@@ -10,7 +10,9 @@ Drawings, 1999, where the orders are given). It is done for one axis and then th
 
 from __future__ import annotations
 
-from collections.abc import Container, Mapping, Sequence
+from bisect import bisect_left, insort
+from collections.abc import Collection, Iterable, Iterator, Mapping, Sequence
+from typing import NamedTuple
 
 from .flows import Arc, least_cost_flow
 from .meshes import Mesh, rectangles
@@ -28,30 +30,66 @@ SIDE = 3
 MANY = 3000
 
 
+class Spacing(NamedTuple):
+    """How far apart what lies side by side is at least: twice the distance is the sum of what both have in `halves`,
+    node by node; but bars that the links of `near` join, as sides of boxes, need be 1 apart alone where neither has one
+    of the `points`. `side` is how much a side of a box counts beside other links."""
+
+    halves: Sequence[int]
+    near: Collection[tuple[int, int]] = ()
+    points: Collection[int] = ()
+    side: int = SIDE
+
+
 def compact_mesh(
-    mesh: Mesh, sides: Container[tuple[int, int]] = (), room: tuple[Room, Room] = ({}, {}), by_flow: bool = True
+    mesh: Mesh,
+    sides: Collection[tuple[int, int]] = (),
+    room: tuple[Room, Room] = ({}, {}),
+    by_flow: bool = True,
+    spacing: Spacing | None = None,
 ) -> Places:
     """A point of the grid for each node of a connected mesh, so that links meet in nodes alone and run as they should.
 
-    `sides` are the links, as start and end to the east or north, that are sides of boxes: they count SIDE times, so
-    that boxes are small. `room[axis]` says of two nodes, of which the second lies further along the axis, how far apart
-    they have to be; what is not named is at least 1 apart. With `by_flow` False the links have the lengths that longest
-    paths give them. The least coordinates are 0. 
+    `sides` are the links, as start and end to the east or north, that are sides of boxes: they count more, so that
+    boxes are small. `room[axis]` says of two nodes, of which the second lies further along the axis, how far apart they
+    have to be; what is not named is apart as the `spacing` says, or else at least 1. With `by_flow` False the links
+    have the lengths that longest paths give them. The least coordinates are 0.
     """
     cut = rectangles(mesh)
     axes = [_first_axis(cut, axis)[: len(mesh.links)] for axis in (0, 1)]
     bars = [_bars(mesh, axis) for axis in (0, 1)]
-    pulls = [_pull(mesh, axis, bars[axis], sides) for axis in (0, 1)]
+    even = Spacing([1] * len(mesh.links))
+    rounds = ROUNDS if len(mesh.links) <= MANY else 1
+    if spacing is not None:
+        axes = _shortened(mesh, axes, bars, sides, ({}, {}), by_flow and rounds > 1, even, 1)
+        most = max(spacing.halves)
+        axes = [[most * it for it in axis] for axis in axes]
+    axes = _shortened(mesh, axes, bars, sides, room, by_flow, spacing or even, rounds)
+    least = [min(axis) for axis in axes]
+    return [(x - least[0], y - least[1]) for x, y in zip(*axes)]
+
+
+def _shortened(
+    mesh: Mesh,
+    axes: list[list[int]],
+    bars: list[list[int]],
+    sides: Collection[tuple[int, int]],
+    room: tuple[Room, Room],
+    by_flow: bool,
+    spacing: Spacing,
+    rounds: int,
+) -> list[list[int]]:
+    """The coordinates along both axes made shorter, one axis after the other, so many times at most."""
+    pulls = [_pull(mesh, axis, bars[axis], sides, spacing.side) for axis in (0, 1)]
     length = None
-    for _ in range(ROUNDS if len(mesh.links) <= MANY else 1):
+    for _ in range(rounds):
         for axis in (0, 1):
-            gaps = _gaps_seen(bars[axis], axes[axis], axes[1 - axis], room[axis])
+            gaps = _gaps_seen(bars[axis], axes[axis], axes[1 - axis], room[axis], spacing)
             axes[axis] = _shorter(pulls[axis], bars[axis], gaps, by_flow)
         before, length = length, sum(map(_length, pulls, bars, axes))
         if before is not None and length >= before:
             break
-    least = [min(axis) for axis in axes]
-    return [(x - least[0], y - least[1]) for x, y in zip(*axes)]
+    return axes
 
 
 def _bars(mesh: Mesh, axis: int) -> list[int]:
@@ -101,37 +139,89 @@ def _longest(count: int, gaps: Gaps) -> list[int]:
     return place
 
 
-def _gaps_seen(bar: Sequence[int], along: Sequence[int], across: Sequence[int], room: Room) -> Gaps:
+def _gaps_seen(
+    bar: Sequence[int], along: Sequence[int], across: Sequence[int], room: Room, spacing: Spacing
+) -> Gaps:
     """The gaps between bars that see each other: on each level, a line across which bars lie, each keeps its distance
     from the next.
 
-    A bar lies on all levels from its lowest node to its highest. What keeps its order on each level cannot come to
-    lie on another or beyond it.
+    A bar lies on all levels from its lowest node to its highest, and on those beside them that are nearer than what it
+    has there. What keeps its order on each level cannot come to lie on another or beyond it.
     """
-    least: dict[int, int] = {}
-    most: dict[int, int] = {}
-    place: dict[int, int] = {}
-    for node, it in enumerate(bar):
-        least[it] = min(across[node], least.get(it, across[node]))
-        most[it] = max(across[node], most.get(it, across[node]))
-        place[it] = along[node]
-    levels: dict[int, list[int]] = {}
-    for it in sorted(place, key=place.__getitem__):
-        for level in range(least[it], most[it] + 1):
-            levels.setdefault(level, []).append(it)
-    gaps = {pair: 1 for around in levels.values() for pair in zip(around, around[1:])}
+    base, most = min(spacing.halves), max(spacing.halves)
+    place: dict[int, int] = dict(zip(bar, along))
+    first: dict[int, int] = {}
+    last: dict[int, int] = {}
+    ranges: list[tuple[int, int, int, int]] = []
+    for node, (it, level, half) in enumerate(zip(bar, across, spacing.halves)):
+        first[it] = min(2 * level - base, first.get(it, 2 * level))
+        last[it] = max(2 * level + base, last.get(it, 2 * level))
+        if half > base:
+            ranges.append((it, 2 * level - half, 2 * level + half, half + most * (node in spacing.points)))
+    ranges += [(it, first[it], last[it], base) for it in place]
+    for start, end in spacing.near:
+        if bar[start] == bar[end] and across[start] < across[end]:
+            half = max(spacing.halves[start], spacing.halves[end])
+            ranges.append((bar[start], 2 * across[start] - half, 2 * across[end] + half, half))
+    near = {(bar[start], bar[end]) for start, end in spacing.near}
+    gaps: Gaps = {}
+    for one, two, first_half, second_half in _side_by_side(place, ranges):
+        is_near = max(first_half, second_half) <= most and (one, two) in near
+        gap = 1 if is_near else ((first_half - 1) % most + (second_half - 1) % most + 3) // 2
+        if gap > gaps.get((one, two), 0):
+            gaps[one, two] = gap
     for (start, end), gap in room.items():
         pair = bar[start], bar[end]
         gaps[pair] = max(gap, gaps.get(pair, 1))
     return gaps
 
 
-def _pull(mesh: Mesh, axis: int, bar: Sequence[int], sides: Container[tuple[int, int]]) -> list[int]:
+def _side_by_side(
+    place: Mapping[int, int], ranges: Iterable[tuple[int, int, int, int]]
+) -> Iterator[tuple[int, int, int, int]]:
+    """Each two bars that have none between them on some level, the one before and the one behind, and what each has
+    there. `ranges` has for bars the first level, the first one behind, and what the bar has between; the most counts.
+    Of bars at one place each is beside those at the next."""
+    events: dict[int, tuple[list[tuple[int, int]], list[tuple[int, int]]]] = {}
+    for bar, start, end, half in ranges:
+        events.setdefault(start, ([], []))[1].append((bar, half))
+        events.setdefault(end, ([], []))[0].append((bar, half))
+    there: dict[int, dict[int, list[int]]] = {}
+    places: list[int] = []
+    for level in sorted(events):
+        ends, starts = events[level]
+        changed = {place[bar] for bar, _ in ends} | {place[bar] for bar, _ in starts}
+        for bar, half in ends:
+            own = there[place[bar]]
+            own[bar].remove(half)
+            if not own[bar]:
+                del own[bar]
+        for bar, half in starts:
+            if place[bar] not in there:
+                there[place[bar]] = {}
+                insort(places, place[bar])
+            there[place[bar]].setdefault(bar, []).append(half)
+        for at in changed:
+            if not there[at]:
+                del there[at]
+                del places[bisect_left(places, at)]
+        pairs = set()
+        for at in changed:
+            spot = bisect_left(places, at)
+            pairs |= {(spot - 1, spot), (spot, spot + 1)} if at in there else {(spot - 1, spot)}
+        for before, behind in pairs:
+            if before >= 0 and behind < len(places):
+                for one, its in there[places[before]].items():
+                    for other, others in there[places[behind]].items():
+                        yield one, other, max(its), max(others)
+
+
+def _pull(mesh: Mesh, axis: int, bar: Sequence[int], sides: Collection[tuple[int, int]], side: int) -> list[int]:
     """What each bar counts in the total length: the links that end at it less those that start from it."""
     pull = [0] * (max(bar) + 1)
     for start, around in enumerate(mesh.links):
         if axis in around:
-            weight = SIDE if (start, around[axis]) in sides else 1
+            weight = side if (start, around[axis]) in sides else 1
             pull[bar[start]] -= weight
             pull[bar[around[axis]]] += weight
     return pull

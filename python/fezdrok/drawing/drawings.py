@@ -15,14 +15,15 @@ from typing import TYPE_CHECKING, Any
 from ..engine.faults import PlanarError, PlanarWarning, wanted
 from ..engine.results import Planarization
 from ..files.embeddings import to_networkx_embedding
+from .appearance import is_for_all, names_of, node_values, plain_color, with_edges, with_nodes
 from .labels import LETTER_HEIGHT
 from .near_lines import near_chains
 from .orthogonal_layout import orthogonal_drawing
 from .pages import Page
-from .scenes import PLAIN, Position, Scene, flat, grid_sizes, orthogonal_scene
+from .scenes import PLAIN, Position, Scene, flat, grid_of, middle_of, orthogonal_scene
 from .straight_layout import chain, grid_positions, places_between, positions
 from .straight_scenes import Chains, true_scene
-from .svg import Paint, svg_of
+from .svg import NODE_COLOR, RIM_WIDTH, Paint, svg_of
 from .verification import Defect, defects
 
 if TYPE_CHECKING:
@@ -63,18 +64,37 @@ class Drawing:
     def to_svg(
         self,
         *,
-        node_color: str = "#d9e8f6",
+        node_color: Any = NODE_COLOR,
+        node_width: Any = None,
         crossing_color: str | None = None,
         background: str | None = "#fff",
         prefix: str | None = None,
     ) -> str:
-        """The drawing as an SVG document. At a crossing the edge that was there first has a gap, or in the style
-        `orthogonal` the newcomer an arc; with a `crossing_color` crossings have dots instead, but none in that style.
-        With None as `background` it has none, and edges that have no colour of yours or of a price are drawn in
-        `currentColor`, so that it fits a dark page as well as a light one; crossings then have dots. Its ids begin with
-        `prefix`; without it with a checksum of the document, so that those of drawings which differ do not meet on one
-        page."""
-        return svg_of(self.result, self.scene, Paint(node_color, crossing_color, background), prefix)
+        """The drawing as an SVG document. `node_color` and `node_width`, that of rims in pixels, are one value for all
+        nodes, a mapping from them, or an attribute of theirs. At a crossing the edge that was there first has a gap, or
+        in the style `orthogonal` the newcomer an arc; with a `crossing_color` crossings have dots instead, but none in
+        that style. With None as `background` it has none, and edges that have no colour of yours or of a price are
+        drawn in `currentColor`, so that it fits a dark page as well as a light one; crossings then have dots. Its ids
+        begin with `prefix`; without it with a checksum of the document, so that those of drawings which differ do not
+        meet on one page."""
+        scene = with_nodes(self.result, self.scene, node_color, node_width)
+        every = node_color if is_for_all(node_values(self.result, node_color, "node_color"), node_color) else NODE_COLOR
+        return svg_of(self.result, scene, Paint(every, crossing_color, background), prefix)
+
+    def to_pdf(self, **words: Any) -> bytes:
+        """The drawing as PDF; the words are those of `to_svg`. ModuleMissing where the package cairosvg is not there
+        (Debian: python3-cairosvg)."""
+        return self._converted("svg2pdf", words)
+
+    def to_png(self, *, scale: float = 2.0, **words: Any) -> bytes:
+        """The drawing as PNG, with so many points for a pixel of the SVG; the other words are those of `to_svg`.
+        ModuleMissing where the package cairosvg is not there (Debian: python3-cairosvg)."""
+        return self._converted("svg2png", words, scale=scale)
+
+    def _converted(self, function: str, words: Mapping[str, Any], **options: Any) -> bytes:
+        converter = wanted("cairosvg", "drawings as PDF and PNG")
+        data: bytes = getattr(converter, function)(bytestring=self.to_svg(**words).encode(), **options)
+        return data
 
 
 def drawing_of(
@@ -84,34 +104,47 @@ def drawing_of(
     pos: Mapping[Any, Position] | None = None,
     keep_pos: bool = False,
     near: Drawing | None = None,
-    labels: bool = True,
-    edge_color: str = PLAIN,
+    node_size: str = "fixed",
+    labels: Any = True,
+    edge_labels: Any = None,
+    edge_color: Any = PLAIN,
+    edge_width: Any = None,
 ) -> Drawing:
     """A drawing of a planarization, which is true; the words are those of `draw`.
 
-    ValueError for a style that is not known, for `pos` or `near` with the style `orthogonal`, which has points of its
-    own, for both together, and for a `near` that is no drawing or an orthogonal one; FalseDrawing where the points of
-    `pos` allow no true drawing, or with `keep_pos` a PlanarWarning. A PlanarWarning too where `near` has too little in
-    common with this planarization.
+    ValueError for a style or a `node_size` that is not known, for `pos` or `near` with the style `orthogonal`, which
+    has points of its own, for both together, for a `near` that is no drawing or an orthogonal one, and for labels,
+    colours and widths of what is no node or no edge; FalseDrawing where the points of `pos` allow no true drawing, or
+    with `keep_pos` a PlanarWarning. A PlanarWarning too where `near` has too little in common with this planarization.
     """
     if style not in STYLES:
         raise ValueError(f"the style {style!r} is not known: it is 'straight', 'curved' or 'orthogonal'")
     _judge_near(near, style, pos)
+    names, color = names_of(result, labels), plain_color(result, edge_color)
     if style == "orthogonal":
-        if pos is not None:
-            raise ValueError("an orthogonal drawing has points of its own: leave pos out")
-        sizes = grid_sizes(result.node_of) if labels else None
-        scene = orthogonal_scene(result, orthogonal_drawing(result, sizes), labels, edge_color)
-        false = defects(result, Page(scene))
-        if false:
-            raise AssertionError(f"an orthogonal drawing is false: {false[0]}")
-        return Drawing(result, style, scene)
-    if near is not None:
-        same = _scene_near(result, style == "curved", near, labels, edge_color)
-        if same is not None:
-            return Drawing(result, style, same)
-        warnings.warn("too much is otherwise than in the drawing before: this one begins anew", PlanarWarning)
-    return Drawing(result, style, _scene(result, style == "curved", pos, keep_pos, labels, edge_color))
+        scene = _orthogonal_scene(result, pos, node_size, names, color)
+    else:
+        scene = _scene(result, style == "curved", pos, keep_pos, near, names, color)
+    return Drawing(result, style, with_edges(result, scene, edge_color, edge_width, edge_labels))
+
+
+def _orthogonal_scene(
+    result: Planarization,
+    pos: Mapping[Any, Position] | None,
+    node_size: str,
+    names: Mapping[Any, str],
+    color: str,
+) -> Scene:
+    """The scene of an orthogonal drawing."""
+    if pos is not None:
+        raise ValueError("an orthogonal drawing has points of its own: leave pos out")
+    unit, sizes = grid_of(result, names, node_size == "fixed")
+    drawing = orthogonal_drawing(result, sizes, node_size=node_size)
+    scene = orthogonal_scene(result, drawing, unit, names, color)
+    false = defects(result, Page(scene))
+    if false:
+        raise AssertionError(f"an orthogonal drawing is false: {false[0]}")
+    return scene
 
 
 def _judge_near(near: Any, style: str, pos: Mapping[Any, Position] | None) -> None:
@@ -126,12 +159,14 @@ def _judge_near(near: Any, style: str, pos: Mapping[Any, Position] | None) -> No
         raise ValueError("pos and near both say where the points are: leave one of them out")
 
 
-def _scene_near(result: Planarization, is_curved: bool, near: Drawing, labels: bool, color: str) -> Scene | None:
+def _scene_near(
+    result: Planarization, is_curved: bool, near: Drawing, names: Mapping[Any, str], color: str
+) -> Scene | None:
     """The scene in which all that a drawing has too lies as there; None where that is not true."""
     chains = near_chains(result, near.result, near.scene)
     if chains is None:
         return None
-    scene, false = true_scene(chains, is_curved, labels, color)
+    scene, false = true_scene(chains, is_curved, names, color)
     return None if false else scene
 
 
@@ -140,18 +175,24 @@ def _scene(
     is_curved: bool,
     pos: Mapping[Any, Position] | None,
     keep_pos: bool,
-    labels: bool,
+    near: Drawing | None,
+    names: Mapping[Any, str],
     color: str,
 ) -> Scene:
     """The scene of a straight or a curved drawing; without `pos`, the points lie on a grid where there is no other
     way."""
+    if near is not None:
+        same = _scene_near(result, is_curved, near, names, color)
+        if same is not None:
+            return same
+        warnings.warn("too much is otherwise than in the drawing before: this one begins anew", PlanarWarning)
     embedding = to_networkx_embedding(result)
     places = positions(result, embedding) if pos is None else places_between(embedding, pos)
     chains = Chains(result, {edge_id: chain(result, embedding, edge_id) for edge_id in result.edge_of}, places)
-    scene, false = true_scene(chains, is_curved, labels, color)
+    scene, false = true_scene(chains, is_curved, names, color)
     if false and pos is None:
         warnings.warn("the points of the drawing lie too near to each other: it is drawn on a grid", PlanarWarning)
-        scene, false = true_scene(replace(chains, places=grid_positions(result, embedding)), is_curved, labels, color)
+        scene, false = true_scene(replace(chains, places=grid_positions(result, embedding)), is_curved, names, color)
     if false and not keep_pos:
         raise FalseDrawing(false)
     if false:
@@ -167,24 +208,22 @@ def scene_of(result: Planarization, style: str = "curved", **words: Any) -> Scen
 def to_svg(
     result: Planarization,
     *,
-    style: str = "curved",
-    pos: Mapping[Any, Position] | None = None,
-    keep_pos: bool = False,
-    near: Drawing | None = None,
-    labels: bool = True,
-    node_color: str = "#d9e8f6",
-    edge_color: str = PLAIN,
+    node_color: Any = NODE_COLOR,
+    node_width: Any = None,
     crossing_color: str | None = None,
     background: str | None = "#fff",
     prefix: str | None = None,
+    **words: Any,
 ) -> str:
-    """A planarization drawn as an SVG document, without matplotlib. The words are those of `Drawing.to_svg`, and the
-    others those of `draw`."""
-    drawing = drawing_of(
-        result, style=style, pos=pos, keep_pos=keep_pos, near=near, labels=labels, edge_color=edge_color
-    )
-    return drawing.to_svg(
-        node_color=node_color, crossing_color=crossing_color, background=background, prefix=prefix
+    """A planarization drawn as an SVG document, without matplotlib. The named words are those of `Drawing.to_svg`, and
+    the others those of `draw`: `style`, `pos`, `keep_pos`, `near`, `node_size`, `labels`, `edge_labels`, `edge_color`
+    and `edge_width`."""
+    return drawing_of(result, **words).to_svg(
+        node_color=node_color,
+        node_width=node_width,
+        crossing_color=crossing_color,
+        background=background,
+        prefix=prefix,
     )
 
 
@@ -199,33 +238,45 @@ def draw(
     pos: Mapping[Any, Position] | None = None,
     keep_pos: bool = False,
     near: Drawing | None = None,
-    labels: bool = True,
-    node_color: Any = "#d9e8f6",
+    node_size: str = "fixed",
+    labels: Any = True,
+    edge_labels: Any = None,
+    node_color: Any = NODE_COLOR,
+    node_width: Any = None,
     edge_color: Any = PLAIN,
+    edge_width: Any = None,
     crossing_color: Any = "#777777",
 ) -> "Axes":
     """Draw a planarization by matplotlib and give the axes.
 
-    `style` is `straight`, `curved` or `orthogonal`. Nodes have their names if `labels`, in several lines where they are
-    long, and are as large as these. Edges of different prices have colours of their own, those that must not be crossed
-    are dark and broad, and a legend says so; where all cost the same they have `edge_color`. Directed edges have
-    arrows. `pos` gives points for the nodes of the graph, and if you like for those of `to_networkx_embedding(result)`;
-    crossings without a point are put between their neighbours. Where these points show what is not in the picture, that
-    is FalseDrawing, and with `keep_pos` a PlanarWarning. Without `pos` the points are those of `positions`, and the
-    drawing is true. With `near`, a drawing of a planarization that has most edges in common with this one, what both
-    have lies as it lies there, and new edges lead through the faces between; where too much is otherwise, a
-    PlanarWarning says so. ModuleMissing where matplotlib is not there.
+    `style` is `straight`, `curved` or `orthogonal`. In the last one nodes are as large as their labels and edges want,
+    and with `node_size="grow"` those of more than four edges so large that edges hardly bend. Nodes have their names if
+    `labels`, in several lines where they are long, and are as large as these. Edges of different prices have colours of
+    their own, those that must not be crossed are dark and broad, and a legend says so; where all cost the same they
+    have `edge_color`. Directed edges have arrows. Each of `labels`, `edge_labels`, `node_color`, `node_width` (of
+    rims), `edge_color` and `edge_width` may be a mapping from nodes or edges, or the name of an attribute that these
+    have in the graph; the values of an attribute that are no colours, as `#1b6ca8`, have one each. `pos` gives points
+    for the nodes of the graph, and if you like for those of `to_networkx_embedding(result)`; crossings without a point
+    are put between their neighbours. Where these points show what is not in the picture, that is FalseDrawing, and with
+    `keep_pos` a PlanarWarning. Without `pos` the points are those of `positions`, and the drawing is true. With `near`,
+    a drawing of a planarization that has most edges in common with this one, what both have lies as it lies there, and
+    new edges lead through the faces between; where too much is otherwise, a PlanarWarning says so. ModuleMissing where
+    matplotlib is not there.
     """
     patches = wanted("matplotlib.patches", "drawings by draw")
-    scene = drawing_of(
-        result, style=style, pos=pos, keep_pos=keep_pos, near=near, labels=labels, edge_color=edge_color
-    ).scene
+    places = {"pos": pos, "keep_pos": keep_pos, "near": near, "node_size": node_size}
+    looks = {"labels": labels, "edge_labels": edge_labels, "edge_color": edge_color, "edge_width": edge_width}
+    scene = with_nodes(result, scene_of(result, style, **places, **looks), node_color, node_width)
+    every = node_color if is_for_all(node_values(result, node_color, "node_color"), node_color) else NODE_COLOR
     ax = _fresh_axes(scene) if ax is None else ax
     for stroke in scene.strokes:
         xs, ys = zip(*flat(stroke))
         ax.plot(
             xs, ys, "-", color=stroke.look.color, linewidth=stroke.look.width, zorder=1, gid=f"edge {stroke.edge_id}"
         )
+        if stroke.label:
+            size = 0.9 * (LETTER_HEIGHT - 1)
+            ax.annotate(stroke.label, middle_of(stroke), ha="center", va="center", fontsize=size, zorder=2)
         if stroke.head:
             ax.add_patch(patches.Polygon(stroke.head, closed=True, color=stroke.look.color, linewidth=0, zorder=2))
     if scene.dots:
@@ -234,8 +285,9 @@ def draw(
         (x, y), rounding = node.middle, 0.0 if node.box else 0.499 * node.height
         style_of = f"round,pad=0,rounding_size={rounding}" if rounding else "square,pad=0"
         corner = (x - node.width / 2, y - node.height / 2)
-        looks = {"facecolor": node_color, "edgecolor": "#333333", "linewidth": 0.8, "zorder": 3}
-        ax.add_patch(patches.FancyBboxPatch(corner, node.width, node.height, boxstyle=style_of, **looks))
+        fill, rim = every if node.color is None else node.color, RIM_WIDTH if node.rim is None else node.rim
+        inks = {"facecolor": fill, "edgecolor": "#333333", "linewidth": rim, "zorder": 3}
+        ax.add_patch(patches.FancyBboxPatch(corner, node.width, node.height, boxstyle=style_of, **inks))
         if node.label:
             size = 0.9 * LETTER_HEIGHT * node.scale
             ax.annotate(node.label, node.middle, ha="center", va="center", fontsize=size, zorder=4)

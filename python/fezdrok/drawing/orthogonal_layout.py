@@ -1,7 +1,8 @@
 """Orthogonal drawings of a planarization: the second and third step of the topology-shape-metrics method.
 
 The first step, the planarization, says which edges cross and what bounds each face. `least_bends` makes a shape of it:
-the right angles and the bends (see `bends`). `compact_mesh` makes coordinates of the shape (see `compaction`).
+the right angles and the bends (see `bends`), or `shape_with_small_boxes` one of more bends whose boxes can be small
+(see `doglegs`). `compact_mesh` makes coordinates of the shape (see `compaction`).
 """
 
 from __future__ import annotations
@@ -14,7 +15,8 @@ from ..engine.graph_edges import Node
 from ..engine.pictures import Picture, Point
 from ..engine.results import Planarization
 from .bends import Shape, least_bends
-from .compaction import Places, compact_mesh
+from .compaction import Places, Spacing, compact_mesh
+from .doglegs import shape_with_small_boxes
 from .meshes import Expansion, expand
 from .shelf_packing import shelf_packing
 
@@ -22,6 +24,12 @@ GridPoint = tuple[int, int]
 
 #: The greatest number of nodes of a path that is drawn without a turn.
 SHORT = 40
+#: Where boxes are small: how far apart points are, and lines, and how wide a box is, at least; and how much its sides
+#: count beside other links.
+STEP = 4
+LINE = 2
+LEAST_BOX = 2
+SMALL = 100
 
 
 class Box(NamedTuple):
@@ -81,6 +89,7 @@ def orthogonal_drawing(
     *,
     outer: int | None = None,
     by_flow: bool = True,
+    node_size: str = "grow",
 ) -> OrthogonalDrawing:
     """An orthogonal drawing of a planarization: edges along the grid, with the fewest bends that its picture allows
     where the face at the place `outer` lies outside, and without it `result.outer_face`. The parts of a graph that is
@@ -89,24 +98,60 @@ def orthogonal_drawing(
     `sizes` gives the least width and height of nodes, in steps of the grid, as for their labels; such nodes are boxes.
     With `by_flow` False the lines are as long as longest paths make them, which takes less time. A long path is a
     spiral.
+
+    With `node_size` "grow" boxes are as large as straight edges make them. With "fixed" they are as large as their own
+    size and the number of edges on their sides want, and more edges bend; seldom by more than two right angles. The
+    grid is finer then: two nodes that are points are 4 steps apart, edges 2, and at the side of a box 1. Another face
+    may then lie outside, unless `outer` says which.
     """
+    if node_size not in ("fixed", "grow"):
+        raise ValueError(f"the node size {node_size!r} is not known: it is 'fixed' or 'grow'")
     picture = result.picture
     if result.parts:
         if outer is not None:
             raise ValueError("the graph is not connected, and each part has an outer face of its own: leave outer out")
         return _side_by_side(
-            result, [orthogonal_drawing(part, _sizes_in(part, sizes), by_flow=by_flow) for part in result.parts]
+            result,
+            [
+                orthogonal_drawing(part, _sizes_in(part, sizes), by_flow=by_flow, node_size=node_size)
+                for part in result.parts
+            ],
+            STEP if node_size == "fixed" else 1,
         )
     if not picture.edges:
         width, height = (sizes or {}).get(result.node_of[0], (0, 0))
         return OrthogonalDrawing({result.node_of[0]: Box(0, 0, width, height)}, {}, {}, 0)
     order = path_order(picture)
     if order is not None and len(order) > SHORT and not sizes:
-        return _spiral(result, order)
+        return _spiral(result, order, STEP if node_size == "fixed" else 1)
     wide = {Point(False, result.vertex_of[node]): size for node, size in (sizes or {}).items()}
+    if node_size == "fixed":
+        return _with_small_boxes(result, wide, outer, by_flow)
     shape = least_bends(picture, picture.outer_face if outer is None else outer)
     expansion = expand(shape, wide)
     places = compact_mesh(expansion.mesh, expansion.sides, _room(expansion, wide), by_flow)
+    return _drawing(result, shape, expansion, places)
+
+
+def _with_small_boxes(
+    result: Planarization, wide: Mapping[Point, tuple[int, int]], outer: int | None, by_flow: bool
+) -> OrthogonalDrawing:
+    """The drawing on a finer grid whose boxes are as large as what was given and their edges want."""
+    picture = result.picture
+    shape = shape_with_small_boxes(picture, outer)
+    boxes = [point for point in picture.points if shape.is_box(point)]
+    wide = {**dict.fromkeys(boxes, (LEAST_BOX, LEAST_BOX)), **wide}
+    expansion = expand(shape, wide)
+    halves, near = [LINE] * len(expansion.mesh.links), set(expansion.sides)
+    points = {expansion.port[picture.around(it)[0]] for it in picture.points if not (it.is_crossing or it in wide)}
+    for node in points:
+        halves[node] = STEP
+    for north_west, south_west, south_east, north_east in expansion.corners.values():
+        for corner in (north_west, south_west, south_east, north_east):
+            halves[corner] = STEP
+        near |= {(north_west, north_east), (south_west, south_east), (south_west, north_west), (south_east, north_east)}
+    spacing = Spacing(halves, near, points, SMALL)
+    places = compact_mesh(expansion.mesh, expansion.sides, _room(expansion, wide), by_flow, spacing)
     return _drawing(result, shape, expansion, places)
 
 
@@ -123,13 +168,13 @@ def path_order(picture: Picture) -> list[int] | None:
     return order
 
 
-def _spiral(result: Planarization, order: Sequence[int]) -> OrthogonalDrawing:
-    """A path as a spiral on the grid, from its middle out: after each two arms they are a step longer."""
+def _spiral(result: Planarization, order: Sequence[int], step: int) -> OrthogonalDrawing:
+    """A path as a spiral on the grid, from its middle out: after each two arms they are an edge longer."""
     x = y = heading = 0
     places = {order[0]: (0, 0)}
     arm, left = 1, 1
     for vertex in order[1:]:
-        x, y = x + (1, 0, -1, 0)[heading], y + (0, 1, 0, -1)[heading]
+        x, y = x + (step, 0, -step, 0)[heading], y + (0, step, 0, -step)[heading]
         places[vertex] = (x, y)
         left -= 1
         if left == 0:
@@ -147,12 +192,12 @@ def _sizes_in(part: Planarization, sizes: Mapping[Node, tuple[int, int]] | None)
     return {node: size for node, size in (sizes or {}).items() if node in part.vertex_of}
 
 
-def _side_by_side(result: Planarization, drawings: Sequence[OrthogonalDrawing]) -> OrthogonalDrawing:
-    """One drawing from those of the parts."""
+def _side_by_side(result: Planarization, drawings: Sequence[OrthogonalDrawing], step: int) -> OrthogonalDrawing:
+    """One drawing from those of the parts, which are two edges of least length apart."""
     boxes: dict[Node, Box] = {}
     crossings: dict[int, GridPoint] = {}
     lines: dict[int, tuple[GridPoint, ...]] = {}
-    corners = shelf_packing([drawing.size for drawing in drawings], 2)
+    corners = shelf_packing([drawing.size for drawing in drawings], 2 * step)
     for drawing, (left, bottom), (_, edge, crossing) in zip(drawings, corners, result.offsets):
         x, y = int(left), int(bottom)
         boxes.update((node, box.moved(x, y)) for node, box in drawing.boxes.items())

@@ -13,7 +13,7 @@ from typing import NamedTuple
 
 from ..engine.graph_edges import Node
 from ..engine.pictures import Point
-from .scenes import Position, Scene, Stroke
+from .scenes import Position, Scene, Stroke, pieces_of
 
 PagePoint = tuple[int, int]
 
@@ -76,10 +76,8 @@ class Page:
 
     def line(self, stroke: Stroke) -> PageLine:
         """A stroke as it would stand on this page."""
-        points = [self.at(point) for point in stroke.points]
-        step = 3 if stroke.curved else 1
-        pieces = tuple(tuple(points[start : start + step + 1]) for start in range(0, len(points) - 1, step))
-        return PageLine(stroke.edge_id, pieces, stroke.marks)
+        pieces, marks = pieces_of(stroke)
+        return PageLine(stroke.edge_id, tuple(tuple(map(self.at, piece)) for piece in pieces), marks)
 
 
 def flattened(piece: tuple[PagePoint, ...], tolerance: int) -> list[PagePoint]:

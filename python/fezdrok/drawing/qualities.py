@@ -3,7 +3,7 @@
 from __future__ import annotations
 
 from collections.abc import Iterable, Sequence
-from dataclasses import dataclass
+from dataclasses import dataclass, replace
 from math import atan2, degrees, dist, pi
 from statistics import fmean, median
 
@@ -65,13 +65,13 @@ def quality(drawing: Drawing) -> Quality:
     >>> from fezdrok import drawing_of, planarize, quality
     >>> found = quality(drawing_of(planarize(nx.complete_graph(5)), style="orthogonal"))
     >>> found.node_angle, found.crossing_angle, found.greatest_turn
-    (90.0, 90.0, 360.0)
+    (90.0, 90.0, 270.0)
     """
     page = Page(drawing.scene)
     at_nodes, at_crossings = _angles(page.lines)
     angles = [*at_nodes, *at_crossings]
     chains = [_chain(line, page.steps) for line in page.lines]
-    turns = [sum(_turns(chain)) for chain in chains] or [0.0]
+    turns = [round(sum(_turns(chain)), 6) for chain in chains] or [0.0]
     lengths = [sum(map(dist, chain, chain[1:])) / (FINE * page.steps) for chain in chains] or [1.0]
     width, height = page.size
     covered = sum(
@@ -84,7 +84,7 @@ def quality(drawing: Drawing) -> Quality:
         max(turns),
         fmean(turns),
         _share(turn > LARGE_TURN for turn in turns),
-        sum(_bends(line) for line in page.lines),
+        sum(_bends(page.line(replace(stroke, rounding=0.0))) for stroke in drawing.scene.strokes),
         covered / (width * height),
         max(lengths) / (median(lengths) or 1.0),
         width * height / page.steps**2,

@@ -13,9 +13,10 @@ counterclockwise, so no step makes a crossing.
 
 from __future__ import annotations
 
-from collections.abc import Iterable, Mapping, Sequence
+from cmath import phase
+from collections.abc import Container, Iterable, Mapping, Sequence
 from math import cos, pi, sin
-from typing import Any
+from typing import Any, NamedTuple
 
 from .contraction import Triangulation, middle_of_sight
 from .filled_graphs import FilledGraph, fill
@@ -35,25 +36,42 @@ MEANS = 60
 MOVES = 60_000
 STILL = 1e-3
 #: How much triangles push, those at the ring beside others, and how much more where they are thin; how much the halves
-#: of an edge pull each other into one line, and the two edges of a crossing into a right angle.
+#: of an edge pull each other into one line, how much more with each further crossing of the edge, and how much the two
+#: edges of a crossing pull into a right angle.
 PUSH = 20.0
 PUSH_AT_RING = 0.5
 SHAPE = 0.4
 STRAIGHTEN = 0.5
+MORE = 1.0
 SQUARE = 0.7
+#: From which turn on, in radians, an edge is pulled more into one line, with what power of its turn, and how often at
+#: most that is done again.
+FAR = 0.8 * pi
+POWER = 8.0
+AGAIN = 5
 #: Twice the area that a triangle has at least; less cannot be told from nothing.
 LEAST_AREA = 1e-14
 
 
+class _Line(NamedTuple):
+    """An edge that passes crossings: the nodes along it, and its crossings with 0 or 1."""
+
+    nodes: list[int]
+    passed: list[tuple[int, int]]
+
+
 def spread(
-    rotations: Mapping[Any, Sequence[Any]], crossings: frozenset[Any], outer: tuple[Any, Any]
+    rotations: Mapping[Any, Sequence[Any]],
+    crossings: frozenset[Any],
+    outer: tuple[Any, Any],
+    sweeps: int = SWEEPS,
 ) -> dict[Any, Position] | None:
     """A point in the unit disk for each node of a connected plane graph without parallel edges, which is given by the
     neighbours of each node, clockwise; at least one edge is wanted. Straight lines between neighbours do not cross.
 
     At the nodes of `crossings`, which have four neighbours, two edges pass each other; they do it as straight as they
-    can. The face on the left of the dart `outer`, a node and a neighbour, lies outside. None where the points have come
-    too near to each other to be told apart.
+    can. The face on the left of the dart `outer`, a node and a neighbour, lies outside. Points are moved at most so
+    many `sweeps` when all are there. None where the points have come too near to each other to be told apart.
     """
     filled = fill(rotations, crossings, outer)
     points = _from_few_to_many(filled)
@@ -61,7 +79,7 @@ def spread(
         return None
     if len(points) <= FEW:
         points = _at_means(filled, points)
-    _settle(filled, points)
+    _settle(filled, points, sweeps)
     return {node: points[place] for place, node in enumerate(rotations)}
 
 
@@ -109,14 +127,16 @@ def _at_means(filled: FilledGraph, points: list[Position]) -> list[Position]:
 
 class _Forces:
     """What acts on each node: its links; the triangles at it, as the other two corners and how much they push, and
-    `shape`, which says how much more thin ones do; the lines through crossings that it is a part of, as the two other
-    nodes and whether it is the crossing itself; and where right angles at crossings would put it."""
+    `shape`, which says how much more thin ones do; the lines through it, where it is a crossing, as both neighbours and
+    their weight, and those that end at it, as the crossing, the node behind it, and the weight; and where right angles
+    at crossings would put it."""
 
     def __init__(self, count: int, shape: float):
         self.shape = shape
         self.links: list[list[tuple[int, float]]] = [[] for _ in range(count)]
         self.triangles: list[list[tuple[int, int, float]]] = [[] for _ in range(count)]
-        self.lines: list[list[tuple[int, int, bool]]] = [[] for _ in range(count)]
+        self.lines: list[list[tuple[int, int, float]]] = [[] for _ in range(count)]
+        self.ends: list[list[tuple[int, int, float]]] = [[] for _ in range(count)]
         self.squared: list[list[Position]] = [[] for _ in range(count)]
         self.crossed: list[tuple[int, tuple[int, int, int, int]]] = []
 
@@ -137,8 +157,8 @@ class _Forces:
         return forces
 
     @staticmethod
-    def of_all(filled: FilledGraph) -> "_Forces":
-        """What acts where all nodes are there."""
+    def of_all(filled: FilledGraph, weights: Mapping[tuple[int, int], float]) -> "_Forces":
+        """What acts where all nodes are there; `weights` is how much edges pull into one line at their crossings."""
         forces = _Forces(len(filled.links), SHAPE / len(filled.triangles))
         forces.links = filled.links
         ring = set(filled.ring)
@@ -151,8 +171,9 @@ class _Forces:
         forces.crossed = filled.crossed
         for node, four in filled.crossed:
             for place, other in enumerate(four):
-                forces.lines[node].append((other, four[place - 2], True))
-                forces.lines[other].append((node, four[place - 2], False))
+                weight = weights[node, place % 2]
+                forces.lines[node].append((other, four[place - 2], weight))
+                forces.ends[other].append((node, four[place - 2], weight))
         return forces
 
     def square(self, points: Sequence[Position]) -> None:
@@ -174,16 +195,16 @@ class _Forces:
             total += weight
             across += weight * x
             up += weight * y
-        for first, second, is_crossing in self.lines[node]:
+        for first, second, weight in self.lines[node]:
             (x, y), (u, v) = points[first], points[second]
-            if is_crossing:
-                total += 2 * STRAIGHTEN
-                across += STRAIGHTEN * (x + u)
-                up += STRAIGHTEN * (y + v)
-            else:
-                total += STRAIGHTEN
-                across += STRAIGHTEN * (2 * x - u)
-                up += STRAIGHTEN * (2 * y - v)
+            total += 2 * weight
+            across += weight * (x + u)
+            up += weight * (y + v)
+        for first, second, weight in self.ends[node]:
+            (x, y), (u, v) = points[first], points[second]
+            total += weight
+            across += weight * (2 * x - u)
+            up += weight * (2 * y - v)
         for x, y in self.squared[node]:
             total += SQUARE
             across += SQUARE * x
@@ -229,6 +250,45 @@ class _Forces:
         return 0.0
 
 
+def _lines_through(crossed: Sequence[tuple[int, tuple[int, int, int, int]]]) -> list[_Line]:
+    """The edges that pass crossings: each by the nodes along it, and by its crossings, each with 0 or 1, as the edge's
+    neighbours are round it."""
+    around = dict(crossed)
+    found: list[_Line] = []
+    seen: set[tuple[int, int]] = set()
+    for first in ((node, place) for node in around for place in (0, 1)):
+        if first in seen:
+            continue
+        nodes, passed = [first[0]], [first]
+        for way in (0, 2):
+            (node, place), last = first, first[0]
+            place += way
+            while (following := around[node][place]) in around:
+                node, last = following, node
+                place = (around[node].index(last) + 2) % 4
+                nodes.append(node)
+                passed.append((node, place % 2))
+            nodes.append(following)
+            nodes.reverse()
+        seen.update(passed)
+        found.append(_Line(nodes, passed))
+    return found
+
+
+def _weights(lines: Sequence[_Line], points: Sequence[Position] | None) -> dict[tuple[int, int], float]:
+    """How much each edge pulls into one line at each of its crossings: the more, the more crossings it has, and the
+    farther it turns where the points are."""
+    found: dict[tuple[int, int], float] = {}
+    for line in lines:
+        weight = STRAIGHTEN * (1 + MORE * (len(line.passed) - 1))
+        if points is not None:
+            ways = [complex(*points[two]) - complex(*points[one]) for one, two in zip(line.nodes, line.nodes[1:])]
+            turn = sum(abs(phase(two * one.conjugate())) for one, two in zip(ways, ways[1:]))
+            weight *= max(1.0, turn / FAR) ** POWER
+        found.update(dict.fromkeys(line.passed, weight))
+    return found
+
+
 def _energy(
     x: float,
     y: float,
@@ -248,12 +308,23 @@ def _energy(
     return energy
 
 
-def _settle(filled: FilledGraph, points: list[Position]) -> None:
+def _settle(filled: FilledGraph, points: list[Position], sweeps: int) -> None:
     """Move the nodes that are not of the ring until they hardly move, or have been moved often; in large graphs that is
-    less often."""
-    forces, ring = _Forces.of_all(filled), set(filled.ring)
+    less often. Where edges then turn far, some more times, with these pulled more into one line."""
+    lines, ring = _lines_through(filled.crossed), set(filled.ring)
     moves = MOVES if len(points) <= FEW else MOVES // 2
-    for _ in range(max(LEAST_SWEEPS, min(SWEEPS, moves // len(points)))):
+    plain, most = _weights(lines, None), max(LEAST_SWEEPS, min(sweeps, moves // len(points)))
+    _move_all(_Forces.of_all(filled, plain), ring, points, most)
+    for _ in range(AGAIN if len(points) <= FEW else 0):
+        weights = _weights(lines, points)
+        if weights == plain:
+            return
+        _move_all(_Forces.of_all(filled, weights), ring, points, sweeps // 4)
+
+
+def _move_all(forces: _Forces, ring: Container[int], points: list[Position], sweeps: int) -> None:
+    """Move all nodes that are not of the ring, so many times at most."""
+    for _ in range(sweeps):
         most = 0.0
         forces.square(points)
         for node in range(len(points)):

@@ -6,7 +6,7 @@ it by matplotlib. x runs to the east, y to the north; `Scene.unit` says how many
 
 from __future__ import annotations
 
-from collections.abc import Sequence
+from collections.abc import Mapping, Sequence
 from dataclasses import dataclass, replace
 from math import ceil, hypot
 from typing import NamedTuple
@@ -15,7 +15,7 @@ from ..engine.graph_edges import Node, Price
 from ..engine.pictures import Point
 from ..engine.results import Planarization
 from .labels import LEAST_NODE, label_in_one_line, label_of, label_size, point_width
-from .orthogonal_layout import OrthogonalDrawing
+from .orthogonal_layout import STEP, OrthogonalDrawing
 
 Position = tuple[float, float]
 
@@ -29,6 +29,15 @@ MANY = 600
 #: How many pixels a step of the grid is at least in orthogonal drawings, and in those with arrows.
 GRID_UNIT = 22.0
 ARROW_UNIT = 34.0
+#: The same of the finer grid on which nodes are of one size, and how far apart these are at least.
+FINE_UNIT = 7.5
+FINE_ARROW_UNIT = 8.5
+NODE_GAP = 9.0
+#: The radius of the arc of a bend, in pixels, and what part of a straight line beside it it may take.
+ROUNDING = 4.0
+PART = 1 / 3
+#: How far the control points of a quarter of a circle are from its ends, beside its radius.
+QUARTER = 0.55
 
 
 class Look(NamedTuple):
@@ -42,7 +51,8 @@ class Look(NamedTuple):
 class Stroke:
     """An edge. `points` are the ends of its straight lines; where it is `curved`, they are an end and then, again and
     again, two control points of a cubic curve and its other end. `marks` says of each end of a line or a curve which
-    point of the picture it is; None is a bend. `head` is the triangle of an arrow, or empty."""
+    point of the picture it is; None is a bend. `head` is the triangle of an arrow, or empty. Bends between straight
+    lines are rounded with the radius `rounding`, where there is room. `label` stands beside its middle."""
 
     edge_id: int
     points: tuple[Position, ...]
@@ -50,12 +60,14 @@ class Stroke:
     look: Look
     marks: tuple[Point | None, ...]
     head: tuple[Position, ...] = ()
+    rounding: float = 0.0
+    label: str = ""
 
 
 class NodeShape(NamedTuple):
     """A node: its label, with a line break between lines, its middle, and its width and height. It is drawn with round
     ends, unless it is a box. `scale` is the height of its label beside that of others, which is less where there is
-    little room."""
+    little room. `color` and `rim`, the width of its rim in pixels, are its own; None is as others are."""
 
     node: Node
     label: str
@@ -64,6 +76,8 @@ class NodeShape(NamedTuple):
     height: float
     box: bool
     scale: float = 1.0
+    color: str | None = None
+    rim: float | None = None
 
 
 @dataclass(frozen=True)
@@ -121,30 +135,43 @@ def _between(part: float) -> str:
 # ---- Orthogonal drawings
 
 
-def grid_sizes(nodes: Sequence[Node]) -> dict[Node, tuple[int, int]]:
-    """The width and height in steps of the grid for the nodes whose labels are too long for a point of the grid, or
-    have more lines than one; of more than MANY nodes all are points, and the grid is so wide that the labels fit."""
-    if len(nodes) > MANY:
-        return {}
-    labels = {node: label_of(node) for node in nodes}
-    large = [node for node, it in labels.items() if "\n" in it or point_width(it) > 0.93 * GRID_UNIT]
-    sizes = {node: tuple(ceil((extent + 4.0) / GRID_UNIT) for extent in label_size(labels[node])) for node in large}
-    return {node: (width, max(2, height)) for node, (width, height) in sizes.items()}
+def grid_of(
+    result: Planarization, names: Mapping[Node, str], is_fixed: bool
+) -> tuple[float, dict[Node, tuple[int, int]]]:
+    """How many pixels a step of the grid is, and the width and height in steps for the nodes whose labels are too long
+    for a point of the grid, or have more lines than one. Of more than MANY nodes all are points, unless they have more
+    than four edges, and the grid is so wide that the labels fit."""
+    is_directed, are_many = result.graph.is_directed(), len(result.node_of) > MANY
+    shown = {node: label_of(name) for node, name in names.items()}
+    step = STEP * (FINE_ARROW_UNIT if is_directed else FINE_UNIT)
+    most = step - NODE_GAP if is_fixed else 0.93 * GRID_UNIT
+    large = {node for node, it in shown.items() if not are_many and ("\n" in it or point_width(it) > most)}
+    dense = {node for node, at in result.vertex_of.items() if len(result.picture.rotations[at]) > 4}
+    widths = [point_width(label_in_one_line(it)) for node, it in shown.items() if node not in large | dense]
+    widest = max(widths, default=LEAST_NODE)
+    if not is_fixed:
+        unit = (ARROW_UNIT if is_directed else GRID_UNIT) + 2.0 * ceil((widest - LEAST_NODE) / 2)
+        return unit, {node: _in_steps(label_size(shown[node]), 4.0, GRID_UNIT, 1) for node in large}
+    unit = max(step, 2.0 * ceil((widest + NODE_GAP) / 2)) / STEP
+    sizes = {node: label_size(it) if node in large else (point_width(it), LEAST_NODE) for node, it in shown.items()}
+    return unit, {node: _in_steps(sizes[node], 0.0, unit, 2) for node in large | dense}
+
+
+def _in_steps(size: tuple[float, float], more: float, unit: float, least: int) -> tuple[int, int]:
+    """A width and a height in pixels, and more, as steps of a grid: at least so many across, and two up."""
+    width, height = (ceil((extent + more) / unit) for extent in size)
+    return max(least, width), max(2, height)
 
 
 def orthogonal_scene(
-    result: Planarization, drawing: OrthogonalDrawing, labels: bool = True, color: str = PLAIN
+    result: Planarization, drawing: OrthogonalDrawing, unit: float, names: Mapping[Node, str], color: str = PLAIN
 ) -> Scene:
-    """The scene of an orthogonal drawing. Crossings have no mark: two lines cross at right angles."""
+    """The scene of an orthogonal drawing, where a step of the grid is so many pixels. Crossings have no mark: two lines
+    cross at right angles."""
     kinds, legend = looks(result, color)
-    widest = max(
-        (point_width(label_in_one_line(node) if labels else "") for node, box in drawing.boxes.items() if box.is_point),
-        default=LEAST_NODE,
-    )
-    unit = (ARROW_UNIT if result.graph.is_directed() else GRID_UNIT) + 2.0 * ceil((widest - LEAST_NODE) / 2)
     nodes = []
     for node, box in drawing.boxes.items():
-        label = (label_in_one_line(node) if box.is_point else label_of(node)) if labels else ""
+        label = label_in_one_line(names[node]) if box.is_point else label_of(names[node])
         width, height = float(box.right - box.left), float(box.top - box.bottom)
         if box.is_point:
             width, height = point_width(label) / unit, LEAST_NODE / unit
@@ -155,8 +182,8 @@ def orthogonal_scene(
         crossings = [(Point(True, it), drawing.crossings[it]) for it in row.crossings]
         points, marks = _with_crossings(line, crossings)
         marks = (Point(False, row.a), *marks[1:-1], Point(False, row.b))
-        strokes.append(Stroke(edge_id, points, False, kinds[row.kind], marks))
-    scene = Scene(unit, tuple(strokes), tuple(nodes), (), legend)
+        strokes.append(Stroke(edge_id, points, False, kinds[row.kind], marks, (), ROUNDING / unit))
+    scene = Scene(unit, tuple(strokes), tuple(nodes), (), legend, 2)
     return with_arrows(result, scene) if result.graph.is_directed() else scene
 
 
@@ -179,16 +206,44 @@ def _with_crossings(
     return tuple(points), tuple(marks)
 
 
-# ---- Curves as chains of lines
+# ---- Lines and curves in pieces
+
+
+def pieces_of(stroke: Stroke) -> tuple[list[tuple[Position, ...]], tuple[Point | None, ...]]:
+    """A stroke in straight lines, of two points each, and cubic curves, of four; and what the ends of these are of the
+    picture. Bends that are rounded are curves."""
+    points, step = stroke.points, 3 if stroke.curved else 1
+    pieces = [points[start : start + step + 1] for start in range(0, len(points) - 1, step)]
+    if stroke.curved or not stroke.rounding:
+        return pieces, stroke.marks
+    found: list[tuple[Position, ...]] = []
+    marks, start = [stroke.marks[0]], points[0]
+    for before, bend, end, mark in zip(points, points[1:], points[2:], stroke.marks[1:]):
+        arc = _rounded(before, bend, end, stroke.rounding) if mark is None else (bend,)
+        found.append((start, arc[0]))
+        if len(arc) > 1:
+            found.append(arc)
+            marks.append(None)
+        marks.append(mark)
+        start = arc[-1]
+    return [*found, (start, points[-1])], (*marks, stroke.marks[-1])
+
+
+def _rounded(before: Position, bend: Position, end: Position, radius: float) -> tuple[Position, ...]:
+    """The arc in the place of a bend between two straight lines, as a cubic curve."""
+    (x, y), (u, v), (r, s) = bend, toward(bend, before), toward(bend, end)
+    radius = min(radius, PART * hypot(before[0] - x, before[1] - y), PART * hypot(end[0] - x, end[1] - y))
+    ways = ((u, v, 1.0), (u, v, 1.0 - QUARTER), (r, s, 1.0 - QUARTER), (r, s, 1.0))
+    return tuple((x + part * radius * across, y + part * radius * up) for across, up, part in ways)
 
 
 def flat(stroke: Stroke, steps: int = 16) -> list[Position]:
     """The points of a stroke as a chain of short straight lines, for what knows no curves."""
-    if not stroke.curved:
-        return list(stroke.points)
     points = [stroke.points[0]]
-    for place in range(0, len(stroke.points) - 1, 3):
-        piece = stroke.points[place : place + 4]
+    for piece in pieces_of(stroke)[0]:
+        if len(piece) == 2:
+            points.append(piece[1])
+            continue
         for step in range(1, steps + 1):
             part = step / steps
             weights = ((1 - part) ** 3, 3 * part * (1 - part) ** 2, 3 * part**2 * (1 - part), part**3)
@@ -196,6 +251,15 @@ def flat(stroke: Stroke, steps: int = 16) -> list[Position]:
                 (sum(w * x for w, (x, _) in zip(weights, piece)), sum(w * y for w, (_, y) in zip(weights, piece)))
             )
     return points
+
+
+def middle_of(stroke: Stroke) -> Position:
+    """The middle of the longest piece of a stroke, where its label stands."""
+    longest = max(pieces_of(stroke)[0], key=lambda piece: hypot(piece[-1][0] - piece[0][0], piece[-1][1] - piece[0][1]))
+    if len(longest) == 2:
+        return (longest[0][0] + longest[1][0]) / 2, (longest[0][1] + longest[1][1]) / 2
+    (x, y), (u, v), (p, q), (r, s) = longest
+    return (x + 3 * u + 3 * p + r) / 8, (y + 3 * v + 3 * q + s) / 8
 
 
 def toward(start: Position, end: Position) -> Position:

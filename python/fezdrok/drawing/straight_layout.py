@@ -4,7 +4,8 @@ from __future__ import annotations
 
 import warnings
 from collections.abc import Iterable, Mapping, Sequence
-from math import cos, pi, sin, sqrt
+from cmath import phase
+from math import cos, dist, pi, radians, sin, sqrt
 from typing import TYPE_CHECKING, Any
 
 from ..engine.faults import PlanarWarning
@@ -13,12 +14,22 @@ from ..engine.graph_pictures import Dummy
 from ..engine.results import Planarization
 from ..files.embeddings import to_networkx_embedding
 from .orthogonal_layout import SHORT, path_order
-from .relaxation import between, spread
-from .scenes import Position
+from .relaxation import SWEEPS, between, spread
+from .scenes import Position, toward
 from .shelf_packing import shelf_packing
 
 if TYPE_CHECKING:
     import networkx
+
+#: Above which shares of edges that turn by more than half a circle, and of small angles, other faces are tried outside;
+#: how many points there may be in all tries, and how often these are moved at first.
+MOST_TURNING = 0.02
+MOST_SMALL = 0.1
+MOST_TRIED = 300
+FEW_SWEEPS = 60
+#: Below what an angle is small, and how far from its neighbours a node should be at least, in a disk of radius 1.
+SMALL = radians(8)
+LEAST = 0.05
 
 
 def positions(result: Planarization, embedding: "networkx.PlanarEmbedding | None" = None) -> dict[Any, Position]:
@@ -35,18 +46,77 @@ def positions(result: Planarization, embedding: "networkx.PlanarEmbedding | None
     if order is not None and len(order) > SHORT:
         return {result.node_of[vertex]: place for vertex, place in zip(order, _spiral(len(order)))}
     embedding = to_networkx_embedding(result) if embedding is None else embedding
-    rotations = {node: list(embedding.neighbors_cw_order(node)) for node in embedding}
-    crossings = frozenset(result.name_of(point) for point in result.picture.points if point.is_crossing)
     if not result.picture.edges:
-        return dict.fromkeys(rotations, (0.0, 0.0))
-    first = result.picture.faces[result.outer_face][0]
-    nodes = chain(result, embedding, first.edge)
-    place = nodes.index(result.name_of(result.picture.start(first)))
-    found = spread(rotations, crossings, (nodes[place], nodes[place - 1 if first.back else place + 1]))
+        return dict.fromkeys(embedding, (0.0, 0.0))
+    faces = _Faces(result, embedding)
+    found = faces.spread(result.outer_face)
+    if found is not None and (faces.turning(found) > MOST_TURNING or faces.small(found) > MOST_SMALL):
+        found = faces.best(found)
     if found is None:
         warnings.warn("no drawing was found in which faces are of like size: its points lie on a grid", PlanarWarning)
         found = grid_positions(result, embedding)
     return found
+
+
+class _Faces:
+    """A planarization that is spread over a disk with one face or another outside."""
+
+    def __init__(self, result: Planarization, embedding: "networkx.PlanarEmbedding"):
+        self.result = result
+        self.rotations = {node: list(embedding.neighbors_cw_order(node)) for node in embedding}
+        self.crossings = frozenset(result.name_of(point) for point in result.picture.points if point.is_crossing)
+        self.chains = {row.id: chain(result, embedding, row.id) for row in result.picture.edges}
+
+    def spread(self, face: int, sweeps: int = SWEEPS) -> dict[Any, Position] | None:
+        """The points with a face outside, moved so many times."""
+        first = self.result.picture.faces[face][0]
+        nodes = self.chains[first.edge]
+        place = nodes.index(self.result.name_of(self.result.picture.start(first)))
+        outer = (nodes[place], nodes[place - 1 if first.back else place + 1])
+        return spread(self.rotations, self.crossings, outer, sweeps)
+
+    def turning(self, places: Mapping[Any, Position]) -> float:
+        """The share of edges that turn by more than half a circle."""
+        far = 0
+        for nodes in self.chains.values():
+            ways = [complex(*toward(places[one], places[two])) for one, two in zip(nodes, nodes[1:])]
+            far += sum(abs(phase(two * one.conjugate())) for one, two in zip(ways, ways[1:])) > pi
+        return far / len(self.chains)
+
+    def small(self, places: Mapping[Any, Position]) -> float:
+        """The share of small angles between edges at nodes and crossings."""
+        angles: list[float] = []
+        for node, others in self.rotations.items():
+            ways = [complex(*toward(places[node], places[other])) for other in others]
+            found = [abs(phase(two * one.conjugate())) for one, two in zip(ways, [*ways[1:], ways[0]])]
+            angles += [min(found)] if node in self.crossings else found if len(found) > 1 else []
+        return sum(it < SMALL for it in angles) / max(1, len(angles))
+
+    def least(self, places: Mapping[Any, Position]) -> float:
+        """How near a node of the graph lies to a neighbour at least."""
+        return min(
+            dist(places[node], places[other]) for node in self.result.node_of for other in self.rotations[node]
+        )
+
+    def cost(self, places: Mapping[Any, Position] | None) -> tuple[bool, float]:
+        """How badly points can be read, where False comes before True: that is what can be read well."""
+        if places is None:
+            return True, 9.0
+        turning, small, least = self.turning(places), self.small(places), self.least(places)
+        return turning > MOST_TURNING or small > MOST_SMALL or least < LEAST, turning + small + max(0.0, LEAST - least)
+
+    def best(self, before: dict[Any, Position]) -> dict[Any, Position]:
+        """The best of some points and those with other faces outside that have no more crossings, in order, until one
+        can be read well; of large planarizations no other is tried."""
+        found, picture = before, self.result.picture
+        crossed = [sum(picture.start(dart).is_crossing for dart in face) for face in picture.faces]
+        others = [face for face, its in enumerate(crossed) if its <= crossed[self.result.outer_face]]
+        for face in others[: MOST_TRIED // len(self.rotations)]:
+            if self.cost(self.spread(face, FEW_SWEEPS)) < self.cost(found):
+                found = min(found, self.spread(face) or found, key=self.cost)
+                if not self.cost(found)[0]:
+                    break
+        return found
 
 
 def _spiral(count: int) -> list[Position]:

@@ -8,14 +8,15 @@ is right; with every curve straight it is.
 
 from __future__ import annotations
 
-from collections.abc import Container, Mapping, Sequence
+from collections.abc import Mapping, Sequence
 from dataclasses import dataclass, replace
 from math import hypot, sqrt
 from typing import Any
 
+from ..engine.graph_edges import Node
 from ..engine.pictures import Point
 from ..engine.results import Planarization
-from .curves import crossing_ways, is_as_good_as_straight, smooth
+from .curves import crossing_ways, is_as_good_as_straight, passing_ways, smooth
 from .labels import label_of, label_size
 from .pages import Page
 from .scenes import MANY, PLAIN, NodeShape, Position, Scene, Stroke, looks, with_arrows
@@ -50,22 +51,33 @@ class Chains:
 
 
 def true_scene(
-    chains: Chains, is_curved: bool, labels: bool = True, color: str = PLAIN
+    chains: Chains, is_curved: bool, names: Mapping[Node, str], color: str = PLAIN
 ) -> tuple[Scene, list[Defect]]:
     """A scene with straight or with curved lines, and what is false in it: nothing, unless its straight lines
     themselves are false with all decimals that there may be."""
-    scene, false = straight_scene(chains, labels, color), []
-    for decimals in range(1, MOST_DECIMALS + 1):
+    least = 1 if len(names) <= MANY else 2
+    scene = replace(straight_scene(chains, names, color), decimals=least)
+    false: list[Defect] = []
+    if is_curved:
+        curved, false = _curved(chains, scene, [])
+        if not false:
+            return _finished(chains, curved), []
+    for decimals in range(least, MOST_DECIMALS + 1):
         scene = replace(scene, decimals=decimals)
         false = defects(chains.result, Page(scene))
         if not false:
             break
     if is_curved:
         scene, false = _curved(chains, scene, false)
-    return (with_arrows(chains.result, scene) if chains.result.graph.is_directed() else scene), false
+    return _finished(chains, scene), false
 
 
-def straight_scene(chains: Chains, labels: bool = True, color: str = PLAIN) -> Scene:
+def _finished(chains: Chains, scene: Scene) -> Scene:
+    """The scene, with arrows where the graph is directed."""
+    return with_arrows(chains.result, scene) if chains.result.graph.is_directed() else scene
+
+
+def straight_scene(chains: Chains, names: Mapping[Node, str], color: str = PLAIN) -> Scene:
     """The scene in which edges are straight from one node of their chains to the next."""
     result, places = chains.result, chains.places
     kinds, legend = looks(result, color)
@@ -80,7 +92,7 @@ def straight_scene(chains: Chains, labels: bool = True, color: str = PLAIN) -> S
         for edge_id, chain in chains.nodes.items()
     ]
     dots = tuple(places[result.name_of(point)] for point in result.picture.points if point.is_crossing)
-    unit, nodes = sized_nodes(chains, [label_of(node) if labels else "" for node in result.node_of])
+    unit, nodes = sized_nodes(chains, [label_of(names[node]) for node in result.node_of])
     return Scene(unit, tuple(strokes), nodes, dots, legend)
 
 
@@ -127,7 +139,7 @@ def _scales(chains: Chains, sizes: Sequence[tuple[float, float]], unit: float) -
             if node not in (start, end):
                 scale = min(scale, _reach((p - x, q - y), (r - x, s - y), right, up))
             else:
-                far, name = ((r - x, s - y), end) if node == start else ((p - x, q - y), start)
+                far = (r - x, s - y) if node == start else (p - x, q - y)
                 scale = min(scale, _reach(far, far, right, up))
         scales.append(scale)
     boxes = [(x - w, y - h, x + w, y + h) for (x, y), (w, h) in zip(middles, sizes)]
@@ -136,25 +148,28 @@ def _scales(chains: Chains, sizes: Sequence[tuple[float, float]], unit: float) -
         for other in near.near(*boxes[place]):
             if other != place:
                 (u, v), (w, h) = middles[other], sizes[other]
-                right, up = (width + w + GAP) / 2, (height + h + GAP) / 2
-                scales[place] = min(scales[place], _reach((u - x, v - y), (u - x, v - y), right, up))
+                right, up, way = (width + w + GAP) / 2, (height + h + GAP) / 2, (u - x, v - y)
+                scales[place] = min(scales[place], _reach(way, way, right, up))
     return scales
 
 
 def _reach(start: Position, end: Position, right: float, up: float) -> float:
     """How large a shape about the origin may be, beside one that reaches so far to the right and up, until a straight
     line meets it: a disk where both are equal, else a rectangle."""
-    x, y, u, v = start[0] / right, start[1] / up, end[0] / right, end[1] / up
+    x, y = start[0] / right, start[1] / up
+    if start is end:
+        return hypot(x, y) if right == up else max(abs(x), abs(y))
+    u, v = end[0] / right, end[1] / up
     across, rise = u - x, v - y
     if right == up:
         length = across * across + rise * rise
         along = max(0.0, min(1.0, -(x * across + y * rise) / length)) if length else 0.0
         return hypot(x + along * across, y + along * rise)
-    parts = [0.0, 1.0]
+    least = min(max(abs(x), abs(y)), max(abs(u), abs(v)))
     for over, under in ((-x, across), (-y, rise), (y - x, across - rise), (-x - y, across + rise)):
-        if under and 0 < over / under < 1:
-            parts.append(over / under)
-    return min(max(abs(x + part * across), abs(y + part * rise)) for part in parts)
+        if under and 0 < (part := over / under) < 1:
+            least = min(least, max(abs(x + part * across), abs(y + part * rise)))
+    return least
 
 
 # ---- Curves that are drawn nearer to their chords
@@ -170,37 +185,43 @@ def _curved(chains: Chains, scene: Scene, false: list[Defect]) -> tuple[Scene, l
         for edge_id, chain in chains.nodes.items()
         if not is_as_good_as_straight([chains.places[node] for node in chain])
     }
+    passing = {
+        edge_id: passing_ways(
+            [chains.places[node] for node in chains.nodes[edge_id]],
+            [ways.get((edge_id, node)) for node in chains.nodes[edge_id]],
+            len(scene.nodes) <= MANY,
+        )
+        for edge_id in bent
+    }
     reaches: dict[Piece, float] = {}
     less_reach = LESS_REACH if len(scene.nodes) <= MANY else LESS_REACH_OF_MANY
-    strokes = {it.edge_id: _curve(chains, it, ways, reaches, bent) for it in scene.strokes}
+    strokes = {it.edge_id: _curve(chains, it, passing, reaches) for it in scene.strokes}
     page = Page(replace(scene, strokes=tuple(strokes.values())))
     judge = Judge(chains.result, page)
-    found = judge.defects()
+    found, may_stay = judge.defects(), bool(false)
     while True:
-        pieces = {piece for it in found if (it.words, it.pieces) not in allowed for piece in it.pieces}
+        wrong = [it.pieces for it in found if (it.words, it.pieces) not in allowed]
+        pieces = {piece for its in wrong for piece in its}
         less = {piece: less_reach[now] for piece in pieces if (now := reaches.get(piece, 1.0)) and piece[0] in bent}
+        may_stay = may_stay or any(less.keys().isdisjoint(its) for its in wrong)
+        if may_stay and not false:
+            return scene, found
         if not less:
             scene = replace(scene, strokes=tuple(strokes.values()))
-            return scene, defects(chains.result, Page(scene)) if false else []
+            return scene, defects(chains.result, Page(scene)) if may_stay else []
         reaches.update(less)
-        changed = {edge_id: _curve(chains, strokes[edge_id], ways, reaches, bent) for edge_id, _ in less}
+        changed = {edge_id: _curve(chains, strokes[edge_id], passing, reaches) for edge_id, _ in less}
         strokes.update(changed)
         found = judge.drawn_otherwise([page.line(stroke) for stroke in changed.values()])
 
 
 def _curve(
-    chains: Chains,
-    stroke: Stroke,
-    ways: Mapping[tuple[int, Any], Position],
-    reaches: Mapping[Piece, float],
-    bent: Container[int],
+    chains: Chains, stroke: Stroke, passing: Mapping[int, Sequence[Position]], reaches: Mapping[Piece, float]
 ) -> Stroke:
-    """A stroke as a curve, each of whose pieces reaches as far as it may."""
-    if stroke.edge_id not in bent:
+    """A stroke as a curve, each of whose pieces reaches as far as it may; one that is as good as straight stays."""
+    if stroke.edge_id not in passing:
         return stroke
     chain = chains.nodes[stroke.edge_id]
     parts = [reaches.get((stroke.edge_id, place), 1.0) for place in range(len(chain) - 1)]
-    points = smooth(
-        [chains.places[node] for node in chain], [ways.get((stroke.edge_id, node)) for node in chain], parts
-    )
+    points = smooth([chains.places[node] for node in chain], passing[stroke.edge_id], parts)
     return replace(stroke, points=points, curved=True)

@@ -15,13 +15,16 @@ from zlib import crc32
 
 from ..engine.results import Planarization
 from .bridges import bridges
-from .labels import LETTER_HEIGHT, LINE, clean
+from .labels import LETTER_HEIGHT, LINE, clean, label_in_one_line
 from .pages import MARGIN, Page, PageLine, PageNode, PagePoint
-from .scenes import FORBIDDEN, PLAIN, Look, NodeShape, Position, Scene
+from .scenes import FORBIDDEN, PLAIN, Look, NodeShape, Position, Scene, middle_of
 
 LEGEND_ROW = 16.0
 #: The colours of the rims of nodes and of the letters of the legend.
 RIM = "#333"
+#: The colour of nodes, and the width of their rims in pixels.
+NODE_COLOR = "#d9e8f6"
+RIM_WIDTH = 0.8
 LETTERS = "#000"
 #: The colour of the marks of crossings where they are no bridges and no other is given.
 DOTS = "#777777"
@@ -33,7 +36,7 @@ class Paint(NamedTuple):
     """The colours of a document. Where there is no background, what has no colour of the caller's or of a price is in
     the colour of the text around the document. Where there is none for crossings, these are bridges."""
 
-    node: str = "#d9e8f6"
+    node: str = NODE_COLOR
     crossing: str | None = None
     background: str | None = "#fff"
 
@@ -65,6 +68,7 @@ def svg_of(result: Planarization, scene: Scene, paint: Paint = Paint(), prefix: 
     else:
         write.dots(root)
     write.arrows(root)
+    write.edge_labels(root)
     write.nodes(root)
     write.labels(root)
     write.legend(root, height)
@@ -218,7 +222,7 @@ class _Writer:
 
     def nodes(self, root: Element) -> None:
         """The nodes: each shape once, and where it is used."""
-        group = _put(root, "g", fill=self.paint.node, stroke=self.paint.ink(RIM), stroke_width=".8")
+        group = _put(root, "g", fill=self.paint.node, stroke=self.paint.ink(RIM), stroke_width=number(RIM_WIDTH))
         shapes = _put(group, "defs")
         ids: dict[Hashable, str] = {}
         for node, place in zip(self.scene.nodes, self.page.nodes):
@@ -229,6 +233,10 @@ class _Writer:
             x, y = map(self.number, place.middle)
             name = str(node.node)
             use = _put(group, "use", class_="node", data_node=name, href=f"#{ids[kind]}", x=x, y=y)
+            if node.color is not None:
+                use.set("fill", clean(str(node.color)))
+            if node.rim is not None:
+                use.set("stroke-width", number(node.rim, 2))
             _put(use, "title", name)
 
     def shape(self, parent: Element, node: PageNode, is_box: bool) -> Element:
@@ -246,6 +254,19 @@ class _Writer:
         for node in self.scene.nodes:
             if node.label:
                 self.label(group, node)
+
+    def edge_labels(self, root: Element) -> None:
+        """The labels of the edges, each on the middle of its edge, with a rim of the background round the letters."""
+        words = {"font_family": "sans-serif", "font_size": number(LETTER_HEIGHT - 1), "text_anchor": "middle"}
+        rim = {"fill": "none", "stroke": self.paint.background or "", "stroke_width": "3", "stroke_linejoin": "round"}
+        for stroke in self.scene.strokes:
+            if stroke.label:
+                x, y = (it / self.page.steps for it in self.page.at(middle_of(stroke)))
+                text, place = label_in_one_line(stroke.label), {"x": number(x), "y": number(y + LETTER_HEIGHT / 3)}
+                group = _put(root, "g", pointer_events="none", **words)
+                if self.paint.background is not None:
+                    _put(group, "text", text, aria_hidden="true", **rim, **place)
+                _put(group, "text", text, class_="edge-label", fill=self.paint.ink(LETTERS), **place)
 
     def label(self, group: Element, node: NodeShape) -> None:
         """The name of a node, in one line or in several."""
