@@ -4,7 +4,7 @@ use Rattle.json.specs.Lex.{lex, punctuate}
 use Rattle.serde_json.specs.Read.{read}
 use Rattle.std.specs.Prelude.{nat_lt, ◌||◌}
 use Rattle.std.specs.Str.{is_utf8}
-use Rattle.std.proofs.Common.{◌≡◌, ℕ, Bool, true, false, if◌then◌else◌, None, [], List, Err, take}
+use Rattle.std.proofs.Common.{◌≡◌, ℕ, Bool, true, false, if◌then◌else◌, None, [], ◌∷◌, List, Err, take}
 use Rattle.std.proofs.Common.{length, ltb-true, suc, ◌<◌, inl, inr, refl, sym, ap, ◌∙◌, arith, lt-ltb}
 use Rattle.std.proofs.lemmas.Bool.Decides.{leb_tells}
 use Rattle.std.proofs.lemmas.List.{length-take, length-take-le, take_all}

@@ -1,9 +1,11 @@
 -- The first line of a session, and the session behind it.
-use Rattle.std.proofs.Common.{◌≡◌, ◌≢◌, ℕ, Bool, true, false, List, [], ◌∷◌, ◌++◌, Option, None, Ok, Err, ⊤, take, length, ◌<◌, ◌≤◌}
+use Rattle.std.proofs.Common.{◌≡◌, ◌≢◌, ℕ, Bool, true, false, List, [], ◌∷◌, ◌++◌, Option, None, Ok, Err, take, length, ◌<◌, ◌≤◌}
 use Rattle.std.proofs.Common.{inl, inr, refl, sym, ap, subst, ◌∙◌, arith, append_assoc, append-nil, length-append, ltb-true}
+use Rattle.std.specs.Prelude.{⊤}
 use Rattle.std.specs.Io.KnownBytes.{Appends, Consumes, IsAtEnd, Keeps}
 use Rattle.std.proofs.KnownBytes.{Appends-trans, Consumes-trans, Keeps-refl}
-use Rattle.topo_forms.specs.declared.fault.ScriptFault.TheVariants.{NotJson, TooLong}
+use Rattle.topo_forms.specs.declared.fault.ScriptFault.{ScriptFault}
+use Rattle.topo_forms.specs.declared.fault.ScriptFault.TheVariants.{Memory as NoMemory, NotJson, TooLong, BadShape, BadVersion, BadNumber}
 use Rattle.topo_forms.specs.declared.lines.Frame.TheVariants.{Opening}
 use Rattle.topo_forms.specs.declared.lines.Line.{Line}
 use Rattle.topo_forms.specs.Sessions.{line_limit, line_of}
@@ -75,9 +77,18 @@ request_of : (request : Request) (fault : RunFault) → IsFaultOfRequest request
 request_of (Open opening) fault is = unsound_of opening.limits opening.prices opening.start fault is
 request_of _ fault is = memory_of fault is
 
+script_of : (script : ScriptFault) (fault : RunFault) → IsFaultOfAsked (Err script) fault → IsOfOpening fault
+script_of script Memory is = tt
+script_of NoMemory fault is = absurd is
+script_of NotJson fault is = subst IsOfOpening (sym is) tt
+script_of TooLong fault is = subst IsOfOpening (sym is) tt
+script_of (BadShape path) fault is = subst IsOfOpening (sym is) tt
+script_of BadVersion fault is = subst IsOfOpening (sym is) tt
+script_of (BadNumber path) fault is = subst IsOfOpening (sym is) tt
+
 of_opening : (asked : Read Asking) (fault : RunFault) → IsFaultOfAsked asked fault → IsOfOpening fault
 of_opening asked Memory is = tt
-of_opening (Err script) fault is = subst IsOfOpening (sym is) tt
+of_opening (Err script) fault is = script_of script fault is
 of_opening (Ok asked) fault is = request_of asked.request fault is
 
 -- ---- A first line that is no opening
@@ -327,7 +338,7 @@ served_one old new begun b = record {
   session =
       subst (λ (ls : List (List ℕ)). IsSession ls (b.text ∷ [])) (sym (only_lines old new new begun b))
       (session_of old new new begun false b [] [] begun refl);
-  written = subst (Appends old.held new.held) (sym (append-nil (b.text ++ 10 ∷ []))) b.written;
+  written = b.written;
 }
 
 -- of the answer to the first line only a part is written

@@ -16,28 +16,28 @@ returns-in_err-take_first-clause-fault g c =
     (Keeps-refl (g.O.Write.contents c.args.writer.now)) in
     search (rules, told)
 
-pub returns-in_ok-begin-clause-begun : goal.returns-in_ok-begin-clause-begun
-returns-in_ok-begin-clause-begun g c =
+pub returns-in-Feed-clause-begun : goal.returns-in-Feed-clause-begun
+returns-in-Feed-clause-begun g c =
     let t = first_so _ _ _ _ _ _ Feed c.in-Feed.is c.in_ok-take_first.ensures.line in
     let is_kept = c.as_slice.ensures.value ∙ t.is_kept in
     begins_so (g.I.Read.remaining c.args.reader.now) (g.I.Read.remaining c.take_first.new.reader) (g.O.Write.contents c.args.writer.now)
     (g.O.Write.contents c.begin.new.writer) c.args.ahead.now c.take_first.new.self c.as_slice.result.now c.requires.nothing_ahead true t.line t.plain t.takes tt
-    is_kept t.few c.begin.new.session c.in_ok-begin.ensures.begun
+    is_kept t.few c.begin.new.session c.in_ok-begin-in-Feed.ensures.begun
 
-pub returns-in_err-begin-clause-fault : goal.returns-in_err-begin-clause-fault
-returns-in_err-begin-clause-fault g c =
+pub returns-in_err-begin-in-Feed-clause-fault : goal.returns-in_err-begin-in-Feed-clause-fault
+returns-in_err-begin-in-Feed-clause-fault g c =
     let t = first_so _ _ _ _ _ _ Feed c.in-Feed.is c.in_ok-take_first.ensures.line in
     let is_kept = c.as_slice.ensures.value ∙ t.is_kept in
-    let fault = c.in_err-begin.field-0.0 in
+    let fault = c.in_err-begin-in-Feed.field-0.0 in
     let old = streams (g.I.Read.remaining c.args.reader.now) c.args.ahead.now (g.O.Write.contents c.args.writer.now) in
     let new = streams (g.I.Read.remaining c.take_first.new.reader) c.take_first.new.self (g.O.Write.contents c.begin.new.writer) in
     let told : FirstFailsBy fault old new =
     first_told old.left new.left old.held new.held old.ahead new.ahead c.as_slice.result.now c.requires.nothing_ahead true t.line t.plain t.takes tt
-    is_kept t.few fault c.in_err-begin.ensures.fault in
+    is_kept t.few fault c.in_err-begin-in-Feed.ensures.fault in
     search (rules, told)
 
-pub returns-in_ok-begin-in-End-clause-begun : goal.returns-in_ok-begin-in-End-clause-begun
-returns-in_ok-begin-in-End-clause-begun g c =
+pub returns-clause-begun : goal.returns-clause-begun
+returns-clause-begun g c =
     let t = first_so _ _ _ _ _ _ End c.in-End.is c.in_ok-take_first.ensures.line in
     let is_kept = c.as_slice-in-End.ensures.value ∙ t.is_kept in
     begins_so (g.I.Read.remaining c.args.reader.now) (g.I.Read.remaining c.take_first.new.reader) (g.O.Write.contents c.args.writer.now)
