@@ -1,9 +1,9 @@
 -- The first line of a session, and the session behind it.
-use Rattle.std.proofs.Common.{◌≡◌, ◌≢◌, ℕ, Bool, true, false, List, [], ◌∷◌, ◌++◌, Option, None, Ok, Err, take, length, ◌<◌, ◌≤◌}
+use Rattle.std.proofs.Common.{◌≡◌, ℕ, Bool, true, false, List, [], ◌∷◌, ◌++◌, Option, None, Ok, Err, take, length, ◌<◌, ◌≤◌}
 use Rattle.std.proofs.Common.{inl, inr, refl, sym, ap, subst, ◌∙◌, arith, append_assoc, append-nil, length-append, ltb-true}
 use Rattle.std.specs.Prelude.{⊤}
-use Rattle.std.specs.Io.KnownBytes.{Appends, Consumes, IsAtEnd, Keeps}
-use Rattle.std.proofs.KnownBytes.{Appends-trans, Consumes-trans, Keeps-refl}
+use Rattle.std.specs.Io.KnownBytes.{Appends, Keeps}
+use Rattle.std.proofs.KnownBytes.{Appends-trans, Consumes-trans}
 use Rattle.topo_forms.specs.declared.fault.ScriptFault.{ScriptFault}
 use Rattle.topo_forms.specs.declared.fault.ScriptFault.TheVariants.{Memory as NoMemory, NotJson, TooLong, BadShape, BadVersion, BadNumber}
 use Rattle.topo_forms.specs.declared.lines.Frame.TheVariants.{Opening}
@@ -20,9 +20,8 @@ use Rattle.topo_forms.specs.declared.sessions.Request.TheVariants.{Open}
 use Rattle.topo_core.specs.declared.rows.Rows.{Rows}
 use Rattle.topo_forms.specs.Reads.{Read}
 use Rattle.topo_settings.specs.Settings.{IsUnsound}
-use Rattle.topo_settings.specs.Writing.{AppendsPart}
 use Rattle.topo_session.specs.Answers.{AnswersFirst, IsBadOpening, IsFaultOfAsked, IsFaultOfRequest}
-use Rattle.topo_session.specs.Standings.{HasLegalHistory, Standing}
+use Rattle.topo_session.specs.Standings.{Standing}
 use Rattle.topo_session.proofs.Legal.{line_legal}
 use Rattle.topo_serve.specs.declared.ahead.Part.{Part}
 use Rattle.topo_serve.specs.declared.ahead.Part.TheVariants.{More}

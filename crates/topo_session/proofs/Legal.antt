@@ -1,18 +1,17 @@
 -- Histories stay legal, whatever a line asks for.
-use Rattle.std.proofs.Common.{◌≡◌, ℕ, List, [], ◌∷◌, ◌++◌, Option, None, Some, Ok, Err, inl, inr, refl, subst, sym}
+use Rattle.std.proofs.Common.{◌≡◌, ℕ, List, Option, None, Some, Ok, Err, inl, inr, refl, subst, sym}
 use Rattle.topo_core.specs.declared.calls.Call.{Call}
 use Rattle.topo_core.specs.declared.calls.Reply.{Reply}
-use Rattle.topo_core.specs.declared.limits.Limits.{Limits}
 use Rattle.topo_core.proofs.stepping.Replaying.{replays_on}
 use Rattle.topo_forms.specs.declared.lines.Asked.{Asked as Asking}
 use Rattle.topo_forms.specs.declared.lines.Line.{Line}
 use Rattle.topo_forms.specs.declared.sessions.Opening.{Opening}
 use Rattle.topo_forms.specs.declared.sessions.Request.{Request}
-use Rattle.topo_forms.specs.declared.sessions.Request.TheVariants.{Carry, Counts, Picture, Report, About, Route, Edge, Vertex, Face, Open}
+use Rattle.topo_forms.specs.declared.sessions.Request.TheVariants.{Carry, Open}
 use Rattle.topo_forms.specs.Reads.{Read}
 use Rattle.topo_settings.specs.Settings.{priced}
-use Rattle.topo_session.specs.Answers.{Answers, AnswersAsked, AnswersClosed, AnswersFirst, AnswersLine, Responds, RespondsTo, TellsFault}
-use Rattle.topo_session.specs.Standings.{Enters, HasLegalHistory, IsOpened, Standing, begins_at}
+use Rattle.topo_session.specs.Answers.{Answers, AnswersAsked, AnswersClosed, AnswersLine, Responds}
+use Rattle.topo_session.specs.Standings.{Enters, HasLegalHistory, IsOpened, Standing}
 
 entered : (caller : ℕ) (call : Call) (reply : Reply) (old new : Standing) → Enters caller call reply old new
     → HasLegalHistory (Some old) → HasLegalHistory (Some new)

@@ -1,17 +1,18 @@
 -- What is told of a line, by what was asked of its session.
-use Rattle.std.proofs.Common.{◌≡◌, ◌≢◌, ◌⊎◌, ℕ, List, Option, None, Some, Result, Ok, Err, IfOk, IfErr, OnErr, inl, inr, refl, ap, subst, sym, ◌∙◌}
+use Rattle.std.proofs.Common.{◌≡◌, ◌≢◌, ◌⊎◌, ℕ, List, Option, Some, Result, Ok, Err, IfOk, IfErr, OnErr, inl, inr, refl, ap, subst, sym, ◌∙◌}
 use Rattle.std.specs.Prelude.{MatchResult}
 use Rattle.topo_forms.specs.declared.fault.ScriptFault.TheVariants.{Memory as NoMemory}
 use Rattle.topo_forms.specs.declared.lines.Asked.{Asked as Asking}
 use Rattle.topo_forms.specs.declared.lines.Frame.{Frame}
-use Rattle.topo_forms.specs.declared.lines.Frame.TheVariants.{Opening, Bare, Envelope}
 use Rattle.topo_forms.specs.declared.lines.Line.{Line}
+use Rattle.topo_core.specs.declared.calls.Command.{Command}
 use Rattle.topo_forms.specs.declared.sessions.Request.{Request}
+use Rattle.topo_forms.specs.declared.sessions.Request.TheVariants.{Carry}
 use Rattle.topo_forms.specs.Reads.{Read}
-use Rattle.topo_forms.specs.Sessions.{ReadsLine}
+use Rattle.topo_forms.specs.Sessions.{ReadsLine, command_line}
 use Rattle.topo_settings.specs.declared.fault.RunFault.{RunFault}
 use Rattle.topo_settings.specs.declared.fault.RunFault.TheVariants.{Memory}
-use Rattle.topo_session.specs.Answers.{Answers, AnswersAsked, AnswersFirst, AnswersLine, IsBadOpening, IsFaultOfAsked, Leaves, LeavesBy, LosesLine, RespondsTo}
+use Rattle.topo_session.specs.Answers.{Answers, CarriesOut, AnswersLine, IsFaultOfAsked, Leaves, LeavesBy, LosesLine, RespondsTo}
 use Rattle.topo_session.specs.Standings.{Standing}
 use Rattle.topo_session.specs.Texts.{fault_text, framed}
 
@@ -30,6 +31,25 @@ open_leaves Memory asked caller request old new s t is was now (inr done) =
     inr (done.0, open_answers asked caller request old new s t done.0 is was now done.1)
 open_leaves _ asked caller request old new s t is was now same = now ∙ ap (λ (x : Standing). Some x) same ∙ sym was
 
+-- a command that is a line as it is
+abbrev asked_so : Command → Read Asking
+asked_so command = Ok (record { caller = 0; request = Carry command })
+
+pub command_told : (command : Command) (old new : Option Standing) (s t : Standing) (text : List ℕ) → old ≡ Some s → new ≡ Some t
+    → CarriesOut 0 command text s t → AnswersLine (command_line command) text old new
+command_told command old new s t text was now carried = record {
+  inner = text;
+  answers = inl (open_answers (asked_so command) 0 (Carry command) old new s t text refl was now carried);
+  told = refl;
+}
+
+pub command_lost : {A E : Type 0} (command : Command) (old new : Option Standing) (s t : Standing) → old ≡ Some s → new ≡ Some t
+    → (r : Result A E) → OnErr r ((t ≡ s) ⊎ ((text : List ℕ) × CarriesOut 0 command text s t)) → OnErr r (LosesLine (command_line command) old new)
+command_lost command old new s t was now (Ok text) lost = tt
+command_lost command old new s t was now (Err e) (inl same) = inl (now ∙ ap (λ (x : Standing). Some x) same ∙ sym was)
+command_lost command old new s t was now (Err e) (inr (text, carried)) =
+    inr (text, inl (open_answers (asked_so command) 0 (Carry command) old new s t text refl was now carried))
+
 -- ---- Faults
 
 left_same : (fault : RunFault) (asked : Read Asking) (old new : Option Standing) → fault ≢ Memory → Leaves fault asked old new → new ≡ old
@@ -39,11 +59,6 @@ left_same _ asked old new not left = left
 no_memory : (fault : RunFault) → fault ≢ Memory → IsFaultOfAsked (Err NoMemory) fault → ⊥
 no_memory Memory not is = not refl
 no_memory _ not is = is
-
-left_lost : (fault : RunFault) (asked : Read Asking) (old new : Option Standing) → Leaves fault asked old new
-    → (new ≡ old) ⊎ ((text : List ℕ) × RespondsTo asked text old new)
-left_lost Memory asked old new left = left
-left_lost _ asked old new left = inl left
 
 -- ---- A line
 
@@ -79,22 +94,3 @@ module _ (frame : Frame) (asked : Read Asking) (due : Line) (reads : ReadsLine (
   line_told bytes (Ok found) responds is left inner text told shown =
       answered inner text (subst (λ (t : List ℕ). RespondsTo asked t old new) (sym told) responds) shown
   line_told bytes (Err fault) responds is left inner text told shown = faulty fault inner text told.0 is left told.1 shown
-
-  lost : (new ≡ old) ⊎ ((text : List ℕ) × RespondsTo asked text old new) → LosesLine due old new
-  lost (inl same) = inl same
-  lost (inr (text, responds)) =
-      of_due (λ line. LosesLine line old new) (inr (text, inl responds))
-      (λ memory. absurd (subst (λ (a : Read Asking). RespondsTo a text old new) memory responds))
-
-  -- an opening as it is, with its fault
-  pub bad_opening : frame ≡ Opening → (fault : RunFault) → IsFaultOfAsked asked fault → fault ≢ Memory → IsBadOpening due fault
-  bad_opening so fault is not =
-      of_due (λ line. IsBadOpening line fault) (record { frame = so; is = is })
-      (λ memory. absurd (no_memory fault not (subst (λ (a : Read Asking). IsFaultOfAsked a fault) memory is)))
-
-  -- the text is lost, whatever became of the line
-  pub line_lost : {S A E : Type 0} (bytes : S → List ℕ) (r : Result S RunFault) → IfOk r (λ found. RespondsTo asked (bytes found) old new)
-      → IfErr r (λ fault. Leaves fault asked old new) → (made : Result A E) → OnErr made (LosesLine due old new)
-  line_lost bytes r responds left (Ok made) = tt
-  line_lost bytes (Ok found) responds left (Err e) = lost (inr (bytes found, responds))
-  line_lost bytes (Err fault) responds left (Err e) = lost (left_lost fault asked old new left)

@@ -33,6 +33,9 @@ use topo_settings::RunFault;
 const ABOUT: &str =
     "{\"limits\":{\"crossings\":1048576,\"edges\":65536,\"vertices\":65536},\"program\":\"planar\",\"requests\":[\"about\",\"counts\",\"delete\",\"edge\",\"face\",\"grow\",\"insert\",\"open\",\"picture\",\"planned\",\"report\",\"route\",\"vertex\"],\"version\":\"0.5.0\"}";
 
+/// What each request but two is answered where no session is open.
+const NOT_OPEN: &str = "{\"fault\":[72,\"NotOpen\"]}";
+
 /// Carries a command out, and gives the text of its reply. A planned insertion is looked for as any
 /// other.
 fn carry<F: PriceFn>(
@@ -243,7 +246,7 @@ fn answer_closed<F: FromTable>(
             *session = Some(opened);
             Ok(text)
         }
-        _ => or_memory(text_like(alloc, "{\"fault\":[72,\"NotOpen\"]}")),
+        _ => or_memory(text_like(alloc, NOT_OPEN)),
     }
 }
 
@@ -294,12 +297,10 @@ fn answer_command<F: FromTable>(
         session.old session.new) }
     ensures lost { OnErr result (LosesLine (command_line command) session.old session.new) }
 {
-    let asked = Asked {
-        caller: 0,
-        request: Request::Carry(command),
-    };
-    let outcome = respond(alloc, session, Ok(asked));
-    tell(alloc, outcome)
+    if let Some(open) = session {
+        return carry(alloc, open, 0, command);
+    }
+    text_like(alloc, NOT_OPEN)
 }
 
 /// Answers a line, whatever it asks for.

@@ -1,6 +1,5 @@
-use Rattle.std.proofs.Common.{◌≡◌, ◌∙◌, rules, true, false}
+use Rattle.std.proofs.Common.{◌∙◌, rules, true, false}
 use Rattle.std.proofs.KnownBytes.{Keeps-refl}
-use Rattle.topo_settings.proofs.Pricing.{err_so, ok_so}
 use Rattle.topo_serve.specs.declared.ahead.Part.TheVariants.{End, Feed}
 use Rattle.topo_serve.specs.Turns.{FirstFailsBy, streams}
 use Rattle.topo_serve.proofs.OpeningLaws.{begins_so, first_long, first_so, first_told, reading_fails}

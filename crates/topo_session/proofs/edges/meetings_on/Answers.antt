@@ -1,4 +1,4 @@
-use Rattle.std.proofs.Common.{◌≡◌, ◌<◌, ◌++◌, [], ◌∷◌, append-nil, arith, get_or, length, rules, subst, suc, take, ◌+◌, ℕ}
+use Rattle.std.proofs.Common.{◌≡◌, ◌<◌, ◌++◌, [], append-nil, arith, get_or, length, rules, subst, suc, take, ◌+◌, ℕ}
 use Rattle.topo_core.specs.Picture.{cross_row}
 use Rattle.topo_session.specs.Questions.{meeting_before, meetings_on}
 use Rattle.topo_session.proofs.QuestionLaws.{looked_up}

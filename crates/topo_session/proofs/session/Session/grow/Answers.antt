@@ -1,5 +1,5 @@
 use Rattle.std.proofs.Common.{IfOk, subst}
-use Rattle.topo_core.specs.declared.calls.Call.TheVariants.{Delete, Grow, Insert}
+use Rattle.topo_core.specs.declared.calls.Call.TheVariants.{Grow}
 use Rattle.topo_session.specs.Standings.{Enters, Standing, standing_of}
 use Rattle.topo_session.proofs.Entering.{entered_so}
 use Rattle.topo_session.proofs.session.Session.grow.Goals as goal
