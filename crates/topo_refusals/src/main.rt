@@ -25,7 +25,6 @@ mod retry;
 mod service_calls;
 mod service_views;
 mod services;
-mod session_lines;
 mod worker_lists;
 
 use alone_list::run_alone;
@@ -34,7 +33,6 @@ use embeddings::embed;
 use picture_reads::loaded;
 use retry::Console;
 use services::serve;
-use session_lines::ask_session;
 use topo_test_support::pictures::{BARRIER, BIPYRAMID, HEXAGON, Named};
 
 /// Loads a named picture, and makes the calls on it.
@@ -45,16 +43,15 @@ fn run_on<R: Console>(rt: &R, named: &Named, script: &BookScript) -> Result<()> 
     told
 }
 
-/// The calls on one picture after the other, those of an embedding, those of a service, a script of
-/// one list, and the lines of a session.
+/// The calls on one picture after the other, those of an embedding, those of a service, and a script
+/// of one list.
 fn run<R: Threads + Wait + Console + Sync>(rt: &R) -> Result<()> {
     run_on(rt, &BIPYRAMID, &APEXES)?;
     run_on(rt, &BARRIER, &BASE)?;
     run_on(rt, &HEXAGON, &CHORDS)?;
     embed(rt)?;
     serve(rt)?;
-    run_alone(rt)?;
-    ask_session(rt)
+    run_alone(rt)
 }
 
 /// Each run ends with the same status, so that any fault shows as other output.
