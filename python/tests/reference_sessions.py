@@ -14,6 +14,7 @@ from fezdrok.engine.pictures import json_text
 from fezdrok.engine.reports import Call, Prices, call_from_json
 
 from . import reference
+from .support import ROOT
 
 NAMES = {
     10: "BadPrice", 11: "BadLimits", 20: "TooMany", 21: "BadPath", 22: "BadCrossing", 23: "BadRotation",
@@ -30,7 +31,7 @@ ABOUT = {
         "about", "counts", "delete", "edge", "face", "grow", "insert", "open", "picture", "planned", "report", "route",
         "vertex",
     ],
-    "version": "0.5.0",
+    "version": (ROOT / "VERSION").read_text().strip(),
 }
 #: Each request that is an array, with how many numbers it has; a face has a way behind them.
 NUMBERS = {"grow": 3, "insert": 3, "planned": 3, "delete": 1, "route": 2, "edge": 1, "vertex": 1, "face": 2}
