@@ -11,7 +11,7 @@ use Rattle.topo_core.specs.Changes.{IsCut, grown, without}
 use Rattle.topo_core.specs.Picture.{edge_row}
 use Rattle.topo_core.specs.Routes.{IsFirst, Pricing}
 use Rattle.topo_core.specs.Steps.{grow_refusal}
-use Rattle.topo_core.proofs.stepping.Determined.{one_step}
+use Rattle.topo_core.proofs.Interface.{one_step}
 use Rattle.topo_book.specs.Books.{IsDue}
 
 module _ (price : Pricing) (limits : Limits) (rows : Rows) (call : Call) where

@@ -1,6 +1,7 @@
-pub mod Due
-pub mod Histories
-pub mod Outliving
-pub mod ReplicaLaws
-pub mod SourceLaws
-pub mod Wrong
+pub mod Interface
+mod Due
+mod Histories
+mod Outliving
+mod ReplicaLaws
+mod SourceLaws
+mod Wrong

@@ -15,10 +15,10 @@ use Rattle.topo_core.specs.declared.rows.Rows.{Rows}
 use Rattle.topo_core.specs.History.{IsPrefix, IsVersion, Replays, is_accepted, versions}
 use Rattle.topo_core.specs.Lawful.{Lawful}
 use Rattle.topo_core.specs.Routes.{IsFirst, Pricing}
-use Rattle.topo_core.proofs.stepping.Replaying.{versions_replay}
+use Rattle.topo_core.proofs.Interface.{versions_replay}
 use Rattle.topo_rows.specs.Shown.{IsPicture}
 use Rattle.topo_route.specs.Regions.{AllSpare, IsFirstWhileKept, IsKept, IsRegionOf, RegionState, Spares, holds_edge}
-use Rattle.topo_route.proofs.surviving.Sparing.{spared}
+use Rattle.topo_route.proofs.Interface.{spared}
 use Rattle.topo_book.specs.Books.{ReplaysLawfully}
 use Rattle.topo_book.specs.Sparing.{HaveSpared}
 use Rattle.topo_book.proofs.Histories.{last_lawful, replays}

@@ -12,7 +12,7 @@ use Rattle.topo_core.specs.declared.calls.Entry.{Entry}
 use Rattle.topo_core.specs.Routes.{Pricing}
 use Rattle.topo_core.specs.Steps.{Step}
 use Rattle.topo_core.specs.History.{Replays}
-use Rattle.topo_core.proofs.stepping.Determined.{one_step}
+use Rattle.topo_core.proofs.Interface.{one_step}
 use Rattle.topo_rows.specs.Shown.{IsPicture, Shown}
 use Rattle.topo_book.specs.declared.replicas.Replica.{Replica}
 use Rattle.topo_book.specs.Books.{IsBook, IsDue, IsReplica}

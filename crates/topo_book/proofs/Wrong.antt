@@ -7,8 +7,7 @@ use Rattle.topo_core.specs.declared.calls.Entry.{Entry}
 use Rattle.topo_core.specs.Routes.{Pricing}
 use Rattle.topo_core.specs.Steps.{Step}
 use Rattle.topo_core.specs.History.{IsLegal, Replays}
-use Rattle.topo_core.proofs.stepping.Determined.{one_step}
-use Rattle.topo_core.proofs.stepping.Replaying.{replays_on}
+use Rattle.topo_core.proofs.Interface.{one_step, replays_on}
 use Rattle.topo_book.specs.Books.{IsDue}
 use Rattle.topo_book.specs.Faults.{IsFirstWrong}
 

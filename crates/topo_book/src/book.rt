@@ -18,7 +18,7 @@ use topo_core::rows::Rows;
 use topo_picture::Picture;
 use topo_price::tariff::{PriceFn, Tariff};
 use topo_route::plan::{Plan, PricedRoute};
-use topo_route::region::Region;
+use topo_route::planned::region::Region;
 
 /// A picture that calls change, with the picture that it began with and every answer since. What
 /// its searches and the checks of plans write on is kept from one call to the next, so that a

@@ -9,7 +9,7 @@ ghost use Rattle.topo_route.specs.Regions.{Spares, holds_edge};
 use topo_core::calls::{Call, Entry, Reply};
 use topo_core::darts::Dart;
 use topo_picture::Picture;
-use topo_route::region::Region;
+use topo_route::planned::region::Region;
 
 /// Whether none of the darts lies on an edge of the region.
 fn cross_none(region: &Region, crossed: &[Dart]) -> bool

@@ -1,4 +1,5 @@
-pub mod rows
-pub mod growing
-pub mod inserting
-pub mod deleting
+pub mod Interface
+mod rows
+mod growing
+mod inserting
+mod deleting

@@ -9,7 +9,7 @@ use Rattle.topo_book.specs.Faults.{IsFaultOf, IsIllegalAt}
 use Rattle.topo_book.specs.declared.replaying.ReplayFault.{ReplayFault}
 use Rattle.topo_book.specs.declared.replaying.ReplayFault.TheVariants.{WrongReply, Memory}
 use Rattle.topo_settings.specs.Settings.{price_table, priced}
-use Rattle.topo_settings.proofs.Pricing.{Allows, back, replays_so, step_so, there}
+use Rattle.topo_settings.proofs.Interface.{Allows, back, replays_so, step_so, there}
 
 module _ (a b : Pricing) (allows : Allows a b) (back : Allows b a) where
   fault_so : (limits : Limits) (start : Rows) (entries : List Entry) (fault : ReplayFault) → IsFaultOf a limits start entries fault

@@ -1,2 +1,2 @@
-pub mod FaultsByTable
-pub mod Telling
+mod FaultsByTable
+mod Telling

@@ -7,7 +7,7 @@ use Rattle.topo_settings.specs.declared.fault.RunFault.TheVariants.{Memory, Scri
 use Rattle.topo_settings.specs.declared.fault.RunFault.TheVariants.{WrongReply, WrongPicture}
 use Rattle.topo_settings.specs.Reading.{IsRead, ReaderState}
 use Rattle.topo_settings.specs.Writing.{AppendsPart, IsOfWriting}
-use Rattle.topo_settings.proofs.Faults.{by_writing}
+use Rattle.topo_settings.proofs.Interface.{by_writing}
 use Rattle.topo_check.specs.Checks.{CheckFailsBy, IsChecked, IsLawfulInput, IsSizeOfBytes, IsUnlawful}
 use Rattle.topo_check.specs.Replays.{IsUntrueReport, ReplayFailsBy, ReportsUntruly, TellsUntrue}
 

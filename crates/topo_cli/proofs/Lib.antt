@@ -1,1 +1,1 @@
-pub mod InlineTexts
+mod InlineTexts

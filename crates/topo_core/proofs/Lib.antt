@@ -1,7 +1,8 @@
-pub mod numbering
-pub mod systems
-pub mod growing
-pub mod inserting
-pub mod deleting
-pub mod routing
-pub mod stepping
+pub mod Interface
+mod numbering
+mod systems
+mod growing
+mod inserting
+mod deleting
+mod routing
+mod stepping

@@ -11,15 +11,12 @@ use Rattle.topo_core.specs.declared.rows.Rows.{Rows}
 use Rattle.topo_core.specs.Lawful.{has_good_paths, Lawful}
 use Rattle.topo_core.specs.Picture.{darts, edge_row, index_of, segment_count}
 use Rattle.topo_core.specs.Systems.{has_dart}
-use Rattle.topo_core.proofs.numbering.Numbering.{has_at, index_of_get}
-use Rattle.topo_core.proofs.numbering.Standing.{listed_test, of_rows_is_dart}
-use Rattle.topo_core.proofs.systems.SystemDarts.{row_id}
+use Rattle.topo_core.proofs.Interface.{has_at, index_of_get, listed_test, of_rows_is_dart, row_id}
 use Rattle.topo_rows.specs.Flats.{begins_from}
-use Rattle.topo_rows.proofs.Begins.{begins_at, forward_get, number_back, number_forward}
+use Rattle.topo_rows.proofs.Interface.{begins_at, forward_get, number_back, number_forward}
 use Rattle.topo_route.specs.Names.{IsName, canonical, dart_named}
 use Rattle.topo_route.specs.Numbers.{dart_of}
-use Rattle.topo_route.proofs.names.Canonical.{canonical_below, canonical_dart}
-use Rattle.topo_route.proofs.names.Numbers.{dart_in, got}
+use Rattle.topo_route.proofs.Interface.{canonical_below, canonical_dart, dart_in, got}
 
 -- the first dart of an edge
 abbrev pub first_of : ℕ → Dart

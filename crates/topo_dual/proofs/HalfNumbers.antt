@@ -12,16 +12,13 @@ use Rattle.topo_core.specs.declared.rows.Rows.{Rows}
 use Rattle.topo_core.specs.Lawful.{IsWellFormed, Lawful}
 use Rattle.topo_core.specs.Picture.{corner, darts, index_of, start, system}
 use Rattle.topo_core.specs.Systems.{face_step, has_dart}
-use Rattle.topo_core.proofs.numbering.Numbering.{get_index, has_at, index_of_get, place_less}
-use Rattle.topo_core.proofs.routing.RouteDarts.{corner_in}
-use Rattle.topo_core.proofs.systems.SystemDarts.{get_there}
+use Rattle.topo_core.proofs.Interface.{corner_in, get_index, get_there, has_at, index_of_get, place_less}
 use Rattle.topo_rows.specs.Recovering.{lawful_again}
 use Rattle.topo_embedded.specs.Halves.{RowsWithPaths, IsHalf, half_in}
 use Rattle.topo_embedded.specs.Walking.{named_in}
 use Rattle.topo_route.specs.Names.{HasFaces, IsName, IsNamed, canonical, dart_named, next_name, no_dart}
 use Rattle.topo_route.specs.Numbers.{dart_of}
-use Rattle.topo_route.proofs.names.Canonical.{canonical_below, canonical_dart, canonical_is}
-use Rattle.topo_route.proofs.names.Numbers.{dart_in, face_stays, got}
+use Rattle.topo_route.proofs.Interface.{canonical_below, canonical_dart, canonical_is, dart_in, face_stays, got}
 use Rattle.topo_dual.specs.NumberedRows.{AreApart, AreListsOf, AreNumbersOf, LawfulRows}
 
 -- ---- The lists as they are written

@@ -1,2 +1,2 @@
-pub mod DartNumbers
-pub mod HalfNumbers
+mod DartNumbers
+mod HalfNumbers

@@ -9,7 +9,7 @@ use Rattle.topo_core.specs.Systems.{has_dart}
 use Rattle.topo_embedded.specs.Halves.{RowsWithPaths, half_in}
 use Rattle.topo_embedded.specs.KnownFaces.{faces_known}
 use Rattle.topo_route.specs.Names.{HasFaces, IsNamed, canonical, next_name}
-use Rattle.topo_route.proofs.names.Canonical.{canonical_named}
+use Rattle.topo_route.proofs.Interface.{canonical_named}
 use Rattle.topo_route.specs.Potentials.{AreConsistent, all_four}
 use Rattle.topo_rows.specs.Recovering.{lawful_again}
 

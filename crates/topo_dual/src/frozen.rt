@@ -13,7 +13,7 @@ use topo_core::rows::{Facts, Rows};
 use topo_embedded::Embedded;
 use topo_route::dual::Dual;
 use topo_route::face_graph::FaceGraph;
-use topo_route::potentials::Potentials;
+use topo_route::guided::potentials::Potentials;
 
 /// A frozen picture: lawful rows with their embedding, and with the lists that number their darts.
 /// Contracts see the rows. It answers what `Numbered` does, and nothing has to be lent to it.

@@ -13,7 +13,7 @@ use topo_core::rows::Facts;
 use topo_embedded::Embedded;
 use topo_route::dual::Dual;
 use topo_route::face_graph::FaceGraph;
-use topo_route::potentials::Potentials;
+use topo_route::guided::potentials::Potentials;
 
 /// Lawful rows with their embedding, and with the lists that number their darts, all borrowed.
 /// Contracts see the rows. The darts are numbered in canonical order: 2i and 2i + 1 are the two of

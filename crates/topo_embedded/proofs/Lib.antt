@@ -1,5 +1,5 @@
-pub mod halves
-pub mod growing
-pub mod inserting
-pub mod deleting
-pub mod guided
+mod halves
+mod growing
+mod inserting
+mod deleting
+mod guided

@@ -6,7 +6,7 @@ use Rattle.topo_core.specs.Picture.{edge_row}
 use Rattle.topo_core.specs.Rotations.{twin}
 use Rattle.topo_map.specs.Rotation.{Rotation, edge_of, face_of, is_live}
 use Rattle.topo_route.specs.Potentials.{AreWithin, all_four}
-use Rattle.topo_route.specs.declared.potentials.Potentials.{Potentials}
+use Rattle.topo_route.specs.declared.guided.potentials.Potentials.{Potentials}
 
 pub record BoundsState : Type 0 where
   pub potentials : List Potentials

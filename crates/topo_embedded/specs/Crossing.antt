@@ -12,9 +12,7 @@ use Rattle.topo_core.specs.Rotations.{twin}
 use Rattle.topo_core.specs.Routes.{IsSimpleRoute}
 use Rattle.topo_core.specs.Systems.{has_dart}
 use Rattle.topo_perm.specs.Runs.{IsRun}
-use Rattle.topo_perm.proofs.runs.Subdivisions.{Subdivision, splits_of}
-use Rattle.topo_perm.proofs.runs.Chords.{NewChord, chords_of}
-use Rattle.topo_perm.proofs.runs.InsertionPaths.{AreAlong}
+use Rattle.topo_perm.proofs.Interface.{AreAlong, NewChord, Subdivision, chords_of, splits_of}
 use Rattle.topo_map.specs.Rotation.{IsEmbedding, Rotation, edge_of, half_limit, is_live, turning_of}
 use Rattle.topo_embedded.specs.declared.padding.Crossed.{Crossed}
 use Rattle.topo_embedded.specs.Halves.{RowsWithPaths, ShowsRows, half_in}

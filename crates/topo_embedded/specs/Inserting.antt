@@ -1,7 +1,7 @@
 -- The paths of crossed edges once the crossed halves are split.
 use Rattle.std.specs.Prelude.{ℕ, ◌==◌, cond, List, [], ◌∷◌, flat_map}
 use Rattle.topo_core.specs.Rotations.{twin}
-use Rattle.topo_perm.proofs.runs.Subdivisions.{Subdivision}
+use Rattle.topo_perm.proofs.Interface.{Subdivision}
 
 -- a half along its edge, and where it was split, the two that are now along its part: in the direction in which it was split goes the new one beyond
 abbrev pub piece : Subdivision → ℕ → List ℕ

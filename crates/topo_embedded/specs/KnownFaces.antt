@@ -10,10 +10,10 @@ use Rattle.topo_core.specs.Cycles.{is_met}
 use Rattle.topo_core.specs.Lawful.{Lawful}
 use Rattle.topo_core.specs.Picture.{darts, index_of, system}
 use Rattle.topo_core.specs.Systems.{SameFace, has_dart}
-use Rattle.topo_core.proofs.systems.Orbits.{SameCycle-is_met, is_met-SameCycle}
+use Rattle.topo_core.proofs.Interface.{SameCycle-is_met, is_met-SameCycle}
 use Rattle.topo_route.specs.Names.{HasFaces, Named, dart_named}
 use Rattle.topo_route.specs.Numbers.{dart_of, next_of}
-use Rattle.topo_route.proofs.names.Numbers.{dart_of_number, face_of_numbers, next_permutes, number_below, numbers_of_face}
+use Rattle.topo_route.proofs.Interface.{dart_of_number, face_of_numbers, next_permutes, number_below, numbers_of_face}
 
 one_face : (rows : Rows) → Lawful rows → (c d : Dart) → has_dart (darts rows) c ≡ true → has_dart (darts rows) d ≡ true → ∥ SameFace (system rows) c d ∥₁
     → SameFace (system rows) c d

@@ -8,9 +8,9 @@ use Rattle.topo_core.specs.Lawful.{Lawful}
 use Rattle.topo_core.specs.Picture.{edge_at, edge_row, index_of, turn_images}
 use Rattle.topo_core.specs.Pictures.{back, forward}
 use Rattle.topo_perm.specs.Runs.{IsRun}
-use Rattle.topo_perm.proofs.renumbering.DeletionNumbers.{smooths_of, unchords_of}
+use Rattle.topo_perm.proofs.Interface.{smooths_of, unchords_of}
 use Rattle.topo_map.specs.Rotation.{IsEmbedding, KeepsLabels, Rotation, edge_of, half_limit, is_live, turning_of}
-use Rattle.topo_changes.proofs.deleting.DeletedMids.{across, first_of, is_even}
+use Rattle.topo_changes.proofs.Interface.{across, first_of, is_even}
 use Rattle.topo_embedded.specs.Deleting.{spared}
 use Rattle.topo_embedded.specs.Halves.{RowsWithPaths, ShowsRows, half_at, path_of}
 

@@ -15,7 +15,7 @@ use std::alloc::Global;
 use std::marker::Model;
 use topo_changes::KeptRows;
 use topo_map::{Embedding, Half};
-use topo_route::potentials::Potentials;
+use topo_route::guided::potentials::Potentials;
 
 /// Potentials by the label of a face, none where nothing guides a search, and the floors of the
 /// kinds for which they are made: across a segment they differ by no more.

@@ -10,7 +10,7 @@ ghost use Rattle.topo_core.specs.Lawful.{Lawful};
 ghost use Rattle.topo_core.specs.Picture.{edge_row};
 ghost use Rattle.topo_core.specs.Rotations.{twin};
 ghost use Rattle.topo_map.specs.Rotation.{edge_of, is_live, turn};
-ghost use Rattle.topo_changes.proofs.deleting.DeletedMids.{across};
+ghost use Rattle.topo_changes.proofs.Interface.{across};
 ghost use Rattle.topo_embedded.specs.Halves.{ShowsRows, path_of};
 ghost use Rattle.topo_embedded.specs.Opening.{IsOpenTo, IsOpened, IsSetOut, IsSmoothedTo};
 ghost use Rattle.topo_embedded.specs.Opening.{leads_in, mids_of, without_half};

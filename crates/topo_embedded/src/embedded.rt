@@ -37,7 +37,7 @@ use topo_core::listed::Listed;
 use topo_core::routes::Route;
 use topo_core::rows::{Facts, Rows};
 use topo_map::{Embedding, Half};
-use topo_route::potentials::Potentials;
+use topo_route::guided::potentials::Potentials;
 use topo_rows::Turns;
 
 /// The facts of an edge of a known kind.

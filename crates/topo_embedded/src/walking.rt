@@ -24,7 +24,7 @@ use topo_core::darts::{Dart, Way};
 use topo_core::rows::Facts;
 use topo_map::{Embedding, Half};
 use topo_route::face_graph::FaceGraph;
-use topo_route::potentials::Potentials;
+use topo_route::guided::potentials::Potentials;
 
 /// Where a half lies on the path of its edge, and which way it leads along it.
 pub(crate) fn place_on_path(path: &Path, half: Half) -> (u32, Way)

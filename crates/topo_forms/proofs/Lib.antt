@@ -1,17 +1,18 @@
-pub mod Bytes
-pub mod Fronts
-pub mod Items
-pub mod Letters
-pub mod LineLaws
-pub mod Lookups
-pub mod Objects
-pub mod PriceLists
-pub mod TokenCalls
-pub mod TokenReplies
-pub mod TokenReports
-pub mod TokenRows
-pub mod TokenScripts
-pub mod TokenSessions
-pub mod TokenStarts
-pub mod Spellings
-pub mod Steps
+pub mod Interface
+mod Bytes
+mod Fronts
+mod Items
+mod Letters
+mod LineLaws
+mod Lookups
+mod Objects
+mod PriceLists
+mod TokenCalls
+mod TokenReplies
+mod TokenReports
+mod TokenRows
+mod TokenScripts
+mod TokenSessions
+mod TokenStarts
+mod Spellings
+mod Steps

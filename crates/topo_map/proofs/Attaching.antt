@@ -3,11 +3,9 @@ use Rattle.std.proofs.Common.{◌≡◌, ◌≢◌, ℕ, ◌+◌, ◌<◌, Bool,
 use Rattle.slab.specs.Slab.{Slab}
 use Rattle.topo_core.specs.Cycles.{IsPermutation, SameCycle}
 use Rattle.topo_core.specs.Rotations.{twin, face_next}
-use Rattle.topo_core.proofs.systems.Orbits.{SameCycle-refl, SameCycle-trans, SameCycle-sym}
+use Rattle.topo_core.proofs.Interface.{SameCycle-refl, SameCycle-sym, SameCycle-trans}
 use Rattle.topo_perm.specs.FaceLabels.{LabelsFaces}
-use Rattle.topo_perm.proofs.permutations.Exchange.{IsExchange}
-use Rattle.topo_perm.proofs.permutations.Faces.{twin-twin}
-use Rattle.topo_perm.proofs.permutations.Walks.{face_next-permutation}
+use Rattle.topo_perm.proofs.Interface.{IsExchange, face_next-permutation, twin-twin}
 use Rattle.topo_map.specs.Rotation.{PartsLabels, half_limit}
 use Rattle.topo_map.specs.Segments.{put, without, holds, next_in, before_in, face_in, IsKept, IsTurned}
 use Rattle.topo_map.specs.Labels.{painted, IsLabelled, IsPainted}

@@ -5,10 +5,9 @@ use Rattle.topo_perm.specs.Edits.{IsAllowedHang, IsAllowedChord, IsAllowedUnchor
 use Rattle.topo_perm.specs.Joins.{AddsSegment, IsConnectedAmong}
 use Rattle.topo_perm.specs.Live.{IsSlab, live_cycle_count}
 use Rattle.topo_perm.specs.LiveEdits.{GrowsSlab, ShrinksSlab}
-use Rattle.topo_perm.proofs.edits.Connecting.{hang_connects, chord_connects, split_connects, unchord_connects, smooth_connects}
-use Rattle.topo_perm.proofs.edits.SlabEdits.{hang_keeps_slab, hang_live_points, hang_live_faces, chord_keeps_slab, chord_live_points}
-use Rattle.topo_perm.proofs.edits.SlabEdits.{chord_live_faces, split_keeps_slab, split_live_points, split_live_faces, unchord_keeps_slab}
-use Rattle.topo_perm.proofs.edits.SlabEdits.{unchord_live_points, unchord_live_faces, smooth_keeps_slab, smooth_live_points, smooth_live_faces}
+use Rattle.topo_perm.proofs.Interface.{chord_connects, chord_keeps_slab, chord_live_faces, chord_live_points, hang_connects, hang_keeps_slab, hang_live_faces, hang_live_points, smooth_connects}
+use Rattle.topo_perm.proofs.Interface.{smooth_keeps_slab, smooth_live_faces, smooth_live_points, split_connects, split_keeps_slab, split_live_faces, split_live_points, unchord_connects}
+use Rattle.topo_perm.proofs.Interface.{unchord_keeps_slab, unchord_live_faces, unchord_live_points}
 use Rattle.topo_map.specs.Rotation.{IsWhole, half_limit}
 
 -- so many points and faces more

@@ -6,12 +6,10 @@ use Rattle.slab.specs.Slab.{Slab}
 use Rattle.topo_core.specs.Cycles.{IsPermutation, SameCycle, map_of}
 use Rattle.topo_core.specs.Rotations.{twin, face_next}
 use Rattle.topo_core.specs.Edits.{IsIsolated}
-use Rattle.topo_core.proofs.systems.Orbits.{SameCycle-sym}
+use Rattle.topo_core.proofs.Interface.{SameCycle-sym}
 use Rattle.topo_perm.specs.FaceLabels.{AddsBelow}
 use Rattle.topo_perm.specs.Joins.{AddsSegment}
-use Rattle.topo_perm.proofs.permutations.Faces.{twin-twin, isolated_face}
-use Rattle.topo_perm.proofs.permutations.Splitting.{without-self}
-use Rattle.topo_perm.proofs.edits.LabelledFaces.{hang_labels, split_labels, smooth_labels}
+use Rattle.topo_perm.proofs.Interface.{hang_labels, isolated_face, smooth_labels, split_labels, twin-twin, without-self}
 use Rattle.topo_map.specs.Rotation.{half_limit, live_in, turn_in, AddsFaces, KeepsLabels, Slot}
 use Rattle.topo_map.specs.Segments.{put, without, holds, next_in, before_in, face_in, nexts, IsKept, IsInserted, IsRemoved, IsTurned, Repaints}
 use Rattle.topo_map.specs.Building.{AreBlank, IsJoined, IsListed}

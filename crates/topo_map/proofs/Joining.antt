@@ -7,9 +7,7 @@ use Rattle.topo_core.specs.Cycles.{map_of, IsPermutation}
 use Rattle.topo_core.specs.Rotations.{twin, face_next}
 use Rattle.topo_perm.specs.Renumbering.{RenumbersTurn}
 use Rattle.topo_perm.specs.Live.{IsSlab, live_segments}
-use Rattle.topo_perm.proofs.edits.SlabEdits.{segments_grow}
-use Rattle.topo_perm.proofs.renumbering.Renumbered.{renumbered_cycles, renumbered_faces, renumbered_connected}
-use Rattle.topo_perm.proofs.permutations.Points.{HasBefore, before_of}
+use Rattle.topo_perm.proofs.Interface.{HasBefore, before_of, renumbered_connected, renumbered_cycles, renumbered_faces, segments_grow}
 use Rattle.topo_map.specs.Rotation.{half_limit, IsMadeFrom, IsWhole}
 use Rattle.topo_map.specs.Segments.{written, holds, next_in, before_in, nexts, befores, view_of, IsKept, Rewires, IsInserted}
 use Rattle.topo_map.specs.Building.{IsListed, AreAlone, AreJoinedBelow, IsJoined}

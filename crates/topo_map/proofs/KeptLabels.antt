@@ -2,7 +2,7 @@
 use Rattle.std.proofs.Common.{◌≡◌, ℕ, ◌<◌, Bool, true, ◌⊎◌, inl, inr, refl, sym, ◌∙◌, ap}
 use Rattle.topo_core.specs.Cycles.{IsPermutation, SameCycle}
 use Rattle.topo_core.specs.Rotations.{twin}
-use Rattle.topo_perm.proofs.permutations.Faces.{twin-twin}
+use Rattle.topo_perm.proofs.Interface.{twin-twin}
 use Rattle.topo_map.specs.Rotation.{AddsFaces, PartsLabels}
 use Rattle.topo_map.specs.Labels.{painted}
 use Rattle.topo_map.proofs.Painting.{lies}

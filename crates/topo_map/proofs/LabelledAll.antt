@@ -4,7 +4,7 @@ use Rattle.std.proofs.lemmas.Bool.{cases_eq}
 use Rattle.slab.specs.Slab.{Slab}
 use Rattle.topo_core.specs.Cycles.{IsPermutation, SameCycle}
 use Rattle.topo_core.specs.Rotations.{face_next}
-use Rattle.topo_core.proofs.systems.Orbits.{SameCycle-trans, SameCycle-sym}
+use Rattle.topo_core.proofs.Interface.{SameCycle-sym, SameCycle-trans}
 use Rattle.topo_map.specs.Rotation.{half_limit}
 use Rattle.topo_map.specs.Segments.{holds, next_in, face_in, IsKept, Repaints}
 use Rattle.topo_map.specs.Building.{AreBlank}

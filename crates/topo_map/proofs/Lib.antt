@@ -1,19 +1,20 @@
-pub mod HalfNumbers
-pub mod Maps
-pub mod Slots
-pub mod Kept
-pub mod Stored
-pub mod Parts
-pub mod Sizes
-pub mod Counted
-pub mod Steps
-pub mod Rounds
-pub mod Painting
-pub mod Walked
-pub mod KeptLabels
-pub mod Attaching
-pub mod LabelledAll
-pub mod FaceEdits
-pub mod Listing
-pub mod Joining
-pub mod EditSteps
+pub mod Interface
+mod HalfNumbers
+mod Maps
+mod Slots
+mod Kept
+mod Stored
+mod Parts
+mod Sizes
+mod Counted
+mod Steps
+mod Rounds
+mod Painting
+mod Walked
+mod KeptLabels
+mod Attaching
+mod LabelledAll
+mod FaceEdits
+mod Listing
+mod Joining
+mod EditSteps

@@ -7,8 +7,7 @@ use Rattle.std.proofs.Math.Seq.{get_or-append_seam}
 use Rattle.topo_core.specs.Cycles.{map_of, count_below}
 use Rattle.topo_core.specs.Rotations.{twin}
 use Rattle.topo_perm.specs.Joins.{AddsSegment}
-use Rattle.topo_perm.proofs.permutations.Walks.{twin-within, twin-cases}
-use Rattle.topo_perm.proofs.permutations.Faces.{twin-twin, twin-other}
+use Rattle.topo_perm.proofs.Interface.{twin-cases, twin-other, twin-twin, twin-within}
 use Rattle.topo_perm.specs.Live.{live_segments}
 use Rattle.topo_map.specs.Rotation.{AddsLabel, AreLabelled, half_limit}
 use Rattle.topo_map.specs.Building.{IsListed}

@@ -3,11 +3,9 @@ use Rattle.std.proofs.Common.{◌≡◌, ◌≢◌, ℕ, ◌+◌, ◌<◌, Bool,
 use Rattle.std.proofs.lemmas.Bool.{cases_Bool, cases_eq, cond-true, cond-false, eq-eqb, ne_eqb, false≢true, or_left}
 use Rattle.topo_core.specs.Cycles.{IsPermutation, SameCycle, after, is_met}
 use Rattle.topo_core.specs.Rotations.{twin, face_next}
-use Rattle.topo_core.proofs.systems.Orbits.{SameCycle-refl, SameCycle-trans, SameCycle-sym, SameCycle-is_met, is_met-SameCycle}
+use Rattle.topo_core.proofs.Interface.{SameCycle-is_met, SameCycle-refl, SameCycle-sym, SameCycle-trans, is_met-SameCycle}
 use Rattle.topo_perm.specs.FaceLabels.{LabelsFaces}
-use Rattle.topo_perm.proofs.permutations.Exchange.{IsExchange, IsExchange-back, IsExchange-permutation, Together, exchange_parts, kept, spread}
-use Rattle.topo_perm.proofs.permutations.Faces.{twin-twin}
-use Rattle.topo_perm.proofs.permutations.Lists.{is_met_more, is_met-period}
+use Rattle.topo_perm.proofs.Interface.{IsExchange, IsExchange-back, IsExchange-permutation, Together, exchange_parts, is_met-period, is_met_more, kept, spread, twin-twin}
 use Rattle.topo_map.specs.Segments.{written, put, without, AreInverse}
 use Rattle.topo_map.specs.Labels.{painted}
 use Rattle.topo_map.proofs.Maps.{IsLone, funext}

@@ -2,7 +2,7 @@
 use Rattle.std.proofs.Common.{◌≡◌, ◌≢◌, ℕ, suc, ◌+◌, ◌<◌, inl, inr, sym, ◌∙◌, ap, arith}
 use Rattle.std.proofs.lemmas.Bool.{cases_eq}
 use Rattle.topo_core.specs.Cycles.{IsPermutation, after}
-use Rattle.topo_perm.proofs.permutations.Lists.{must_return}
+use Rattle.topo_perm.proofs.Interface.{must_return}
 use Rattle.topo_map.specs.Rotation.{Rotation, IsDegree, turn}
 
 -- as many steps as there are numbers, and not back before the last

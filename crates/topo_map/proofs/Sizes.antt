@@ -7,9 +7,9 @@ use Rattle.std.proofs.lemmas.Bool.{cases_Bool, cases_lt, cond-true, cond-false, 
 use Rattle.std.proofs.lemmas.List.Sums.{count_by-le-length, count_by_more_no, count_by_more_yes}
 use Rattle.slab.specs.Slab.{Slab, slab_len}
 use Rattle.topo_core.specs.Cycles.{count_below}
-use Rattle.topo_core.proofs.systems.Orbits.{count_below-same}
+use Rattle.topo_core.proofs.Interface.{count_below-same}
 use Rattle.topo_perm.specs.Live.{live_segments}
-use Rattle.topo_perm.proofs.permutations.Lists.{count_below_more}
+use Rattle.topo_perm.proofs.Interface.{count_below_more}
 use Rattle.topo_map.specs.Rotation.{half_limit}
 use Rattle.topo_map.specs.Segments.{holds, nexts, limit_of, room_of}
 use Rattle.topo_map.specs.declared.segments.Segment.{Segment}

@@ -6,13 +6,8 @@ use Rattle.topo_core.specs.Rotations.{twin}
 use Rattle.topo_core.specs.Edits.{IsIsolated, IsUnchord}
 use Rattle.topo_perm.specs.Edits.{IsApart, IsAllowedHang, IsAllowedUnchord, IsAllowedSplit, IsAllowedSmooth}
 use Rattle.topo_perm.specs.Joins.{AddsSegment}
-use Rattle.topo_perm.proofs.permutations.Faces.{twin-twin, twin-other}
-use Rattle.topo_perm.proofs.permutations.Splitting.{without-self, without-elsewhere}
-use Rattle.topo_perm.proofs.edits.EditCounts.{put-elsewhere}
-use Rattle.topo_perm.proofs.edits.Allowed.{AreDarts, IsChordPut, hang_allowed, chord_allowed, chord_put}
-use Rattle.topo_perm.proofs.edits.Allowed.{unchord_allowed, unchord_made, split_allowed, smooth_allowed}
-use Rattle.topo_perm.proofs.edits.SlabEdits.{segments_grow}
-use Rattle.topo_perm.proofs.edits.Bypassing.{twin-half}
+use Rattle.topo_perm.proofs.Interface.{AreDarts, IsChordPut, chord_allowed, chord_put, hang_allowed, put-elsewhere, segments_grow, smooth_allowed, split_allowed, twin-half, twin-other, twin-twin}
+use Rattle.topo_perm.proofs.Interface.{unchord_allowed, unchord_made, without-elsewhere, without-self}
 use Rattle.topo_map.specs.Rotation.{half_limit, AddsLabel, CountsFewer, CountsMore, IsOneFace, IsWhole, KeepsLabels, Grows, PartsFaces, Shrinks}
 use Rattle.topo_map.specs.Segments.{put, without, holds, next_in, nexts, label_in, limit_of, room_of, view_of, IsKept, IsTurned, IsInserted, IsRemoved}
 use Rattle.topo_map.specs.declared.segments.Segment.{Segment}

@@ -6,9 +6,8 @@ use Rattle.std.specs.Option.{option_map}
 use Rattle.slab.specs.Slab.{Slab, get, slab_len, Updates}
 use Rattle.topo_core.specs.Rotations.{twin}
 use Rattle.topo_perm.specs.Joins.{AddsSegment}
-use Rattle.topo_perm.proofs.permutations.Walks.{twin-cases}
+use Rattle.topo_perm.proofs.Interface.{half-same, twin-cases, twin-half}
 use Rattle.topo_core.specs.declared.darts.Way.TheVariants.{Forward, Back}
-use Rattle.topo_perm.proofs.edits.Bypassing.{half-same, twin-half}
 use Rattle.topo_map.specs.Halves.{half_number}
 use Rattle.topo_map.specs.Rotation.{AddsFaces, AddsLabel, KeepsLabels, Slot, turned, turn_in, half_limit}
 use Rattle.topo_map.specs.Segments.{shown, holds, next_in, before_in, nexts, befores, label_in, face_in, limit_of}

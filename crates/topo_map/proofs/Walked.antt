@@ -3,7 +3,7 @@ use Rattle.std.proofs.Common.{arith, ◌≡◌, ℕ, ◌+◌, ◌<◌, Bool, tru
 use Rattle.slab.specs.Slab.{Slab}
 use Rattle.topo_core.specs.Cycles.{after}
 use Rattle.topo_core.specs.Rotations.{twin, face_next}
-use Rattle.topo_perm.proofs.permutations.Lists.{after_more}
+use Rattle.topo_perm.proofs.Interface.{after_more}
 use Rattle.topo_map.specs.Rotation.{half_limit}
 use Rattle.topo_map.specs.Segments.{written, holds, next_in, face_in, IsKept, Repaints}
 use Rattle.topo_map.specs.Labels.{painted, IsPainted}

@@ -1,4 +1,5 @@
-pub mod permutations
-pub mod edits
-pub mod runs
-pub mod renumbering
+pub mod Interface
+mod permutations
+mod edits
+mod runs
+mod renumbering

@@ -7,8 +7,7 @@ use Rattle.topo_core.specs.declared.rows.EdgeRow.{EdgeRow}
 use Rattle.topo_core.specs.declared.rows.Rows.{Rows}
 use Rattle.topo_core.specs.Items.{IsIn}
 use Rattle.topo_core.specs.Picture.{cross_row, edge_row}
-use Rattle.topo_core.proofs.growing.Growing.{all_from}
-use Rattle.topo_core.proofs.numbering.Members.{left_true, right_true, test_of_each}
+use Rattle.topo_core.proofs.Interface.{all_from, left_true, right_true, test_of_each}
 use Rattle.topo_route.specs.Regions.{IsApart, RegionState, holds_edge, holds_vertex}
 use Rattle.topo_picture.specs.Apart.{is_of_others, lies_apart}
 

@@ -7,7 +7,7 @@ use Rattle.topo_core.specs.Cycles.{after}
 use Rattle.topo_core.specs.Lawful.{Lawful}
 use Rattle.topo_core.specs.Picture.{darts, system}
 use Rattle.topo_core.specs.Systems.{System, face_step, has_dart}
-use Rattle.topo_route.proofs.names.Numbers.{face_stays}
+use Rattle.topo_route.proofs.Interface.{face_stays}
 use Rattle.topo_picture.specs.Faces.{IsFaceFrom, face_walk}
 
 -- what was found of the face on the left of d so far, and the half of the dart that follows it

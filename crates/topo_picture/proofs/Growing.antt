@@ -10,8 +10,7 @@ use Rattle.topo_core.specs.Pictures.{seed}
 use Rattle.topo_core.specs.Changes.{grown}
 use Rattle.topo_core.specs.Steps.{grow_refusal}
 use Rattle.topo_rows.specs.Shown.{IsPicture}
-use Rattle.topo_core.proofs.systems.Connection.{seed_is_embedding}
-use Rattle.topo_core.proofs.growing.GrownFaces.{growth_keeps_lawful}
+use Rattle.topo_core.proofs.Interface.{growth_keeps_lawful, seed_is_embedding}
 use Rattle.topo_core.specs.declared.rows.TheConstants.{KINDS}
 
 pub seed_is_picture : (limits : Limits) → IsPicture limits seed

@@ -10,10 +10,9 @@ use Rattle.topo_core.specs.Routes.{IsSimpleRoute}
 use Rattle.topo_core.specs.Steps.{HasRoomFor, insert_refusal}
 use Rattle.topo_core.specs.Changes.{shown}
 use Rattle.topo_core.specs.Insertions.{IsInsertable}
-use Rattle.topo_core.proofs.inserting.ShownRows.{shown_vertices}
-use Rattle.topo_core.proofs.routing.SimpleRoutes.{simple_is_insertable}
+use Rattle.topo_core.proofs.Interface.{shown_vertices, simple_is_insertable}
 use Rattle.topo_rows.specs.Shown.{IsPicture}
-use Rattle.topo_changes.proofs.inserting.InsertedLawful.{insertion_keeps_lawful}
+use Rattle.topo_changes.proofs.Interface.{insertion_keeps_lawful}
 use Rattle.topo_core.specs.declared.rows.TheConstants.{KINDS}
 
 -- what holds where an insertion is not refused before a route is looked for

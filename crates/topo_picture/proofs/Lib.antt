@@ -1,7 +1,7 @@
-pub mod ApartEdges
-pub mod Growing
-pub mod Inserting
-pub mod Totals
-pub mod DeletedPicture
-pub mod FaceWalks
-pub mod Failures
+mod ApartEdges
+mod Growing
+mod Inserting
+mod Totals
+mod DeletedPicture
+mod FaceWalks
+mod Failures

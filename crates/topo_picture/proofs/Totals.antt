@@ -5,11 +5,11 @@ use Rattle.std.proofs.lemmas.List.{length-map}
 use Rattle.topo_core.specs.declared.limits.Limits.{Limits}
 use Rattle.topo_core.specs.declared.rows.Rows.{Rows}
 use Rattle.topo_core.specs.Picture.{face_count, segment_count}
-use Rattle.topo_core.proofs.numbering.Members.{left_true}
+use Rattle.topo_core.proofs.Interface.{left_true}
 use Rattle.topo_rows.specs.Shown.{IsPicture}
 use Rattle.topo_picture.specs.Totals.{AreCountsOf}
-use Rattle.topo_rows.proofs.Sorting.{few_rise}
-use Rattle.topo_changes.proofs.rows.Totals.{segments_total}
+use Rattle.topo_rows.proofs.Interface.{few_rise}
+use Rattle.topo_changes.proofs.Interface.{segments_total}
 
 -- the sizes of a picture, and how they hang together
 pub record IsCounted (rows : Rows) : Type 0 where

@@ -7,7 +7,7 @@ ghost use Rattle.topo_core.specs.Picture.{cross_row};
 ghost use Rattle.topo_picture.specs.Apart.{is_of_others, lies_apart};
 
 use topo_changes::{EdgeView, KeptRows};
-use topo_route::region::Region;
+use topo_route::planned::region::Region;
 
 /// Whether a crossing, if it is there, is of two edges that are not of the region.
 fn is_of_others(rows: &KeptRows, region: &Region, crossing: u32) -> bool

@@ -1,2 +1,2 @@
-pub mod ByKind
-pub mod Tables
+mod ByKind
+mod Tables

@@ -1,5 +1,6 @@
-pub mod names
-pub mod spreading
-pub mod meeting
-pub mod surviving
-pub mod plans
+pub mod Interface
+mod names
+mod spreading
+mod meeting
+mod surviving
+mod plans

@@ -2,8 +2,8 @@
 use Rattle.std.specs.Prelude.{ℕ, ◌+◌, ◌-◌, ◌≤◌, max, min}
 use Rattle.topo_core.specs.Picture.{edge_at}
 use Rattle.topo_route.specs.Names.{IsName, Named, dart_named, twin_name}
-use Rattle.topo_route.specs.declared.guide.Guide.{Guide}
-use Rattle.topo_route.specs.declared.potentials.Potentials.{Potentials}
+use Rattle.topo_route.specs.declared.guided.guide.Guide.{Guide}
+use Rattle.topo_route.specs.declared.guided.potentials.Potentials.{Potentials}
 
 abbrev pub all_four : ℕ → Potentials
 all_four n = record { first = n; second = n; third = n; fourth = n }

@@ -9,9 +9,9 @@ ghost use Rattle.topo_core.specs.Routes.{AreFactsOf};
 ghost use Rattle.topo_route.specs.Names.{HasFaces, IsName, IsNamed, Named};
 ghost use Rattle.topo_route.specs.Names.{dart_named, next_name, twin_name};
 ghost use Rattle.topo_route.specs.Potentials.{AreConsistent};
-ghost use Rattle.topo_route.specs.declared.potentials.Potentials.{Potentials};
+ghost use Rattle.topo_route.specs.declared.guided.potentials.Potentials.{Potentials};
 
-use crate::potentials::Potentials;
+use crate::guided::potentials::Potentials;
 use topo_core::darts::Dart;
 use topo_core::rows::Facts;
 

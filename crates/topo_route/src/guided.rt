@@ -1,51 +1,11 @@
-//! The search that is guided to the start.
+//! Searches that are guided to their target. `landmarks` measures how far the faces lie from four
+//! vertices, `potentials` is what is read of a face, `guide` says by it how far the target is at
+//! least, and `toward` is the search.
+//!
+//! They spare time in a large picture whose prices go by kinds, and change no route. Whoever reads
+//! about the other searches can pass this folder by.
 
-ghost use Rattle.std.specs.Prelude.{◌≡◌, ◌<◌, ◌≤◌, ℕ, OnOk, length, Some};
-ghost use Rattle.topo_core.specs.Picture.{corner, darts};
-ghost use Rattle.topo_core.specs.declared.darts.Dart.{Dart};
-ghost use Rattle.topo_core.specs.declared.rows.Facts.{Facts};
-ghost use Rattle.topo_core.specs.declared.rows.TheConstants.{KINDS};
-ghost use Rattle.topo_price.specs.Prices.{prices_of};
-ghost use Rattle.topo_route.specs.Descents.{AreHeightsFor};
-ghost use Rattle.topo_route.specs.FaceHeights.{dart_heights};
-ghost use Rattle.topo_route.specs.Potentials.{IsOfGuide};
-ghost use Rattle.topo_route.specs.Settling.{ArePrices};
-
-use crate::both_ends::start_both;
-use crate::face_graph::FaceGraph;
-use crate::guide::Guide;
-use crate::priced_graph::PricedGraph;
-use crate::workspace::Workspace;
-use std::alloc::AllocError;
-use topo_price::tariff::PriceFn;
-
-/// The least prices of the darts' faces to a face at the target, as far as routes from `u` need
-/// them. The guide is that of `u`, and the potentials are made for prices that are no higher.
-pub(crate) fn heights_toward<W: FaceGraph, F: PriceFn>(
-    priced: &PricedGraph<W, F>,
-    u: u32,
-    v: u32,
-    guide: &Guide,
-    work: &mut Workspace,
-) -> Result<(), AllocError>
-    requires right { ArePrices (prices_of (F.may_return priced.now.tariff.now))
-        (W.named priced.now.graph.now) priced.now.prices.items }
-    requires some { 0 < length (darts (W.named priced.now.graph.now).rows) }
-    requires corners { (p : ℕ) (c : Dart)
-        → corner (W.named priced.now.graph.now).rows u p ≡ Some c → IsOfGuide guide.now
-        (W.potentials priced.now.graph.now
-        (W.face_of priced.now.graph.now ((W.named priced.now.graph.now).name c))) }
-    requires floors { (facts : Facts) (n : ℕ) → facts.kind < KINDS
-        → prices_of (F.may_return priced.now.tariff.now) facts n
-        → W.floor priced.now.graph.now facts.kind ≤ n }
-    ensures heights { OnOk result (AreHeightsFor (prices_of (F.may_return priced.now.tariff.now))
-        (W.named priced.now.graph.now) u v (dart_heights (W.named priced.now.graph.now)
-        (W.face_of priced.now.graph.now) work.new.to_end.heights)) }
-    ensures one_each { OnOk result
-        (length work.new.to_end.heights ≡ W.face_bound priced.now.graph.now) }
-{
-    let mut least = start_both(priced, work, u, v)?;
-    work.to_end
-        .spread_toward(priced, &work.to_start.heights, guide, &mut least, v)?;
-    Ok(())
-}
+pub(crate) mod guide;
+pub mod landmarks;
+pub mod potentials;
+pub(crate) mod toward;

@@ -13,9 +13,9 @@
 //! test it fails first: its Ok means that the route is the first of the least, whoever made the
 //! plan.
 //!
-//! `laws` says when a route survives a change of the picture: where each face that its search has
-//! seen is still there, it is the first of the least routes of the later picture too. `evidence`
-//! computes such a change.
+//! Two folders can be passed by. `guided` has what guides a search. `planned` has the region, and
+//! its `laws` say when a route survives a change of the picture: where each face that its search
+//! has seen is still there, it is the first of the least routes of the later picture too.
 //!
 //! A caller, over any picture (`Picture::embedded` of `topo_picture` gives one):
 //!
@@ -47,21 +47,14 @@ pub mod check;
 mod descent;
 mod direct;
 pub mod dual;
-pub mod evidence;
 pub mod face_graph;
 mod faces;
-mod guide;
-mod guided;
+pub mod guided;
 mod heights;
-pub mod landmarks;
-pub mod laws;
 pub mod plan;
-pub mod potentials;
+pub mod planned;
 mod priced_graph;
-pub mod region;
-pub mod region_evidence;
 pub mod search;
-mod seen;
 mod spread;
 mod stamped_array;
 mod steps;

@@ -1,6 +1,6 @@
 //! Plans: a route with its price and the heights that certify it.
 
-use crate::region::Region;
+use crate::planned::region::Region;
 use std::fmt;
 use thiserror::Error;
 use topo_core::listed::Listed;

@@ -19,7 +19,7 @@ ghost use Rattle.topo_route.specs.StampedArrays.{height_limit};
 
 use crate::bucket_queue::{BucketQueue, dart_of_item, item_of, least_height};
 use crate::face_graph::FaceGraph;
-use crate::guide::Guide;
+use crate::guided::guide::Guide;
 use crate::priced_graph::PricedGraph;
 use crate::stamped_array::StampedArray;
 use crate::steps::{across, corner_at, face_at, step};

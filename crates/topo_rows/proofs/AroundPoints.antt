@@ -11,15 +11,8 @@ use Rattle.topo_core.specs.Items.{has_id, IsIn}
 use Rattle.topo_core.specs.Lawful.{IsWellFormed}
 use Rattle.topo_core.specs.Picture.{around_vertex, end_dart, rotation, system}
 use Rattle.topo_core.specs.Systems.{darts_in, follower, has_dart, turn}
-use Rattle.topo_core.proofs.numbering.DartLaws.{same_dart_self, same_dart_true}
-use Rattle.topo_core.proofs.numbering.Members.{in_map, or_second}
-use Rattle.topo_core.proofs.numbering.Numbering.{distinct_system}
-use Rattle.topo_core.proofs.systems.Points.{turn_at_point}
-use Rattle.topo_core.proofs.systems.Turning.{distinct_tail, head_not_later, IsDistinct, next_around}
-use Rattle.topo_core.proofs.deleting.WithoutRows.{in_has_id}
-use Rattle.topo_core.proofs.routing.RouteDarts.{has_item}
-use Rattle.topo_core.proofs.systems.Bypassing.{point_distinct}
-use Rattle.topo_core.proofs.systems.SystemDarts.{vertex_in, vertex_point}
+use Rattle.topo_core.proofs.Interface.{IsDistinct, distinct_system, distinct_tail, has_item, head_not_later, in_has_id, in_map, next_around, or_second, point_distinct, same_dart_self, same_dart_true}
+use Rattle.topo_core.proofs.Interface.{turn_at_point, vertex_in, vertex_point}
 use Rattle.topo_rows.specs.Around.{entry_after}
 
 -- ---- Round a list

@@ -13,9 +13,7 @@ use Rattle.topo_core.specs.declared.rows.Rows.{Rows}
 use Rattle.topo_core.specs.Darts.{both_ways}
 use Rattle.topo_core.specs.Lawful.{has_good_path, has_good_paths}
 use Rattle.topo_core.specs.Picture.{darts, darts_of, edge_row, end_dart, index_of, segment_count}
-use Rattle.topo_core.proofs.numbering.Members.{left_true}
-use Rattle.topo_core.proofs.numbering.Numbering.{index_of_get}
-use Rattle.topo_core.proofs.systems.SystemDarts.{edge_at_row, row_id}
+use Rattle.topo_core.proofs.Interface.{edge_at_row, index_of_get, left_true, row_id}
 use Rattle.topo_rows.proofs.Sorting.{rises_strictly}
 use Rattle.topo_rows.specs.Flats.{begins_from}
 

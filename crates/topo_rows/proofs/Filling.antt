@@ -16,8 +16,7 @@ use Rattle.topo_core.specs.declared.rows.Rows.{Rows}
 use Rattle.topo_core.specs.Items.{IsIn, occurrences, rises_below}
 use Rattle.topo_core.specs.Lawful.{has_good_paths}
 use Rattle.topo_core.specs.Picture.{segment_count}
-use Rattle.topo_core.proofs.numbering.Counting.{at_most_one, eqb_more, one}
-use Rattle.topo_core.proofs.numbering.Members.{found, left_true, right_true, test_of_each}
+use Rattle.topo_core.proofs.Interface.{at_most_one, eqb_more, found, left_true, one, right_true, test_of_each}
 use Rattle.topo_rows.specs.Flats.{AreNoted, note_place, notes_from, path_notes, written}
 use Rattle.topo_rows.specs.Ids.{IsPlaceOf}
 use Rattle.topo_rows.specs.Notes.{Fills, IsNotePlace, IsOfOthers, IsOverfull, noted}

@@ -12,7 +12,7 @@ use Rattle.topo_core.specs.declared.rows.EdgeRow.{EdgeRow}
 use Rattle.topo_core.specs.declared.rows.Rows.{Rows}
 use Rattle.topo_core.specs.Items.{rises_below}
 use Rattle.topo_core.specs.Lawful.{has_good_path, has_good_paths}
-use Rattle.topo_core.proofs.numbering.Members.{found, left_true}
+use Rattle.topo_core.proofs.Interface.{found, left_true}
 use Rattle.topo_rows.specs.Ids.{IdsRise, IsPlaceOf, NoneBefore, NoneFrom}
 use Rattle.topo_rows.proofs.Begins.{AtPlace}
 use Rattle.topo_rows.proofs.Noting.{place_among}

@@ -1,15 +1,16 @@
-pub mod AroundPoints
-pub mod Begins
-pub mod Filling
-pub mod Finding
-pub mod Linking
-pub mod Noting
-pub mod PairCounts
-pub mod PairTests
-pub mod Pushed
-pub mod Rounds
-pub mod RowDarts
-pub mod RowCounts
-pub mod Sorting
-pub mod Verdicts
-pub mod Written
+pub mod Interface
+mod AroundPoints
+mod Begins
+mod Filling
+mod Finding
+mod Linking
+mod Noting
+mod PairCounts
+mod PairTests
+mod Pushed
+mod Rounds
+mod RowDarts
+mod RowCounts
+mod Sorting
+mod Verdicts
+mod Written

@@ -12,13 +12,8 @@ use Rattle.topo_core.specs.Items.{IsIn, occurrences}
 use Rattle.topo_core.specs.Lawful.{IsWellFormed}
 use Rattle.topo_core.specs.Picture.{around_crossing, around_vertex, darts, index_of, system, turn_images, vertices}
 use Rattle.topo_core.specs.Systems.{darts_in, follower, has_dart, System, turn}
-use Rattle.topo_core.proofs.numbering.Counting.{one, sum_joined, sum_same, sum_of_map}
-use Rattle.topo_core.proofs.numbering.DartLaws.{same_dart_self, same_dart_true}
-use Rattle.topo_core.proofs.numbering.Members.{in_left, in_right, or_second}
-use Rattle.topo_core.proofs.numbering.Numbering.{has_at, image_of, images_length, index_apart, index_of_get}
-use Rattle.topo_core.proofs.numbering.Standing.{listed_test, stands_once, system_test}
-use Rattle.topo_core.proofs.systems.SystemDarts.{get_there}
-use Rattle.topo_core.proofs.routing.RouteDarts.{has_item}
+use Rattle.topo_core.proofs.Interface.{get_there, has_at, has_item, image_of, images_length, in_left, in_right, index_apart, index_of_get, listed_test, one, or_second, same_dart_self, same_dart_true}
+use Rattle.topo_core.proofs.Interface.{stands_once, sum_joined, sum_of_map, sum_same, system_test}
 use Rattle.topo_rows.specs.Flats.{crossing_round, links, links_to, vertex_round, written}
 use Rattle.topo_rows.proofs.Written.{length_written, times, times_joined, written_append, written_once}
 

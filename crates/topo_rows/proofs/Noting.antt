@@ -12,8 +12,7 @@ use Rattle.topo_core.specs.declared.rows.CrossRow.{CrossRow}
 use Rattle.topo_core.specs.declared.rows.EdgeRow.{EdgeRow}
 use Rattle.topo_core.specs.Items.{IsIn}
 use Rattle.topo_core.specs.Picture.{segment_count}
-use Rattle.topo_core.proofs.numbering.Counting.{one}
-use Rattle.topo_core.proofs.numbering.Members.{in_left, in_right}
+use Rattle.topo_core.proofs.Interface.{in_left, in_right, one}
 use Rattle.topo_rows.specs.Flats.{crossing_place, note_place, notes_from, path_notes, written}
 use Rattle.topo_rows.specs.Flats.{begins_from}
 use Rattle.topo_rows.proofs.Written.{times, written_append}

@@ -8,8 +8,7 @@ use Rattle.std.proofs.lemmas.List.Sums.{sum_by-append}
 use Rattle.topo_core.specs.declared.rows.CrossRow.{CrossRow}
 use Rattle.topo_core.specs.declared.rows.EdgeRow.{EdgeRow}
 use Rattle.topo_core.specs.Items.{IsIn, occurrences, rises_below}
-use Rattle.topo_core.proofs.numbering.Counting.{eqb_less, eqb_more, one, sum_found, sum_if, sum_joined, sum_of_map, sum_same}
-use Rattle.topo_core.proofs.numbering.Standing.{one_of_both}
+use Rattle.topo_core.proofs.Interface.{eqb_less, eqb_more, one, one_of_both, sum_found, sum_if, sum_joined, sum_of_map, sum_same}
 use Rattle.topo_rows.specs.Pairs.{crossing_pairs, end_pairs, pair, path_pairs, rotation_pairs}
 
 -- ---- Pairs are the same just when their parts are

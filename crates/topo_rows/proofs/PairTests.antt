@@ -14,13 +14,8 @@ use Rattle.topo_core.specs.declared.rows.Rows.{Rows}
 use Rattle.topo_core.specs.Items.{IsIn, occurrences, rises_below}
 use Rattle.topo_core.specs.Lawful.{has_good_crossings, has_good_path, has_good_paths, has_good_rotation, has_good_rotations, is_good_crossing}
 use Rattle.topo_core.specs.Picture.{cross_row, edge_row, rotation, vertices}
-use Rattle.topo_core.proofs.numbering.Counting.{eqb_symm, ids_above, one}
-use Rattle.topo_core.proofs.numbering.Members.{found, in_map, left_true, range_below, right_true, test_of_each}
-use Rattle.topo_core.proofs.numbering.Standing.{good_crossing, GoodRotation, good_rotation, some_or_none}
-use Rattle.topo_core.proofs.systems.SystemDarts.{crossing_there, path_facts, row_id, row_in, some_of, vertex_in}
-use Rattle.topo_core.proofs.inserting.ShownPlaces.{in_counted}
-use Rattle.topo_core.proofs.inserting.WovenPaths.{counted_in}
-use Rattle.topo_core.proofs.growing.Growing.{below_limit, all_from}
+use Rattle.topo_core.proofs.Interface.{GoodRotation, all_from, below_limit, counted_in, crossing_there, eqb_symm, found, good_crossing, good_rotation, ids_above, in_counted, in_map, left_true, one}
+use Rattle.topo_core.proofs.Interface.{path_facts, range_below, right_true, row_id, row_in, some_of, some_or_none, test_of_each, vertex_in}
 use Rattle.topo_rows.specs.Pairs.{begins_with_least, crossing_pairs, end_pairs, is_valid_edge, pair, path_pairs, rotation_pairs}
 use Rattle.topo_rows.proofs.PairCounts.{crossing_count, end_count, path_count, rotation_count}
 use Rattle.topo_core.specs.declared.rows.TheConstants.{KINDS}

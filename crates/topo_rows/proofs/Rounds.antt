@@ -22,13 +22,8 @@ use Rattle.topo_core.specs.Lawful.{has_good_path, has_good_paths, is_good_crossi
 use Rattle.topo_core.specs.Picture.{ahead, around_crossing, around_vertex, behind, clockwise, cross_row}
 use Rattle.topo_core.specs.Picture.{darts, edge_row, end_dart, index_of, place_on, rotation, system}
 use Rattle.topo_core.specs.Systems.{darts_in}
-use Rattle.topo_core.proofs.numbering.Counting.{one, sum_found, sum_if, sum_same}
-use Rattle.topo_core.proofs.numbering.Members.{found, in_joined, left_true}
-use Rattle.topo_core.proofs.numbering.Numbering.{place_less}
-use Rattle.topo_core.proofs.numbering.Standing.{good_crossing, good_rotation, system_test}
-use Rattle.topo_core.proofs.systems.SystemDarts.{at_vertex_in, crossing_point, crossing_there, edge_at_row, row_id, row_in, some_of, vertex_in}
-use Rattle.topo_core.proofs.routing.RouteDarts.{has_item}
-use Rattle.topo_core.proofs.growing.Growing.{all_from}
+use Rattle.topo_core.proofs.Interface.{all_from, at_vertex_in, crossing_point, crossing_there, edge_at_row, found, good_crossing, good_rotation, has_item, in_joined, left_true, one, place_less}
+use Rattle.topo_core.proofs.Interface.{row_id, row_in, some_of, sum_found, sum_if, sum_same, system_test, vertex_in}
 use Rattle.topo_rows.specs.Flats.{AreAhead, begins_from, crossing_place, crossing_round, links}
 use Rattle.topo_rows.specs.Flats.{links_to, note_place, notes_from, round_ahead, vertex_round, written}
 use Rattle.topo_rows.proofs.Begins.{found_at, number_back, number_forward}

@@ -11,9 +11,7 @@ use Rattle.topo_core.specs.declared.rows.Rows.{Rows}
 use Rattle.topo_core.specs.Items.{occurrences, rises_below}
 use Rattle.topo_core.specs.Lawful.{is_good_crossing, IsWellFormed}
 use Rattle.topo_core.specs.Picture.{rotation, segment_count}
-use Rattle.topo_core.proofs.numbering.Counting.{one}
-use Rattle.topo_core.proofs.numbering.Members.{left_true}
-use Rattle.topo_core.proofs.growing.Growing.{le_test}
+use Rattle.topo_core.proofs.Interface.{le_test, left_true, one}
 use Rattle.topo_rows.specs.Pairs.{crossing_pairs, end_pairs, path_pairs, rotation_pairs}
 use Rattle.topo_rows.specs.Shown.{IsPicture}
 use Rattle.topo_rows.proofs.PairTests.{agree_from_rotations, same_from_good, two_pairs_each}

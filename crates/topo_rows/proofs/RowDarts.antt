@@ -9,8 +9,7 @@ use Rattle.topo_core.specs.declared.rows.Rows.{Rows}
 use Rattle.topo_core.specs.Lawful.{has_good_paths}
 use Rattle.topo_core.specs.Picture.{corner, darts, edge_at, edge_row, end_dart, rotation, segment_count}
 use Rattle.topo_core.specs.Systems.{has_dart}
-use Rattle.topo_core.proofs.numbering.Standing.{listed_test}
-use Rattle.topo_core.proofs.systems.SystemDarts.{edge_at_row}
+use Rattle.topo_core.proofs.Interface.{edge_at_row, listed_test}
 
 module _ (rows : Rows) (paths : has_good_paths rows ≡ true) where
   lt_is : (m n : ℕ) → m < n → nat_lt m n ≡ true

@@ -20,10 +20,8 @@ use Rattle.topo_core.specs.Lawful.{has_good_crossings, has_good_paths, HasGenusZ
 use Rattle.topo_core.specs.Picture.{around_crossing, around_vertex, clockwise, darts_of, end_dart, rotation, segment_count, system, turn_images, vertices}
 use Rattle.topo_core.specs.Rotations.{face_next, faces_of, IsConnected}
 use Rattle.topo_core.specs.Systems.{Connected}
-use Rattle.topo_core.proofs.numbering.Members.{left_true}
-use Rattle.topo_core.proofs.numbering.Numbering.{images_length}
-use Rattle.topo_core.proofs.numbering.Renumbering.{darts_connected, numbers_connected}
-use Rattle.topo_perm.proofs.permutations.Lists.{count_below-le}
+use Rattle.topo_core.proofs.Interface.{darts_connected, images_length, left_true, numbers_connected}
+use Rattle.topo_perm.proofs.Interface.{count_below-le}
 use Rattle.topo_rows.specs.Loading.{fits}
 use Rattle.topo_rows.specs.Pairs.{path_pairs}
 use Rattle.topo_rows.proofs.Begins.{darts_length}

@@ -6,7 +6,7 @@ use Rattle.std.proofs.lemmas.Bool.{cases_Bool, eqb-true}
 use Rattle.std.proofs.lemmas.List.{length-set, get_or-set_same, get_or-set_other}
 use Rattle.std.proofs.lemmas.List.Sums.{sum_by-cons}
 use Rattle.topo_core.specs.Items.{IsIn}
-use Rattle.topo_core.proofs.numbering.Counting.{one, sum_joined}
+use Rattle.topo_core.proofs.Interface.{one, sum_joined}
 use Rattle.topo_rows.specs.Flats.{written}
 
 -- writing keeps the length

@@ -12,8 +12,7 @@ use Rattle.topo_core.specs.Lawful.{IsWellFormed, Lawful}
 use Rattle.topo_core.specs.Picture.{system}
 use Rattle.topo_core.specs.Rotations.{along, Cross, Joined, Move, moved, Turn}
 use Rattle.topo_core.specs.Systems.{turn}
-use Rattle.topo_core.proofs.numbering.DartLaws.{same_dart_self, same_dart_true}
-use Rattle.topo_core.proofs.numbering.Members.{or_second}
+use Rattle.topo_core.proofs.Interface.{or_second, same_dart_self, same_dart_true}
 
 -- ---- The least number that passes a test
 

@@ -7,7 +7,7 @@ use Rattle.topo_core.specs.History.{IsRun}
 use Rattle.topo_forms.specs.declared.reports.Report.{Report}
 use Rattle.topo_forms.specs.declared.scripts.LimitRows.{LimitRows}
 use Rattle.topo_forms.specs.declared.scripts.Script.{Script}
-use Rattle.topo_settings.proofs.Pricing.{ok_so}
+use Rattle.topo_settings.proofs.Interface.{ok_so}
 use Rattle.topo_settings.specs.declared.fault.RunFault.{RunFault}
 use Rattle.topo_settings.specs.Limiting.{AreLimits}
 use Rattle.topo_settings.specs.Settings.{priced}

@@ -1,3 +1,3 @@
-pub mod Below
-pub mod Passing
-pub mod Telling
+mod Below
+mod Passing
+mod Telling

@@ -19,10 +19,10 @@ use Rattle.topo_service.specs.Commands.{HasDone, HasEnded}
 use Rattle.topo_service.specs.Faults.{HasDifference}
 use Rattle.topo_service.specs.Passes.{PassState}
 use Rattle.topo_service.specs.Receipts.{AreWhole, HasNumber, receipt_in, receipts_due}
-use Rattle.topo_service.proofs.Numbers.{number_at}
+use Rattle.topo_service.proofs.Interface.{number_at}
 use Rattle.topo_price.specs.Prices.{Asking, prices_of}
 use Rattle.topo_settings.specs.Settings.{AnswersPrices, priced}
-use Rattle.topo_settings.proofs.Pricing.{run_so}
+use Rattle.topo_settings.proofs.Interface.{run_so}
 use Rattle.topo_run.specs.Working.{AreOpened, HasWorked, HaveWorked}
 
 abbrev no_pass : PassState

@@ -1,5 +1,6 @@
-pub mod Members
-pub mod ReportBack
-pub mod ReportTextBack
-pub mod RowsBack
-pub mod Texts
+pub mod Interface
+mod Members
+mod ReportBack
+mod ReportTextBack
+mod RowsBack
+mod Texts

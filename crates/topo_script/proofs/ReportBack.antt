@@ -34,7 +34,7 @@ use Rattle.topo_forms.specs.CallForms.{call_form, grow_form, insert_form, delete
 use Rattle.topo_forms.specs.ReplyForms.{way_form, dart_form, plain_refusal, cut_form, refusal_form, deleted_form}
 use Rattle.topo_forms.specs.ReplyForms.{refused_form, grown_form, inserted_form, reply_form, entry_form}
 use Rattle.topo_forms.specs.Scripts.{limits_form, nulls_of, nulls_in, some_price, price_form, prices_form, report_form}
-use Rattle.topo_forms.proofs.Steps.{went}
+use Rattle.topo_forms.proofs.Interface.{went}
 use Rattle.topo_script.proofs.RowsBack.{short_back, list_back, member_back, all_map, rows_back}
 use Rattle.topo_core.specs.declared.rows.TheConstants.{KINDS}
 

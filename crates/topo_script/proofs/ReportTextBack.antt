@@ -22,7 +22,7 @@ use Rattle.topo_script.specs.Ranges.{LimitsFit, PriceFits, CallFits, DartFits, I
 use Rattle.topo_script.specs.ReportTexts.{limits_data, price_data, prices_data, has_null, version_of, way_data, dart_data, call_data}
 use Rattle.topo_script.specs.ReportTexts.{pair_data, refusal_data, inserted_data, reply_data, entry_data, report_data, report_text}
 use Rattle.topo_forms.specs.Scripts.{report_of}
-use Rattle.topo_forms.proofs.Steps.{went}
+use Rattle.topo_forms.proofs.Interface.{went}
 use Rattle.topo_script.proofs.Texts.{IsPlain, ArePlainItems, plain_number, plain_string, plain_null, plain_list, plain_array}
 use Rattle.topo_script.proofs.Texts.{no_plain_items, one_plain_item, plain_object, no_plain_members, one_plain_member}
 use Rattle.topo_script.proofs.RowsBack.{all_map, plain_short, plain_rows, deeper, text_value}

@@ -19,8 +19,7 @@ use Rattle.topo_script.specs.Pictures.{number_data, list_data, sign_data, edge_d
 use Rattle.topo_script.specs.Ranges.{AreShort, EdgeFits, CrossingFits, RowsFit}
 use Rattle.topo_forms.specs.Reads.{Read, and_then, number_below, number_form, items_from, list_form, has_keys, member_form, value_of}
 use Rattle.topo_forms.specs.RowForms.{sign_form, edge_form, crossing_form, rows_form, rows_of}
-use Rattle.topo_forms.proofs.Bytes.{within, json_of-read}
-use Rattle.topo_forms.proofs.Steps.{went}
+use Rattle.topo_forms.proofs.Interface.{json_of-read, went, within}
 use Rattle.topo_script.proofs.Texts.{IsPlain, plain_number, plain_string, plain_list, plain_object, no_plain_members, one_plain_member, read_back}
 
 -- ---- The forms of values

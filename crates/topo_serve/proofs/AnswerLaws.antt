@@ -3,7 +3,7 @@ use Rattle.std.proofs.Common.{ℕ, List, [], ◌∷◌, ◌++◌, Option, false,
 use Rattle.topo_forms.specs.Sessions.{line_of}
 use Rattle.topo_session.specs.Answers.{AnswersLine}
 use Rattle.topo_session.specs.Standings.{HasLegalHistory, Standing}
-use Rattle.topo_session.proofs.Legal.{line_legal}
+use Rattle.topo_session.proofs.Interface.{line_legal}
 use Rattle.topo_serve.specs.Sessions.{AreAnswered}
 
 -- ---- One line more

@@ -1,6 +1,6 @@
-pub mod AnswerLaws
-pub mod KeptLines
-pub mod LineLaws
-pub mod OpeningLaws
-pub mod SessionLaws
-pub mod TakingLaws
+mod AnswerLaws
+mod KeptLines
+mod LineLaws
+mod OpeningLaws
+mod SessionLaws
+mod TakingLaws

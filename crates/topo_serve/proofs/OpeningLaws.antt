@@ -22,7 +22,7 @@ use Rattle.topo_forms.specs.Reads.{Read}
 use Rattle.topo_settings.specs.Settings.{IsUnsound}
 use Rattle.topo_session.specs.Answers.{AnswersFirst, IsBadOpening, IsFaultOfAsked, IsFaultOfRequest}
 use Rattle.topo_session.specs.Standings.{Standing}
-use Rattle.topo_session.proofs.Legal.{line_legal}
+use Rattle.topo_session.proofs.Interface.{line_legal}
 use Rattle.topo_serve.specs.declared.ahead.Part.{Part}
 use Rattle.topo_serve.specs.declared.ahead.Part.TheVariants.{More}
 use Rattle.topo_serve.specs.Lines.{IsPlain, closed, first_line, lines_of}

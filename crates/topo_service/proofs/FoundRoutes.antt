@@ -12,8 +12,7 @@ use Rattle.topo_price.specs.Prices.{Asking, prices_of}
 use Rattle.topo_versions.specs.Names.{prices_named}
 use Rattle.topo_book.specs.Books.{ReplaysLawfully}
 use Rattle.topo_book.specs.Sparing.{HaveSpared}
-use Rattle.topo_book.proofs.Outliving.{outlives}
-use Rattle.topo_book.proofs.ReplicaLaws.{one_replay}
+use Rattle.topo_book.proofs.Interface.{one_replay, outlives}
 use Rattle.topo_route.specs.Regions.{RegionState}
 use Rattle.topo_versions.specs.Versions.{IsVersionFrom}
 use Rattle.topo_service.specs.Found.{FoundState, IsFoundRoute, IsHeldBy}

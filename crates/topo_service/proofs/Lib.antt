@@ -1,9 +1,10 @@
-pub mod Answering
-pub mod FoundRoutes
-pub mod Matching
-pub mod Missed
-pub mod Numbers
-pub mod Refusals
-pub mod Versions
-pub mod Wholeness
-pub mod Working
+pub mod Interface
+mod Answering
+mod FoundRoutes
+mod Matching
+mod Missed
+mod Numbers
+mod Refusals
+mod Versions
+mod Wholeness
+mod Working

@@ -11,9 +11,8 @@ use Rattle.topo_core.specs.declared.limits.Limits.{Limits}
 use Rattle.topo_core.specs.History.{IsPrefix, Replays, is_accepted, versions}
 use Rattle.topo_core.specs.Routes.{Pricing}
 use Rattle.topo_core.specs.Steps.{Step}
-use Rattle.topo_core.proofs.stepping.Replaying.{replays_on}
-use Rattle.topo_book.proofs.Outliving.{front}
-use Rattle.topo_book.proofs.Wrong.{legal_at, take_one_more}
+use Rattle.topo_core.proofs.Interface.{replays_on}
+use Rattle.topo_book.proofs.Interface.{front, legal_at, take_one_more}
 use Rattle.topo_book.specs.Books.{IsDue}
 use Rattle.topo_rows.specs.Shown.{IsPicture, Shown}
 use Rattle.topo_versions.specs.Versions.{AreLegal, IsVersionFrom}

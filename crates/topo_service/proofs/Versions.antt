@@ -15,7 +15,7 @@ use Rattle.topo_core.specs.declared.calls.Reply.TheVariants.{Grown, Inserted as 
 use Rattle.topo_core.specs.Routes.{Pricing}
 use Rattle.topo_core.specs.Steps.{Step}
 use Rattle.topo_core.specs.History.{IsPrefix, IsVersion, Replays, is_accepted, versions}
-use Rattle.topo_core.proofs.stepping.Replaying.{replays_on, versions_replay}
+use Rattle.topo_core.proofs.Interface.{replays_on, versions_replay}
 use Rattle.topo_book.specs.Books.{BookState, CanFollow, IsSameBook, IsUnchanged, NextState, picture_after}
 use Rattle.topo_price.specs.Prices.{Asking, prices_of}
 use Rattle.topo_versions.specs.Names.{prices_named}

@@ -31,11 +31,9 @@
 mod checks;
 pub mod close;
 pub mod faults;
-pub mod found;
-mod inbox;
 pub mod locked_state;
-mod lookahead;
 pub mod pass;
+pub mod planned;
 pub mod reply_pair;
 pub mod service;
 mod share_pool;
@@ -43,7 +41,7 @@ pub mod workers;
 
 pub use close::{CloseFault, FreshService, Service};
 pub use faults::{EndFault, PassFault, ServiceFault};
-pub use found::FoundRoute;
 pub use pass::{Pass, Receipt, View};
+pub use planned::found::FoundRoute;
 pub use service::ServiceOver;
 pub use workers::{Gate, WorkerEnd, between, run_workers};

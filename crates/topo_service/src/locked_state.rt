@@ -14,7 +14,7 @@ ghost use Rattle.topo_versions.specs.Names.{prices_named};
 ghost use Rattle.topo_versions.specs.Versions.{IsVersionFrom};
 ghost use Rattle.topo_service.specs.Passes.{entry_of};
 
-use crate::found::FoundRoute;
+use crate::planned::found::FoundRoute;
 use crate::reply_pair::ReplyPair;
 use std::alloc::{AllocError, Global};
 use std::marker::Model;

@@ -11,8 +11,8 @@ ghost use Rattle.topo_versions.specs.Versions.{AreLegal, IsVersionFrom};
 ghost use Rattle.topo_service.specs.Faults.{IsPlanFault, IsPlanRefusal};
 
 use crate::faults::PassFault;
-use crate::inbox::Inbox;
-use crate::lookahead::Lookahead;
+use crate::planned::inbox::Inbox;
+use crate::planned::lookahead::Lookahead;
 use std::alloc::Global;
 use std::marker::{Model, PhantomData};
 use std::sync::ledger::Share;

@@ -10,11 +10,11 @@ ghost use Rattle.topo_service.specs.Answers.{HasCalled, HasReceiptOf, IsAnswered
 ghost use Rattle.topo_core.specs.declared.limits.TheConstants.{MAX_PASSES};
 
 use crate::faults::ServiceFault;
-use crate::found::FoundRoute;
-use crate::inbox::Inbox;
 use crate::locked_state::{Demand, LockedState};
-use crate::lookahead::Lookahead;
 use crate::pass::{Pass, Receipt};
+use crate::planned::found::FoundRoute;
+use crate::planned::inbox::Inbox;
+use crate::planned::lookahead::Lookahead;
 use crate::reply_pair::ReplyPair;
 use crate::share_pool::SharePool;
 use std::alloc::{AllocError, Global};

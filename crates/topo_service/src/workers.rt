@@ -11,9 +11,9 @@ ghost use Rattle.topo_service.specs.Passes.{PassState};
 ghost use Rattle.topo_versions.specs.Names.{prices_named};
 ghost use Rattle.topo_versions.specs.Versions.{AreLegal};
 
-use crate::found::{FoundRoute, first_on};
 use crate::locked_state::Demand;
 use crate::pass::Pass;
+use crate::planned::found::{FoundRoute, first_on};
 use crate::service::ServiceOver;
 use std::alloc::{AllocError, Global};
 use std::sync::Wait;

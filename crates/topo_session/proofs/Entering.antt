@@ -9,7 +9,7 @@ use Rattle.topo_core.specs.Steps.{Step}
 use Rattle.topo_forms.specs.declared.scripts.LimitRows.{LimitRows}
 use Rattle.topo_price.specs.Prices.{Asking, prices_of}
 use Rattle.topo_settings.specs.Settings.{AnswersPrices, priced}
-use Rattle.topo_settings.proofs.Pricing.{step_so}
+use Rattle.topo_settings.proofs.Interface.{step_so}
 use Rattle.serde_json.specs.Written.{compact_text}
 use Rattle.topo_core.specs.declared.calls.Command.{Command}
 use Rattle.topo_core.specs.History.{call_of}

@@ -2,7 +2,7 @@
 use Rattle.std.proofs.Common.{◌≡◌, ℕ, List, Option, None, Some, Ok, Err, inl, inr, refl, subst, sym}
 use Rattle.topo_core.specs.declared.calls.Call.{Call}
 use Rattle.topo_core.specs.declared.calls.Reply.{Reply}
-use Rattle.topo_core.proofs.stepping.Replaying.{replays_on}
+use Rattle.topo_core.proofs.Interface.{replays_on}
 use Rattle.topo_forms.specs.declared.lines.Asked.{Asked as Asking}
 use Rattle.topo_forms.specs.declared.lines.Line.{Line}
 use Rattle.topo_forms.specs.declared.sessions.Opening.{Opening}

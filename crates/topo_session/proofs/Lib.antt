@@ -1,4 +1,5 @@
-pub mod Entering
-pub mod Legal
-pub mod QuestionLaws
-pub mod Responding
+pub mod Interface
+mod Entering
+mod Legal
+mod QuestionLaws
+mod Responding

@@ -1,5 +1,6 @@
-pub mod Faults
-pub mod OneList
-pub mod Pricing
-pub mod Validating
-pub mod Written
+pub mod Interface
+mod Faults
+mod OneList
+mod Pricing
+mod Validating
+mod Written

@@ -1,3 +1,4 @@
-pub mod EntryLemmas
-pub mod NumberedLemmas
-pub mod PlaceLemmas
+pub mod Interface
+mod EntryLemmas
+mod NumberedLemmas
+mod PlaceLemmas

@@ -17,21 +17,16 @@ use Rattle.topo_core.specs.Changes.{HasOneFace, IsCut, IsLocalCut, opened, witho
 use Rattle.topo_core.specs.Lawful.{IsWellFormed}
 use Rattle.topo_core.specs.Deletions.{HidesTurns}
 use Rattle.topo_core.specs.Openings.{JoinsOpened, is_opened, opened_turn}
-use Rattle.topo_core.proofs.systems.BarePoints.{bares}
-use Rattle.topo_core.proofs.deleting.OpenedDarts.{joins_opened, rest_face_darts, rest_face_numbers}
-use Rattle.topo_core.proofs.systems.Orbits.{SameCycle-is_met, SameCycle-sym, is_met-SameCycle, search_below}
-use Rattle.topo_core.proofs.numbering.Renumbering.{darts_connected, numbers_connected}
+use Rattle.topo_core.proofs.Interface.{SameCycle-is_met, SameCycle-sym, bares, darts_connected, is_met-SameCycle, joins_opened, numbers_connected, rest_face_darts, rest_face_numbers, search_below}
 use Rattle.topo_perm.specs.Cuts.{IsElsewhere}
 use Rattle.topo_perm.specs.Edits.{IsApart}
 use Rattle.topo_perm.specs.Joins.{IsConnectedAmong}
-use Rattle.topo_perm.proofs.runs.Smoothings.{SmoothsTo, smoothed_out_back, smoothed_connected, smoothed_faces}
-use Rattle.topo_perm.proofs.permutations.Faces.{twin-twin}
-use Rattle.topo_perm.proofs.runs.DeletionSteps.{HaveTwoFaces, IsOpening, DeletionStep, left_after, parted, put_back, deletion_step}
-use Rattle.topo_perm.proofs.permutations.Walks.{face_next-permutation, twin-within}
+use Rattle.topo_perm.proofs.Interface.{DeletionStep, HaveTwoFaces, IsOpening, SmoothsTo, deletion_step, face_next-permutation, left_after, parted, put_back, smoothed_connected, smoothed_faces}
+use Rattle.topo_perm.proofs.Interface.{smoothed_out_back, twin-twin, twin-within}
 use Rattle.topo_changes.proofs.deleting.DeletedOpening.{back_alone, left_dart, count, faces_shut, first_half, forward_alone, is_opening}
 use Rattle.topo_changes.proofs.deleting.DeletedOpening.{left_turn, off_left, off_segment, opened_by, other_half, segment_in, turns_on}
 use Rattle.topo_changes.proofs.inserting.InsertedNumbers.{number_less}
-use Rattle.topo_rows.proofs.Verdicts.{bare_points}
+use Rattle.topo_rows.proofs.Interface.{bare_points}
 
 abbrev is_bare : List ℕ → Bool
 is_bare around = length around == 0

@@ -15,11 +15,8 @@ use Rattle.topo_core.specs.Lawful.{HasGenusZero, IsWellFormed, Lawful}
 use Rattle.topo_core.specs.Changes.{HasOneFace, IsCut, IsLocalCut, without}
 use Rattle.topo_core.specs.Deletions.{HidesTurns}
 use Rattle.topo_core.specs.Insertions.{lifted}
-use Rattle.topo_core.proofs.systems.SystemDarts.{edge_at_row, path_facts, row_in}
-use Rattle.topo_core.proofs.deleting.WithoutForm.{without_well_formed}
-use Rattle.topo_core.proofs.deleting.WithoutTurns.{hides_turns}
-use Rattle.topo_perm.proofs.runs.Smoothings.{SmoothsTo}
-use Rattle.topo_perm.proofs.runs.DeletionSteps.{left_after}
+use Rattle.topo_core.proofs.Interface.{edge_at_row, hides_turns, path_facts, row_in, without_well_formed}
+use Rattle.topo_perm.proofs.Interface.{SmoothsTo, left_after}
 use Rattle.topo_changes.proofs.growing.AlonePoints.{end_there, only_edge, only_ends, only_turn}
 use Rattle.topo_changes.proofs.deleting.DeletedSmoothing.{smoothing}
 use Rattle.topo_changes.proofs.deleting.DeletedCuts.{EndFacts, Whole, local_or_none, local_cut_is_cut, whole}
@@ -28,7 +25,7 @@ use Rattle.topo_changes.proofs.deleting.DeletedSegments.{smoothed_dart}
 use Rattle.topo_changes.proofs.inserting.InsertedNumbers.{dart_of}
 use Rattle.topo_changes.proofs.deleting.PointCycles.{points_are_cycles}
 use Rattle.topo_changes.proofs.rows.Totals.{segments_total}
-use Rattle.topo_rows.proofs.Verdicts.{images_total}
+use Rattle.topo_rows.proofs.Interface.{images_total}
 use Rattle.topo_changes.proofs.rows.WithoutCounts.{crossings_without, edges_without, full_without, vertices_without, without_bare}
 
 abbrev is_bare : List ℕ → Bool

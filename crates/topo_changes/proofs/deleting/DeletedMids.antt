@@ -18,18 +18,12 @@ use Rattle.topo_core.specs.Lawful.{HasGenusZero, IsWellFormed}
 use Rattle.topo_core.specs.Picture.{ahead, behind, darts, edge_at, edge_row, index_of, place_on, system, turn_images}
 use Rattle.topo_core.specs.Pictures.{back, forward}
 use Rattle.topo_core.specs.Systems.{Connected, has_dart, turn}
-use Rattle.topo_core.proofs.numbering.DartLaws.{twin-twin}
-use Rattle.topo_core.proofs.numbering.Numbering.{index_apart, index_forward, index_twin, twin_in}
-use Rattle.topo_core.proofs.systems.SystemDarts.{get_there}
-use Rattle.topo_core.proofs.deleting.WithoutPlaces.{edge_place, other_edge}
-use Rattle.topo_core.proofs.deleting.WithoutRows.{in_has_id}
-use Rattle.topo_core.proofs.deleting.WithoutTurns.{two_orders}
+use Rattle.topo_core.proofs.Interface.{edge_place, get_there, in_has_id, index_apart, index_forward, index_twin, other_edge, twin-twin, twin_in, two_orders}
 use Rattle.topo_perm.specs.RenumberedEdits.{IsAlive}
 use Rattle.topo_perm.specs.Live.{IsSlab}
 use Rattle.topo_perm.specs.Renumbering.{RenumbersTurn}
 use Rattle.topo_perm.specs.Runs.{Turning, IsRun}
-use Rattle.topo_perm.proofs.renumbering.DeletionNumbers.{AreMids, IsSmoothedUnder, smooths_of, unchords_of}
-use Rattle.topo_perm.proofs.runs.Midpoints.{odd_twin}
+use Rattle.topo_perm.proofs.Interface.{AreMids, IsSmoothedUnder, odd_twin, smooths_of, unchords_of}
 use Rattle.topo_changes.proofs.deleting.DeletedLawful.{hides, there}
 use Rattle.topo_changes.proofs.deleting.DeletedOpening.{left_turn, off_left, opened_by}
 use Rattle.topo_changes.proofs.deleting.DeletedSlab.{Middle, deleted_slab, left, n, name, segments}

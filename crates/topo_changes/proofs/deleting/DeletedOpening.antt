@@ -17,19 +17,10 @@ use Rattle.topo_core.specs.Lawful.{IsWellFormed}
 use Rattle.topo_core.specs.Insertions.{lifted}
 use Rattle.topo_core.specs.Deletions.{HidesTurns, IsCrossingOf}
 use Rattle.topo_core.specs.Openings.{Opens, is_opened, opened_turn}
-use Rattle.topo_core.proofs.numbering.Numbering.{images_length, index_apart, index_twin, turn_permutes}
-use Rattle.topo_core.proofs.deleting.Openings.{opens}
-use Rattle.topo_core.proofs.numbering.Renumbering.{numbers_connected}
-use Rattle.topo_core.proofs.inserting.ShownPlaces.{lifted_edge}
-use Rattle.topo_core.proofs.systems.SystemDarts.{edge_at_row, get_there}
-use Rattle.topo_core.proofs.deleting.WithoutTurns.{two_orders}
+use Rattle.topo_core.proofs.Interface.{edge_at_row, get_there, images_length, index_apart, index_twin, lifted_edge, numbers_connected, opens, turn_permutes, two_orders}
 use Rattle.topo_perm.specs.Edits.{IsApart}
 use Rattle.topo_perm.specs.Live.{IsSlab}
-use Rattle.topo_perm.proofs.edits.Connecting.{walked_by}
-use Rattle.topo_perm.proofs.permutations.Faces.{twin-other}
-use Rattle.topo_perm.proofs.permutations.Points.{cycle_count-same}
-use Rattle.topo_perm.proofs.runs.DeletionSteps.{IsOpening, left_after, left_of, left_twin, out_of}
-use Rattle.topo_perm.proofs.permutations.Walks.{Joined-refl, Joined-turned, face_next-permutation, twin-within}
+use Rattle.topo_perm.proofs.Interface.{IsOpening, Joined-refl, Joined-turned, cycle_count-same, face_next-permutation, left_after, left_of, left_twin, out_of, twin-other, twin-within, walked_by}
 use Rattle.topo_changes.proofs.inserting.InsertedNumbers.{even_count, number_less, segment_apart, turn_number}
 
 module _ (q : Rows) (e : ℕ) (row : EdgeRow) (good : IsWellFormed q) (known : edge_row q e ≡ Some row) (p : Rows) (hides : HidesTurns q e p) where

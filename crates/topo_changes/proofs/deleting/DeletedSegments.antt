@@ -16,10 +16,7 @@ use Rattle.topo_core.specs.Lawful.{IsWellFormed}
 use Rattle.topo_core.specs.Picture.{ahead, darts, edge_at, edge_row, place_on}
 use Rattle.topo_core.specs.Pictures.{back, forward}
 use Rattle.topo_core.specs.Systems.{has_dart}
-use Rattle.topo_core.proofs.numbering.Counting.{eqb_less, eqb_more, lt_test}
-use Rattle.topo_core.proofs.inserting.ShownPlaces.{lifted_back, lifted_forward}
-use Rattle.topo_core.proofs.deleting.WithoutPlaces.{dart_of_segment, edge_of_dart, segment_of_dart}
-use Rattle.topo_core.proofs.inserting.WovenPaths.{first_part, last_part}
+use Rattle.topo_core.proofs.Interface.{dart_of_segment, edge_of_dart, eqb_less, eqb_more, first_part, last_part, lifted_back, lifted_forward, lt_test, segment_of_dart}
 
 -- ---- Counts
 

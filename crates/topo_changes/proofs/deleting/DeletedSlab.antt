@@ -11,15 +11,12 @@ use Rattle.topo_core.specs.Lawful.{HasGenusZero, IsWellFormed}
 use Rattle.topo_core.specs.Changes.{without}
 use Rattle.topo_core.specs.Insertions.{lifted}
 use Rattle.topo_core.specs.Items.{IsIn}
-use Rattle.topo_core.proofs.numbering.Numbering.{turn_permutes}
+use Rattle.topo_core.proofs.Interface.{turn_permutes}
 use Rattle.topo_perm.specs.Live.{IsSlab}
 use Rattle.topo_perm.specs.Renumbering.{RenumbersTurn}
 use Rattle.topo_perm.specs.RenumberedEdits.{IsAlive, RenumbersSlab}
 use Rattle.topo_perm.specs.Runs.{Turning, IsRun}
-use Rattle.topo_perm.proofs.renumbering.Composing.{slab_of_turn}
-use Rattle.topo_perm.proofs.renumbering.DeletionNumbers.{AreMids, IsSmoothedUnder, opened_numbers, smoothed_numbers, smooths_of, unchords_of}
-use Rattle.topo_perm.proofs.runs.Midpoints.{AreMidway}
-use Rattle.topo_perm.proofs.runs.DeletionSteps.{IsOpening, left_after}
+use Rattle.topo_perm.proofs.Interface.{AreMids, AreMidway, IsOpening, IsSmoothedUnder, left_after, opened_numbers, slab_of_turn, smoothed_numbers, smooths_of, unchords_of}
 use Rattle.topo_changes.proofs.deleting.DeletedSmoothing.{IsAheadOfCrossing, midway_here, place}
 use Rattle.topo_changes.proofs.deleting.DeletedLawful.{genus, good_p, hides, there}
 use Rattle.topo_changes.proofs.deleting.DeletedOpening.{count, first_half, is_opening, opened_by, permutes, shut, slab_all}

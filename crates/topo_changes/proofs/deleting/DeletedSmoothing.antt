@@ -18,20 +18,11 @@ use Rattle.topo_core.specs.Openings.{Opens, opened_turn}
 use Rattle.topo_core.specs.Picture.{ahead, behind, darts, edge_at, edge_row, index_of, system, turn_images}
 use Rattle.topo_core.specs.Pictures.{back, forward}
 use Rattle.topo_core.specs.Systems.{has_dart, turn}
-use Rattle.topo_core.proofs.numbering.DartLaws.{twin-twin}
-use Rattle.topo_core.proofs.numbering.Numbering.{images_length, index_forward, index_twin, turn_permutes, turn_stays, twin_in}
-use Rattle.topo_core.proofs.deleting.Openings.{opens}
-use Rattle.topo_core.proofs.systems.Orbits.{SameCycle-refl, SameCycle-step, SameCycle-trans}
-use Rattle.topo_core.proofs.inserting.ShownPlaces.{lifted_edge}
-use Rattle.topo_core.proofs.systems.SystemDarts.{edge_at_row, some_of}
-use Rattle.topo_core.proofs.deleting.WithoutPlaces.{segment_of_dart}
+use Rattle.topo_core.proofs.Interface.{SameCycle-refl, SameCycle-step, SameCycle-trans, edge_at_row, images_length, index_forward, index_twin, lifted_edge, opens, segment_of_dart, some_of}
+use Rattle.topo_core.proofs.Interface.{turn_permutes, turn_stays, twin-twin, twin_in}
 use Rattle.topo_perm.specs.Live.{IsSlab}
 use Rattle.topo_perm.specs.RenumberedEdits.{IsAlive}
-use Rattle.topo_perm.proofs.runs.Smoothings.{SmoothsTo}
-use Rattle.topo_perm.proofs.permutations.Faces.{twin-twin as nat_twin}
-use Rattle.topo_perm.proofs.runs.Midpoints.{AreMidway, IsMidpoint, odd_twin}
-use Rattle.topo_perm.proofs.permutations.Walks.{twin-within}
-use Rattle.topo_perm.proofs.runs.DeletionSteps.{left_after, left_of}
+use Rattle.topo_perm.proofs.Interface.{AreMidway, IsMidpoint, SmoothsTo, left_after, left_of, odd_twin, twin-twin as nat_twin, twin-within}
 use Rattle.topo_changes.proofs.deleting.DeletedSegments.{IsPart, smoothed_dart, smoothed_lifted, smoothed_onward, part_of}
 use Rattle.topo_changes.proofs.deleting.DeletedTurns.{left_away, over, straight}
 use Rattle.topo_changes.proofs.inserting.InsertedNumbers.{dart_here, dart_of, dart_of_number, even_count, number_less}

@@ -14,13 +14,12 @@ use Rattle.topo_core.specs.Lawful.{HasGenusZero, IsWellFormed}
 use Rattle.topo_core.specs.Picture.{darts, edge_row, index_of, system, turn_images}
 use Rattle.topo_core.specs.Pictures.{back, forward}
 use Rattle.topo_core.specs.Systems.{Connected, has_dart, turn}
-use Rattle.topo_core.proofs.numbering.Numbering.{turn_permutes, turn_stays}
+use Rattle.topo_core.proofs.Interface.{turn_permutes, turn_stays}
 use Rattle.topo_perm.specs.Live.{IsSlab}
 use Rattle.topo_perm.specs.Renumbering.{RenumbersTurn}
 use Rattle.topo_perm.specs.RenumberedEdits.{IsAlive, RenumbersSlab}
 use Rattle.topo_perm.specs.Runs.{Turning, IsRun}
-use Rattle.topo_perm.proofs.renumbering.DeletionNumbers.{IsSmoothable, opened_numbers, smoothable, smooths_of, unchords_of}
-use Rattle.topo_perm.proofs.runs.DeletionSteps.{left_after, segment_left}
+use Rattle.topo_perm.proofs.Interface.{IsSmoothable, left_after, opened_numbers, segment_left, smoothable, smooths_of, unchords_of}
 use Rattle.topo_changes.proofs.deleting.DeletedLawful.{good_p, hides}
 use Rattle.topo_changes.proofs.deleting.DeletedOpening.{back_alone, left_dart, left_turn, turns_on}
 use Rattle.topo_changes.proofs.deleting.DeletedMids.{across, carried_across, crossings, first_of, is_even, mid, mid_opened, path_mids}

@@ -3,9 +3,8 @@ use Rattle.std.proofs.Common.{◌≡◌, ◌≢◌, ℕ, zero, suc, ◌+◌, ◌
 use Rattle.std.proofs.lemmas.Bool.{cases_eq, eq-eqb, false≢true, or_left, or_right}
 use Rattle.topo_core.specs.Rotations.{twin}
 use Rattle.topo_core.specs.Edits.{IsUnchord}
-use Rattle.topo_core.proofs.numbering.Members.{left_true, right_true}
-use Rattle.topo_perm.proofs.permutations.Faces.{twin-other}
-use Rattle.topo_perm.proofs.runs.DeletionSteps.{left_after}
+use Rattle.topo_core.proofs.Interface.{left_true, right_true}
+use Rattle.topo_perm.proofs.Interface.{left_after, twin-other}
 
 -- a dart that is left is on none of the segments
 pub left_away : (h : ℕ → ℕ) (i a : ℕ) → left_after h i a ≡ true → (j : ℕ) → j < i → (a ≢ h j) × (a ≢ twin (h j))

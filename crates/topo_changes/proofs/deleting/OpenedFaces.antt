@@ -19,14 +19,10 @@ use Rattle.topo_core.specs.Picture.{darts, edge_row, index_of, segment_count, sy
 use Rattle.topo_core.specs.Pictures.{back, forward}
 use Rattle.topo_core.specs.Rotations.{face_next, twin}
 use Rattle.topo_core.specs.Systems.{has_dart, turn}
-use Rattle.topo_core.proofs.numbering.DartLaws.{same_dart_self, same_dart_true}
-use Rattle.topo_core.proofs.numbering.Numbering.{even_images, image_of, images_length, index_apart, index_twin, place_less, turn_stays, twin_in}
-use Rattle.topo_core.proofs.deleting.OpenedDarts.{rest_face_darts, rest_face_numbers}
-use Rattle.topo_core.proofs.deleting.Openings.{index_numbered, numbered_index, opens}
-use Rattle.topo_core.proofs.systems.Orbits.{SameCycle-sym}
-use Rattle.topo_perm.proofs.permutations.Walks.{face_next-permutation}
-use Rattle.topo_perm.proofs.permutations.Unmet.{unmet_all, unmet_home}
-use Rattle.topo_rows.proofs.RowDarts.{dart_there}
+use Rattle.topo_core.proofs.Interface.{SameCycle-sym, even_images, image_of, images_length, index_apart, index_numbered, index_twin, numbered_index, opens, place_less, rest_face_darts}
+use Rattle.topo_core.proofs.Interface.{rest_face_numbers, same_dart_self, same_dart_true, turn_stays, twin_in}
+use Rattle.topo_perm.proofs.Interface.{face_next-permutation, unmet_all, unmet_home}
+use Rattle.topo_rows.proofs.Interface.{dart_there}
 use Rattle.topo_changes.proofs.deleting.Skipping.{or_at, Skips, skips_alike, skips_ends, skips_here, unchord_skips}
 
 pub not_opened : (e i : ℕ) → (e == e && nat_lt i i) ≡ false

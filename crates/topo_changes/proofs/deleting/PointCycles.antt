@@ -12,20 +12,11 @@ use Rattle.topo_core.specs.Items.{IsIn}
 use Rattle.topo_core.specs.Lawful.{IsWellFormed}
 use Rattle.topo_core.specs.Picture.{around_crossing, around_vertex, darts, index_of, system, turn_images, vertices}
 use Rattle.topo_core.specs.Systems.{darts_in, follower, has_dart, System, turn}
-use Rattle.topo_core.proofs.numbering.Counting.{eqb_less}
-use Rattle.topo_core.proofs.numbering.DartLaws.{same_dart_self, same_dart_true}
-use Rattle.topo_core.proofs.numbering.Members.{or_second}
-use Rattle.topo_core.proofs.systems.NewDarts.{has_dart-append, or_left_false, or_right_false, stands_in, turn_at}
-use Rattle.topo_core.proofs.numbering.Numbering.{distinct_system, get_place, has_at, index_apart, place_in, turn_permutes}
-use Rattle.topo_core.proofs.systems.Orbits.{is_met-SameCycle, SameCycle-is_met}
-use Rattle.topo_core.proofs.systems.Points.{at_point_in, turn_at_point}
-use Rattle.topo_core.proofs.numbering.Renumbering.{after_carried, turn_carried}
-use Rattle.topo_core.proofs.numbering.Standing.{system_test}
-use Rattle.topo_core.proofs.systems.Turning.{distinct_right, distinct_tail, head_not_later, IsDistinct, not_in_both, turn_in}
-use Rattle.topo_core.proofs.systems.Bypassing.{point_distinct}
-use Rattle.topo_perm.proofs.permutations.Classes.{IsEquivalence, is_first-from}
-use Rattle.topo_perm.proofs.permutations.Exchange.{is_met-equivalence}
-use Rattle.topo_perm.proofs.permutations.Points.{class_count-carries}
+use Rattle.topo_core.proofs.Interface.{IsDistinct, SameCycle-is_met, after_carried, at_point_in, distinct_right, distinct_system, distinct_tail, eqb_less, get_place, has_at, has_dart-append}
+use Rattle.topo_core.proofs.Interface.{head_not_later, index_apart, is_met-SameCycle, not_in_both, or_left_false, or_right_false, or_second, place_in, point_distinct, same_dart_self, same_dart_true}
+use Rattle.topo_core.proofs.Interface.{stands_in, system_test, turn_at, turn_at_point, turn_carried, turn_in, turn_permutes}
+use Rattle.topo_perm.specs.Renumbering.{IsEquivalence}
+use Rattle.topo_perm.proofs.Interface.{class_count-carries, is_first-from, is_met-equivalence}
 use Rattle.topo_changes.proofs.inserting.InsertedNumbers.{count, dart_here, dart_of, number_less, number_of, turns}
 
 -- ---- Equal numbers

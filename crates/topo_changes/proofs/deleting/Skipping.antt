@@ -5,11 +5,8 @@ use Rattle.std.proofs.lemmas.Bool.{cases_eq, cases_lt, false≢true, ne_eqb, or_
 use Rattle.topo_core.specs.Cycles.{after, IsBypass, IsPermutation}
 use Rattle.topo_core.specs.Edits.{IsUnchord}
 use Rattle.topo_core.specs.Rotations.{twin}
-use Rattle.topo_core.proofs.systems.NewDarts.{or_left_false, or_right_false}
-use Rattle.topo_core.proofs.systems.Orbits.{after-add, after-within, period}
-use Rattle.topo_core.proofs.systems.SystemDarts.{eqb_self}
-use Rattle.topo_perm.proofs.permutations.Faces.{twin-other}
-use Rattle.topo_perm.proofs.permutations.Splitting.{bypassed-permutation}
+use Rattle.topo_core.proofs.Interface.{after-add, after-within, eqb_self, or_left_false, or_right_false, period}
+use Rattle.topo_perm.proofs.Interface.{bypassed-permutation, twin-other}
 
 -- b is the first after a that is not out
 pub record Skips (f : ℕ → ℕ) (out : ℕ → Bool) (a b : ℕ) : Type 0 where

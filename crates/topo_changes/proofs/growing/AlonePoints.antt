@@ -11,19 +11,8 @@ use Rattle.topo_core.specs.Items.{occurrences}
 use Rattle.topo_core.specs.Lawful.{IsWellFormed}
 use Rattle.topo_core.specs.Picture.{around_vertex, edge_row, end_dart, rotation, system}
 use Rattle.topo_core.specs.Systems.{follower, has_dart, turn}
-use Rattle.topo_core.proofs.numbering.Counting.{one}
-use Rattle.topo_core.proofs.numbering.DartLaws.{same_dart_self, same_dart_true}
-use Rattle.topo_core.proofs.numbering.Members.{in_map, or_second}
-use Rattle.topo_core.proofs.systems.NewDarts.{or_right_false}
-use Rattle.topo_core.proofs.numbering.Numbering.{distinct_system}
-use Rattle.topo_core.proofs.systems.Points.{turn_at_point}
-use Rattle.topo_core.proofs.systems.RoundPoints.{next_of_first}
-use Rattle.topo_core.proofs.routing.RouteDarts.{has_item}
-use Rattle.topo_core.proofs.inserting.ShownPlaces.{in_counted}
-use Rattle.topo_core.proofs.numbering.Standing.{end_dart_edge, good_rotation}
-use Rattle.topo_core.proofs.systems.SystemDarts.{path_facts, row_id, row_in, vertex_in, vertex_point}
-use Rattle.topo_core.proofs.systems.Turning.{distinct_tail, head_not_later, IsDistinct, next_around}
-use Rattle.topo_core.proofs.systems.Bypassing.{point_distinct}
+use Rattle.topo_core.proofs.Interface.{IsDistinct, distinct_system, distinct_tail, end_dart_edge, good_rotation, has_item, head_not_later, in_counted, in_map, next_around, next_of_first, one}
+use Rattle.topo_core.proofs.Interface.{or_right_false, or_second, path_facts, point_distinct, row_id, row_in, same_dart_self, same_dart_true, turn_at_point, vertex_in, vertex_point}
 
 -- ---- Darts that follow themselves
 

@@ -6,9 +6,8 @@ use Rattle.topo_core.specs.declared.darts.Dart.{Dart}
 use Rattle.topo_core.specs.declared.rows.Rows.{Rows}
 use Rattle.topo_core.specs.Lawful.{IsWellFormed}
 use Rattle.topo_core.specs.Picture.{corner, edge_row, end_dart, rotation}
-use Rattle.topo_core.proofs.numbering.Standing.{good_rotation}
-use Rattle.topo_core.proofs.systems.SystemDarts.{in_at, vertex_in}
-use Rattle.topo_rows.proofs.RowDarts.{corner_told}
+use Rattle.topo_core.proofs.Interface.{good_rotation, in_at, vertex_in}
+use Rattle.topo_rows.proofs.Interface.{corner_told}
 
 module _ (rows : Rows) (good : IsWellFormed rows) where
   module _ (v : ℕ) (inside : v < length rows.rotations) where

@@ -14,14 +14,10 @@ use Rattle.topo_core.specs.Lawful.{has_good_path, IsWellFormed}
 use Rattle.topo_core.specs.Picture.{corner, edge_at, edge_row, end_dart, rotation, system}
 use Rattle.topo_core.specs.Pictures.{back, forward}
 use Rattle.topo_core.specs.Systems.{turn}
-use Rattle.topo_core.proofs.growing.Growing.{crossings_after_growth, found_more, is_put_in, IsGrownTurn, IsPutIn, below_limit}
-use Rattle.topo_core.proofs.growing.Growing.{more_vertices, paths_after_growth, rotations_after_growth, turns_after_growth}
-use Rattle.topo_core.proofs.numbering.Members.{in_left, in_map, in_right, left_true}
-use Rattle.topo_core.proofs.numbering.Standing.{good_rotation}
-use Rattle.topo_core.proofs.systems.SystemDarts.{edge_at_row, eqb_self, row_id, row_in, some_of, vertex_in}
-use Rattle.topo_core.proofs.deleting.WithoutRows.{has_id_in}
+use Rattle.topo_core.proofs.Interface.{IsGrownTurn, IsPutIn, below_limit, crossings_after_growth, edge_at_row, eqb_self, found_more, good_rotation, has_id_in, in_left, in_map, in_right, is_put_in}
+use Rattle.topo_core.proofs.Interface.{left_true, more_vertices, paths_after_growth, rotations_after_growth, row_id, row_in, some_of, turns_after_growth, vertex_in}
 use Rattle.topo_rows.specs.Around.{entry_after}
-use Rattle.topo_rows.proofs.AroundPoints.{turn_at_vertex}
+use Rattle.topo_rows.proofs.Interface.{turn_at_vertex}
 use Rattle.topo_changes.proofs.growing.Corners.{corner_known, entry_known}
 use Rattle.topo_core.specs.declared.rows.TheConstants.{KINDS}
 

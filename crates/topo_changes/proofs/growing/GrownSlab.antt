@@ -11,17 +11,13 @@ use Rattle.topo_core.specs.Picture.{corner, darts, darts_of, index_of, rotation,
 use Rattle.topo_core.specs.Pictures.{back, forward}
 use Rattle.topo_core.specs.Rotations.{twin}
 use Rattle.topo_core.specs.Systems.{has_dart, turn}
-use Rattle.topo_core.proofs.growing.Growing.{IsGrownTurn}
-use Rattle.topo_core.proofs.numbering.Numbering.{get_index, has_at, images_length, index_of_get, index_twin, place_less, turn_permutes, turn_stays}
-use Rattle.topo_core.proofs.routing.RouteDarts.{corner_in}
-use Rattle.topo_core.proofs.deleting.WithoutPlaces.{edge_of_dart}
+use Rattle.topo_core.proofs.Interface.{IsGrownTurn, corner_in, edge_of_dart, get_index, has_at, images_length, index_of_get, index_twin, place_less, turn_permutes, turn_stays}
 use Rattle.topo_perm.specs.Live.{IsSlab}
 use Rattle.topo_perm.specs.Renumbering.{RenumbersTurn}
 use Rattle.topo_perm.specs.Runs.{Turning, IsStep}
 use Rattle.topo_perm.specs.Runs.Edit.{Hang}
-use Rattle.topo_perm.proofs.renumbering.GrowthNumbers.{IsGrowth, IsGrowthUnder, growth_numbers}
-use Rattle.topo_perm.proofs.permutations.Walks.{twin-cases}
-use Rattle.topo_rows.proofs.Begins.{get_left, get_right}
+use Rattle.topo_perm.proofs.Interface.{IsGrowth, IsGrowthUnder, growth_numbers, twin-cases}
+use Rattle.topo_rows.proofs.Interface.{get_left, get_right}
 use Rattle.topo_changes.proofs.growing.GrownCorner.{grown_good, grown_turns, known_below, leads_on, new_row}
 use Rattle.topo_changes.proofs.inserting.InsertedNumbers.{dart_here, dart_of, even_count, number_less, number_of, turn_number}
 use Rattle.topo_core.specs.declared.rows.TheConstants.{KINDS}

@@ -17,22 +17,12 @@ use Rattle.topo_core.specs.Lawful.{IsWellFormed, Lawful}
 use Rattle.topo_core.specs.Changes.{crossed_row, new_crossing, numbered, put_in, shown}
 use Rattle.topo_core.specs.Routes.{IsSimpleRoute}
 use Rattle.topo_core.specs.Insertions.{IsInsertable, ShowsTurns, backward, lifted}
-use Rattle.topo_core.proofs.growing.Growing.{is_put_in}
-use Rattle.topo_core.proofs.numbering.Numbering.{distinct_system, has_at}
-use Rattle.topo_core.proofs.systems.Points.{points_apart}
-use Rattle.topo_core.proofs.numbering.Renumbering.{darts_connected, numbers_connected}
-use Rattle.topo_core.proofs.routing.RouteDarts.{corner_in}
-use Rattle.topo_core.proofs.inserting.ShownForm.{shown_well_formed}
-use Rattle.topo_core.proofs.inserting.ShownRows.{shown_vertices}
-use Rattle.topo_core.proofs.inserting.ShownTurns.{shows_turns}
-use Rattle.topo_core.proofs.systems.SystemDarts.{vertex_in}
-use Rattle.topo_core.proofs.systems.Turning.{IsDistinct, distinct_left}
-use Rattle.topo_perm.proofs.runs.Chords.{NewChord}
-use Rattle.topo_perm.proofs.runs.InsertionPaths.{IsInsertionPath}
-use Rattle.topo_perm.proofs.runs.Passing.{Passed, passed}
+use Rattle.topo_core.proofs.Interface.{IsDistinct, corner_in, darts_connected, distinct_left, distinct_system, has_at, is_put_in, numbers_connected, points_apart, shown_vertices, shown_well_formed}
+use Rattle.topo_core.proofs.Interface.{shows_turns, vertex_in}
+use Rattle.topo_perm.proofs.Interface.{IsInsertionPath, NewChord, Passed, passed}
 use Rattle.topo_changes.proofs.inserting.InsertedPath.{IsPath, is_insertion_path, new_chords_of, name, path_subdivisions, path_chords, path_of}
 use Rattle.topo_changes.proofs.rows.Totals.{segments_total}
-use Rattle.topo_rows.proofs.Verdicts.{bare_points}
+use Rattle.topo_rows.proofs.Interface.{bare_points}
 
 -- ---- No vertex becomes bare
 

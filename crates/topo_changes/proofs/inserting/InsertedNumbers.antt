@@ -10,10 +10,8 @@ use Rattle.topo_core.specs.Darts.{dart_twin}
 use Rattle.topo_core.specs.Systems.{SameFace, has_dart, turn}
 use Rattle.topo_core.specs.Picture.{darts, index_of, system, turn_images}
 use Rattle.topo_core.specs.Lawful.{IsWellFormed}
-use Rattle.topo_core.proofs.numbering.Numbering.{even_images, get_index, has_at, image_of, images_length, index_apart}
-use Rattle.topo_core.proofs.numbering.Numbering.{index_less, index_of_get, index_twin, turn_stays, twin_in}
-use Rattle.topo_core.proofs.numbering.Renumbering.{face_darts, face_numbers}
-use Rattle.topo_core.proofs.systems.SystemDarts.{get_there}
+use Rattle.topo_core.proofs.Interface.{even_images, face_darts, face_numbers, get_index, get_there, has_at, image_of, images_length, index_apart, index_less, index_of_get, index_twin, turn_stays}
+use Rattle.topo_core.proofs.Interface.{twin_in}
 use Rattle.topo_perm.specs.Edits.{IsApart}
 
 -- ---- Numbers of one picture

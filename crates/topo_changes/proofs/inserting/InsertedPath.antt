@@ -19,16 +19,11 @@ use Rattle.topo_core.specs.Lawful.{IsWellFormed}
 use Rattle.topo_core.specs.Changes.{numbered}
 use Rattle.topo_core.specs.Routes.{Crosses, MeetsFacesOnce}
 use Rattle.topo_core.specs.Insertions.{CrossesOnce, ShowsTurns, backward, lifted, onward, onward_by, same_segment}
-use Rattle.topo_core.proofs.numbering.DartLaws.{twin-twin}
-use Rattle.topo_core.proofs.numbering.Numbering.{index_apart, index_twin, turn_permutes, turn_stays, twin_in}
-use Rattle.topo_core.proofs.inserting.ShownPlaces.{lifted_edge}
-use Rattle.topo_core.proofs.inserting.ShownRows.{number_below, number_from, numbered_in}
-use Rattle.topo_core.proofs.routing.SimpleRoutes.{same_or_twins}
+use Rattle.topo_core.proofs.Interface.{index_apart, index_twin, lifted_edge, number_below, number_from, numbered_in, same_or_twins, turn_permutes, turn_stays, twin-twin, twin_in}
 use Rattle.topo_perm.specs.Edits.{IsApart}
-use Rattle.topo_perm.proofs.runs.Chords.{AreNewChords, AreApartChords, IsNewChord, IsOffChords, NewChord, apart_back, without_chords}
-use Rattle.topo_perm.proofs.runs.Subdivisions.{AreSubdivisions, AreOnOthers, Subdivision, IsSubdivision, IsNamed, IsStraight, IsUndivided}
-use Rattle.topo_perm.proofs.runs.InsertionPaths.{AreAlong, AreStrange, IsInsertionPath, IsPlaced, MeetsOnce, Walks, all_at}
-use Rattle.topo_perm.proofs.runs.InsertionPaths.{all_of, chords_permutation, over_chord, over_chord_back, past_chords}
+use Rattle.topo_perm.proofs.Interface.{AreAlong, AreApartChords, AreNewChords, AreOnOthers, AreStrange, AreSubdivisions, IsInsertionPath, IsNamed, IsNewChord, IsOffChords, IsPlaced, IsStraight}
+use Rattle.topo_perm.proofs.Interface.{IsSubdivision, IsUndivided, MeetsOnce, NewChord, Subdivision, Walks, all_at, all_of, apart_back, chords_permutation, over_chord, over_chord_back, past_chords}
+use Rattle.topo_perm.proofs.Interface.{without_chords}
 use Rattle.topo_changes.proofs.inserting.InsertedNumbers.{dart_here, dart_of, dart_of_number, even_count, face_same, number_less}
 use Rattle.topo_changes.proofs.inserting.InsertedNumbers.{number_of, numbers_apart, same_face, segment_apart, turn_number, turned, twinned}
 

@@ -12,10 +12,7 @@ use Rattle.topo_core.specs.Insertions.{ShowsTurns, lifted}
 use Rattle.topo_perm.specs.Live.{IsSlab}
 use Rattle.topo_perm.specs.Renumbering.{RenumbersTurn}
 use Rattle.topo_perm.specs.Runs.{Turning, IsRun}
-use Rattle.topo_perm.proofs.runs.Chords.{NewChord, chords_of}
-use Rattle.topo_perm.proofs.runs.Subdivisions.{Subdivision, splits_of}
-use Rattle.topo_perm.proofs.runs.InsertionPaths.{AreAlong}
-use Rattle.topo_perm.proofs.renumbering.InsertionPathNumbers.{AreSubdivisionsUnder, IsInsertionPathUnder, subdivided_number, insertion_path_numbers}
+use Rattle.topo_perm.proofs.Interface.{AreAlong, AreSubdivisionsUnder, IsInsertionPathUnder, NewChord, Subdivision, chords_of, insertion_path_numbers, splits_of, subdivided_number}
 use Rattle.topo_changes.proofs.inserting.InsertedPath.{subdivisions_of, name, path_subdivisions, path_chords}
 use Rattle.topo_changes.proofs.inserting.InsertedLawful.{HasInsertionPath}
 

@@ -10,11 +10,7 @@ use Rattle.std.proofs.lemmas.Bool.{cases_lt, eq-eqb, le-ltb, lt-ltb}
 use Rattle.topo_core.specs.declared.darts.Dart.{Dart}
 use Rattle.topo_core.specs.Items.{IsIn}
 use Rattle.topo_core.specs.Changes.{woven, put_in}
-use Rattle.topo_core.proofs.numbering.Counting.{eqb_less, eqb_more}
-use Rattle.topo_core.proofs.numbering.Members.{left_true, right_true, test_of_each}
-use Rattle.topo_core.proofs.inserting.ShownRows.{in_images, number_below, number_from}
-use Rattle.topo_core.proofs.inserting.Weaving.{in_filter}
-use Rattle.topo_core.proofs.inserting.UndoneInsertions.{filter_whole}
+use Rattle.topo_core.proofs.Interface.{eqb_less, eqb_more, filter_whole, in_filter, in_images, left_true, number_below, number_from, right_true, test_of_each}
 use Rattle.topo_changes.specs.Inserting.{crossed_path, crossings_on, segment_end}
 
 -- ---- Numbered items

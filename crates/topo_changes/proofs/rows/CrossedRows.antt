@@ -11,9 +11,7 @@ use Rattle.topo_core.specs.declared.darts.Dart.{Dart}
 use Rattle.topo_core.specs.declared.rows.EdgeRow.{EdgeRow}
 use Rattle.topo_core.specs.Items.{IsIn}
 use Rattle.topo_core.specs.Changes.{woven}
-use Rattle.topo_core.proofs.numbering.Counting.{eqb_symm, lt_of_test}
-use Rattle.topo_core.proofs.numbering.Members.{test_of_each}
-use Rattle.topo_core.proofs.inserting.UndoneInsertions.{filter_whole, map_whole}
+use Rattle.topo_core.proofs.Interface.{eqb_symm, filter_whole, lt_of_test, map_whole, test_of_each}
 use Rattle.topo_changes.specs.Inserting.{AreOnPaths, crossed_by, crossed_path, crossings_on, paths_below, repathed}
 use Rattle.topo_changes.proofs.rows.CrossedPaths.{crossed_woven, crossings_below, crossings_from, crossings_more, filter_woven, woven_none, woven_same}
 

@@ -14,17 +14,11 @@ use Rattle.topo_core.specs.Changes.{from_least, uncrossed_row, without}
 use Rattle.topo_core.specs.Items.{has_id, IsIn, occurrences}
 use Rattle.topo_core.specs.Lawful.{has_good_rotation, IsWellFormed}
 use Rattle.topo_core.specs.Picture.{cross_row, edge_row, rotation, vertices}
-use Rattle.topo_core.proofs.numbering.Counting.{counted_any, one}
-use Rattle.topo_core.proofs.numbering.Members.{found, right_true, test_of_each}
-use Rattle.topo_core.proofs.numbering.Standing.{good_crossing, good_rotation}
-use Rattle.topo_core.proofs.systems.SystemDarts.{crossing_there, edge_at_row, path_facts, row_id, row_in, some_of, vertex_in}
-use Rattle.topo_core.proofs.inserting.Weaving.{in_filter}
-use Rattle.topo_core.proofs.deleting.WithoutRows.{filter_passes, find_passing, has_id_in}
-use Rattle.topo_core.proofs.inserting.WovenPaths.{counted_in}
-use Rattle.topo_core.proofs.inserting.UndoneInsertions.{filter_whole}
+use Rattle.topo_core.proofs.Interface.{counted_any, counted_in, crossing_there, edge_at_row, filter_passes, filter_whole, find_passing, found, good_crossing, good_rotation, has_id_in, in_filter, one}
+use Rattle.topo_core.proofs.Interface.{path_facts, right_true, row_id, row_in, some_of, test_of_each, vertex_in}
 use Rattle.topo_changes.specs.Deleting.{IsCrossed, left_by, other_edge, rotation_without}
 use Rattle.topo_rows.specs.Ids.{IsPlaceOf}
-use Rattle.topo_rows.proofs.Begins.{edge_ids_climb}
+use Rattle.topo_rows.proofs.Interface.{edge_ids_climb}
 use Rattle.topo_changes.proofs.rows.Leaving.{least_first, place_named, removed_is}
 use Rattle.topo_changes.proofs.rows.CrossedRows.{in_at}
 

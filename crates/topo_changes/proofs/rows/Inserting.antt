@@ -12,11 +12,7 @@ use Rattle.topo_core.specs.Systems.{has_dart}
 use Rattle.topo_core.specs.Lawful.{IsWellFormed}
 use Rattle.topo_core.specs.Changes.{new_crossing, shown, with_end}
 use Rattle.topo_core.specs.Insertions.{IsInsertable}
-use Rattle.topo_core.proofs.inserting.ShownForm.{each_of}
-use Rattle.topo_core.proofs.inserting.ShownRows.{known_crossing_below, known_edge_below, row_found}
-use Rattle.topo_core.proofs.numbering.Standing.{good_rotation, listed_test, of_rows_is_dart}
-use Rattle.topo_core.proofs.systems.SystemDarts.{crossing_there, vertex_in}
-use Rattle.topo_core.proofs.growing.Growing.{all_from}
+use Rattle.topo_core.proofs.Interface.{all_from, crossing_there, each_of, good_rotation, known_crossing_below, known_edge_below, listed_test, of_rows_is_dart, row_found, vertex_in}
 use Rattle.topo_changes.specs.Inserting.{AreOnPaths, crossed_by, paths_below}
 
 module _ (rows : Rows) (good : IsWellFormed rows) where

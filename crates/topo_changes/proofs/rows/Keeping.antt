@@ -13,17 +13,15 @@ use Rattle.topo_core.specs.declared.darts.Dart.{Dart}
 use Rattle.topo_core.specs.declared.rows.CrossRow.{CrossRow}
 use Rattle.topo_core.specs.Items.{has_id, rises_below}
 use Rattle.topo_core.specs.Changes.{new_crossing}
-use Rattle.topo_core.proofs.numbering.Counting.{eqb_symm}
-use Rattle.topo_core.proofs.numbering.Members.{left_true, right_true}
-use Rattle.topo_core.proofs.inserting.UndoneInsertions.{filter_whole}
+use Rattle.topo_core.proofs.Interface.{eqb_symm, filter_whole, left_true, right_true}
 use Rattle.topo_changes.specs.declared.kept.Crossing.{Crossing}
 use Rattle.topo_changes.specs.Keeping.{crossing_row, new_entry, rows_of}
 use Rattle.topo_changes.specs.Deleting.{other_edge}
 use Rattle.topo_changes.proofs.rows.CrossedPaths.{numbered_step}
 use Rattle.topo_changes.proofs.rows.Deleting.{across}
 use Rattle.topo_changes.proofs.rows.Leaving.{filter_alike, filter_twice, has_id_more}
-use Rattle.topo_rows.proofs.Rounds.{got_within}
-use Rattle.topo_table.proofs.PlaceLemmas.{present-push}
+use Rattle.topo_rows.proofs.Interface.{got_within}
+use Rattle.topo_table.proofs.Interface.{present-push}
 use Rattle.topo_table.specs.Places.{AreBelow, Places, entries, entry_at, ids_of, present, value_of, without_id}
 
 -- ---- What is found

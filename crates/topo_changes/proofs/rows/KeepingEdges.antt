@@ -19,13 +19,13 @@ use Rattle.topo_core.specs.Items.{has_id, IsIn, rises_below}
 use Rattle.topo_table.specs.Places.{AreBelow, IsLiveAt, KeepsPlaces, Places, entries}
 use Rattle.topo_table.specs.Places.{entry_at, ids_in, ids_of, present, value_of, with_value, without_id}
 use Rattle.std.proofs.lemmas.Bool.Decides.{nat_tests}
-use Rattle.topo_table.proofs.PlaceLemmas.{AreBelow-push, EntriesRise-present, IsBelowAll, Rises, Rises-from_increasing, is_changed, present-push}
-use Rattle.topo_table.proofs.PlaceLemmas.{set_value_at-same, slot_value, value_of-below, was_value, with_value-below}
+use Rattle.topo_table.proofs.Interface.{AreBelow-push, EntriesRise-present, IsBelowAll, Rises, Rises-from_increasing, is_changed, present-push, set_value_at-same, slot_value, value_of-below}
+use Rattle.topo_table.proofs.Interface.{was_value, with_value-below}
 use Rattle.topo_changes.specs.declared.kept.EdgeBody.{EdgeBody}
 use Rattle.topo_changes.specs.Inserting.{repathed}
 use Rattle.topo_changes.specs.Keeping.{edge_of, edges_of}
 use Rattle.topo_changes.proofs.rows.CrossedRows.{none_repathed, repathed_other}
-use Rattle.topo_core.proofs.numbering.Members.{left_true, right_true}
+use Rattle.topo_core.proofs.Interface.{left_true, right_true}
 use Rattle.topo_changes.proofs.rows.Keeping.{more_places}
 use Rattle.topo_changes.proofs.rows.Leaving.{out_of_one, unchanged}
 

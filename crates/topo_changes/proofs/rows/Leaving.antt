@@ -12,16 +12,10 @@ use Rattle.topo_core.specs.Items.{has_id, IsIn}
 use Rattle.topo_core.specs.declared.rows.EdgeRow.{EdgeRow}
 use Rattle.topo_core.specs.declared.rows.CrossRow.{CrossRow}
 use Rattle.topo_core.specs.Changes.{from_least, uncrossed_row}
-use Rattle.topo_core.proofs.deleting.WithoutRows.{has_id_in, in_has_id, least_below, least_in}
-use Rattle.topo_core.proofs.numbering.Counting.{eqb_symm}
-use Rattle.topo_core.proofs.numbering.Members.{in_map}
-use Rattle.topo_core.proofs.inserting.ShownPlaces.{at_its_place}
-use Rattle.topo_core.proofs.inserting.ShownRows.{in_images}
-use Rattle.topo_core.proofs.inserting.Weaving.{in_filter}
-use Rattle.topo_core.proofs.inserting.UndoneInsertions.{filter_whole, map_whole}
+use Rattle.topo_core.proofs.Interface.{at_its_place, eqb_symm, filter_whole, has_id_in, in_filter, in_has_id, in_images, in_map, least_below, least_in, map_whole}
 use Rattle.topo_changes.specs.Deleting.{IsCrossed, other_edge}
 use Rattle.topo_rows.specs.Ids.{IsPlaceOf}
-use Rattle.topo_rows.proofs.Sorting.{apart, up_tail}
+use Rattle.topo_rows.proofs.Interface.{apart, up_tail}
 use Rattle.topo_changes.proofs.rows.CrossedRows.{in_at}
 
 -- ---- Items that pass a test

@@ -15,12 +15,8 @@ use Rattle.topo_core.specs.Changes.{from_least}
 use Rattle.topo_core.specs.Items.{has_id, occurrences}
 use Rattle.topo_core.specs.Lawful.{has_good_rotation, IsWellFormed}
 use Rattle.topo_core.specs.Picture.{edge_row, rotation, vertices}
-use Rattle.topo_core.proofs.numbering.Counting.{at_most_one, counted_any, none_counted_any, one, path_place_here, path_place_later}
-use Rattle.topo_core.proofs.numbering.Members.{left_true, right_true, test_of_each}
-use Rattle.topo_core.proofs.numbering.Standing.{good_rotation}
-use Rattle.topo_core.proofs.systems.SystemDarts.{path_facts, row_id, row_in, some_of, vertex_in}
-use Rattle.topo_core.proofs.inserting.UndoneInsertions.{filter_whole}
-use Rattle.topo_core.proofs.deleting.WithoutRows.{has_id_in, in_has_id, least_below}
+use Rattle.topo_core.proofs.Interface.{at_most_one, counted_any, filter_whole, good_rotation, has_id_in, in_has_id, least_below, left_true, none_counted_any, one, path_facts, path_place_here}
+use Rattle.topo_core.proofs.Interface.{path_place_later, right_true, row_id, row_in, some_of, test_of_each, vertex_in}
 use Rattle.topo_changes.specs.Deleting.{IsLastNext, IsRotation, rotation_without}
 use Rattle.topo_changes.proofs.rows.Deleting.{begins_there}
 use Rattle.topo_changes.proofs.rows.CrossedRows.{in_at}

@@ -4,8 +4,7 @@ use Rattle.std.specs.Prelude.{sum_by}
 use Rattle.topo_core.specs.declared.rows.Rows.{Rows}
 use Rattle.topo_core.specs.Lawful.{IsWellFormed}
 use Rattle.topo_core.specs.Picture.{segment_count}
-use Rattle.topo_rows.proofs.Verdicts.{segments_by_pairs}
-use Rattle.topo_rows.proofs.RowCounts.{two_each}
+use Rattle.topo_rows.proofs.Interface.{segments_by_pairs, two_each}
 
 -- each edge has a segment, and each crossing gives one more to each of its two edges
 pub segments_total : (rows : Rows) → IsWellFormed rows → rows.next_crossing ≤ 4294967296

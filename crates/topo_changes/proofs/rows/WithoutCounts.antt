@@ -14,16 +14,9 @@ use Rattle.topo_core.specs.Changes.{without}
 use Rattle.topo_core.specs.Items.{has_id, occurrences, rises_below}
 use Rattle.topo_core.specs.Lawful.{has_good_path, is_good_crossing, IsWellFormed}
 use Rattle.topo_core.specs.Picture.{cross_row, edge_row, rotation}
-use Rattle.topo_core.proofs.numbering.Counting.{at_most_one, eqb_more, none_counted_any, one, sum_found, sum_of_map}
-use Rattle.topo_core.proofs.numbering.Members.{left_true}
-use Rattle.topo_core.proofs.systems.RoundPoints.{taken_out}
-use Rattle.topo_core.proofs.inserting.ShownPlaces.{path_once}
-use Rattle.topo_core.proofs.numbering.Standing.{good_rotation}
-use Rattle.topo_core.proofs.systems.SystemDarts.{crossing_there, edge_at_row, row_id, row_in, some_of, vertex_in}
-use Rattle.topo_core.proofs.deleting.WithoutRows.{filter_passes, gone, in_has_id, IsRotated, is_left, occurrences-passing}
-use Rattle.topo_core.proofs.deleting.WithoutRows.{without_rotated, without_rotation, without_vertices}
-use Rattle.topo_core.proofs.inserting.WovenPaths.{counted_in}
-use Rattle.topo_rows.proofs.RowCounts.{same_length}
+use Rattle.topo_core.proofs.Interface.{IsRotated, at_most_one, counted_in, crossing_there, edge_at_row, eqb_more, filter_passes, gone, good_rotation, in_has_id, is_left, left_true, none_counted_any}
+use Rattle.topo_core.proofs.Interface.{occurrences-passing, one, path_once, row_id, row_in, some_of, sum_found, sum_of_map, taken_out, vertex_in, without_rotated, without_rotation, without_vertices}
+use Rattle.topo_rows.proofs.Interface.{same_length}
 
 -- ---- How many
 

@@ -11,17 +11,12 @@ use Rattle.topo_core.specs.Lawful.{HasGenusZero, IsWellFormed}
 use Rattle.topo_core.specs.Picture.{ahead, darts, edge_row, index_of, system}
 use Rattle.topo_core.specs.Pictures.{forward}
 use Rattle.topo_core.specs.Systems.{Connected, has_dart}
-use Rattle.topo_core.proofs.deleting.WithoutRows.{has_id_in, in_has_id}
-use Rattle.topo_core.proofs.routing.RouteDarts.{item_at}
+use Rattle.topo_core.proofs.Interface.{has_id_in, in_has_id, item_at}
 use Rattle.topo_perm.specs.RenumberedEdits.{IsAlive}
 use Rattle.topo_perm.specs.Runs.{IsRun, Turning}
-use Rattle.topo_perm.proofs.renumbering.DeletionNumbers.{smooths_of, unchords_of}
+use Rattle.topo_perm.proofs.Interface.{smooths_of, unchords_of}
 use Rattle.topo_map.specs.Rotation.{IsEmbedding, KeepsLabels, Rotation, edge_of, half_limit, is_live, turning_of}
-use Rattle.topo_changes.proofs.deleting.DeletedLawful.{hides}
-use Rattle.topo_changes.proofs.deleting.DeletedMids.{crossings, deleted_along, first_of, in_place, mid, mid_is, path_mids_all}
-use Rattle.topo_changes.proofs.deleting.DeletedOpening.{off_left}
-use Rattle.topo_changes.proofs.deleting.DeletedSlab.{left, n, segments}
-use Rattle.topo_changes.proofs.inserting.InsertedNumbers.{number_less}
+use Rattle.topo_changes.proofs.Interface.{crossings, deleted_along, first_of, hides, in_place, left, mid, mid_is, n, number_less, off_left, path_mids_all, segments}
 use Rattle.topo_embedded.specs.Deleting.{ArePathsLeft, AreAheads}
 use Rattle.topo_embedded.specs.Halves.{RowsWithPaths, ShowsRows, half_at, half_in}
 use Rattle.topo_embedded.proofs.halves.Numbers.{half_of_number}

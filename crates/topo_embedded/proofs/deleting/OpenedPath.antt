@@ -17,19 +17,13 @@ use Rattle.topo_core.specs.Picture.{darts, edge_at, edge_row, index_of, segment_
 use Rattle.topo_core.specs.Pictures.{back, forward}
 use Rattle.topo_core.specs.Rotations.{twin}
 use Rattle.topo_core.specs.Systems.{has_dart}
-use Rattle.topo_core.proofs.numbering.Numbering.{index_forward, index_twin, twin_in}
-use Rattle.topo_core.proofs.systems.SystemDarts.{edge_at_row, some_of}
-use Rattle.topo_core.proofs.deleting.WithoutPlaces.{dart_of_segment, edge_of_dart, segment_of_dart}
-use Rattle.topo_core.proofs.deleting.WithoutRows.{has_id_in, in_has_id}
-use Rattle.topo_core.proofs.routing.RouteDarts.{item_at}
+use Rattle.topo_core.proofs.Interface.{dart_of_segment, edge_at_row, edge_of_dart, has_id_in, in_has_id, index_forward, index_twin, item_at, segment_of_dart, some_of, twin_in}
 use Rattle.topo_perm.specs.Runs.{IsStep}
 use Rattle.topo_perm.specs.Runs.Edit.{Unchord}
-use Rattle.topo_perm.proofs.permutations.Walks.{twin-cases}
+use Rattle.topo_perm.proofs.Interface.{alive_turn, still_alive, twin-cases}
 use Rattle.topo_map.specs.Rotation.{KeepsLabels, Rotation, Shrinks, edge_of, half_limit, is_live, turn, turning_of}
-use Rattle.topo_perm.proofs.renumbering.EditNumbers.{alive_turn, still_alive}
-use Rattle.topo_map.proofs.EditSteps.{live_half, unchord_step}
-use Rattle.topo_changes.proofs.deleting.DeletedMids.{across, in_place, is_even}
-use Rattle.topo_changes.proofs.deleting.DeletedSteps.{back_alive, forward_alive, mid_found, over_dart, over_off, over_turn, segment_alive}
+use Rattle.topo_map.proofs.Interface.{live_half, unchord_step}
+use Rattle.topo_changes.proofs.Interface.{across, back_alive, forward_alive, in_place, is_even, mid_found, over_dart, over_off, over_turn, segment_alive}
 use Rattle.topo_embedded.specs.Halves.{RowsWithPaths, ShowsRows, half_at, half_in, path_of}
 use Rattle.topo_embedded.specs.Opening.{IsOpenTo, IsSetOut, leads_in, mid_at}
 use Rattle.topo_embedded.proofs.halves.Apart.{halves_apart}

@@ -17,25 +17,15 @@ use Rattle.topo_core.specs.Lawful.{IsWellFormed, Lawful}
 use Rattle.topo_core.specs.Picture.{ahead, darts, edge_at, edge_row, index_of}
 use Rattle.topo_core.specs.Pictures.{forward}
 use Rattle.topo_core.specs.Systems.{has_dart}
-use Rattle.topo_core.proofs.numbering.Counting.{eqb_symm}
-use Rattle.topo_core.proofs.inserting.ShownRows.{row_found}
-use Rattle.topo_core.proofs.systems.SystemDarts.{row_id, some_of}
-use Rattle.topo_core.proofs.deleting.WithoutPlaces.{ahead_there, dart_of_segment, other_edge, OtherEdge}
-use Rattle.topo_core.proofs.deleting.WithoutRows.{has_id_in, without_rows}
-use Rattle.topo_core.proofs.routing.RouteDarts.{item_at}
-use Rattle.topo_core.proofs.inserting.UndoneInsertions.{filter_whole}
+use Rattle.topo_core.proofs.Interface.{OtherEdge, ahead_there, dart_of_segment, eqb_symm, filter_whole, has_id_in, item_at, other_edge, row_found, row_id, some_of, without_rows}
 use Rattle.topo_perm.specs.Runs.{IsRun, IsStep}
 use Rattle.topo_perm.specs.Runs.Edit.{Smooth}
-use Rattle.topo_perm.proofs.renumbering.DeletionNumbers.{IsSmoothable, smooths_of, unchords_of}
-use Rattle.topo_perm.proofs.renumbering.EditNumbers.{still_alive}
+use Rattle.topo_perm.proofs.Interface.{IsSmoothable, smooths_of, still_alive, unchords_of}
 use Rattle.topo_map.specs.Rotation.{IsEmbedding, KeepsLabels, Rotation, Shrinks, edge_of, half_limit, is_live, turn, turning_of}
-use Rattle.topo_map.proofs.EditSteps.{live_half, smooth_step}
+use Rattle.topo_map.proofs.Interface.{live_half, smooth_step}
 use Rattle.topo_rows.specs.Ids.{IsPlaceOf}
-use Rattle.topo_rows.proofs.Finding.{edges_rise, placed_here}
-use Rattle.topo_changes.proofs.deleting.DeletedMids.{first_of, in_place, mid_is}
-use Rattle.topo_changes.proofs.deleting.DeletedSteps.{smoothable_along}
-use Rattle.topo_changes.proofs.rows.Deleting.{rest_is}
-use Rattle.topo_changes.proofs.rows.Leaving.{filter_alike, filter_twice}
+use Rattle.topo_rows.proofs.Interface.{edges_rise, placed_here}
+use Rattle.topo_changes.proofs.Interface.{filter_alike, filter_twice, first_of, in_place, mid_is, rest_is, smoothable_along}
 use Rattle.topo_embedded.specs.Deleting.{ArePathsLeft, spared}
 use Rattle.topo_embedded.specs.Halves.{RowsWithPaths, ShowsRows, half_at, path_of}
 use Rattle.topo_embedded.specs.Opening.{IsOpened, IsOpenTo, IsSetOut, IsSmoothedTo, mid_at, mids_of, without_half}

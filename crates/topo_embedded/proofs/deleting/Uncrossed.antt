@@ -11,13 +11,8 @@ use Rattle.topo_core.specs.Lawful.{IsWellFormed}
 use Rattle.topo_core.specs.Picture.{ahead, darts, edge_at, edge_row, place_on, segment_count}
 use Rattle.topo_core.specs.Pictures.{forward}
 use Rattle.topo_core.specs.Systems.{has_dart}
-use Rattle.topo_core.proofs.deleting.GonePaths.{item_in, item_place}
-use Rattle.topo_core.proofs.inserting.ShownPlaces.{at_its_place, lifted_forward}
-use Rattle.topo_core.proofs.systems.SystemDarts.{edge_at_row}
-use Rattle.topo_core.proofs.deleting.WithoutPlaces.{ahead_there, crossing_of, dart_of_segment, edge_once}
-use Rattle.topo_core.proofs.deleting.WithoutPlaces.{left_edge, LeftEdge, other_edge, OtherEdge, segment_of_dart}
-use Rattle.topo_core.proofs.inserting.WovenPaths.{first_part, place_of}
-use Rattle.topo_core.proofs.systems.Lengthening.{same_tests}
+use Rattle.topo_core.proofs.Interface.{LeftEdge, OtherEdge, ahead_there, at_its_place, crossing_of, dart_of_segment, edge_at_row, edge_once, first_part, item_in, item_place, left_edge, lifted_forward}
+use Rattle.topo_core.proofs.Interface.{other_edge, place_of, same_tests, segment_of_dart}
 use Rattle.topo_map.specs.Rotation.{Rotation}
 use Rattle.topo_embedded.specs.Deleting.{ArePathsLeft, AreAheads, IsAhead, spared}
 use Rattle.topo_embedded.specs.Halves.{RowsWithPaths, ShowsRows, half_in, path_of}

@@ -15,14 +15,9 @@ use Rattle.topo_core.specs.Picture.{darts, edge_row, index_of, segment_count, tu
 use Rattle.topo_core.specs.Pictures.{back, forward}
 use Rattle.topo_core.specs.Rotations.{twin}
 use Rattle.topo_core.specs.Systems.{has_dart}
-use Rattle.topo_core.proofs.numbering.Numbering.{get_index, has_at, images_length, index_forward, index_less, index_of_get, index_twin, twin_in}
-use Rattle.topo_core.proofs.inserting.ShownPlaces.{lifted_edge, lifted_forward}
-use Rattle.topo_core.proofs.inserting.ShownRows.{row_found}
-use Rattle.topo_core.proofs.systems.SystemDarts.{edge_at_row, get_there}
-use Rattle.topo_core.proofs.deleting.WithoutForm.{without_well_formed}
-use Rattle.topo_core.proofs.deleting.WithoutPlaces.{edge_of_dart, lifted_there}
-use Rattle.topo_core.proofs.routing.RouteDarts.{item_at}
-use Rattle.topo_perm.proofs.renumbering.DeletionNumbers.{IsSmoothedUnder}
+use Rattle.topo_core.proofs.Interface.{edge_at_row, edge_of_dart, get_index, get_there, has_at, images_length, index_forward, index_less, index_of_get, index_twin, item_at, lifted_edge}
+use Rattle.topo_core.proofs.Interface.{lifted_forward, lifted_there, row_found, twin_in, without_well_formed}
+use Rattle.topo_perm.proofs.Interface.{IsSmoothedUnder}
 use Rattle.topo_map.specs.Rotation.{KeepsLabels, Rotation, edge_of, half_limit, is_live, turn, turning_of}
 use Rattle.topo_embedded.specs.Deleting.{ArePathsLeft, AreAheads, spared}
 use Rattle.topo_embedded.specs.Halves.{RowsWithPaths, ShowsRows, half_at, half_in, path_of}

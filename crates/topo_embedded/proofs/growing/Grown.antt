@@ -20,20 +20,14 @@ use Rattle.topo_core.specs.Picture.{corner, darts, darts_of, end_dart, index_of,
 use Rattle.topo_core.specs.Pictures.{back, forward}
 use Rattle.topo_core.specs.Rotations.{twin}
 use Rattle.topo_core.specs.Systems.{has_dart}
-use Rattle.topo_core.proofs.numbering.Numbering.{get_index, has_at, images_length}
-use Rattle.topo_core.proofs.systems.SystemDarts.{eqb_self, get_there}
+use Rattle.topo_core.proofs.Interface.{corner_in, eqb_self, get_index, get_there, has_at, images_length}
 use Rattle.topo_perm.specs.Renumbering.{RenumbersTurn}
 use Rattle.topo_perm.specs.Runs.{IsStep}
 use Rattle.topo_perm.specs.Runs.Edit.{Hang}
-use Rattle.topo_perm.proofs.renumbering.GrowthNumbers.{IsGrowthUnder}
-use Rattle.topo_perm.proofs.permutations.Walks.{twin-cases}
+use Rattle.topo_perm.proofs.Interface.{IsGrowthUnder, twin-cases}
 use Rattle.topo_map.specs.Rotation.{AddsLabel, Grows, IsEmbedding, Rotation, edge_of, half_limit, is_live, turn, turning_of}
-use Rattle.topo_map.proofs.EditSteps.{hang_step}
-use Rattle.topo_changes.proofs.growing.Corners.{corner_is}
-use Rattle.topo_changes.proofs.growing.GrownCorner.{grown_good, new_row, old_edge}
-use Rattle.topo_changes.proofs.growing.GrownSlab.{grown_slab}
-use Rattle.topo_changes.proofs.inserting.InsertedNumbers.{even_count}
-use Rattle.topo_core.proofs.routing.RouteDarts.{corner_in}
+use Rattle.topo_map.proofs.Interface.{hang_step}
+use Rattle.topo_changes.proofs.Interface.{corner_is, even_count, grown_good, grown_slab, new_row, old_edge}
 use Rattle.topo_embedded.specs.Halves.{RowsWithPaths, ShowsRows, half_at, half_in, path_of}
 use Rattle.topo_embedded.proofs.halves.Made.{agreeing_numbers}
 use Rattle.topo_embedded.proofs.halves.Numbers.{StandsAt, half_alive, half_of_number, stands_at}

@@ -23,8 +23,7 @@ use Rattle.topo_embedded.specs.Parts.{Agree, AreForSearches, with_paths}
 use Rattle.topo_embedded.specs.Paths.{AreForEdges}
 use Rattle.topo_embedded.specs.declared.parts.Parts.{Parts}
 use Rattle.topo_core.specs.Changes.{crossed_row}
-use Rattle.topo_core.proofs.deleting.WithoutRows.{without_known}
-use Rattle.topo_core.proofs.inserting.ShownRows.{known_edge_below, newcomer_row, shown_edge_row}
+use Rattle.topo_core.proofs.Interface.{known_edge_below, newcomer_row, shown_edge_row, without_known}
 use Rattle.topo_embedded.proofs.guided.Going.{consistent_same, none_consistent}
 use Rattle.topo_embedded.proofs.growing.Grown.{kept_shows}
 use Rattle.topo_embedded.proofs.halves.KeptPaths.{kept_same}

@@ -2,14 +2,13 @@
 use Rattle.std.proofs.Common.{◌≡◌, ◌≢◌, ◌⊎◌, ℕ, ◌&&◌, ◌==◌, true, List, [], None, Option, inl, inr, refl, sym, ap, subst, ◌∙◌, arith}
 use Rattle.std.specs.Prelude.{slice_index_or}
 use Rattle.std.proofs.lemmas.Bool.{cases_eq, eqb-true}
-use Rattle.topo_core.proofs.numbering.Members.{left_true, right_true}
+use Rattle.topo_core.proofs.Interface.{left_true, right_true}
 use Rattle.topo_core.specs.Rotations.{twin}
-use Rattle.topo_perm.proofs.permutations.Faces.{twin-twin}
-use Rattle.topo_perm.proofs.edits.Bypassing.{twin-half}
+use Rattle.topo_perm.proofs.Interface.{twin-half, twin-twin}
 use Rattle.topo_map.specs.Rotation.{AddsFaces, AddsLabel, Grows, IsEmbedding, PartsLabels, Rotation, Slot}
 use Rattle.topo_map.specs.Rotation.{edge_in, edge_of, face_of, is_live, labelled, live_in, turn_in}
 use Rattle.topo_route.specs.Potentials.{AreWithin, all_four}
-use Rattle.topo_route.specs.declared.potentials.Potentials.{Potentials}
+use Rattle.topo_route.specs.declared.guided.potentials.Potentials.{Potentials}
 use Rattle.topo_embedded.specs.Bounds.{AreConsistentOn, BoundsState, GoesOn, IsGiven, IsPut, at_face}
 
 -- ---- None, and the same

@@ -4,12 +4,11 @@ use Rattle.topo_core.specs.declared.rows.EdgeRow.{EdgeRow}
 use Rattle.topo_core.specs.Lawful.{IsWellFormed}
 use Rattle.topo_core.specs.Picture.{edge_at, edge_row}
 use Rattle.topo_core.specs.Rotations.{twin}
-use Rattle.topo_core.proofs.deleting.WithoutPlaces.{edge_of_dart}
-use Rattle.topo_core.proofs.systems.SystemDarts.{edge_at_row, some_of}
+use Rattle.topo_core.proofs.Interface.{edge_at_row, edge_of_dart, some_of}
 use Rattle.topo_map.specs.Rotation.{Rotation, edge_of, face_of, is_live}
 use Rattle.topo_route.specs.Names.{IsName, Named, dart_named, twin_name}
 use Rattle.topo_route.specs.Potentials.{AreConsistent, AreWithin}
-use Rattle.topo_route.specs.declared.potentials.Potentials.{Potentials}
+use Rattle.topo_route.specs.declared.guided.potentials.Potentials.{Potentials}
 use Rattle.topo_embedded.specs.Bounds.{AreConsistentOn, BoundsState, FitsRows, at_face, floor_of}
 use Rattle.topo_embedded.specs.Halves.{RowsWithPaths, ShowsRows, half_in}
 use Rattle.topo_embedded.specs.Walking.{named_in}

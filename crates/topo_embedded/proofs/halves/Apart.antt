@@ -10,11 +10,8 @@ use Rattle.topo_core.specs.Lawful.{IsWellFormed}
 use Rattle.topo_core.specs.Picture.{darts, edge_row, index_of, turn_images}
 use Rattle.topo_core.specs.Rotations.{twin}
 use Rattle.topo_core.specs.Systems.{has_dart}
-use Rattle.topo_core.proofs.deleting.WithoutPlaces.{edge_of_dart}
-use Rattle.topo_core.proofs.numbering.Numbering.{has_at, images_length, index_apart, index_less}
-use Rattle.topo_core.proofs.systems.SystemDarts.{get_there}
-use Rattle.topo_perm.proofs.permutations.Faces.{twin-twin}
-use Rattle.topo_perm.proofs.permutations.Points.{count_below-into}
+use Rattle.topo_core.proofs.Interface.{edge_of_dart, get_there, has_at, images_length, index_apart, index_less}
+use Rattle.topo_perm.proofs.Interface.{count_below-into, twin-twin}
 use Rattle.topo_map.specs.Rotation.{IsEmbedding, Rotation, edge_of, half_limit, is_live}
 use Rattle.topo_route.specs.Names.{IsNamed}
 use Rattle.topo_embedded.specs.Halves.{RowsWithPaths, IsHalf, ShowsRows, by_way, half_at, half_in, path_of}

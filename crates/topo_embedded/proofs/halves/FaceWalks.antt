@@ -18,20 +18,15 @@ use Rattle.topo_core.specs.Picture.{darts, edge_at, index_of, segment_count, sys
 use Rattle.topo_core.specs.Pictures.{back, forward}
 use Rattle.topo_core.specs.Rotations.{face_next, twin}
 use Rattle.topo_core.specs.Systems.{has_dart, turn as dart_turn}
-use Rattle.topo_core.proofs.numbering.Numbering.{even_images, images_length, place_less, twin_in}
-use Rattle.topo_core.proofs.deleting.Openings.{opens}
-use Rattle.topo_core.proofs.systems.SystemDarts.{edge_at_row}
+use Rattle.topo_core.proofs.Interface.{edge_at_row, even_images, images_length, opens, place_less, twin_in}
 use Rattle.topo_perm.specs.Renumbering.{Renumbers}
-use Rattle.topo_perm.proofs.permutations.Points.{SameCycle-same}
-use Rattle.topo_perm.proofs.renumbering.Renumbered.{renumbered_faces, renumbered_same_cycle}
-use Rattle.topo_perm.proofs.permutations.Walks.{face_next-permutation, twin-within}
-use Rattle.topo_rows.proofs.RowDarts.{dart_there}
-use Rattle.topo_rows.proofs.Rounds.{got_within}
+use Rattle.topo_perm.proofs.Interface.{SameCycle-same, face_next-permutation, renumbered_faces, renumbered_same_cycle, twin-within}
+use Rattle.topo_rows.proofs.Interface.{dart_there, got_within}
 use Rattle.topo_map.specs.Rotation.{Rotation, edge_of, half_limit, is_live, turn}
-use Rattle.topo_map.proofs.Stored.{limit-is}
+use Rattle.topo_map.proofs.Interface.{limit-is}
 use Rattle.topo_changes.specs.Cuts.{IsLeft, IsNextLeft}
-use Rattle.topo_changes.proofs.deleting.OpenedFaces.{face_told, forth_of_face, not_opened, one_face_forth, one_face_round, Passes, passes_few, passes_more}
-use Rattle.topo_changes.proofs.deleting.OpenedFaces.{passes_none, passes_to, round_of_face, Walks, walks_home, walks_met, walks_more, walks_never, walks_none}
+use Rattle.topo_changes.proofs.Interface.{Passes, Walks, face_told, forth_of_face, not_opened, one_face_forth, one_face_round, passes_few, passes_more, passes_none, passes_to, round_of_face}
+use Rattle.topo_changes.proofs.Interface.{walks_home, walks_met, walks_more, walks_never, walks_none}
 use Rattle.topo_embedded.specs.Cutting.{IsOpenedOn}
 use Rattle.topo_embedded.specs.Halves.{RowsWithPaths, by_way, half_at, half_in}
 use Rattle.topo_embedded.specs.Walking.{IsOnPath}

@@ -12,10 +12,9 @@ use Rattle.topo_core.specs.declared.rows.Rows.{Rows}
 use Rattle.topo_core.specs.Lawful.{IsWellFormed, has_good_paths}
 use Rattle.topo_core.specs.Picture.{darts, edge_at, edge_row, points_of, segment_count, start, start_place}
 use Rattle.topo_core.specs.Systems.{has_dart}
-use Rattle.topo_core.proofs.numbering.Standing.{listed_test}
-use Rattle.topo_core.proofs.systems.SystemDarts.{edge_at_row}
+use Rattle.topo_core.proofs.Interface.{edge_at_row, listed_test}
 use Rattle.topo_map.specs.Rotation.{Rotation}
-use Rattle.topo_rows.proofs.RowDarts.{dart_there}
+use Rattle.topo_rows.proofs.Interface.{dart_there}
 use Rattle.topo_embedded.specs.Halves.{RowsWithPaths, ShowsRows, by_way, half_in}
 use Rattle.topo_embedded.proofs.halves.Numbers.{StandsAt, stands_at}
 use Rattle.topo_embedded.proofs.halves.Reading.{EdgeRead, list_many, list_read}

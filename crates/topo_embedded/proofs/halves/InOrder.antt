@@ -11,7 +11,7 @@ use Rattle.topo_core.specs.Lawful.{IsWellFormed}
 use Rattle.topo_core.specs.Picture.{darts, darts_of, segment_count}
 use Rattle.topo_core.specs.Rotations.{twin}
 use Rattle.topo_map.specs.Rotation.{Rotation}
-use Rattle.topo_rows.proofs.Finding.{edges_rise, placed_here}
+use Rattle.topo_rows.proofs.Interface.{edges_rise, placed_here}
 use Rattle.topo_embedded.specs.Canonical.{halves_of}
 use Rattle.topo_embedded.specs.Halves.{RowsWithPaths, ShowsRows, half_in}
 

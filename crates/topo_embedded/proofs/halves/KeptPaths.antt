@@ -17,15 +17,13 @@ use Rattle.topo_core.specs.Changes.{crossed_row, grown, shown, without}
 use Rattle.topo_core.specs.Items.{has_id}
 use Rattle.topo_core.specs.Lawful.{has_good_paths}
 use Rattle.topo_core.specs.Picture.{edge_at, edge_row}
-use Rattle.topo_core.proofs.systems.SystemDarts.{row_id, some_of}
-use Rattle.topo_changes.proofs.rows.Keeping.{below_more, more_places}
-use Rattle.topo_changes.proofs.rows.Leaving.{ids_stay}
+use Rattle.topo_core.proofs.Interface.{row_id, some_of}
+use Rattle.topo_changes.proofs.Interface.{below_more, ids_stay, more_places}
 use Rattle.topo_rows.specs.Ids.{IsPlaceOf}
-use Rattle.topo_rows.proofs.Finding.{edges_rise, placed_here}
-use Rattle.topo_rows.proofs.Noting.{place_among}
+use Rattle.topo_rows.proofs.Interface.{edges_rise, place_among, placed_here}
 use Rattle.topo_table.specs.Places.{AreBelow, IsLiveAt, Places, entries, entry_at, ids_in, ids_of, place_in, present, value_of, values_in, without_id}
-use Rattle.topo_table.proofs.PlaceLemmas.{EntriesRise-present, Rises, Rises-from_increasing, below_same, is_changed, present-push, was_value}
-use Rattle.topo_table.proofs.EntryLemmas.{ids-with_value, ids-without, known-id, value-read, values-with_value, values-without}
+use Rattle.topo_table.proofs.Interface.{EntriesRise-present, Rises, Rises-from_increasing, below_same, ids-with_value, ids-without, is_changed, known-id, present-push, value-read, values-with_value}
+use Rattle.topo_table.proofs.Interface.{values-without, was_value}
 use Rattle.topo_embedded.specs.Canonical.{halves_of}
 use Rattle.topo_embedded.specs.Halves.{path_of}
 use Rattle.topo_embedded.specs.Paths.{AreForEdges, IsPathAt, KeepsIds, path_in}

@@ -7,8 +7,7 @@ use Rattle.std.proofs.lemmas.Option.{get_or_from_slice_get}
 use Rattle.topo_core.specs.declared.darts.Dart.{Dart}
 use Rattle.topo_core.specs.Lawful.{IsWellFormed}
 use Rattle.topo_core.specs.Picture.{darts, index_of}
-use Rattle.topo_core.proofs.numbering.Numbering.{get_index, has_at, place_less}
-use Rattle.topo_core.proofs.systems.SystemDarts.{get_there}
+use Rattle.topo_core.proofs.Interface.{get_index, get_there, has_at, place_less}
 use Rattle.topo_map.specs.Rotation.{Rotation, TellsFaces, face_of, is_live}
 use Rattle.topo_route.specs.Names.{HasFaces, IsName, Named, canonical, dart_named}
 use Rattle.topo_embedded.specs.Halves.{RowsWithPaths, ShowsRows, half_in}

@@ -3,8 +3,7 @@ use Rattle.std.proofs.Common.{◌≡◌, ◌+◌, ◌<◌, ◌≤◌, ap, arith,
 use Rattle.std.proofs.Common.{length, List, [], ◌∷◌, not, refl, sym, suc, true, zero, ℕ, ◌∙◌}
 use Rattle.std.proofs.lemmas.Bool.{cases_Bool, ne_eqb}
 use Rattle.topo_core.specs.Items.{has_id, IsIn, occurrences}
-use Rattle.topo_core.proofs.deleting.GonePaths.{item_place, left_of, left_taken, left_kept}
-use Rattle.topo_core.proofs.inserting.WovenPaths.{first_part, place_of}
+use Rattle.topo_core.proofs.Interface.{first_part, item_place, left_kept, left_of, left_taken, place_of}
 use Rattle.topo_embedded.specs.Deleting.{spared}
 
 spared_taken : (goes : ℕ → Bool) (h : ℕ) (hs : List ℕ) → goes h ≡ true → spared goes (h ∷ hs) ≡ spared goes hs

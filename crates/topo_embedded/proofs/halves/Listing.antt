@@ -6,8 +6,7 @@ use Rattle.std.proofs.lemmas.List.{get_or_append_left, get_or_at, length-append}
 use Rattle.topo_core.specs.declared.rows.EdgeRow.{EdgeRow}
 use Rattle.topo_core.specs.Picture.{darts_of, segment_count}
 use Rattle.topo_rows.specs.Flats.{begins_from}
-use Rattle.topo_rows.proofs.Begins.{back_get, begins_at}
-use Rattle.topo_rows.proofs.Rounds.{got_within}
+use Rattle.topo_rows.proofs.Interface.{back_get, begins_at, got_within}
 use Rattle.topo_embedded.specs.Making.{ArePathsOf, IsPathOf}
 
 pub paths_none : (edges : List EdgeRow) (begins halves : List ℕ) (paths : List (List ℕ)) → paths ≡ [] → ArePathsOf edges begins halves 0 paths

@@ -14,14 +14,12 @@ use Rattle.topo_core.specs.Lawful.{IsWellFormed}
 use Rattle.topo_core.specs.Picture.{darts, index_of, segment_count, turn_images}
 use Rattle.topo_core.specs.Rotations.{twin}
 use Rattle.topo_core.specs.Systems.{has_dart}
-use Rattle.topo_core.proofs.numbering.Numbering.{has_at, images_length, index_less, index_of_get, index_twin, twin_in}
-use Rattle.topo_core.proofs.systems.SystemDarts.{get_there}
+use Rattle.topo_core.proofs.Interface.{get_there, has_at, images_length, index_less, index_of_get, index_twin, twin_in}
 use Rattle.topo_perm.specs.Renumbering.{RenumbersTurn}
-use Rattle.topo_perm.proofs.permutations.Walks.{twin-within}
+use Rattle.topo_perm.proofs.Interface.{twin-within}
 use Rattle.topo_map.specs.Rotation.{AreLabelled, IsMadeFrom, Rotation, edge_of, half_limit, is_live, turn}
 use Rattle.topo_rows.specs.Flats.{begins_from}
-use Rattle.topo_rows.proofs.Begins.{number_back, number_forward}
-use Rattle.topo_rows.proofs.Rounds.{got_within}
+use Rattle.topo_rows.proofs.Interface.{got_within, number_back, number_forward}
 use Rattle.topo_embedded.specs.Halves.{RowsWithPaths, ShowsRows, by_way, half_at, half_in}
 use Rattle.topo_embedded.specs.Making.{ArePathsOf, labels_of}
 use Rattle.topo_embedded.proofs.halves.Numbers.{StandsAt, stands_at}

@@ -13,11 +13,9 @@ use Rattle.topo_core.specs.Lawful.{IsWellFormed}
 use Rattle.topo_core.specs.Picture.{darts, edge_row, index_of, segment_count, system, turn_images}
 use Rattle.topo_core.specs.Rotations.{face_next, twin}
 use Rattle.topo_core.specs.Systems.{face_step, has_dart, turn as dart_turn}
-use Rattle.topo_core.proofs.numbering.Numbering.{get_index, image_of, index_less, index_twin, turn_stays, twin_in}
-use Rattle.topo_core.proofs.systems.SystemDarts.{edge_at_row, row_id, some_of}
-use Rattle.topo_core.proofs.deleting.WithoutPlaces.{edge_of_dart, segment_of_dart}
+use Rattle.topo_core.proofs.Interface.{edge_at_row, edge_of_dart, get_index, image_of, index_less, index_twin, row_id, segment_of_dart, some_of, turn_stays, twin_in}
 use Rattle.topo_map.specs.Rotation.{Rotation, is_live, turn}
-use Rattle.topo_rows.proofs.Rounds.{got_within}
+use Rattle.topo_rows.proofs.Interface.{got_within}
 use Rattle.topo_embedded.specs.Halves.{RowsWithPaths, IsHalf, ShowsRows, half_at, half_in, path_of}
 
 -- what is found stands at its place

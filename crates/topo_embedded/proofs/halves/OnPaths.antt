@@ -20,13 +20,10 @@ use Rattle.topo_core.specs.Picture.{darts, edge_row}
 use Rattle.topo_core.specs.Pictures.{forward}
 use Rattle.topo_core.specs.Rotations.{twin}
 use Rattle.topo_core.specs.Systems.{has_dart}
-use Rattle.topo_core.proofs.numbering.Numbering.{twin_in}
-use Rattle.topo_core.proofs.systems.SystemDarts.{eqb_self}
-use Rattle.topo_perm.proofs.runs.Subdivisions.{Subdivision}
-use Rattle.topo_perm.proofs.permutations.Faces.{twin-twin}
+use Rattle.topo_core.proofs.Interface.{eqb_self, twin_in}
+use Rattle.topo_perm.proofs.Interface.{Subdivision, twin-twin}
 use Rattle.topo_map.specs.Rotation.{Rotation, is_live}
-use Rattle.topo_rows.proofs.Finding.{edges_rise, placed_here}
-use Rattle.topo_rows.proofs.RowDarts.{dart_there}
+use Rattle.topo_rows.proofs.Interface.{dart_there, edges_rise, placed_here}
 use Rattle.topo_embedded.specs.Halves.{RowsWithPaths, ShowsRows, by_way, half_in, path_of}
 use Rattle.topo_embedded.specs.Inserting.{piece, put_halves}
 use Rattle.topo_embedded.specs.Padding.{AreOff, IsOff, IsOn}

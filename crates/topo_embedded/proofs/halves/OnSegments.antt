@@ -9,7 +9,7 @@ use Rattle.std.proofs.lemmas.List.Sums.{fails_before_first, passes_at_first, pos
 use Rattle.std.proofs.Math.Seq.{get_or-append_seam}
 use Rattle.topo_core.specs.declared.darts.Way.{Way}
 use Rattle.topo_core.specs.Rotations.{twin}
-use Rattle.topo_perm.proofs.permutations.Faces.{twin-twin}
+use Rattle.topo_perm.proofs.Interface.{twin-twin}
 use Rattle.topo_embedded.specs.Halves.{by_way, on_segment}
 use Rattle.topo_embedded.specs.Padding.{AreOff, IsOff, IsOn}
 use Rattle.topo_embedded.specs.Walking.{IsOnPath}

@@ -15,13 +15,9 @@ use Rattle.topo_core.specs.declared.rows.Rows.{Rows}
 use Rattle.topo_core.specs.Lawful.{IsWellFormed, has_good_paths}
 use Rattle.topo_core.specs.Picture.{darts, edge_row, end_dart, rotation, segment_count}
 use Rattle.topo_core.specs.Systems.{has_dart}
-use Rattle.topo_core.proofs.numbering.Members.{right_true, test_of_each}
-use Rattle.topo_core.proofs.numbering.Standing.{good_rotation}
-use Rattle.topo_core.proofs.systems.SystemDarts.{edge_at_row, in_at, row_id, row_in, some_of, vertex_in}
+use Rattle.topo_core.proofs.Interface.{edge_at_row, good_rotation, in_at, right_true, row_id, row_in, some_of, test_of_each, vertex_in}
 use Rattle.topo_map.specs.Rotation.{Rotation}
-use Rattle.topo_rows.proofs.RowDarts.{dart_there}
-use Rattle.topo_rows.proofs.Rounds.{got_within}
-use Rattle.topo_rows.proofs.Verdicts.{darts_total}
+use Rattle.topo_rows.proofs.Interface.{dart_there, darts_total, got_within}
 use Rattle.topo_embedded.specs.Halves.{RowsWithPaths, ShowsRows, by_way, half_in, path_of}
 use Rattle.topo_embedded.specs.Walking.{IsOnPath, end_seg, end_way}
 use Rattle.topo_embedded.proofs.halves.Apart.{halves_apart}

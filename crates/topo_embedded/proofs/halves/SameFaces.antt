@@ -8,7 +8,7 @@ use Rattle.topo_core.specs.Lawful.{IsWellFormed}
 use Rattle.topo_core.specs.Picture.{darts, system}
 use Rattle.topo_core.specs.Rotations.{face_next}
 use Rattle.topo_core.specs.Systems.{SameFace, face_step, has_dart}
-use Rattle.topo_core.proofs.numbering.Numbering.{turn_stays, twin_in}
+use Rattle.topo_core.proofs.Interface.{turn_stays, twin_in}
 use Rattle.topo_map.specs.Rotation.{Rotation, turn}
 use Rattle.topo_embedded.specs.Halves.{RowsWithPaths, ShowsRows, half_in}
 use Rattle.topo_embedded.proofs.halves.Apart.{halves_apart}

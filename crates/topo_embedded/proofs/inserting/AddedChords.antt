@@ -14,11 +14,10 @@ use Rattle.topo_core.specs.Lawful.{IsWellFormed}
 use Rattle.topo_core.specs.Picture.{darts, index_of}
 use Rattle.topo_core.specs.Rotations.{twin}
 use Rattle.topo_core.specs.Systems.{has_dart}
-use Rattle.topo_core.proofs.numbering.Numbering.{index_apart, index_twin, twin_in}
-use Rattle.topo_perm.proofs.renumbering.InsertionPathNumbers.{subdivided_number}
-use Rattle.topo_perm.proofs.runs.InsertionPaths.{AreAlong}
+use Rattle.topo_core.proofs.Interface.{index_apart, index_twin, twin_in}
+use Rattle.topo_perm.proofs.Interface.{AreAlong, subdivided_number}
 use Rattle.topo_map.specs.Rotation.{AddsLabel, Grows, IsEmbedding, Rotation, edge_of, half_limit, is_live, turn, turning_of}
-use Rattle.topo_map.proofs.EditSteps.{chord_step}
+use Rattle.topo_map.proofs.Interface.{chord_step}
 use Rattle.topo_embedded.specs.declared.padding.Crossed.{Crossed}
 use Rattle.topo_embedded.specs.Crossing.{AreChordsAdded, AreChordsAddedFrom, AreSplit, HaveLabel, IsMarked, subdivisions_of, subdivided_half}
 use Rattle.topo_embedded.specs.Halves.{RowsWithPaths, ShowsRows, half_at, half_in}

@@ -20,13 +20,10 @@ use Rattle.topo_core.specs.Picture.{darts, edge_row, index_of}
 use Rattle.topo_core.specs.Pictures.{back, forward}
 use Rattle.topo_core.specs.Rotations.{twin}
 use Rattle.topo_core.specs.Systems.{has_dart}
-use Rattle.topo_core.proofs.inserting.ShownPlaces.{lifted_edge}
-use Rattle.topo_core.proofs.inserting.ShownRows.{edge_below, newcomer_row}
-use Rattle.topo_core.proofs.systems.SystemDarts.{eqb_self}
-use Rattle.topo_perm.proofs.runs.Subdivisions.{Subdivision}
-use Rattle.topo_perm.proofs.renumbering.InsertionPathNumbers.{subdivided_number}
+use Rattle.topo_core.proofs.Interface.{edge_below, eqb_self, lifted_edge, newcomer_row}
+use Rattle.topo_perm.proofs.Interface.{Subdivision, subdivided_number}
 use Rattle.topo_map.specs.Rotation.{Rotation}
-use Rattle.topo_rows.proofs.Rounds.{got_within}
+use Rattle.topo_rows.proofs.Interface.{got_within}
 use Rattle.topo_embedded.specs.Crossing.{AreCrossedAt}
 use Rattle.topo_embedded.specs.Halves.{RowsWithPaths, ShowsRows, by_way, half_at, half_in, path_of}
 use Rattle.topo_embedded.specs.Inserting.{put_halves}

@@ -10,10 +10,9 @@ use Rattle.topo_core.specs.declared.rows.Rows.{Rows}
 use Rattle.topo_core.specs.declared.routes.Route.{Route}
 use Rattle.topo_core.specs.Changes.{crossed_row, shown}
 use Rattle.topo_core.specs.Rotations.{twin}
-use Rattle.topo_perm.proofs.runs.Subdivisions.{Subdivision}
-use Rattle.topo_perm.proofs.permutations.Faces.{twin-twin}
+use Rattle.topo_perm.proofs.Interface.{Subdivision, twin-twin}
 use Rattle.topo_map.specs.Rotation.{AddsLabel, Grows, Rotation, edge_of, is_live}
-use Rattle.topo_rows.proofs.Rounds.{got_within}
+use Rattle.topo_rows.proofs.Interface.{got_within}
 use Rattle.topo_embedded.specs.Crossing.{HasLabel, HaveLabel, HaveLabels}
 use Rattle.topo_embedded.specs.Halves.{by_way}
 use Rattle.topo_embedded.specs.Inserting.{piece, put_halves}

@@ -15,16 +15,11 @@ use Rattle.topo_core.specs.Picture.{darts, index_of, turn_images}
 use Rattle.topo_core.specs.Pictures.{forward}
 use Rattle.topo_core.specs.Rotations.{twin}
 use Rattle.topo_core.specs.Systems.{has_dart}
-use Rattle.topo_core.proofs.numbering.Numbering.{index_less, index_twin}
+use Rattle.topo_core.proofs.Interface.{index_less, index_twin}
 use Rattle.topo_perm.specs.Runs.{Turning}
-use Rattle.topo_perm.proofs.runs.Subdivisions.{Subdivision}
-use Rattle.topo_perm.proofs.runs.Chords.{NewChord, chords_of}
-use Rattle.topo_perm.proofs.renumbering.InsertionPathNumbers.{AreSubdivisionsAt, IsInsertionPathUnder}
-use Rattle.topo_perm.proofs.renumbering.RunNumbers.{AreNumbered}
+use Rattle.topo_perm.proofs.Interface.{AreNumbered, AreSubdivisionsAt, IsInsertionPathUnder, NewChord, Subdivision, chords_of}
 use Rattle.topo_map.specs.Rotation.{Rotation}
-use Rattle.topo_changes.proofs.inserting.InsertedLawful.{HasInsertionPath}
-use Rattle.topo_changes.proofs.inserting.InsertedNumbers.{dart_of_number}
-use Rattle.topo_changes.proofs.inserting.InsertedPath.{subdivisions_of, new_chords_of, name, path_subdivisions, path_chords}
+use Rattle.topo_changes.proofs.Interface.{HasInsertionPath, dart_of_number, name, new_chords_of, path_chords, path_subdivisions, subdivisions_of}
 use Rattle.topo_embedded.specs.Crossing.{AreCrossedAt, halves_of}
 use Rattle.topo_embedded.specs.Halves.{RowsWithPaths, half_at}
 use Rattle.topo_embedded.proofs.inserting.Inserted.{AreInserted}

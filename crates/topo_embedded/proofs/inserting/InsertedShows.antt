@@ -16,14 +16,12 @@ use Rattle.topo_core.specs.Insertions.{CrossesOnce, ShowsTurns}
 use Rattle.topo_core.specs.Lawful.{IsWellFormed}
 use Rattle.topo_core.specs.Picture.{darts, edge_row, segment_count, turn_images}
 use Rattle.topo_core.specs.Systems.{has_dart}
-use Rattle.topo_core.proofs.numbering.Numbering.{has_at, images_length, index_of_get}
-use Rattle.topo_core.proofs.inserting.ShownRows.{newcomer_row, shown_edges}
-use Rattle.topo_core.proofs.systems.SystemDarts.{edge_at_row, get_there}
+use Rattle.topo_core.proofs.Interface.{edge_at_row, get_there, has_at, images_length, index_of_get, newcomer_row, shown_edges}
 use Rattle.topo_perm.specs.Renumbering.{RenumbersTurn}
-use Rattle.topo_perm.proofs.runs.Subdivisions.{Subdivision}
+use Rattle.topo_perm.proofs.Interface.{Subdivision}
 use Rattle.topo_map.specs.Rotation.{Rotation, edge_of, half_limit, is_live, turn}
 use Rattle.topo_rows.specs.Ids.{IsPlaceOf}
-use Rattle.topo_rows.proofs.Finding.{edges_rise, placed_here}
+use Rattle.topo_rows.proofs.Interface.{edges_rise, placed_here}
 use Rattle.topo_embedded.specs.Crossing.{AreCrossedAt}
 use Rattle.topo_embedded.specs.Halves.{RowsWithPaths, ShowsRows, by_way, half_at, half_in, path_of}
 use Rattle.topo_embedded.proofs.inserting.Inserted.{AreInserted, all_have, inserted, path_new, path_old}

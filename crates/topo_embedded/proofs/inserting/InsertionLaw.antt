@@ -10,13 +10,9 @@ use Rattle.topo_core.specs.Lawful.{IsWellFormed}
 use Rattle.topo_core.specs.Picture.{index_of}
 use Rattle.topo_core.specs.Rotations.{twin}
 use Rattle.topo_perm.specs.Runs.{IsRun, Turning}
-use Rattle.topo_perm.proofs.runs.Subdivisions.{Subdivision, splits_of}
-use Rattle.topo_perm.proofs.runs.Chords.{NewChord, chords_of}
-use Rattle.topo_perm.proofs.renumbering.InsertionPathNumbers.{subdivided_number}
-use Rattle.topo_perm.proofs.runs.InsertionPaths.{AreAlong}
+use Rattle.topo_perm.proofs.Interface.{AreAlong, NewChord, Subdivision, chords_of, splits_of, subdivided_number}
 use Rattle.topo_map.specs.Rotation.{IsEmbedding, Rotation, edge_of, half_limit, turning_of}
-use Rattle.topo_changes.proofs.inserting.InsertedLawful.{HasInsertionPath}
-use Rattle.topo_changes.proofs.inserting.InsertedSlab.{AreCrossedHalves, inserted_slab}
+use Rattle.topo_changes.proofs.Interface.{AreCrossedHalves, HasInsertionPath, inserted_slab}
 use Rattle.topo_embedded.specs.Crossing.{AreCrossedAt, halves_of}
 use Rattle.topo_embedded.specs.Halves.{RowsWithPaths, ShowsRows, half_at}
 use Rattle.topo_embedded.specs.Inserting.{put_halves}

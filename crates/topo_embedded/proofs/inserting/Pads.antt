@@ -8,7 +8,7 @@ use Rattle.std.proofs.lemmas.List.{ext_get_or, get_or-set_other, get_or-set_same
 use Rattle.std.proofs.Math.Seq.{drop-append_seam, take-append_seam}
 use Rattle.topo_core.specs.Items.{has_id}
 use Rattle.topo_core.specs.Rotations.{twin}
-use Rattle.topo_perm.proofs.runs.Subdivisions.{Subdivision}
+use Rattle.topo_perm.proofs.Interface.{Subdivision}
 use Rattle.topo_embedded.specs.declared.padding.Crossed.{Crossed}
 use Rattle.topo_embedded.specs.Inserting.{piece}
 use Rattle.topo_embedded.specs.Padding.{ArePadded, IsOn, pads, edge_place, shifted}

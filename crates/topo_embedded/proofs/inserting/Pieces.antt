@@ -14,16 +14,8 @@ use Rattle.topo_core.specs.Picture.{darts, index_of}
 use Rattle.topo_core.specs.Pictures.{back, forward}
 use Rattle.topo_core.specs.Rotations.{twin}
 use Rattle.topo_core.specs.Systems.{has_dart}
-use Rattle.topo_core.proofs.numbering.Members.{left_true, right_true}
-use Rattle.topo_core.proofs.numbering.Numbering.{index_apart, index_twin, twin_in}
-use Rattle.topo_core.proofs.numbering.Counting.{eqb_symm}
-use Rattle.topo_core.proofs.numbering.DartLaws.{twin-twin as twin_twin_dart}
-use Rattle.topo_core.proofs.routing.SimpleRoutes.{same_or_twins}
-use Rattle.topo_core.proofs.systems.SystemDarts.{eqb_self}
-use Rattle.topo_core.proofs.inserting.ShownPlaces.{ids_on, skipped, taken}
-use Rattle.topo_perm.proofs.runs.Subdivisions.{Subdivision}
-use Rattle.topo_perm.proofs.permutations.Faces.{twin-other, twin-twin}
-use Rattle.topo_perm.proofs.renumbering.InsertionPathNumbers.{subdivided_number}
+use Rattle.topo_core.proofs.Interface.{eqb_self, eqb_symm, ids_on, index_apart, index_twin, left_true, right_true, same_or_twins, skipped, taken, twin-twin as twin_twin_dart, twin_in}
+use Rattle.topo_perm.proofs.Interface.{Subdivision, subdivided_number, twin-other, twin-twin}
 use Rattle.topo_map.specs.Rotation.{Rotation, is_live}
 use Rattle.topo_embedded.specs.Crossing.{AreCrossedAt, IsCrossedAt}
 use Rattle.topo_embedded.specs.Halves.{RowsWithPaths, ShowsRows, by_way, half_at, half_in}

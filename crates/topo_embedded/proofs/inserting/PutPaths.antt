@@ -17,17 +17,13 @@ use Rattle.topo_core.specs.Picture.{darts, edge_at, edge_row, index_of, place_on
 use Rattle.topo_core.specs.Pictures.{back, forward}
 use Rattle.topo_core.specs.Rotations.{twin}
 use Rattle.topo_core.specs.Systems.{has_dart}
-use Rattle.topo_core.proofs.inserting.ShownPlaces.{SegmentParts, lifted_back, lifted_forward, segment_parts}
-use Rattle.topo_core.proofs.systems.SystemDarts.{edge_at_row}
-use Rattle.topo_core.proofs.inserting.WovenPaths.{first_part, last_part, place_of}
-use Rattle.topo_perm.proofs.runs.Subdivisions.{Subdivision}
-use Rattle.topo_perm.proofs.permutations.Faces.{twin-twin}
-use Rattle.topo_perm.proofs.renumbering.InsertionPathNumbers.{subdivided_number}
+use Rattle.topo_core.proofs.Interface.{SegmentParts, edge_at_row, first_part, last_part, lifted_back, lifted_forward, place_of, segment_parts}
+use Rattle.topo_perm.proofs.Interface.{Subdivision, subdivided_number, twin-twin}
 use Rattle.topo_map.specs.Rotation.{Rotation}
 use Rattle.topo_embedded.specs.Crossing.{AreCrossedAt}
 use Rattle.topo_embedded.specs.Halves.{RowsWithPaths, ShowsRows, by_way, half_at, path_of}
 use Rattle.topo_embedded.specs.Inserting.{put_halves}
-use Rattle.topo_rows.proofs.RowDarts.{dart_there}
+use Rattle.topo_rows.proofs.Interface.{dart_there}
 use Rattle.topo_embedded.proofs.halves.Numbers.{found_place}
 use Rattle.topo_embedded.proofs.inserting.Pieces.{IsCrossed, IsUncrossed, SomeCrossed, crossed_or_not, first_of, last_of, put_append, put_none}
 

@@ -19,18 +19,12 @@ use Rattle.topo_core.specs.Picture.{darts, edge_row, index_of}
 use Rattle.topo_core.specs.Pictures.{forward}
 use Rattle.topo_core.specs.Rotations.{twin}
 use Rattle.topo_core.specs.Systems.{has_dart}
-use Rattle.topo_core.proofs.numbering.Counting.{eqb_symm}
-use Rattle.topo_core.proofs.deleting.WithoutPlaces.{edge_of_dart}
-use Rattle.topo_core.proofs.numbering.Numbering.{twin_in}
+use Rattle.topo_core.proofs.Interface.{edge_of_dart, eqb_symm, twin_in}
 use Rattle.topo_perm.specs.Runs.{IsRun}
-use Rattle.topo_perm.proofs.runs.Subdivisions.{Subdivision, splits_of}
-use Rattle.topo_perm.proofs.runs.Chords.{all_map}
-use Rattle.topo_perm.proofs.renumbering.RunNumbers.{kept_alive}
-use Rattle.topo_perm.proofs.renumbering.InsertionPathNumbers.{splits_add}
+use Rattle.topo_perm.proofs.Interface.{Subdivision, all_map, kept_alive, splits_add, splits_of}
 use Rattle.topo_map.specs.Rotation.{AddsLabel, Grows, IsEmbedding, Rotation, edge_of, half_limit, is_live, turn, turning_of}
-use Rattle.topo_map.proofs.EditSteps.{live_half, split_step}
-use Rattle.topo_rows.proofs.Noting.{place_among}
-use Rattle.topo_rows.proofs.Rounds.{got_within}
+use Rattle.topo_map.proofs.Interface.{live_half, split_step}
+use Rattle.topo_rows.proofs.Interface.{got_within, place_among}
 use Rattle.topo_embedded.specs.declared.padding.Crossed.{Crossed}
 use Rattle.topo_embedded.specs.Crossing.{AreCrossedAt, AreSplit, AreSplitFrom, HasLabel, HaveLabel, IsMarked, ids_of_edges, subdivisions_of, crossed_darts}
 use Rattle.topo_embedded.specs.Halves.{RowsWithPaths, ShowsRows, half_in}

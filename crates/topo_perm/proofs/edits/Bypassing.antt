@@ -6,7 +6,7 @@ use Rattle.topo_core.specs.Rotations.{twin, face_next, partly, Joined}
 use Rattle.topo_core.specs.Edits.{IsIsolated}
 use Rattle.topo_perm.specs.Cuts.{all_but, IsElsewhere, JoinedWithout, IsSegmentOf, TwoFacesJoined}
 use Rattle.topo_perm.specs.Cuts.{TwoFacesKeep, OneFaceParts, TakenOutJoined, TakenOutKeeps, TakenOutParts}
-use Rattle.topo_core.proofs.systems.Orbits.{SameCycle-sym}
+use Rattle.topo_core.proofs.Interface.{SameCycle-sym}
 use Rattle.topo_perm.proofs.permutations.Walks.{Joined-refl, Joined-trans, Joined-turned, Joined-crossed, Joined-SameCycle}
 use Rattle.topo_perm.proofs.permutations.Walks.{kept_joined, twin-within, twin-cases, face_next-permutation}
 use Rattle.topo_perm.proofs.edits.Cuts.{IsWithout, two_faces_joined, one_face_cuts, around, Joined-sym, partly-within}

@@ -7,7 +7,7 @@ use Rattle.std.proofs.lemmas.Bool.{cond-true, cond-false, lt-ltb, le-ltb, and_fr
 use Rattle.topo_core.specs.Cycles.{IsPermutation, after, SameCycle, is_met, class_count, count_below, cycle_count}
 use Rattle.topo_core.specs.Rotations.{twin, partly, face_by, Move, along, Joined, IsClassCount}
 use Rattle.topo_core.specs.Rotations.Move.{Turn, Cross}
-use Rattle.topo_core.proofs.systems.Orbits.{SameCycle-sym, is_met-SameCycle, SameCycle-is_met}
+use Rattle.topo_core.proofs.Interface.{SameCycle-is_met, SameCycle-sym, is_met-SameCycle}
 use Rattle.topo_perm.proofs.permutations.Classes.{class_count-same, count_below-same, count_below-more}
 use Rattle.topo_perm.proofs.permutations.Points.{IsExchangeBelow, cycle_count-same, IsPermutation-same, exchanged-permutation, exchanged_splits}
 use Rattle.topo_perm.proofs.permutations.Points.{exchanged_joins, exchanged_apart, leader, leader-first, leaders_same, IsFirstOf, firsts_same}

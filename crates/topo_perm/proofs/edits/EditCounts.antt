@@ -8,7 +8,7 @@ use Rattle.topo_perm.specs.Edits.{IsPutBefore, IsApart, IsAllowedHang, IsAllowed
 use Rattle.topo_perm.specs.Edits.{PutBeforeIsPermutation, PutBeforeIsBefore, BypassIsPermutation, BypassSplits, BypassStays}
 use Rattle.topo_perm.specs.Edits.{SplitIsPermutation, SmoothingIsPermutation, SmoothingIsSmooth, HangPoints, HangFaces, ChordPoints}
 use Rattle.topo_perm.specs.Edits.{ChordFaces, UnchordPoints, UnchordFaces, SplitPoints, SplitFaces, SmoothPoints, SmoothFaces}
-use Rattle.topo_core.proofs.systems.Orbits.{SameCycle-sym, SameCycle-trans}
+use Rattle.topo_core.proofs.Interface.{SameCycle-sym, SameCycle-trans}
 use Rattle.topo_perm.proofs.permutations.Points.{IsExchangeBelow, HasBefore, before_of, exchanged-permutation, bypass_splits, cycle_count-same}
 use Rattle.topo_perm.proofs.permutations.Walks.{twin-within, face_next-permutation}
 use Rattle.topo_perm.proofs.permutations.Faces.{Hung, Chord, twin-twin, twin-apart, twin-other, insert_points}

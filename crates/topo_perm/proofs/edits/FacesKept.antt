@@ -6,7 +6,7 @@ use Rattle.topo_core.specs.Rotations.{twin, face_next}
 use Rattle.topo_core.specs.Edits.{IsSplit}
 use Rattle.topo_perm.specs.Edits.{IsAllowedSplit, IsAllowedSmooth}
 use Rattle.topo_perm.specs.Faces.{HangKeepsFaces, HangSides, SplitKeepsFaces, SplitSides, ChordKeepsFaces, ChordSides, UnchordKeepsFaces, SmoothKeepsFaces}
-use Rattle.topo_core.proofs.systems.Orbits.{after-within, SameCycle-refl, SameCycle-trans, SameCycle-sym, SameCycle-step}
+use Rattle.topo_core.proofs.Interface.{SameCycle-refl, SameCycle-step, SameCycle-sym, SameCycle-trans, after-within}
 use Rattle.topo_perm.proofs.permutations.Points.{IsExchangeBelow, exchanged_splits, exchanged_spread, exchanged_keeps, exchanged_apart, exchanged-permutation}
 use Rattle.topo_perm.proofs.permutations.Walks.{twin-within, face_next-permutation}
 use Rattle.topo_perm.proofs.permutations.Faces.{Hung, Chord, Insertion, insertion, exchange_faces, IsExchangeBelow-back}

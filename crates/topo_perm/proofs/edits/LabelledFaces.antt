@@ -3,7 +3,7 @@ use Rattle.std.proofs.Common.{arith, ◌≡◌, ◌≢◌, ℕ, zero, suc, ◌<�
 use Rattle.std.proofs.lemmas.Bool.{cases_Bool, cases_eq, false≢true}
 use Rattle.topo_core.specs.Cycles.{IsPermutation, SameCycle, after, is_met}
 use Rattle.topo_core.specs.Rotations.{twin, face_next}
-use Rattle.topo_core.proofs.systems.Orbits.{SameCycle-refl, SameCycle-trans, SameCycle-sym, SameCycle-step, SameCycle-is_met, is_met-SameCycle}
+use Rattle.topo_core.proofs.Interface.{SameCycle-is_met, SameCycle-refl, SameCycle-step, SameCycle-sym, SameCycle-trans, is_met-SameCycle}
 use Rattle.topo_perm.specs.Edits.{IsAllowedChord, IsAllowedUnchord, IsAllowedSplit, IsAllowedSmooth, IsApart}
 use Rattle.topo_perm.specs.FaceLabels.{AddsBelow, AreJoinedLabels, AreKept, ArePartLabels, ChordLabels}
 use Rattle.topo_perm.specs.FaceLabels.{HangLabels, LabelsFaces, SmoothLabels, SplitLabels, UnchordLabels}

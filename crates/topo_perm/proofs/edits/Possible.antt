@@ -2,7 +2,7 @@
 use Rattle.std.proofs.Common.{arith, ℕ}
 use Rattle.topo_core.specs.Rotations.{twin}
 use Rattle.topo_perm.specs.Edits.{IsApart, HangIsPossible, ChordIsPossible, UnchordIsPossible, SplitIsPossible, SmoothIsPossible}
-use Rattle.topo_core.proofs.systems.Orbits.{after-within}
+use Rattle.topo_core.proofs.Interface.{after-within}
 use Rattle.topo_perm.proofs.permutations.Walks.{face_next-permutation}
 use Rattle.topo_perm.proofs.permutations.Splitting.{without}
 use Rattle.topo_perm.proofs.edits.EditCounts.{put, far_apart}

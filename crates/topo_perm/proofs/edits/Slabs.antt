@@ -4,7 +4,7 @@ use Rattle.std.proofs.lemmas.Bool.{cases_Bool, both_ways, and_parts, and_from}
 use Rattle.topo_core.specs.Cycles.{IsPermutation, SameCycle, after, is_first, is_met, count_below, class_count}
 use Rattle.topo_core.specs.Rotations.{twin, face_next, Joined, IsClassCount}
 use Rattle.topo_perm.specs.Live.{live_class_count, free_segments, IsSlab, LivePoints, LiveFaces, LiveSegments, LiveComponents, LiveGenusZero, LiveBound}
-use Rattle.topo_core.proofs.systems.Orbits.{SameCycle-sym, SameCycle-trans, SameCycle-is_met, is_met-SameCycle, wraps}
+use Rattle.topo_core.proofs.Interface.{SameCycle-is_met, SameCycle-sym, SameCycle-trans, is_met-SameCycle, wraps}
 use Rattle.topo_perm.proofs.permutations.Classes.{IsEquivalence, is_first-from, is_first-not, count_below-more}
 use Rattle.topo_perm.proofs.permutations.Points.{IsFirstOf, leader, leader-first, firsts_same}
 use Rattle.topo_perm.proofs.permutations.Walks.{twin-within, twin-cases, face_next-permutation, kept_joined, Joined-cross}

@@ -1,6 +1,6 @@
 use Rattle.std.proofs.Common.{sym, ◌∙◌, ap, arith, length, ◌+◌, ◌||◌, slice_index_or, false}
 use Rattle.topo_core.specs.Cycles.{map_of}
-use Rattle.topo_core.proofs.systems.Orbits.{IsPeriod}
+use Rattle.topo_core.proofs.Interface.{IsPeriod}
 use Rattle.topo_perm.proofs.permutations.Lists.{mark_more, is_met-period, after_more}
 use Rattle.topo_perm.proofs.mark_cycle.Goals as goal
 

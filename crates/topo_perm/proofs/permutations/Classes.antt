@@ -3,8 +3,8 @@ use Rattle.std.proofs.Common.{◌≡◌, ◌≢◌, ℕ, zero, suc, ◌+◌, ◌
 use Rattle.std.proofs.lemmas.Bool.{cases_Bool, cases_eq, cases_order, not_from_true, not_from_false, both_ways}
 use Rattle.topo_core.specs.Cycles.{count_below, is_first, class_count}
 pub use Rattle.topo_perm.specs.Renumbering.{IsEquivalence}
-pub use Rattle.topo_core.proofs.systems.Orbits.{count_below-same, some_below-same}
-use Rattle.topo_core.proofs.systems.Orbits.{search_below, some_below-true, some_below-false}
+pub use Rattle.topo_core.proofs.Interface.{count_below-same, some_below-same}
+use Rattle.topo_core.proofs.Interface.{search_below, some_below-false, some_below-true}
 
 -- two tests that differ at one number
 pub count_below-more : (p q : ℕ → Bool) (n m : ℕ) → m < n → p m ≡ true → q m ≡ false → ((a : ℕ) → a < n → a ≢ m → p a ≡ q a)

@@ -6,7 +6,7 @@ use Rattle.topo_core.specs.Cycles.{IsPermutation, count_below, some_below, is_fi
 use Rattle.topo_core.specs.Rotations.{twin, face_next, Joined, IsClassCount}
 use Rattle.topo_perm.specs.Reach.{mark, marked_count, IsClosed}
 use Rattle.topo_perm.proofs.permutations.Classes.{IsEquivalence, count_below-more, is_first-not}
-use Rattle.topo_core.proofs.systems.Orbits.{some_below-true, from_some_below}
+use Rattle.topo_core.proofs.Interface.{from_some_below, some_below-true}
 use Rattle.topo_perm.proofs.permutations.Lists.{count_below-le, first_counted, later_not_counted, marked_already, some_below_more}
 use Rattle.topo_perm.proofs.permutations.Points.{IsFirstOf, leader, leader-first, leaders_same}
 use Rattle.topo_perm.proofs.permutations.Walks.{Joined-refl, Joined-trans, Joined-turned, Joined-crossed, twin-within}

@@ -2,8 +2,7 @@
 use Rattle.std.proofs.Common.{◌≡◌, ◌≢◌, ℕ, zero, suc, ◌+◌, ◌-◌, ◌<◌, ◌≤◌, ◌==◌, Bool, ◌||◌, ◌⊎◌, inl, inr, refl, sym, ◌∙◌, ap, subst, arith}
 use Rattle.std.proofs.lemmas.Bool.{cases_Bool, cases_eq, or_cases, or_parts, or_right, eqb-true, eqb-false, eq-eqb, both_ways}
 use Rattle.topo_core.specs.Cycles.{IsPermutation, after, SameCycle, is_met, cycle_count}
-use Rattle.topo_core.proofs.systems.Orbits.{search_below, IsPeriod, period, wraps, SameCycle-refl, SameCycle-sym}
-use Rattle.topo_core.proofs.systems.Orbits.{SameCycle-trans, SameCycle-step, is_met-SameCycle, SameCycle-is_met}
+use Rattle.topo_core.proofs.Interface.{IsPeriod, SameCycle-is_met, SameCycle-refl, SameCycle-step, SameCycle-sym, SameCycle-trans, is_met-SameCycle, period, search_below, wraps}
 use Rattle.topo_perm.proofs.permutations.Classes.{IsEquivalence, class_count-join}
 
 -- g is f with the images of i and j exchanged

@@ -6,7 +6,7 @@ use Rattle.topo_core.specs.Rotations.{twin, face_next}
 use Rattle.topo_perm.proofs.permutations.Points.{IsExchangeBelow, HasBefore, before_of, bypass_exchange, bypass_splits}
 use Rattle.topo_perm.proofs.permutations.Points.{exchanged_splits, exchanged_joins, exchanged_keeps, exchanged-permutation}
 use Rattle.topo_perm.proofs.permutations.Walks.{twin-within, twin-cases, face_next-permutation}
-use Rattle.topo_core.proofs.systems.Orbits.{IsPeriod, wraps, SameCycle-trans, SameCycle-sym}
+use Rattle.topo_core.proofs.Interface.{IsPeriod, SameCycle-sym, SameCycle-trans, wraps}
 use Rattle.topo_core.specs.Edits.{IsBefore, IsIsolated}
 
 pub twin-twin : (a : ℕ) → twin (twin a) ≡ a

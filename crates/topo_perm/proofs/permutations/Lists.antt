@@ -6,7 +6,7 @@ use Rattle.std.proofs.lemmas.List.{get_or-set_same, get_or-set_other}
 use Rattle.std.proofs.lemmas.List.Edits.{swapped_from_swap, Swapped}
 use Rattle.topo_core.specs.Cycles.{IsPermutation, IsPermutationList, after, map_of, SameCycle}
 use Rattle.topo_core.specs.Cycles.{is_met, cycle_count, cycles_of, some_below, count_below, is_first}
-use Rattle.topo_core.proofs.systems.Orbits.{IsPeriod, period, wraps, some_below-true, from_some_below, SameCycle-is_met, is_met-SameCycle}
+use Rattle.topo_core.proofs.Interface.{IsPeriod, SameCycle-is_met, from_some_below, is_met-SameCycle, period, some_below-true, wraps}
 use Rattle.topo_perm.proofs.permutations.Exchange.{IsExchange, exchange_splits, exchange_joins}
 use Rattle.topo_perm.proofs.permutations.Classes.{IsEquivalence}
 

@@ -3,7 +3,7 @@ use Rattle.std.proofs.Common.{◌≡◌, ◌≢◌, ℕ, zero, suc, ◌+◌, ◌
 use Rattle.std.proofs.lemmas.Bool.{cases_Bool, cases_eq, cases_lt, cond-true, cond-false, lt-ltb, le-ltb, both_ways}
 use Rattle.std.proofs.lemmas.Bool.{eq-eqb, ne_eqb, and_from, and_left, and_right, not_from_true, not_from_false}
 use Rattle.topo_core.specs.Cycles.{IsPermutation, IsBypass, after, SameCycle, is_met, is_first, count_below, class_count, cycle_count}
-use Rattle.topo_core.proofs.systems.Orbits.{after-within, period, search_below, FirstAt}
+use Rattle.topo_core.proofs.Interface.{FirstAt, after-within, period, search_below}
 use Rattle.topo_perm.proofs.permutations.Classes.{some_below-same, class_count-same, count_below-more, IsEquivalence, first-before, is_first-from}
 use Rattle.topo_perm.proofs.permutations.Exchange.{IsExchange, exchange_splits, exchange_joins, exchange_parts, kept, spread, Together, IsExchange-permutation}
 

@@ -1,7 +1,7 @@
 -- What a walk round a cycle did not meet until it came home, or in as many steps as there are numbers, is not on the cycle.
 use Rattle.std.proofs.Common.{◌≡◌, ◌≢◌, ℕ, suc, ◌+◌, ◌<◌, sym, ◌∙◌, arith}
 use Rattle.topo_core.specs.Cycles.{IsPermutation, SameCycle, after}
-use Rattle.topo_core.proofs.systems.Orbits.{IsPeriod, period, wraps}
+use Rattle.topo_core.proofs.Interface.{IsPeriod, period, wraps}
 
 unmet_wrapped : (f : ℕ → ℕ) (a b d : ℕ) → IsPeriod f a d → ((j : ℕ) → j < d → after f j a ≢ b) → SameCycle f a b → ⊥
 unmet_wrapped f a b d p unmet same =

@@ -4,7 +4,7 @@ use Rattle.std.proofs.lemmas.Bool.{cases_Bool, eqb-true, eqb-false, both_ways, c
 use Rattle.topo_core.specs.Cycles.{IsPermutation, IsPermutationList, cycles_of, map_of, after, SameCycle}
 use Rattle.topo_core.specs.Rotations.{twin, face_next, faces_of, Move, moved, along, Joined, IsClassCount}
 use Rattle.topo_core.specs.Rotations.Move.{Turn, Cross}
-use Rattle.topo_core.proofs.systems.Orbits.{after-within}
+use Rattle.topo_core.proofs.Interface.{after-within}
 use Rattle.topo_perm.proofs.permutations.Classes.{class_count-same}
 use Rattle.topo_perm.proofs.permutations.Points.{cycle_count-same}
 

@@ -7,7 +7,7 @@ use Rattle.topo_core.specs.Rotations.Move.{Turn, Cross}
 use Rattle.topo_perm.specs.Renumbering.{IsRenumbering, IsCarried, RenumberedClasses, RenumberedSameCycle, RenumberedCycles}
 use Rattle.topo_perm.specs.Renumbering.{RenumberedWhole, RenumberedFaces, RenumberedJoined, RenumberedConnected}
 use Rattle.topo_perm.proofs.permutations.Live.{live_class_count-carries}
-use Rattle.topo_core.proofs.systems.Orbits.{after-within, SameCycle-sym, SameCycle-is_met, is_met-SameCycle}
+use Rattle.topo_core.proofs.Interface.{SameCycle-is_met, SameCycle-sym, after-within, is_met-SameCycle}
 use Rattle.topo_perm.proofs.permutations.Exchange.{is_met-equivalence}
 use Rattle.topo_perm.proofs.permutations.Walks.{twin-within, face_next-permutation}
 

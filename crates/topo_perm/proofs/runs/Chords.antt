@@ -5,7 +5,7 @@ use Rattle.std.proofs.lemmas.Bool.{cases_eq, eq-eqb, ne_eqb}
 use Rattle.topo_core.specs.Cycles.{IsPermutation, IsBypass, SameCycle}
 use Rattle.topo_core.specs.Rotations.{twin, face_next}
 use Rattle.topo_core.specs.Edits.{IsChord}
-use Rattle.topo_core.proofs.systems.Orbits.{SameCycle-sym}
+use Rattle.topo_core.proofs.Interface.{SameCycle-sym}
 use Rattle.topo_perm.specs.Edits.{IsApart, IsAllowedChord, IsAllowedUnchord}
 use Rattle.topo_perm.specs.Joins.{AddsSegment, IsConnectedAmong}
 use Rattle.topo_perm.specs.Live.{IsSlab, live_cycle_count}

@@ -5,7 +5,7 @@ use Rattle.std.proofs.lemmas.Bool.{cases_Bool, cases_eq, cond-true, cond-false, 
 use Rattle.topo_core.specs.Cycles.{IsPermutation, SameCycle, some_below}
 use Rattle.topo_core.specs.Rotations.{twin, face_next}
 use Rattle.topo_core.specs.Items.{IsIn}
-use Rattle.topo_core.proofs.systems.Orbits.{some_below-true}
+use Rattle.topo_core.proofs.Interface.{some_below-true}
 use Rattle.topo_perm.specs.Edits.{IsApart}
 use Rattle.topo_perm.proofs.permutations.Faces.{twin-other}
 use Rattle.topo_perm.proofs.permutations.Splitting.{without, without-self, without-onward, without-elsewhere}

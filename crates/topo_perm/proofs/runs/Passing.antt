@@ -5,7 +5,7 @@ use Rattle.std.proofs.lemmas.Bool.{cases_Bool, eqb-true, ne_eqb, false≢true}
 use Rattle.topo_core.specs.Cycles.{IsPermutation, SameCycle, cycle_count}
 use Rattle.topo_core.specs.Rotations.{Joined, twin, face_next}
 use Rattle.topo_core.specs.Items.{IsIn}
-use Rattle.topo_core.proofs.systems.Orbits.{SameCycle-refl, SameCycle-sym, SameCycle-trans, some_below-false}
+use Rattle.topo_core.proofs.Interface.{SameCycle-refl, SameCycle-sym, SameCycle-trans, some_below-false}
 use Rattle.topo_perm.specs.Edits.{IsApart}
 use Rattle.topo_perm.specs.Live.{IsSlab, live_cycle_count}
 use Rattle.topo_perm.specs.Renumbering.{RenumbersTurn, Renumbers}

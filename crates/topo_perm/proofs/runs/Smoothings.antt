@@ -4,8 +4,7 @@ use Rattle.std.proofs.lemmas.Bool.{cases_Bool, false≢true}
 use Rattle.topo_core.specs.Cycles.{IsPermutation, SameCycle, after, cycle_count, is_met}
 use Rattle.topo_core.specs.Rotations.{Joined, Move, along, face_next, twin}
 use Rattle.topo_core.specs.Rotations.Move.{Turn, Cross}
-use Rattle.topo_core.proofs.systems.Orbits.{SameCycle-is_met, SameCycle-refl, SameCycle-step, SameCycle-trans, is_met-SameCycle}
-use Rattle.topo_core.proofs.systems.Lengthening.{same_tests}
+use Rattle.topo_core.proofs.Interface.{SameCycle-is_met, SameCycle-refl, SameCycle-step, SameCycle-trans, is_met-SameCycle, same_tests}
 use Rattle.topo_perm.specs.Joins.{IsConnectedAmong}
 use Rattle.topo_perm.specs.Live.{IsSlab, live_cycle_count}
 use Rattle.topo_perm.proofs.edits.Cuts.{Joined-back}

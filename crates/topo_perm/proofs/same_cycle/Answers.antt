@@ -1,7 +1,7 @@
 use Rattle.std.proofs.Common.{sym, ◌∙◌, ap, arith, length, ◌+◌, ◌≡◌, false}
 use Rattle.std.proofs.lemmas.Bool.{or_from, ne_eqb}
 use Rattle.topo_core.specs.Cycles.{map_of, is_met}
-use Rattle.topo_core.proofs.systems.Orbits.{IsPeriod}
+use Rattle.topo_core.proofs.Interface.{IsPeriod}
 use Rattle.topo_perm.proofs.permutations.Lists.{after_more, is_met_more, is_met-period, unmet_apart}
 use Rattle.topo_perm.proofs.same_cycle.Goals as goal
 

@@ -10,8 +10,8 @@ use Rattle.topo_core.specs.Routes.{Pricing, unreached}
 use Rattle.topo_route.specs.Guided.{AreBounds, top_of_bound}
 use Rattle.topo_route.specs.Names.{HasFaces, IsName, IsNamed, Named, dart_named, twin_name}
 use Rattle.topo_route.specs.Potentials.{AreConsistent, AreWithin, IsOfGuide, bound_by, outside}
-use Rattle.topo_route.specs.declared.guide.Guide.{Guide}
-use Rattle.topo_route.specs.declared.potentials.Potentials.{Potentials}
+use Rattle.topo_route.specs.declared.guided.guide.Guide.{Guide}
+use Rattle.topo_route.specs.declared.guided.potentials.Potentials.{Potentials}
 use Rattle.topo_route.proofs.names.Names.{dart_of_twin, twin_back, twin_is}
 use Rattle.topo_route.proofs.spreading.FaceWalks.{next_face}
 

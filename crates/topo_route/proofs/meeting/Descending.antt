@@ -16,9 +16,7 @@ use Rattle.topo_core.specs.Picture.{around_crossing, around_vertex, corner, dart
 use Rattle.topo_core.specs.RouteLaws.{IsFirstByHeights, IsTight, TakesFirstDarts, arrival}
 use Rattle.topo_core.specs.Routes.{Costs, Crosses, HasNoRoute, IsFirst, IsPricedRoute, KeepsPromise, Price, Pricing}
 use Rattle.topo_core.specs.Systems.{SameFace, has_dart}
-use Rattle.topo_core.proofs.routing.Certificates.{face_height, face_in, first_by_heights, height_bounds}
-use Rattle.topo_core.proofs.numbering.Numbering.{twin_in}
-use Rattle.topo_core.proofs.routing.RouteDarts.{certified}
+use Rattle.topo_core.proofs.Interface.{certified, face_height, face_in, first_by_heights, height_bounds, not_later, number_order, order_number, twin_in}
 use Rattle.topo_route.specs.declared.plan.Plan.{Plan}
 use Rattle.topo_route.specs.declared.plan.PricedRoute.{PricedRoute}
 use Rattle.topo_route.specs.Descents.{Descends, HasNoStart, IsDescent, IsEnd, IsFirstOf, IsFirstRoute, IsFirstTight, IsStart}
@@ -26,7 +24,6 @@ use Rattle.topo_route.specs.Names.{IsName, IsNamed, Named, canonical, dart_named
 use Rattle.topo_route.specs.Plans.{AreHeights, AreHeightsBelow, IsPlan, height_in}
 use Rattle.topo_route.proofs.names.Names.{after_is, dart_of_name, dart_of_twin, face_of_names, height_named, name_is, names_of_face, round_names, twin_is}
 use Rattle.topo_route.proofs.names.Numbers.{corner_below, face_stays, number_below}
-use Rattle.topo_core.proofs.numbering.NumberOrder.{not_later, number_order, order_number}
 use Rattle.topo_route.proofs.names.Rounds.{round_home}
 use Rattle.topo_route.proofs.spreading.Settled.{either_false}
 

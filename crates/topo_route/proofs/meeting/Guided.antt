@@ -5,8 +5,7 @@ use Rattle.std.proofs.lemmas.Bool.{cases_lt}
 use Rattle.topo_core.specs.Lawful.{Lawful}
 use Rattle.topo_core.specs.declared.routes.Route.{Route}
 use Rattle.topo_core.specs.Routes.{HasNoRoute, IsCertificate, IsPricedRoute, KeepsPromise, Price, Pricing, Reaches, unreached}
-use Rattle.topo_core.proofs.routing.Certificates.{route_bound}
-use Rattle.topo_core.proofs.routing.RouteDarts.{certified}
+use Rattle.topo_core.proofs.Interface.{certified, route_bound}
 use Rattle.topo_route.specs.Descents.{AreHeightsFor, HasNoStart}
 use Rattle.topo_route.specs.Guided.{AreBounds, Guides, top_of_bound}
 use Rattle.topo_route.specs.Plans.{AreHeightsBelow, IsZeroAt}

@@ -11,8 +11,7 @@ use Rattle.topo_core.specs.Picture.{corner, darts, system}
 use Rattle.topo_core.specs.RouteLaws.{IsFirstByHeights, IsTight, TakesFirstDarts}
 use Rattle.topo_core.specs.Routes.{Costs, Crosses, IsCertificate, Price, Pricing}
 use Rattle.topo_core.specs.Systems.{SameFace, has_dart}
-use Rattle.topo_core.proofs.routing.Certificates.{face_height, face_in, height_bounds, same_some}
-use Rattle.topo_core.proofs.numbering.Numbering.{twin_in}
+use Rattle.topo_core.proofs.Interface.{face_height, face_in, height_bounds, same_some, twin_in}
 use Rattle.topo_route.specs.Names.{IsName, IsNamed, Named, height_of, next_name, twin_name}
 use Rattle.topo_route.specs.Plans.{AreHeightsBelow}
 use Rattle.topo_route.proofs.names.Names.{after_is, dart_of_name, name_is, names_of_face}

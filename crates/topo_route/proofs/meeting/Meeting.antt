@@ -5,8 +5,7 @@ use Rattle.topo_core.specs.Lawful.{Lawful}
 use Rattle.topo_core.specs.declared.routes.Route.{Route}
 use Rattle.topo_core.specs.RouteLaws.{IsFirstByHeights}
 use Rattle.topo_core.specs.Routes.{HasNoRoute, IsCertificate, IsPricedRoute, Price, Pricing, Reaches}
-use Rattle.topo_core.proofs.routing.Certificates.{route_bound}
-use Rattle.topo_core.proofs.routing.RouteDarts.{certified}
+use Rattle.topo_core.proofs.Interface.{certified, route_bound}
 use Rattle.topo_route.specs.Descents.{AreHeightsFor, HasNoStart}
 use Rattle.topo_route.specs.Plans.{AreHeightsBelow}
 use Rattle.topo_route.specs.Meeting.{Meets}

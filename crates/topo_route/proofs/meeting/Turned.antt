@@ -7,8 +7,7 @@ use Rattle.topo_core.specs.Lawful.{Lawful}
 use Rattle.topo_core.specs.Picture.{darts, system}
 use Rattle.topo_core.specs.Routes.{Costs, Crosses, HasNoRoute, IsPricedRoute, Price, Pricing, Reaches}
 use Rattle.topo_core.specs.Systems.{SameFace, has_dart}
-use Rattle.topo_core.proofs.numbering.DartLaws.{twin-twin}
-use Rattle.topo_core.proofs.numbering.Numbering.{twin_in}
+use Rattle.topo_core.proofs.Interface.{twin-twin, twin_in}
 use Rattle.topo_route.specs.Names.{IsNamed, Named, dart_named}
 use Rattle.topo_route.proofs.names.Names.{back_round, dart_of_name, face_of_names, name_is, names_of_face}
 use Rattle.topo_route.proofs.names.Numbers.{corner_below}

@@ -6,8 +6,7 @@ use Rattle.topo_core.specs.declared.darts.Dart.{Dart}
 use Rattle.topo_core.specs.declared.routes.Route.{Route}
 use Rattle.topo_core.specs.declared.rows.Rows.{Rows}
 use Rattle.topo_core.specs.Routes.{Costs, IsFirst, KeepsPromise, Pricing, route_cmp}
-use Rattle.topo_core.proofs.numbering.DartOrder.{nat_cmp_self}
-use Rattle.topo_core.proofs.routing.Certificates.{start_before, not_above}
+use Rattle.topo_core.proofs.Interface.{nat_cmp_self, not_above, start_before}
 use Rattle.topo_route.specs.Direct.{IsFirstDirect}
 
 one_dart : (o p : Dart) → Some o ≡ Some p → o ≡ p

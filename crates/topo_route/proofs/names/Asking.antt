@@ -12,8 +12,7 @@ use Rattle.topo_core.specs.Lawful.{Lawful, has_good_path}
 use Rattle.topo_core.specs.Picture.{darts, darts_of, segment_count}
 use Rattle.topo_core.specs.Routes.{Pricing}
 use Rattle.std.specs.List.{list_all}
-use Rattle.topo_core.proofs.numbering.Counting.{lt_of_test}
-use Rattle.topo_core.proofs.numbering.Members.{left_true, right_true}
+use Rattle.topo_core.proofs.Interface.{left_true, lt_of_test, right_true}
 use Rattle.topo_route.specs.EachOnce.{AreAsked, IsEachAskedOnce, edge_ids, segments_of_first}
 use Rattle.topo_route.specs.Names.{no_dart}
 use Rattle.topo_route.specs.Numbers.{IsPriceAt, IsPriceFor, dart_of}

@@ -10,12 +10,11 @@ use Rattle.topo_core.specs.Lawful.{Lawful}
 use Rattle.topo_core.specs.Picture.{corner, darts, index_of, system}
 use Rattle.topo_core.specs.Routes.{Pricing}
 use Rattle.topo_core.specs.Systems.{SameFace, face_step}
-use Rattle.topo_core.proofs.numbering.Numbering.{index_apart, index_twin}
+use Rattle.topo_core.proofs.Interface.{index_apart, index_twin, number_order, order_number}
 use Rattle.topo_route.specs.Names.{IsName, IsNamed, Named, canonical, dart_named, next_name, twin_name}
 use Rattle.topo_route.specs.Numbers.{IsPriceAt, IsPriceFor, dart_of, next_of}
 use Rattle.topo_route.proofs.names.Names.{dart_of_name, name_below, name_is}
 use Rattle.topo_route.proofs.names.Numbers.{dart_in, face_of_numbers, next_number, number_below, number_of, numbers_of_face}
-use Rattle.topo_core.proofs.numbering.NumberOrder.{number_order, order_number}
 
 module _ (rows : Rows) (lawful : Lawful rows) where
   pub canonical_named : IsNamed (canonical rows)

@@ -12,9 +12,7 @@ use Rattle.topo_core.specs.Lawful.{Lawful}
 use Rattle.topo_core.specs.Picture.{corner, darts, index_of, system}
 use Rattle.topo_core.specs.Routes.{Price, Pricing}
 use Rattle.topo_core.specs.Systems.{SameFace, face_step, has_dart}
-use Rattle.topo_core.proofs.numbering.DartLaws.{same_dart_true, twin-twin}
-use Rattle.topo_core.proofs.numbering.Numbering.{twin_in}
-use Rattle.topo_core.proofs.systems.Orbits.{IsPeriod, after-add, two_alike, wraps}
+use Rattle.topo_core.proofs.Interface.{IsPeriod, after-add, same_dart_true, twin-twin, twin_in, two_alike, wraps}
 use Rattle.topo_route.specs.Names.{IsName, IsNamed, Named, dart_named, height_of, next_name, no_dart, twin_name}
 use Rattle.topo_route.specs.Numbers.{dart_of, next_of}
 use Rattle.topo_route.proofs.names.Numbers.{corner_below, dart_of_number, face_stays, next_apart, next_number, number_below}

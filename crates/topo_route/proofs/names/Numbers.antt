@@ -10,10 +10,8 @@ use Rattle.topo_core.specs.Rotations.{twin}
 use Rattle.topo_core.specs.Systems.{SameFace, face_step, has_dart}
 use Rattle.topo_core.specs.Picture.{corner, darts, index_of, system}
 use Rattle.topo_core.specs.Lawful.{IsWellFormed, Lawful}
-use Rattle.topo_core.proofs.numbering.Numbering.{index_of_get, get_index, has_at, twin_in, index_twin}
-use Rattle.topo_core.proofs.numbering.Numbering.{images_length, turn_permutes, index_less, turn_stays, dart_at}
-use Rattle.topo_core.proofs.numbering.Renumbering.{face_carried, face_numbers, face_darts}
-use Rattle.topo_core.proofs.routing.RouteDarts.{corner_in}
+use Rattle.topo_core.proofs.Interface.{corner_in, dart_at, face_carried, face_darts, face_numbers, get_index, has_at, images_length, index_less, index_of_get, index_twin, turn_permutes, turn_stays}
+use Rattle.topo_core.proofs.Interface.{twin_in}
 use Rattle.topo_route.specs.Names.{no_dart}
 use Rattle.topo_route.specs.Numbers.{dart_of, next_of}
 

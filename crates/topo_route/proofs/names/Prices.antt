@@ -7,7 +7,7 @@ use Rattle.topo_core.specs.declared.rows.Facts.{Facts}
 use Rattle.topo_core.specs.declared.rows.TheConstants.{MAX_PRICE}
 use Rattle.topo_core.specs.Picture.{edge_at}
 use Rattle.topo_core.specs.Routes.{AreFactsOf, KeepsPromise, Pricing}
-use Rattle.topo_core.proofs.routing.Certificates.{one_facts}
+use Rattle.topo_core.proofs.Interface.{one_facts}
 use Rattle.topo_price.specs.Prices.{IsPriceOf}
 use Rattle.topo_route.specs.Numbers.{IsPriceFor}
 

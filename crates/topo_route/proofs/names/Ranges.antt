@@ -17,10 +17,7 @@ use Rattle.topo_core.specs.Lawful.{Lawful, has_good_path}
 use Rattle.topo_core.specs.Picture.{cross_row, darts, darts_of, edge_at, index_of, segment_count}
 use Rattle.topo_core.specs.Routes.{AreFactsOf, Pricing}
 use Rattle.topo_core.specs.Systems.{has_dart}
-use Rattle.topo_core.proofs.numbering.Members.{right_true, test_of_each}
-use Rattle.topo_core.proofs.numbering.Standing.{listed_test, of_rows_is_dart}
-use Rattle.topo_core.proofs.systems.Orbits.{two_alike}
-use Rattle.topo_core.proofs.systems.SystemDarts.{edge_at_row, row_id, row_in}
+use Rattle.topo_core.proofs.Interface.{edge_at_row, listed_test, of_rows_is_dart, right_true, row_id, row_in, test_of_each, two_alike}
 use Rattle.topo_price.specs.Prices.{IsPriceOf}
 use Rattle.topo_route.specs.Names.{IsName, IsNamed, Named, dart_named}
 use Rattle.topo_route.specs.Numbers.{IsPriceFor, dart_of}

@@ -1,7 +1,7 @@
 -- What holds all the way round a cycle.
 use Rattle.std.proofs.Common.{◌≡◌, ℕ, suc, ◌+◌, ◌<◌, sym, ◌∙◌, ap, arith, subst}
 use Rattle.topo_core.specs.Cycles.{IsPermutation, after, SameCycle}
-use Rattle.topo_core.proofs.systems.Orbits.{period, wraps}
+use Rattle.topo_core.proofs.Interface.{period, wraps}
 
 -- what holds along a walk that has returned holds of the whole cycle
 pub round_home : (f : ℕ → ℕ) (P : ℕ → Type 0) (a k : ℕ) → 0 < k → after f k a ≡ a → ((j : ℕ) → j < k → P (after f j a)) → (x : ℕ) → SameCycle f a x → P x

@@ -9,7 +9,7 @@ use Rattle.topo_core.specs.Lawful.{Lawful}
 use Rattle.topo_core.specs.Picture.{darts, edge_at}
 use Rattle.topo_core.specs.Rotations.{twin}
 use Rattle.topo_core.specs.Routes.{AreFactsOf, KeepsPromise, Price, Pricing}
-use Rattle.topo_core.proofs.numbering.Numbering.{even_images, images_length}
+use Rattle.topo_core.proofs.Interface.{even_images, images_length}
 use Rattle.topo_route.specs.Names.{canonical, dart_named}
 use Rattle.topo_route.specs.Numbers.{IsPriceAt, IsPriceFor, dart_of}
 use Rattle.topo_route.specs.Settling.{ArePrices, ArePricesOf}

@@ -20,7 +20,7 @@ use Rattle.topo_route.specs.Numbers.{CannotCross, Crossing, HasTightBefore, Paym
 use Rattle.topo_route.specs.Plans.{height_in}
 use Rattle.topo_route.proofs.names.Numbers.{dart_in, dart_of_number, face_of_numbers, face_stays, number_below, number_of, numbers_of_face, twin_dart}
 use Rattle.topo_route.proofs.names.Rounds.{round_home}
-use Rattle.topo_core.proofs.numbering.NumberOrder.{not_later, number_order}
+use Rattle.topo_core.proofs.Interface.{not_later, number_order}
 use Rattle.topo_route.proofs.plans.Tests.{height_at, height_twin}
 
 -- ---- Numbers of darts

@@ -12,7 +12,7 @@ use Rattle.topo_core.specs.Picture.{corner, darts, index_of, rotation, system}
 use Rattle.topo_core.specs.Rotations.{twin}
 use Rattle.topo_core.specs.Routes.{Price, Pricing, unreached}
 use Rattle.topo_core.specs.Systems.{face_step}
-use Rattle.topo_core.proofs.numbering.Numbering.{index_twin}
+use Rattle.topo_core.proofs.Interface.{index_twin}
 use Rattle.topo_route.specs.Numbers.{dart_of, next_of}
 use Rattle.topo_route.specs.Plans.{IsEven, IsGentle, IsLeastAt, IsLeastHeight, height_in}
 use Rattle.topo_route.proofs.names.Numbers.{dart_in, dart_of_number, next_number, number_below, number_of}

@@ -6,8 +6,7 @@ use Rattle.topo_core.specs.declared.rows.Rows.{Rows}
 use Rattle.topo_core.specs.Lawful.{Lawful}
 use Rattle.topo_core.specs.RouteLaws.{IsFirstByHeights, TakesFirstDarts, arrival}
 use Rattle.topo_core.specs.Routes.{IsFirst, IsPricedRoute, KeepsPromise, Pricing}
-use Rattle.topo_core.proofs.routing.Certificates.{first_by_heights, route_bound}
-use Rattle.topo_core.proofs.routing.RouteDarts.{certified}
+use Rattle.topo_core.proofs.Interface.{certified, first_by_heights, route_bound}
 use Rattle.topo_route.specs.declared.plan.Plan.{Plan}
 use Rattle.topo_route.specs.declared.plan.PlanFault.{PlanFault}
 use Rattle.topo_route.specs.declared.plan.PlanFault.TheVariants.{WrongLength, UnevenFace, TooSteep, TargetNotZero, NotARoute, NotLeast, NotFirst}

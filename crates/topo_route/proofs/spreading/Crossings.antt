@@ -4,7 +4,7 @@ use Rattle.std.specs.Prelude.{min, slice_index}
 use Rattle.std.proofs.Math.ListN.{set}
 use Rattle.topo_core.specs.Lawful.{Lawful}
 use Rattle.topo_core.specs.Routes.{KeepsPromise, Price, Pricing, Reaches}
-use Rattle.topo_core.proofs.routing.Certificates.{single_price}
+use Rattle.topo_core.proofs.Interface.{single_price}
 use Rattle.topo_route.specs.FaceHeights.{dart_heights, with_name}
 use Rattle.topo_route.specs.Names.{HasFaces, IsName, IsNamed, Named, dart_named, twin_name}
 use Rattle.topo_route.specs.Settling.{AreFaceCosts, IsCrossed, IsReached, Spreads, is_waiting, item_of, reached}

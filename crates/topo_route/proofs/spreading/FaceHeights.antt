@@ -10,7 +10,7 @@ use Rattle.std.proofs.lemmas.List.FromFn.{get_or-map-range_with_len, length-map-
 use Rattle.topo_core.specs.Picture.{darts}
 use Rattle.topo_core.specs.Routes.{unreached}
 use Rattle.topo_core.specs.Systems.{has_dart}
-use Rattle.topo_core.proofs.numbering.Members.{left_true, right_true}
+use Rattle.topo_core.proofs.Interface.{left_true, right_true}
 use Rattle.topo_route.specs.FaceHeights.{dart_heights, height_at, is_name}
 use Rattle.topo_route.specs.Names.{IsName, IsNamed, Named, dart_named}
 use Rattle.topo_route.specs.Settling.{number_at, top_of}

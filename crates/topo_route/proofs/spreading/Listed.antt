@@ -4,7 +4,7 @@ use Rattle.std.proofs.Math.Bool.{or-false}
 use Rattle.std.proofs.lemmas.Bool.{eqb-true}
 use Rattle.std.proofs.lemmas.List.Folds.{list_any-append}
 use Rattle.topo_core.specs.Items.{has_id}
-use Rattle.topo_core.proofs.numbering.NumberOrder.{either}
+use Rattle.topo_core.proofs.Interface.{either}
 
 second_holds : (a b : Bool) → b ≡ true → (a || b) ≡ true
 second_holds true b h = refl

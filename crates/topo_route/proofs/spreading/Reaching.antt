@@ -9,9 +9,7 @@ use Rattle.topo_core.specs.Lawful.{Lawful}
 use Rattle.topo_core.specs.Picture.{darts, system}
 use Rattle.topo_core.specs.Routes.{Costs, Crosses, IsCertificate, IsHeight, KeepsPromise, Price, Pricing, Reaches, unreached}
 use Rattle.topo_core.specs.Systems.{SameFace, has_dart}
-use Rattle.topo_core.proofs.routing.Certificates.{face_height, face_in, height_bounds}
-use Rattle.topo_core.proofs.numbering.DartLaws.{twin-twin}
-use Rattle.topo_core.proofs.numbering.Numbering.{twin_in}
+use Rattle.topo_core.proofs.Interface.{face_height, face_in, height_bounds, twin-twin, twin_in}
 use Rattle.topo_route.specs.Names.{IsName, IsNamed, Named, dart_named, height_of, next_name, twin_name}
 use Rattle.topo_route.specs.Plans.{AreHeights, IsZeroAt}
 use Rattle.topo_route.specs.Settling.{AreCosts, IsSettled}

@@ -7,7 +7,7 @@ use Rattle.std.proofs.lemmas.Bool.{cases_Bool, cases_eq, cases_lt, eqb-true, eq-
 use Rattle.std.proofs.lemmas.List.{length-set}
 use Rattle.std.proofs.lemmas.List.Sums.{sum_by-set}
 use Rattle.topo_core.specs.Routes.{Pricing, Reaches, unreached}
-use Rattle.topo_core.proofs.numbering.NumberOrder.{either}
+use Rattle.topo_core.proofs.Interface.{either}
 use Rattle.topo_route.specs.FaceHeights.{AreLabelled, dart_heights, with_name}
 use Rattle.topo_route.specs.Names.{HasFaces, IsName, IsNamed, Named, dart_named, height_of, next_name, twin_name}
 use Rattle.topo_route.specs.Plans.{IsZeroAt}

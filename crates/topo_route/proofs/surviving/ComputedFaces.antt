@@ -17,11 +17,8 @@ use Rattle.topo_core.specs.Pictures.{back, forward}
 use Rattle.topo_core.specs.RouteLaws.{IsFirstByHeights}
 use Rattle.topo_core.specs.Routes.{IsCertificate, IsFirst, IsPricedRoute, KeepsPromise}
 use Rattle.topo_core.specs.Systems.{SameFace, face_step, has_dart}
-use Rattle.topo_core.proofs.routing.Certificates.{same_some}
-use Rattle.topo_core.proofs.stepping.Computed.{Passes, Planned, certificate_by_tests, connected_by_tests, first_by_tests, other_face}
-use Rattle.topo_core.proofs.numbering.DartLaws.{for_each, same_dart_true}
-use Rattle.topo_core.proofs.numbering.Members.{left_true, right_true}
-use Rattle.topo_core.proofs.numbering.Numbering.{get_place, has_at, place_in}
+use Rattle.topo_core.proofs.Interface.{Passes, Planned, certificate_by_tests, connected_by_tests, first_by_tests, for_each, get_place, has_at, left_true, other_face, place_in, right_true}
+use Rattle.topo_core.proofs.Interface.{same_dart_true, same_some}
 use Rattle.topo_route.specs.Surviving.{CoversSearch, IsSameEdge, KeepsEnds, KeepsFaces}
 use Rattle.topo_route.specs.SurvivingEvidence.{after, ahead, before, behind, found, height, price, renamed, seen}
 use Rattle.topo_route.proofs.surviving.Searched.{survives}

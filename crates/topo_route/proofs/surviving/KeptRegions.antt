@@ -20,20 +20,9 @@ use Rattle.topo_core.specs.Lawful.{IsWellFormed, Lawful, is_good_crossing}
 use Rattle.topo_core.specs.Picture.{ahead, around_crossing, around_vertex, behind, clockwise, corner}
 use Rattle.topo_core.specs.Picture.{cross_row, darts, edge_at, edge_row, end_dart, rotation, system, vertices}
 use Rattle.topo_core.specs.Systems.{System, darts_in, face_step, follower, has_dart, turn}
-use Rattle.topo_core.proofs.numbering.Counting.{one}
-use Rattle.topo_core.proofs.numbering.DartLaws.{same_dart_self, same_dart_true}
-use Rattle.topo_core.proofs.growing.Growing.{in_append}
-use Rattle.topo_core.proofs.numbering.Members.{found, in_map, left_true}
-use Rattle.topo_core.proofs.numbering.Numbering.{distinct_system, twin_in}
-use Rattle.topo_core.proofs.systems.Points.{point_of, turn_at_point}
-use Rattle.topo_core.proofs.systems.RoundPoints.{next_of_four}
-use Rattle.topo_core.proofs.routing.RouteDarts.{has_item}
-use Rattle.topo_core.proofs.inserting.ShownPlaces.{on_path_of}
-use Rattle.topo_core.proofs.inserting.ShownRows.{find_by_id, in_images}
-use Rattle.topo_core.proofs.numbering.Standing.{end_dart_edge, good_rotation, is_dart_of_rows, listed_test, of_rows_is_dart, system_test}
-use Rattle.topo_core.proofs.systems.SystemDarts.{crossing_point, edge_at_row, eqb_self, row_id, row_in, some_of, vertex_in, vertex_point}
-use Rattle.topo_core.proofs.systems.Turning.{IsDistinct, distinct_left, distinct_right, next_around}
-use Rattle.topo_core.proofs.inserting.WovenPaths.{counted_in}
+use Rattle.topo_core.proofs.Interface.{IsDistinct, counted_in, crossing_point, distinct_left, distinct_right, distinct_system, edge_at_row, end_dart_edge, eqb_self, find_by_id, found, good_rotation}
+use Rattle.topo_core.proofs.Interface.{has_item, in_append, in_images, in_map, is_dart_of_rows, left_true, listed_test, next_around, next_of_four, of_rows_is_dart, on_path_of, one, point_of, row_id}
+use Rattle.topo_core.proofs.Interface.{row_in, same_dart_self, same_dart_true, some_of, system_test, turn_at_point, twin_in, vertex_in, vertex_point}
 use Rattle.topo_route.specs.Regions.{IsKept, IsRegionOf, RegionState, holds_edge, holds_vertex}
 use Rattle.topo_route.specs.Surviving.{IsRegion, KeepsEnds, KeepsFaces, unmoved}
 

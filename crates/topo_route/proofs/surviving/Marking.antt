@@ -14,9 +14,7 @@ use Rattle.topo_core.specs.Lawful.{IsWellFormed}
 use Rattle.topo_core.specs.Picture.{darts, edge_at, edge_row}
 use Rattle.topo_core.specs.Routes.{AreFactsOf, unreached}
 use Rattle.topo_core.specs.Systems.{has_dart}
-use Rattle.topo_core.proofs.numbering.NumberOrder.{either}
-use Rattle.topo_core.proofs.numbering.Standing.{listed_test, of_rows_is_dart}
-use Rattle.topo_core.proofs.systems.SystemDarts.{edge_at_row, path_facts, row_id, row_in}
+use Rattle.topo_core.proofs.Interface.{edge_at_row, either, listed_test, of_rows_is_dart, path_facts, row_id, row_in}
 use Rattle.topo_route.specs.FaceHeights.{dart_heights}
 use Rattle.topo_route.specs.Names.{HasFaces, IsName, IsNamed, Named, dart_named, next_name}
 use Rattle.topo_route.specs.Regions.{IsRegionOf, RegionState, holds_edge, holds_vertex}

@@ -12,9 +12,7 @@ use Rattle.topo_core.specs.Picture.{darts, system}
 use Rattle.topo_core.specs.RouteLaws.{IsFirstByHeights, IsTight, TakesFirstDarts}
 use Rattle.topo_core.specs.Routes.{Costs, Crosses, IsCertificate, IsFirst, KeepsPromise, Pricing}
 use Rattle.topo_core.specs.Systems.{SameFace, face_step, has_dart}
-use Rattle.topo_core.proofs.numbering.Numbering.{twin_in}
-use Rattle.topo_core.proofs.routing.RouteDarts.{corner_in}
-use Rattle.topo_core.proofs.routing.SimpleRoutes.{face_back}
+use Rattle.topo_core.proofs.Interface.{corner_in, face_back, twin_in}
 use Rattle.topo_route.specs.Names.{IsNamed, Named}
 use Rattle.topo_route.specs.Surviving.{CoversKnown, CoversRoute, CoversSearch, KeepsEnds, KeepsFaces, Renaming, moved}
 use Rattle.topo_route.proofs.meeting.Levels.{capped, falls_on, first_by_capped, one_level, start_level}

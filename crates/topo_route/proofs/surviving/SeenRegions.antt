@@ -14,12 +14,7 @@ use Rattle.topo_core.specs.Picture.{corner, darts, edge_at, edge_row, end_dart, 
 use Rattle.topo_core.specs.RouteLaws.{IsFirstByHeights}
 use Rattle.topo_core.specs.Routes.{IsFirst, KeepsPromise, Pricing, unreached}
 use Rattle.topo_core.specs.Systems.{face_step, has_dart}
-use Rattle.topo_core.proofs.numbering.Counting.{lt_of_test, lt_test, one}
-use Rattle.topo_core.proofs.numbering.Members.{counted_at, left_true, right_true}
-use Rattle.topo_core.proofs.numbering.NumberOrder.{either}
-use Rattle.topo_core.proofs.routing.RouteDarts.{item_at}
-use Rattle.topo_core.proofs.numbering.Standing.{end_dart_edge, good_rotation}
-use Rattle.topo_core.proofs.systems.SystemDarts.{edge_at_row, row_id, row_in, some_of, vertex_in}
+use Rattle.topo_core.proofs.Interface.{counted_at, edge_at_row, either, end_dart_edge, good_rotation, item_at, left_true, lt_of_test, lt_test, one, right_true, row_id, row_in, some_of, vertex_in}
 use Rattle.topo_route.specs.Meeting.{Meets}
 use Rattle.topo_route.specs.Names.{IsNamed, Named, height_of, next_name}
 use Rattle.topo_route.specs.Regions.{IsFirstWhileKept, IsRegionOf, RegionState, holds_edge, holds_vertex}

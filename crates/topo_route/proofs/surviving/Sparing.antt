@@ -22,16 +22,9 @@ use Rattle.topo_core.specs.Lawful.{IsWellFormed, Lawful, has_good_rotation, is_g
 use Rattle.topo_core.specs.Picture.{around_vertex, cross_row, edge_at, edge_row, end_dart, rotation, system, vertices}
 use Rattle.topo_core.specs.Routes.{Pricing}
 use Rattle.topo_core.specs.Steps.{Step}
-use Rattle.topo_core.proofs.systems.BarePoints.{any_of}
-use Rattle.topo_core.proofs.growing.Growing.{found_more}
-use Rattle.topo_core.proofs.numbering.Members.{found, left_true, right_true, test_of_each}
-use Rattle.topo_core.proofs.inserting.ShownPlaces.{on_path_of}
-use Rattle.topo_core.proofs.inserting.ShownRows.{find_by_id, numbered_in, shown_old_row, shown_rotation_other}
-use Rattle.topo_core.proofs.numbering.Standing.{good_crossing, good_rotation}
-use Rattle.topo_core.proofs.systems.SystemDarts.{crossing_there, edge_at_row, row_id, row_in, some_of, vertex_in, vertex_point}
-use Rattle.topo_core.proofs.inserting.UndoneInsertions.{filter_nothing, filter_whole, from_least_stays}
-use Rattle.topo_core.proofs.deleting.WithoutPlaces.{crossing_on, is_one_of}
-use Rattle.topo_core.proofs.deleting.WithoutRows.{in_has_id, without_crossing, without_rotation, without_row}
+use Rattle.topo_core.proofs.Interface.{any_of, crossing_on, crossing_there, edge_at_row, filter_nothing, filter_whole, find_by_id, found, found_more, from_least_stays, good_crossing, good_rotation}
+use Rattle.topo_core.proofs.Interface.{in_has_id, is_one_of, left_true, numbered_in, on_path_of, right_true, row_id, row_in, shown_old_row, shown_rotation_other, some_of, test_of_each, vertex_in}
+use Rattle.topo_core.proofs.Interface.{vertex_point, without_crossing, without_rotation, without_row}
 use Rattle.topo_route.specs.Regions.{IsApart, IsKept, IsRegionOf, RegionState, Spares, holds_edge, holds_vertex}
 use Rattle.topo_route.proofs.surviving.KeptRegions.{end_of, same_row, vertex_of_item}
 

@@ -12,7 +12,7 @@ use Rattle.topo_core.specs.Picture.{corner, darts, edge_at}
 use Rattle.topo_core.specs.RouteLaws.{IsFirstByHeights}
 use Rattle.topo_core.specs.Routes.{IsCertificate, Pricing}
 use Rattle.topo_core.specs.Systems.{has_dart}
-use Rattle.topo_core.proofs.numbering.Members.{left_true, right_true}
+use Rattle.topo_core.proofs.Interface.{left_true, right_true}
 use Rattle.topo_route.specs.Surviving.{CoversSearch, IsRegion, IsSameEdge, KeepsEnds, KeepsFaces, Renaming, followed, unmoved}
 use Rattle.topo_route.proofs.names.Numbers.{corner_below, face_stays}
 

@@ -14,11 +14,7 @@ use Rattle.topo_core.specs.Picture.{corner, darts, edge_at, system}
 use Rattle.topo_core.specs.RouteLaws.{IsFirstByHeights, IsTight, TakesFirstDarts, arrival}
 use Rattle.topo_core.specs.Routes.{Costs, Crosses, IsCertificate, IsFirst, IsPricedRoute, KeepsPromise, Price, Pricing}
 use Rattle.topo_core.specs.Systems.{SameFace, face_step, has_dart}
-use Rattle.topo_core.proofs.routing.Certificates.{first_by_heights, same_some}
-use Rattle.topo_core.proofs.numbering.DartLaws.{twin-twin}
-use Rattle.topo_core.proofs.numbering.Numbering.{twin_in}
-use Rattle.topo_core.proofs.routing.RouteDarts.{certified}
-use Rattle.topo_core.proofs.routing.SimpleRoutes.{face_back}
+use Rattle.topo_core.proofs.Interface.{certified, face_back, first_by_heights, same_some, twin-twin, twin_in}
 use Rattle.topo_route.specs.Surviving.{CoversRoute, KeepsEnds, KeepsFaces, Renaming, moved}
 
 -- a dart to which an option leads comes from one before

@@ -1,4 +1,4 @@
-use Rattle.topo_core.proofs.routing.LeastRoutes.{least_is_simple}
+use Rattle.topo_core.proofs.Interface.{least_is_simple}
 use Rattle.topo_price.specs.Prices.{prices_of}
 use Rattle.topo_book.proofs.Due.{first_of_due}
 use Rattle.topo_book.proofs.steps.apply_entry.Goals as goal

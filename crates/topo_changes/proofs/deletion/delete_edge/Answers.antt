@@ -4,7 +4,7 @@ use Rattle.topo_core.specs.declared.rows.EdgeRow.{EdgeRow}
 use Rattle.topo_core.specs.declared.rows.Rows.{Rows}
 use Rattle.topo_core.specs.Changes.{uncrossed_row}
 use Rattle.topo_core.specs.Picture.{edge_row}
-use Rattle.topo_table.proofs.PlaceLemmas.{below_same}
+use Rattle.topo_table.proofs.Interface.{below_same}
 use Rattle.topo_changes.specs.Keeping.{edges_of, rows_of}
 use Rattle.topo_changes.proofs.rows.Deleting.{crossed_read}
 use Rattle.topo_changes.proofs.rows.KeepingEdges.{edges_without, no_edge_kept, taken_row}

@@ -4,7 +4,7 @@ use Rattle.topo_core.specs.declared.rows.CrossRow.{CrossRow}
 use Rattle.topo_core.specs.declared.rows.Rows.{Rows}
 use Rattle.topo_core.specs.Items.{has_id}
 use Rattle.topo_core.specs.Picture.{rotation}
-use Rattle.topo_core.proofs.systems.SystemDarts.{path_facts, row_in}
+use Rattle.topo_core.proofs.Interface.{path_facts, row_in}
 use Rattle.topo_table.specs.Places.{entries}
 use Rattle.topo_changes.specs.Deleting.{IsRotation}
 use Rattle.topo_changes.specs.Keeping.{crossing_row, rows_of}

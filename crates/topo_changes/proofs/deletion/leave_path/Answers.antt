@@ -1,6 +1,6 @@
 use Rattle.std.proofs.Common.{arith, not, sym, ◌∙◌}
 use Rattle.std.specs.Prelude.{◌==◌, filter}
-use Rattle.topo_table.proofs.PlaceLemmas.{is_empty}
+use Rattle.topo_table.proofs.Interface.{is_empty}
 use Rattle.topo_changes.specs.Keeping.{edges_of}
 use Rattle.topo_changes.proofs.rows.KeepingEdges.{IsPutBack, no_edge_kept, repathed_out, repathed_there}
 use Rattle.topo_changes.proofs.deletion.leave_path.Goals as goal

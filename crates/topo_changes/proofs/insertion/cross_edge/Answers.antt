@@ -2,7 +2,7 @@ use Rattle.std.proofs.Common.{List, Some, ap, refl, ℕ, ◌∙◌}
 use Rattle.std.specs.Prelude.{map}
 use Rattle.indexmap.specs.IndexMap.{set_value_at}
 use Rattle.topo_table.specs.Places.{present}
-use Rattle.topo_table.proofs.PlaceLemmas.{is_back, is_changed, is_empty}
+use Rattle.topo_table.proofs.Interface.{is_back, is_changed, is_empty}
 use Rattle.topo_changes.specs.Inserting.{crossed_path}
 use Rattle.topo_changes.specs.Keeping.{edge_of}
 use Rattle.topo_changes.proofs.rows.CrossedRows.{err_more, ok_more}

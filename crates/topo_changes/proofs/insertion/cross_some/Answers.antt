@@ -2,7 +2,7 @@ use Rattle.std.proofs.Common.{◌+◌, ◌∙◌, ap, arith, refl, sym}
 use Rattle.std.specs.Prelude.{map}
 use Rattle.std.proofs.lemmas.List.{take_all}
 use Rattle.topo_core.specs.declared.darts.Dart.{Dart}
-use Rattle.topo_table.proofs.PlaceLemmas.{places_on}
+use Rattle.topo_table.proofs.Interface.{places_on}
 use Rattle.topo_changes.specs.Inserting.{crossed_path, repathed}
 use Rattle.topo_changes.specs.Keeping.{edges_of}
 use Rattle.topo_changes.proofs.rows.CrossedRows.{crossed_by_none, one_more, when_err, when_ok}

@@ -3,7 +3,7 @@ use Rattle.topo_core.specs.declared.darts.Dart.{Dart}
 use Rattle.topo_core.specs.declared.rows.EdgeRow.{EdgeRow}
 use Rattle.topo_core.specs.Items.{IsIn}
 use Rattle.topo_table.specs.Places.{ids_of, present}
-use Rattle.topo_table.proofs.PlaceLemmas.{below_same}
+use Rattle.topo_table.proofs.Interface.{below_same}
 use Rattle.topo_changes.specs.Inserting.{crossed_by, paths_below}
 use Rattle.topo_changes.specs.Keeping.{edge_of, edges_of}
 use Rattle.topo_changes.proofs.rows.CrossedRows.{on_err}

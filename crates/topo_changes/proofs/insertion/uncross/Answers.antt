@@ -1,6 +1,6 @@
 use Rattle.std.proofs.Common.{◌≡◌, ◌-◌, ◌+◌, ◌∙◌, ap, arith, take}
 use Rattle.std.specs.Prelude.{filter, map, nat_lt}
-use Rattle.topo_table.proofs.PlaceLemmas.{places_on}
+use Rattle.topo_table.proofs.Interface.{places_on}
 use Rattle.topo_changes.specs.Inserting.{crossed_by, repathed}
 use Rattle.topo_changes.specs.Keeping.{edges_of}
 use Rattle.topo_changes.proofs.rows.CrossedRows.{crossed_by_none, one_less}

@@ -1,6 +1,6 @@
 use Rattle.std.proofs.Common.{refl}
 use Rattle.std.specs.Prelude.{filter, nat_lt}
-use Rattle.topo_table.proofs.PlaceLemmas.{is_changed, is_empty}
+use Rattle.topo_table.proofs.Interface.{is_changed, is_empty}
 use Rattle.topo_changes.proofs.rows.KeepingEdges.{IsPutBack, repathed_nowhere, repathed_there}
 use Rattle.topo_changes.proofs.insertion.uncross_edge.Goals as goal
 

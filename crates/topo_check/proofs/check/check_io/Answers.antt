@@ -2,8 +2,7 @@ use Rattle.std.proofs.Common.{List, rules, subst, ℕ, IfErr}
 use Rattle.std.proofs.KnownBytes.{Keeps-refl}
 use Rattle.topo_forms.specs.Reads.{Gives}
 use Rattle.topo_forms.specs.RowForms.{rows_of}
-use Rattle.topo_settings.proofs.Faults.{err_by, ok_by}
-use Rattle.topo_settings.proofs.Pricing.{err_so}
+use Rattle.topo_settings.proofs.Interface.{err_by, err_so, ok_by}
 use Rattle.topo_check.specs.Checks.{IsUnlawful}
 use Rattle.topo_check.proofs.Telling.{check_fails, check_unwritten, checked}
 use Rattle.topo_check.proofs.check.check_io.Goals as goal

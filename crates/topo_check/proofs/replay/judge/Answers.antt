@@ -4,7 +4,7 @@ use Rattle.topo_book.specs.Faults.{IsFaultOf, IsIllegalAt}
 use Rattle.topo_book.specs.declared.replaying.ReplayFault.TheVariants.{WrongReply}
 use Rattle.topo_core.specs.declared.rows.Rows.{Rows}
 use Rattle.topo_core.specs.History.{Replays}
-use Rattle.topo_settings.proofs.Validating.{sound_so}
+use Rattle.topo_settings.proofs.Interface.{sound_so}
 use Rattle.topo_settings.specs.Settings.{priced}
 use Rattle.topo_check.proofs.replay.judge.Goals as goal
 

@@ -1,5 +1,5 @@
 use Rattle.topo_check.proofs.FaultsByTable.{fault_by_table, illegal_by_table}
-use Rattle.topo_settings.proofs.Pricing.{ok_so, err_so, replays_by_table}
+use Rattle.topo_settings.proofs.Interface.{err_so, ok_so, replays_by_table}
 use Rattle.topo_check.proofs.replay.priced_replay.Goals as goal
 
 pub returns-clause-replayed : goal.returns-clause-replayed

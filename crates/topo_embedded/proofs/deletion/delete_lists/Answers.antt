@@ -1,9 +1,9 @@
 use Rattle.std.proofs.Common.{◌∙◌, [], ◌∷◌, ap, length, refl, subst, sym, List, set, ℕ}
 use Rattle.std.specs.Prelude.{◌==◌, slice_index_or}
 use Rattle.std.specs.List.{position_or_len}
-use Rattle.topo_changes.proofs.rows.Deleting.{edges_climb}
+use Rattle.topo_changes.proofs.Interface.{edges_climb}
 use Rattle.topo_table.specs.Places.{ids_in, values_in}
-use Rattle.topo_table.proofs.PlaceLemmas.{below_same}
+use Rattle.topo_table.proofs.Interface.{below_same}
 use Rattle.topo_embedded.specs.Opening.{IsOpened, IsSmoothedTo, mids_of}
 use Rattle.topo_embedded.proofs.deleting.SmoothedPath.{handed_out, opened_here, shows_left}
 use Rattle.topo_embedded.proofs.halves.KeptPaths.{id_among, ids_left, place_in_rows, place_known, places_many, values_left}

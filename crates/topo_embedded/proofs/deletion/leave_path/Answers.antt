@@ -3,7 +3,7 @@ use Rattle.std.specs.Prelude.{◌==◌, filter, is_some, slice_index_or}
 use Rattle.std.specs.List.{position_or_len}
 use Rattle.topo_core.specs.Picture.{edge_row}
 use Rattle.topo_table.specs.Places.{ids_in, values_in}
-use Rattle.topo_table.proofs.PlaceLemmas.{is_empty}
+use Rattle.topo_table.proofs.Interface.{is_empty}
 use Rattle.topo_embedded.specs.Halves.{path_of}
 use Rattle.topo_embedded.specs.Opening.{without_half}
 use Rattle.topo_embedded.proofs.halves.KeptPaths.{has_path, ids_kept, path_in_rows, path_put, path_taken, place_in_rows}

@@ -1,6 +1,6 @@
 use Rattle.std.proofs.Common.{[], ◌∷◌, List, ap, Some, ℕ, ◌∙◌}
 use Rattle.indexmap.specs.IndexMap.{set_value_at}
-use Rattle.topo_table.proofs.PlaceLemmas.{is_empty}
+use Rattle.topo_table.proofs.Interface.{is_empty}
 use Rattle.topo_embedded.proofs.halves.KeptPaths.{ids_kept, path_put, path_taken, path_there}
 use Rattle.topo_embedded.proofs.deletion.stand_in.Goals as goal
 

@@ -4,9 +4,8 @@ use Rattle.topo_core.specs.declared.rows.EdgeRow.{EdgeRow}
 use Rattle.topo_core.specs.Cycles.{IsPermutationList}
 use Rattle.topo_core.specs.Items.{rises_below}
 use Rattle.topo_core.specs.Lawful.{has_good_path}
-use Rattle.topo_core.proofs.numbering.Members.{left_true}
-use Rattle.topo_core.proofs.numbering.Numbering.{turn_permutes}
-use Rattle.topo_rows.proofs.Verdicts.{images_total}
+use Rattle.topo_core.proofs.Interface.{left_true, turn_permutes}
+use Rattle.topo_rows.proofs.Interface.{images_total}
 use Rattle.topo_embedded.proofs.halves.Made.{labels_length, made_from}
 use Rattle.topo_embedded.proofs.making.embedding_of.Goals as goal
 

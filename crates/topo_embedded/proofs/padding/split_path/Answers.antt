@@ -1,7 +1,7 @@
 use Rattle.std.proofs.Common.{◌≡◌, ◌≤◌, ◌++◌, ◌∷◌, [], length, List, subst, sym, true, ℕ, ◌∙◌}
 use Rattle.topo_core.specs.Items.{has_id}
 use Rattle.topo_table.specs.Places.{ids_in}
-use Rattle.topo_table.proofs.PlaceLemmas.{is_empty}
+use Rattle.topo_table.proofs.Interface.{is_empty}
 use Rattle.topo_embedded.specs.Inserting.{piece}
 use Rattle.topo_embedded.specs.Padding.{AreOff, IsOn}
 use Rattle.topo_embedded.specs.Paths.{IsPathSo, path_in}

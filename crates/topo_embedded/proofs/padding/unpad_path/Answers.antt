@@ -1,7 +1,7 @@
 use Rattle.std.proofs.Common.{◌≡◌, ◌++◌, ◌∷◌, ◌<◌, [], length, List, subst, sym, true, ℕ, ◌∙◌}
 use Rattle.topo_core.specs.Items.{has_id}
 use Rattle.topo_table.specs.Places.{ids_in}
-use Rattle.topo_table.proofs.PlaceLemmas.{is_empty}
+use Rattle.topo_table.proofs.Interface.{is_empty}
 use Rattle.topo_embedded.specs.Paths.{IsPathSo, path_in}
 use Rattle.topo_embedded.proofs.halves.KeptPaths.{ids_kept, path_put, path_taken, path_there}
 use Rattle.topo_embedded.proofs.padding.unpad_path.Goals as goal

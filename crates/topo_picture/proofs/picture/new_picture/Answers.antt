@@ -2,7 +2,7 @@ use Rattle.std.proofs.Common.{ap, arith}
 use Rattle.std.specs.Prelude.{sum_by}
 use Rattle.topo_core.specs.declared.rows.Rows.{Rows}
 use Rattle.topo_core.specs.Picture.{segment_count}
-use Rattle.topo_rows.proofs.RowCounts.{picture_small}
+use Rattle.topo_rows.proofs.Interface.{picture_small}
 use Rattle.topo_picture.proofs.picture.new_picture.Goals as goal
 
 pub of-requires-clause-few : goal.of-requires-clause-few

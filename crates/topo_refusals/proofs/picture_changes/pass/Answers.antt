@@ -1,4 +1,4 @@
-use Rattle.topo_core.proofs.routing.LeastRoutes.{least_is_simple}
+use Rattle.topo_core.proofs.Interface.{least_is_simple}
 use Rattle.topo_rows.specs.Recovering.{lawful_again}
 use Rattle.topo_price.specs.Prices.{prices_of}
 use Rattle.topo_refusals.proofs.picture_changes.pass.Goals as goal

@@ -1,6 +1,6 @@
 use Rattle.std.proofs.Common.{◌≡◌, ap, arith, get_or}
 use Rattle.std.proofs.lemmas.Bool.{false≢true, eqb-true, eq-eqb}
-use Rattle.topo_core.proofs.routing.Certificates.{single_price}
+use Rattle.topo_core.proofs.Interface.{single_price}
 use Rattle.topo_price.specs.Prices.{prices_of}
 use Rattle.topo_route.specs.FaceHeights.{dart_heights}
 use Rattle.topo_route.specs.Names.{dart_named, twin_name}

@@ -1,7 +1,7 @@
 use Rattle.std.proofs.Common.{◌≡◌, ap, arith, get_or}
 use Rattle.std.proofs.lemmas.Bool.{false≢true, eqb-true, eq-eqb}
 use Rattle.topo_core.specs.Rotations.{twin}
-use Rattle.topo_core.proofs.routing.Certificates.{single_price}
+use Rattle.topo_core.proofs.Interface.{single_price}
 use Rattle.topo_price.specs.Prices.{prices_of}
 use Rattle.topo_route.specs.Numbers.{dart_of}
 use Rattle.topo_route.proofs.names.Canonical.{lawful_shown}

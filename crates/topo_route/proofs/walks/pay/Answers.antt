@@ -1,5 +1,5 @@
 use Rattle.std.proofs.Common.{arith}
-use Rattle.topo_core.proofs.routing.Certificates.{single_price}
+use Rattle.topo_core.proofs.Interface.{single_price}
 use Rattle.topo_price.specs.Prices.{prices_of}
 use Rattle.topo_route.specs.Numbers.{dart_of}
 use Rattle.topo_route.proofs.walks.pay.Goals as goal

@@ -2,7 +2,7 @@ use Rattle.std.proofs.Common.{◌≡◌, ◌≤◌, ◌&&◌, arith, sym, true, 
 use Rattle.std.specs.Prelude.{map, not, ◌==◌}
 use Rattle.std.specs.List.{list_all}
 use Rattle.topo_core.specs.Items.{rises_below}
-use Rattle.topo_core.proofs.numbering.Members.{left_true, right_true}
+use Rattle.topo_core.proofs.Interface.{left_true, right_true}
 use Rattle.topo_rows.specs.Pairs.{crossing_pairs, path_pairs}
 use Rattle.topo_rows.proofs.PairTests.{crossings_decided, crossings_refused, two_pairs_each}
 use Rattle.topo_rows.proofs.RowCounts.{same_length}

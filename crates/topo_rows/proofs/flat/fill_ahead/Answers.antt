@@ -1,5 +1,5 @@
 use Rattle.std.proofs.Common.{◌≤◌, arith, subst, sym}
-use Rattle.topo_core.proofs.numbering.Members.{left_true}
+use Rattle.topo_core.proofs.Interface.{left_true}
 use Rattle.topo_rows.specs.Flats.{AreAhead}
 use Rattle.topo_rows.proofs.PairTests.{crossings_differ, same_from_good}
 use Rattle.topo_rows.proofs.Rounds.{are_ahead}

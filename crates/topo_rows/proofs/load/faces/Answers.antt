@@ -1,7 +1,7 @@
 use Rattle.std.proofs.Common.{◌≡◌, arith, ◌∙◌, ap}
 use Rattle.std.proofs.lemmas.Grind.{common_steps}
 use Rattle.topo_core.specs.Cycles.{cycles_of}
-use Rattle.topo_perm.proofs.permutations.Walks.{faces_of-list}
+use Rattle.topo_perm.proofs.Interface.{faces_of-list}
 use Rattle.topo_rows.proofs.load.faces.Goals as goal
 
 pub returns : goal.returns

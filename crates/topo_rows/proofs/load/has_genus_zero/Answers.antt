@@ -1,6 +1,6 @@
 use Rattle.std.proofs.Common.{◌%◌, ap, arith, length, subst, sym, ◌∙◌, ℕ, List}
 use Rattle.topo_core.specs.Cycles.{IsPermutationList}
-use Rattle.topo_core.proofs.numbering.Numbering.{even_images, turn_permutes}
+use Rattle.topo_core.proofs.Interface.{even_images, turn_permutes}
 use Rattle.topo_rows.proofs.Verdicts.{faces_at_most, genus_told, images_total}
 use Rattle.topo_rows.proofs.load.has_genus_zero.Goals as goal
 

@@ -2,7 +2,7 @@ use Rattle.std.proofs.Common.{◌%◌, ap, length, List, subst, sym, ◌∙◌, 
 use Rattle.std.specs.Prelude.{◌==◌}
 use Rattle.std.specs.List.{list_any}
 use Rattle.topo_core.specs.Cycles.{IsPermutationList}
-use Rattle.topo_core.proofs.numbering.Numbering.{even_images, turn_permutes}
+use Rattle.topo_core.proofs.Interface.{even_images, turn_permutes}
 use Rattle.topo_rows.proofs.Verdicts.{not_whole, whole_told}
 use Rattle.topo_rows.proofs.load.is_whole.Goals as goal
 

@@ -1,7 +1,6 @@
 use Rattle.std.proofs.Common.{◌≡◌, ap, rules, subst, ◌∙◌}
 use Rattle.topo_core.specs.declared.rows.Rows.{Rows}
-use Rattle.topo_settings.proofs.Pricing.{err_so, ok_so}
-use Rattle.topo_settings.proofs.Validating.{sound_so}
+use Rattle.topo_settings.proofs.Interface.{err_so, ok_so, sound_so}
 use Rattle.topo_settings.specs.Settings.{IsSound, start_of}
 use Rattle.topo_run.proofs.Telling.{run_fails}
 use Rattle.topo_run.specs.Runs.{IsReportFrom}

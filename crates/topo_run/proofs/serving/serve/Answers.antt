@@ -12,7 +12,7 @@ use Rattle.topo_service.specs.Passes.{PassState}
 use Rattle.topo_run.proofs.Passing.{differing, has_number, ok_both, served}
 use Rattle.topo_run.proofs.Telling.{opening_fails}
 use Rattle.topo_run.specs.Working.{IsOfService}
-use Rattle.topo_settings.proofs.Pricing.{err_so}
+use Rattle.topo_settings.proofs.Interface.{err_so}
 use Rattle.topo_settings.specs.declared.fault.RunFault.{RunFault}
 use Rattle.topo_run.proofs.serving.serve.Goals as goal
 

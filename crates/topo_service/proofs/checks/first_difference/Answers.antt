@@ -1,7 +1,7 @@
 use Rattle.std.proofs.Common.{◌≡◌, ◌+◌, List, take, drop, ◌∷◌, [], ◌++◌, sym, subst, ap, ◌∙◌, suc}
 use Rattle.std.proofs.lemmas.List.{take_more, take_all}
 use Rattle.topo_core.specs.declared.calls.Entry.{Entry}
-use Rattle.topo_core.proofs.systems.SystemDarts.{get_there}
+use Rattle.topo_core.proofs.Interface.{get_there}
 use Rattle.topo_service.specs.Receipts.{AreFound, Differs}
 use Rattle.topo_service.proofs.Matching.{differs_at_end, parted}
 use Rattle.topo_service.proofs.checks.first_difference.Goals as goal

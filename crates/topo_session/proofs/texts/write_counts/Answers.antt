@@ -1,6 +1,6 @@
 use Rattle.std.proofs.Common.{[], ◌∷◌, refl}
 use Rattle.serde_json.proofs.OnLiterals.{serde_json_on_literals}
-use Rattle.topo_script.proofs.Members.{members}
+use Rattle.topo_script.proofs.Interface.{members}
 use Rattle.topo_session.proofs.texts.write_counts.Goals as goal
 
 pub returns : goal.returns

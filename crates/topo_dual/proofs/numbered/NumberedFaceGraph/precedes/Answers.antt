@@ -1,7 +1,7 @@
 use Rattle.std.proofs.Common.{arith}
 use Rattle.std.proofs.lemmas.Bool.Decides.{nat_tests}
 use Rattle.topo_rows.specs.Recovering.{lawful_again}
-use Rattle.topo_route.proofs.names.Canonical.{canonical_order}
+use Rattle.topo_route.proofs.Interface.{canonical_order}
 use Rattle.topo_dual.proofs.numbered.NumberedFaceGraph.precedes.Goals as goal
 
 pub returns : goal.returns

@@ -1,7 +1,7 @@
 use Rattle.std.proofs.Common.{subst, sym}
 use Rattle.topo_rows.specs.Recovering.{lawful_again}
 use Rattle.topo_route.specs.Names.{IsName, canonical}
-use Rattle.topo_route.proofs.names.Names.{twin_is}
+use Rattle.topo_route.proofs.Interface.{twin_is}
 use Rattle.topo_dual.specs.NumberedRows.{names_again}
 use Rattle.topo_dual.proofs.numbered.NumberedFaceGraph.step.Goals as goal
 

@@ -1,6 +1,6 @@
 use Rattle.std.proofs.Common.{◌∙◌, sym}
 use Rattle.topo_rows.specs.Recovering.{lawful_again}
-use Rattle.topo_route.proofs.names.Canonical.{canonical_below, canonical_twin}
+use Rattle.topo_route.proofs.Interface.{canonical_below, canonical_twin}
 use Rattle.topo_dual.proofs.numbered.NumberedFaceGraph.twin.Goals as goal
 
 pub returns : goal.returns

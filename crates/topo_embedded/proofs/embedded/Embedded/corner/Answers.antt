@@ -3,7 +3,7 @@ use Rattle.std.proofs.lemmas.List.{length-map}
 use Rattle.std.specs.Option.{option_map}
 use Rattle.std.proofs.lemmas.Option.{slice_get_past}
 use Rattle.topo_core.specs.Picture.{edge_row, end_dart, corner, rotation}
-use Rattle.topo_rows.proofs.RowDarts.{corner_told}
+use Rattle.topo_rows.proofs.Interface.{corner_told}
 use Rattle.topo_embedded.specs.Halves.{RowsWithPaths, half_in}
 use Rattle.topo_embedded.proofs.halves.Reading.{around_read, entry_known, vertex_there}
 use Rattle.topo_embedded.proofs.embedded.Embedded.corner.Goals as goal

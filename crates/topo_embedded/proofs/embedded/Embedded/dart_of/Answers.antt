@@ -4,8 +4,8 @@ use Rattle.topo_core.specs.declared.darts.Dart.{Dart}
 use Rattle.topo_core.specs.declared.darts.Way.{Way}
 use Rattle.topo_core.specs.Picture.{darts, edge_row}
 use Rattle.topo_core.specs.Systems.{has_dart}
-use Rattle.topo_core.proofs.deleting.WithoutPlaces.{edge_of_dart}
-use Rattle.topo_map.proofs.Stored.{limit-is}
+use Rattle.topo_core.proofs.Interface.{edge_of_dart}
+use Rattle.topo_map.proofs.Interface.{limit-is}
 use Rattle.topo_embedded.specs.Halves.{RowsWithPaths, IsHalf, half_in, path_of}
 use Rattle.topo_embedded.specs.Parts.{with_paths}
 use Rattle.topo_embedded.proofs.halves.Apart.{darts_limited, label_is}

@@ -5,8 +5,7 @@ use Rattle.topo_core.specs.declared.rows.EdgeRow.{EdgeRow}
 use Rattle.topo_core.specs.Picture.{darts, edge_at, edge_row}
 use Rattle.topo_core.specs.Routes.{AreFactsOf}
 use Rattle.topo_core.specs.Systems.{has_dart}
-use Rattle.topo_core.proofs.deleting.WithoutPlaces.{edge_of_dart}
-use Rattle.topo_core.proofs.systems.SystemDarts.{edge_at_row}
+use Rattle.topo_core.proofs.Interface.{edge_at_row, edge_of_dart}
 use Rattle.topo_changes.specs.Keeping.{viewed_row}
 use Rattle.topo_embedded.specs.Halves.{RowsWithPaths, IsHalf, half_in}
 use Rattle.topo_embedded.specs.Parts.{with_paths}

@@ -2,7 +2,7 @@ use Rattle.std.proofs.Common.{◌≡◌, List, ap, is_some, refl, sym, true, ℕ
 use Rattle.std.specs.Prelude.{slice_index_or}
 use Rattle.topo_core.specs.Picture.{darts, edge_row}
 use Rattle.topo_core.specs.Systems.{has_dart}
-use Rattle.topo_core.proofs.deleting.WithoutPlaces.{edge_of_dart}
+use Rattle.topo_core.proofs.Interface.{edge_of_dart}
 use Rattle.topo_embedded.specs.Halves.{RowsWithPaths, by_way, half_in, path_of}
 use Rattle.topo_embedded.specs.Parts.{with_paths}
 use Rattle.topo_embedded.proofs.halves.KeptPaths.{has_path, path_known}

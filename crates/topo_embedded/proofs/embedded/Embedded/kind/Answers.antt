@@ -3,7 +3,7 @@ use Rattle.std.specs.Prelude.{is_some}
 use Rattle.topo_core.specs.declared.darts.Dart.{Dart}
 use Rattle.topo_core.specs.Picture.{darts, edge_at, edge_row}
 use Rattle.topo_core.specs.Systems.{has_dart}
-use Rattle.topo_core.proofs.deleting.WithoutPlaces.{edge_of_dart}
+use Rattle.topo_core.proofs.Interface.{edge_of_dart}
 use Rattle.topo_embedded.specs.Halves.{RowsWithPaths, IsHalf, half_in}
 use Rattle.topo_embedded.specs.Parts.{with_paths}
 use Rattle.topo_embedded.proofs.halves.Apart.{label_is}

@@ -7,7 +7,7 @@ use Rattle.std.proofs.lemmas.Option.{slice_get_within}
 use Rattle.topo_core.specs.declared.rows.EdgeRow.{EdgeRow}
 use Rattle.topo_core.specs.declared.rows.Rows.{Rows}
 use Rattle.topo_core.specs.Picture.{edge_row}
-use Rattle.topo_rows.proofs.Begins.{get_left, get_right}
+use Rattle.topo_rows.proofs.Interface.{get_left, get_right}
 use Rattle.topo_embedded.proofs.kinds.Kinds.of.Goals as goal
 
 -- one more kind is known

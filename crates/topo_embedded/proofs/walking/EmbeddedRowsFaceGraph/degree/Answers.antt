@@ -1,8 +1,7 @@
 use Rattle.std.proofs.Common.{arith}
 use Rattle.topo_core.specs.declared.rows.Rows.{Rows}
 use Rattle.topo_rows.specs.Recovering.{well_formed_again}
-use Rattle.topo_rows.proofs.RowCounts.{degree_most}
-use Rattle.topo_rows.proofs.Verdicts.{darts_total}
+use Rattle.topo_rows.proofs.Interface.{darts_total, degree_most}
 use Rattle.topo_embedded.proofs.walking.EmbeddedRowsFaceGraph.degree.Goals as goal
 
 pub overflow_cast-result : goal.overflow_cast-result

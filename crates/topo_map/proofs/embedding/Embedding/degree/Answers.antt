@@ -1,6 +1,6 @@
 use Rattle.std.proofs.Common.{◌≡◌, sym, ◌∙◌, ap, arith, true, false}
 use Rattle.std.proofs.lemmas.Bool.{eq-eqb}
-use Rattle.topo_perm.proofs.permutations.Lists.{after_more}
+use Rattle.topo_perm.proofs.Interface.{after_more}
 use Rattle.topo_map.specs.Rotation.{half_limit, turn}
 use Rattle.topo_map.proofs.Rounds.{whole_degree, out_more}
 use Rattle.topo_map.proofs.Stored.{limit-is}

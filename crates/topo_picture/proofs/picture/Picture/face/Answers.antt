@@ -4,7 +4,7 @@ use Rattle.topo_core.specs.declared.rows.EdgeRow.{EdgeRow}
 use Rattle.topo_core.specs.declared.rows.Rows.{Rows}
 use Rattle.topo_core.specs.Picture.{IsDart, darts, edge_row, segment_count, system}
 use Rattle.topo_core.specs.Systems.{has_dart}
-use Rattle.topo_core.proofs.numbering.Standing.{is_dart_of_rows, listed_test}
+use Rattle.topo_core.proofs.Interface.{is_dart_of_rows, listed_test}
 use Rattle.topo_picture.specs.Faces.{IsFaceFrom}
 use Rattle.topo_picture.proofs.DeletedPicture.{in_view}
 use Rattle.topo_picture.proofs.picture.Picture.face.Goals as goal

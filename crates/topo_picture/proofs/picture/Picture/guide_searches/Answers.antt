@@ -2,7 +2,7 @@ use Rattle.std.proofs.Common.{◌<◌, ◌≡◌, arith, length, subst, sym, ap,
 use Rattle.topo_core.specs.declared.rows.Rows.{Rows}
 use Rattle.topo_core.specs.Picture.{darts}
 use Rattle.topo_embedded.specs.Halves.{RowsWithPaths}
-use Rattle.topo_route.proofs.meeting.Descending.{has_darts}
+use Rattle.topo_route.proofs.Interface.{has_darts}
 use Rattle.topo_picture.proofs.picture.Picture.guide_searches.Goals as goal
 
 pub landmark_distances-requires : goal.landmark_distances-requires

@@ -1,4 +1,4 @@
-use Rattle.topo_settings.proofs.Pricing.{own_prices}
+use Rattle.topo_settings.proofs.Interface.{own_prices}
 use Rattle.topo_session.proofs.tables.PriceTableFromTable.from_table.Goals as goal
 
 pub returns-clause-own : goal.returns-clause-own

@@ -1,5 +1,0 @@
-use Rattle.topo_route.proofs.surviving.Staying.{kept_ends_on}
-use Rattle.topo_route.proofs.laws.kept_ends_stay.Goals as goal
-
-pub returns : goal.returns
-returns c = kept_ends_on
