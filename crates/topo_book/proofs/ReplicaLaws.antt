@@ -1,9 +1,9 @@
 -- Replicas: what they are when a history grows, when they are carried on, and when they are up to date.
 use Rattle.std.proofs.Common.{◌≡◌, ◌≤◌, ◌+◌, ℕ, Bool, true, false, List, [], ◌∷◌, ◌++◌, length}
-use Rattle.std.proofs.Common.{take, drop, Some, sym, subst, ap, arith, length-append, add-one, ◌∙◌}
-use Rattle.std.specs.Prelude.{All, Contains, if◌then◌else◌, slice_get}
+use Rattle.std.proofs.Common.{take, drop, None, Option, Some, sym, subst, ap, arith, length-append, add-one, ◌∙◌}
+use Rattle.std.specs.Prelude.{All, Contains, IfSome, if◌then◌else◌, slice_get}
 use Rattle.std.specs.Arc.{arc_value}
-use Rattle.std.proofs.lemmas.List.{take-append-le}
+use Rattle.std.proofs.lemmas.List.{length-take-le, take-append-le, take-take}
 use Rattle.std.proofs.lemmas.List.Elements.{All-contains, All-drop, All-push, All-weaker}
 use Rattle.std.proofs.Math.Seq.{take-length}
 use Rattle.topo_core.specs.declared.rows.Rows.{Rows}
@@ -46,6 +46,19 @@ module _ (price : Pricing) (start : Shown) (history : List Entry) where
   longer entry entries picture replica = record {
     there = simp length-append (omega (arith, replica.there));
     stands = subst (λ (h : List Entry). IsBook price start h picture) (sym (take-append-le entries history (entry ∷ []) replica.there)) replica.stands;
+  }
+
+  pub some_longer : (entry : Entry) (behind : Option Replica) → IfSome behind (λ r. IsReplica price start history r.entries (arc_value r.picture))
+      → IfSome behind (λ r. IsReplica price start (history ++ entry ∷ []) r.entries (arc_value r.picture))
+  some_longer entry (Some r) is = longer entry r.entries (arc_value r.picture) is
+  some_longer entry None is = is
+
+  -- a replica stays one when entries behind it are taken back
+  pub shorter : (kept entries : ℕ) (picture : Shown) → entries ≤ kept → kept ≤ length history → IsReplica price start history entries picture
+      → IsReplica price start (take kept history) entries picture
+  shorter kept entries picture before there replica = record {
+    there = rw (length-take-le kept history there) before;
+    stands = subst (λ (h : List Entry). IsBook price start h picture) (sym (take-take entries kept history before)) replica.stands;
   }
 
   -- the reply of the entry behind a replica is the one due
@@ -107,20 +120,25 @@ module _ (price : Pricing) (start : Shown) (history : List Entry) where
 
 -- ---- Books with the replicas that they keep
 
-module _ {price : Pricing} {start : Shown} {history : List Entry} {picture : Shown} {kept : List Replica}
-    (book : IsBookWith price start history picture kept) where
+module _ {price : Pricing} {start : Shown} {history : List Entry} {picture : Shown} {kept : List Replica} {behind : Option Replica}
+    (book : IsBookWith price start history picture kept behind) where
   -- when some of the replicas are dropped
-  pub book_left : (left : List Replica) → All (Contains kept) left → IsBookWith price start history picture left
-  book_left left among = record { book = book.book; replicas = all_left price start history kept left book.replicas among }
+  pub book_left : (left : List Replica) → All (Contains kept) left → IsBookWith price start history picture left behind
+  book_left left among = record { book = book.book; replicas = all_left price start history kept left book.replicas among; follower = book.follower }
 
   -- when one more is kept
   pub book_kept : (b : Bool) (replica : Replica) → IsReplica price start history replica.entries (arc_value replica.picture)
-      → IsBookWith price start history picture ((if b then kept else drop 1 kept) ++ replica ∷ [])
-  book_kept b replica is = record { book = book.book; replicas = all_kept price start history b kept replica book.replicas is }
+      → IsBookWith price start history picture ((if b then kept else drop 1 kept) ++ replica ∷ []) behind
+  book_kept b replica is = record { book = book.book; replicas = all_kept price start history b kept replica book.replicas is; follower = book.follower }
 
   -- when an entry comes after the others
-  pub book_on : (entry : Entry) (next : Shown) → IsBook price start (history ++ entry ∷ []) next → IsBookWith price start (history ++ entry ∷ []) next kept
-  book_on entry next is = record { book = is; replicas = all_longer price start history entry kept book.replicas }
+  pub book_on : (entry : Entry) (next : Shown) → IsBook price start (history ++ entry ∷ []) next
+      → IsBookWith price start (history ++ entry ∷ []) next kept behind
+  book_on entry next is = record {
+    book = is;
+    replicas = all_longer price start history entry kept book.replicas;
+    follower = some_longer price start history entry behind book.follower;
+  }
 
   -- the picture before that entry
   pub before_entry : (entry : Entry) → IsReplica price start (history ++ entry ∷ []) (length history) picture

@@ -1,5 +1,5 @@
 -- A book with the replicas that it keeps.
-use Rattle.std.specs.Prelude.{List, All}
+use Rattle.std.specs.Prelude.{List, All, Option, IfSome}
 use Rattle.std.specs.Arc.{arc_value}
 use Rattle.topo_core.specs.declared.calls.Entry.{Entry}
 use Rattle.topo_core.specs.Routes.{Pricing}
@@ -11,7 +11,8 @@ use Rattle.topo_book.specs.declared.replicas.Replica.{Replica}
 abbrev pub AreReplicas : Pricing → Shown → List Entry → List Replica → Type 0
 AreReplicas price start history replicas = All (λ r. IsReplica price start history r.entries (arc_value r.picture)) replicas
 
--- the history leads from the start to the picture, and the replicas are of that history
-pub record IsBookWith (price : Pricing) (start : Shown) (history : List Entry) (picture : Shown) (kept : List Replica) : Type 0 where
+-- the history leads from the start to the picture, and the replicas are of that history, also the one that follows
+pub record IsBookWith (price : Pricing) (start : Shown) (history : List Entry) (picture : Shown) (kept : List Replica) (behind : Option Replica) : Type 0 where
   pub book : IsBook price start history picture
   pub replicas : AreReplicas price start history kept
+  pub follower : IfSome behind (λ r. IsReplica price start history r.entries (arc_value r.picture))

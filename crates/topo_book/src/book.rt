@@ -31,6 +31,8 @@ pub struct Book<F: PriceFn> {
     history: Vec<Entry>,
     picture: Arc<Picture>,
     replicas: Replicas,
+    // A picture that stands some entries behind, from the first time on that entries are taken back.
+    follower: Option<Replica>,
     scratch: Scratch,
     // Whether the picture now is the second of the two that take turns.
     search_on_replica: bool,
@@ -46,6 +48,7 @@ impl<F: PriceFn + Drop> Drop for Book<F> {
             history,
             picture,
             replicas,
+            follower,
             scratch,
             search_on_replica: _,
         } = self;
@@ -54,6 +57,7 @@ impl<F: PriceFn + Drop> Drop for Book<F> {
         drop(history);
         drop(picture);
         drop(replicas);
+        drop(follower);
         drop(scratch);
     }
 }
@@ -61,14 +65,8 @@ impl<F: PriceFn + Drop> Drop for Book<F> {
 /// So many entries are looked through at most for what they changed.
 const MAX_ENTRIES_BETWEEN: u32 = 256;
 
-/// The picture now of a new book that begins with this one, and what its calls write on.
-fn begun(alloc: Global, start: &Picture) -> Result<(Arc<Picture>, Replicas, Scratch), AllocError>
-    ensures picture { IfOk result (λ made. arc_value made.0 ≡ start.now) }
-    ensures replicas { IfOk result (λ made. made.1 ≡ []) }
-{
-    let picture = Arc::new(alloc, start.copy(alloc)?)?;
-    Ok((picture, Replicas::new(alloc)?, Scratch::new(alloc)?))
-}
+/// So many entries are carried out again at most to take back the last ones, once some were.
+const FOLLOWER_DISTANCE: usize = 64;
 
 /// The rows of a picture. It ends before they are made, if nobody else has a share of it.
 fn last_rows(alloc: Global, picture: Arc<Picture>) -> Result<Rows, AllocError>
@@ -119,7 +117,7 @@ impl<F: PriceFn> Model for Book<F> {
 
 impl<F: PriceFn> Book<F> {
     ghost use Rattle.std.specs.Prelude.{◌≡◌, ◌≢◌, ◌<◌, ◌≤◌, true, IfOk, IfSome};
-    ghost use Rattle.std.specs.Prelude.{OnOk, OnErr, [], ◌∷◌, ◌++◌};
+    ghost use Rattle.std.specs.Prelude.{OnOk, OnErr, [], ◌∷◌, ◌++◌, length, take};
     ghost use Rattle.topo_core.specs.History.{Replays, is_accepted};
     ghost use Rattle.topo_core.specs.Steps.{Step};
     ghost use Rattle.topo_core.specs.declared.calls.Call.TheVariants.{Grow, Insert, Delete};
@@ -129,7 +127,7 @@ impl<F: PriceFn> Book<F> {
     ghost use Rattle.topo_price.specs.Prices.{prices_of};
     ghost use Rattle.std.specs.Prelude.{Option, Some};
     ghost use Rattle.topo_core.specs.declared.calls.Reply.{Reply};
-    ghost use Rattle.topo_book.specs.Books.{CanFollow, IsAnswered, IsDue, IsReplica, IsSameBook};
+    ghost use Rattle.topo_book.specs.Books.{CanFollow, IsAnswered, IsBook, IsDue, IsReplica, IsSameBook};
     ghost use Rattle.topo_book.specs.Books.{IsUnchanged, ReplaysLawfully, picture_after};
     ghost use Rattle.topo_book.specs.RouteSources.{IsSourceFor};
     ghost use Rattle.topo_book.specs.Sparing.{HaveSpared};
@@ -143,13 +141,36 @@ impl<F: PriceFn> Book<F> {
         ensures history { IfOk result (λ b. b.history ≡ []) }
         ensures picture { IfOk result (λ b. b.picture ≡ start) }
     {
-        let (picture, replicas, scratch) = begun(alloc, &start)?;
+        let picture = start.copy(alloc)?;
+        Book::resume(alloc, start, Vec::new(alloc), picture, tariff)
+    }
+
+    /// The book that begins with `start` and has these entries, which lead from there to `picture`.
+    pub fn resume(
+        alloc: Global,
+        start: Picture,
+        history: Vec<Entry>,
+        picture: Picture,
+        tariff: Arc<Tariff<F>>,
+    ) -> Result<Self, AllocError>
+    where
+        F: Drop,
+        requires { IsBook (prices_of (F.may_return (arc_value tariff))) start history.items picture }
+        ensures tariff { IfOk result (λ b. b.tariff ≡ arc_value tariff) }
+        ensures start { IfOk result (λ b. b.start ≡ start) }
+        ensures history { IfOk result (λ b. b.history ≡ history.items) }
+        ensures picture { IfOk result (λ b. b.picture ≡ picture) }
+    {
+        let picture = Arc::new(alloc, picture)?;
+        let replicas = Replicas::new(alloc)?;
+        let scratch = Scratch::new(alloc)?;
         Ok(Book {
             tariff,
             start,
-            history: Vec::new(alloc),
+            history,
             picture,
             replicas,
+            follower: None,
             scratch,
             search_on_replica: false,
         })
@@ -158,6 +179,13 @@ impl<F: PriceFn> Book<F> {
     /// The prices.
     pub fn tariff(&self) -> &Tariff<F>
         ensures { result.now ≡ self.now.tariff }
+    {
+        &self.tariff
+    }
+
+    /// The same prices, of which another book may take a share.
+    pub fn shared_tariff(&self) -> &Arc<Tariff<F>>
+        ensures { arc_value result.now ≡ self.now.tariff }
     {
         &self.tariff
     }
@@ -233,11 +261,13 @@ impl<F: PriceFn> Book<F> {
             history,
             picture,
             replicas,
+            follower,
             scratch,
             search_on_replica: _,
         } = self;
         drop(start);
         drop(replicas);
+        drop(follower);
         drop(scratch);
         let rows = last_rows(alloc, picture)?;
         Ok((history, rows))
@@ -421,21 +451,46 @@ impl<F: PriceFn> Book<F> {
         }
     }
 
-    /// Carries the entries out on a picture that stands after the first `from` of them, and answers
-    /// after how many it stands then: after all of them, unless it is out of memory.
-    fn replay_missed(&self, alloc: Global, picture: &mut Picture, from: usize) -> usize
-        requires { IsReplica (prices_of (F.may_return self.now.tariff))
+    /// Carries entries out on a picture that stands after the first `from` of them, and answers after
+    /// how many it stands then: after `to`, unless it is out of memory.
+    fn replay_to(&self, alloc: Global, picture: &mut Picture, from: usize, to: usize) -> usize
+        requires stands { IsReplica (prices_of (F.may_return self.now.tariff))
             self.now.start self.now.history from picture.old }
-        ensures { IsReplica (prices_of (F.may_return self.now.tariff))
+        requires forward { from ≤ to }
+        requires there { to ≤ length self.now.history }
+        ensures stands { IsReplica (prices_of (F.may_return self.now.tariff))
             self.now.start self.now.history result picture.new }
+        ensures within { result ≤ to }
     {
         let history = self.history();
-        for index in from..history.len() {
+        for index in from..to {
             if apply_entry(alloc, picture, &self.tariff, &history[index]).is_err() {
                 return index;
             }
         }
-        history.len()
+        to
+    }
+
+    /// Carries a replica on until it stands after the first `to` entries, if nobody else holds it.
+    /// Out of memory, it stands after some that come before.
+    fn carry_on(&self, alloc: Global, replica: &mut Replica, to: usize) -> Result<(), AllocError>
+        requires stands { IsReplica (prices_of (F.may_return self.now.tariff))
+            self.now.start self.now.history replica.old.entries (arc_value replica.old.picture) }
+        requires forward { replica.old.entries ≤ to }
+        requires there { to ≤ length self.now.history }
+        ensures stands { IsReplica (prices_of (F.may_return self.now.tariff))
+            self.now.start self.now.history replica.new.entries (arc_value replica.new.picture) }
+        ensures reached { OnOk result (replica.new.entries ≡ to) }
+        ensures within { replica.new.entries ≤ to }
+    {
+        let Some(picture) = Arc::get_mut(&mut replica.picture) else {
+            return Err(AllocError);
+        };
+        replica.entries = self.replay_to(alloc, picture, replica.entries, to);
+        if replica.entries < to {
+            return Err(AllocError);
+        }
+        Ok(())
     }
 
     /// Brings a replica up to date, if nobody else holds it. Out of memory, it stands after some
@@ -447,14 +502,7 @@ impl<F: PriceFn> Book<F> {
             self.now.start self.now.history replica.new.entries (arc_value replica.new.picture) }
         ensures equal { OnOk result (arc_value replica.new.picture ≡ self.now.picture) }
     {
-        let Some(picture) = Arc::get_mut(&mut replica.picture) else {
-            return Err(AllocError);
-        };
-        replica.entries = self.replay_missed(alloc, picture, replica.entries);
-        if replica.entries < self.history.len() {
-            return Err(AllocError);
-        }
-        Ok(())
+        self.carry_on(alloc, replica, self.history.len())
     }
 
     /// How many entries a replica may be behind. To carry an entry out takes about as long as to
@@ -629,6 +677,137 @@ impl<F: PriceFn> Book<F> {
         }
     }
 
+    /// Takes back all but the first `entries` of the history: picture, ids and counters are those
+    /// after these. The first time, and where more is taken back than a picture that is kept since
+    /// then is behind, the entries are carried out again from the start, each as its reply says.
+    /// Otherwise it takes a copy of that picture and 64 entries.
+    pub fn take_back(&mut self, alloc: Global, entries: usize) -> Result<(), AllocError>
+        requires { entries ≤ length self.old.history }
+        ensures history { OnOk result (self.new.history ≡ take entries self.old.history) }
+        ensures replay { OnOk result (Replays (prices_of (F.may_return self.new.tariff))
+            self.new.start.limits self.new.start.rows self.new.history self.new.picture.rows) }
+        ensures unchanged { OnErr result (IsUnchanged self.old self.new) }
+        ensures same_book { IsSameBook self.old self.new }
+    {
+        let mut follower = self.take_follower(alloc, entries)?;
+        match self.picture_after(alloc, &mut follower, entries) {
+            Ok(picture) => {
+                self.cut(entries, picture, follower);
+                Ok(())
+            }
+            Err(_) => {
+                self.follower = Some(follower);
+                Err(AllocError)
+            }
+        }
+    }
+
+    /// A replica that stands after at most so many entries: the one that follows, if it does, and
+    /// else the start. The book has none that follows then.
+    fn take_follower(&mut self, alloc: Global, entries: usize) -> Result<Replica, AllocError>
+        requires { entries ≤ length self.old.history }
+        ensures stands { IfOk result (λ r. IsReplica (prices_of (F.may_return self.new.tariff))
+            self.new.start self.new.history r.entries (arc_value r.picture)) }
+        ensures before { IfOk result (λ r. r.entries ≤ entries) }
+        ensures unchanged { IsUnchanged self.old self.new }
+        ensures same_book { IsSameBook self.old self.new }
+    {
+        if let Some(follower) = self.follower.take() {
+            if follower.entries <= entries {
+                return Ok(follower);
+            }
+        }
+        let picture = Arc::new(alloc, self.start.copy(alloc)?)?;
+        Ok(Replica {
+            picture,
+            entries: 0,
+        })
+    }
+
+    /// The picture after so many entries, by way of the one that follows, which is carried on as far
+    /// as it is to be behind.
+    fn picture_after(
+        &self,
+        alloc: Global,
+        follower: &mut Replica,
+        entries: usize,
+    ) -> Result<Arc<Picture>, AllocError>
+        requires stands { IsReplica (prices_of (F.may_return self.now.tariff))
+            self.now.start self.now.history follower.old.entries (arc_value follower.old.picture) }
+        requires forward { follower.old.entries ≤ entries }
+        requires there { entries ≤ length self.now.history }
+        ensures picture { IfOk result (λ picture. IsReplica (prices_of (F.may_return self.now.tariff))
+            self.now.start self.now.history entries (arc_value picture)) }
+        ensures stands { IsReplica (prices_of (F.may_return self.now.tariff))
+            self.now.start self.now.history follower.new.entries (arc_value follower.new.picture) }
+        ensures before { follower.new.entries ≤ entries }
+    {
+        self.follow(alloc, follower, entries)?;
+        let picture = Arc::new(alloc, follower.picture.copy(alloc)?)?;
+        let mut replica = Replica {
+            picture,
+            entries: follower.entries,
+        };
+        self.carry_on(alloc, &mut replica, entries)?;
+        Ok(replica.picture)
+    }
+
+    /// Carries a replica on until it is no further behind these entries than one that follows may be.
+    fn follow(
+        &self,
+        alloc: Global,
+        follower: &mut Replica,
+        entries: usize,
+    ) -> Result<(), AllocError>
+        requires stands { IsReplica (prices_of (F.may_return self.now.tariff))
+            self.now.start self.now.history follower.old.entries (arc_value follower.old.picture) }
+        requires forward { follower.old.entries ≤ entries }
+        requires there { entries ≤ length self.now.history }
+        ensures stands { IsReplica (prices_of (F.may_return self.now.tariff))
+            self.now.start self.now.history follower.new.entries (arc_value follower.new.picture) }
+        ensures before { follower.new.entries ≤ entries }
+    {
+        let least = entries.saturating_sub(FOLLOWER_DISTANCE);
+        if least <= follower.entries {
+            return Ok(());
+        }
+        self.carry_on(alloc, follower, least)
+    }
+
+    /// Ends the history after so many entries, after which this picture stands, and which the other
+    /// one follows.
+    fn cut(&mut self, entries: usize, picture: Arc<Picture>, follower: Replica)
+        requires stands { IsReplica (prices_of (F.may_return self.old.tariff))
+            self.old.start self.old.history entries (arc_value picture) }
+        requires follows { IsReplica (prices_of (F.may_return self.old.tariff))
+            self.old.start self.old.history follower.entries (arc_value follower.picture) }
+        requires before { follower.entries ≤ entries }
+        ensures history { self.new.history ≡ take entries self.old.history }
+        ensures picture { self.new.picture ≡ arc_value picture }
+        ensures same_book { IsSameBook self.old self.new }
+    {
+        self.replicas.clear();
+        self.history.truncate(entries);
+        let before = mem::replace(&mut self.picture, picture);
+        drop(before);
+        self.follower = Some(follower);
+        self.search_on_replica = false;
+    }
+
+    /// Lets the picture that follows, if there is one, come no further behind.
+    fn have_followed(&mut self, alloc: Global)
+        ensures unchanged { IsUnchanged self.old self.new }
+        ensures same_book { IsSameBook self.old self.new }
+        ensures same_room { self.new.spare ≡ self.old.spare }
+    {
+        let Some(mut follower) = self.follower.take() else {
+            return;
+        };
+        // Out of memory it comes further behind, and nothing else.
+        let _ = self.follow(alloc, &mut follower, self.history.len());
+        self.follower = Some(follower);
+    }
+
     /// Carries the call out and enters it. Its reply stands in the history, and is not copied.
     /// Whatever fails, fails before anything changes.
     pub fn enter(&mut self, alloc: Global, caller: u32, call: Call) -> Result<(), AllocError>
@@ -680,6 +859,7 @@ impl<F: PriceFn> Book<F> {
         let told = told_reply(alloc, &entry, is_told)?;
         apply_entry(alloc, picture, &self.tariff, &entry)?;
         self.history.push_reserved(entry);
+        self.have_followed(alloc);
         Ok(told)
     }
 

@@ -5,7 +5,7 @@ ghost use Rattle.topo_core.specs.History.{Replays};
 ghost use Rattle.topo_core.specs.Steps.{Step};
 ghost use Rattle.topo_rows.specs.Shown.{IsPicture};
 ghost use Rattle.topo_price.specs.Prices.{prices_of};
-ghost use Rattle.topo_book.specs.Books.{IsDue};
+ghost use Rattle.topo_book.specs.Books.{IsBook, IsDue, ReplaysLawfully};
 ghost use Rattle.topo_book.specs.Faults.{IsFaultOf, IsIllegalAt};
 
 use crate::route_source::RouteSource;
@@ -111,7 +111,7 @@ fn replay_all<F: PriceFn>(
     scratch: &mut Scratch,
 ) -> Result<(), ReplayFault>
     requires { IsPicture picture.old.limits picture.old.rows }
-    ensures replayed { OnOk result (Replays (prices_of (F.may_return tariff.now))
+    ensures replayed { OnOk result (ReplaysLawfully (prices_of (F.may_return tariff.now))
         picture.old.limits picture.old.rows entries.now picture.new.rows) }
     ensures same_limits { picture.new.limits ≡ picture.old.limits }
     ensures lawful { IsPicture picture.new.limits picture.new.rows }
@@ -159,6 +159,8 @@ pub fn replay<F: PriceFn>(
 ) -> Result<Picture, ReplayFault>
     ensures replayed { IfOk result (λ p. Replays (prices_of (F.may_return tariff.now))
         start.now.limits start.now.rows entries.now p.rows) }
+    ensures book { IfOk result
+        (IsBook (prices_of (F.may_return tariff.now)) start.now entries.now) }
     ensures same_limits { IfOk result (λ p. p.limits ≡ start.now.limits) }
     ensures lawful { IfOk result (λ p. IsPicture p.limits p.rows) }
     ensures first_wrong { IfErr result

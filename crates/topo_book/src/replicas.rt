@@ -61,6 +61,13 @@ impl Replicas {
         self.kept.push_reserved(replica);
     }
 
+    /// Keeps none any more.
+    pub(crate) fn clear(&mut self)
+        ensures { self.new ≡ [] }
+    {
+        self.kept.clear();
+    }
+
     /// The one kept last of those that nobody else holds and that stand after at least so many
     /// entries. It is kept no longer.
     pub(crate) fn take_unshared(&mut self, least: usize) -> Option<Replica>

@@ -12,4 +12,4 @@ pub mod check;
 pub mod replay;
 
 pub use check::{check_bytes, check_io};
-pub use replay::{replay_bytes, replay_io};
+pub use replay::{replay_bytes, replay_io, replay_report};

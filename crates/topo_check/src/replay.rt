@@ -2,26 +2,24 @@
 
 ghost use Rattle.std.specs.Prelude.{◌≡◌, ◌≤◌, ◌+◌, ℕ, List, IfOk, IfErr, Some};
 ghost use Rattle.std.specs.Prelude.{string_bytes};
-ghost use Rattle.topo_book.specs.Faults.{IsFaultOf, IsIllegalAt};
-ghost use Rattle.topo_core.specs.History.{Replays};
-ghost use Rattle.topo_price.specs.Prices.{IsPromise, prices_of};
-ghost use Rattle.topo_check.specs.Replays.{IsReplayed, IsTrueReport, IsUntrue, ReplayFailsBy};
-ghost use Rattle.topo_check.specs.Replays.{TellsCalls, TellsUntrue, calls_line};
+ghost use Rattle.topo_book.specs.Books.{IsBook};
+ghost use Rattle.topo_price.specs.Prices.{prices_of};
+ghost use Rattle.topo_check.specs.Replays.{IsReplayed, IsSoundReport, IsTrueReport, IsUntrue};
+ghost use Rattle.topo_check.specs.Replays.{ReplayFailsBy, TellsCalls, TellsUntrue, calls_line};
 ghost use Rattle.topo_forms.specs.Reads.{Gives};
 ghost use Rattle.topo_forms.specs.Scripts.{report_of};
 ghost use Rattle.topo_settings.specs.Reading.{most_calls};
-ghost use Rattle.topo_settings.specs.Settings.{priced, price_table};
+ghost use Rattle.topo_settings.specs.Settings.{AnswersPrices};
 
 use std::alloc::{AllocError, Global};
 use std::io::{Read, Write};
 use topo_book::{ReplayFault, replay};
-use topo_core::rows::Rows;
 use topo_forms::row_forms::MAX_PICTURE_BYTES;
 use topo_forms::{Report, ScriptFault, read_report};
 use topo_picture::Picture;
 use topo_price::table::PriceTable;
 use topo_price::tariff::{PriceFn, Tariff};
-use topo_settings::RunFault;
+use topo_settings::{FromTable, RunFault};
 use topo_settings::reading::{CountedReader, read_bytes};
 use topo_settings::settings::validate;
 use topo_settings::writing::write_text;
@@ -72,7 +70,7 @@ fn line_of_read(alloc: Global, read: Result<Report, ScriptFault>) -> Result<Stri
         Ok(report) => report,
         Err(fault) => return Err(RunFault::Script(fault)),
     };
-    let judged = judge(alloc, &report);
+    let judged = judge::<PriceTable>(alloc, &report);
     let calls = report.history.len();
     drop(report);
     judged?;
@@ -91,89 +89,46 @@ fn calls_line(alloc: Global, calls: usize) -> Result<String, AllocError>
 
 /// Whether a report is true: the first of its limits, its prices, its start, its replies and its
 /// picture that is at fault.
-fn judge(alloc: Global, report: &Report) -> Result<(), RunFault>
+fn judge<F: FromTable>(alloc: Global, report: &Report) -> Result<(), RunFault>
     ensures good { IfOk result (λ _. IsTrueReport report.now) }
     ensures fault { IfErr result (IsUntrue report.now) }
 {
     let prices = report.prices.as_slice();
     let (table, start) = validate(alloc, report.limits, prices, Some(&report.start))?;
-    let replayed = replayed_rows(alloc, report, &start, table);
-    drop(start);
-    let rows = match replayed {
-        Ok(rows) => rows,
+    let tariff = Tariff::new(F::from_table(table));
+    replay_report(alloc, report, &start, &tariff)?;
+    Ok(())
+}
+
+/// The picture at the end of a report's history, carried out again from the picture of its start at
+/// its prices, where the report is true; or the first of its replies and its picture that is at
+/// fault.
+pub fn replay_report<F: PriceFn>(
+    alloc: Global,
+    report: &Report,
+    start: &Picture,
+    tariff: &Tariff<F>,
+) -> Result<Picture, RunFault>
+    requires prices { AnswersPrices (F.may_return tariff.now) report.now.prices }
+    requires sound { IsSoundReport report.now start.now.limits }
+    requires start { start.now.rows ≡ report.now.start }
+    ensures book { IfOk result
+        (IsBook (prices_of (F.may_return tariff.now)) start.now report.now.history) }
+    ensures same { IfOk result (λ p. p.rows ≡ report.now.picture) }
+    ensures good { IfOk result (λ _. IsTrueReport report.now) }
+    ensures fault { IfErr result (IsUntrue report.now) }
+{
+    let picture = match replay(alloc, start, report.history.as_slice(), tariff) {
+        Ok(picture) => picture,
         Err(ReplayFault::WrongReply(place)) => return Err(RunFault::WrongReply(place)),
         Err(ReplayFault::Memory) => return Err(RunFault::Memory),
     };
-    let is_same = rows.equals(&report.picture);
-    drop(rows);
-    if is_same {
-        Ok(())
+    let Ok(rows) = picture.rows(alloc) else {
+        return Err(RunFault::Memory);
+    };
+    if rows.equals(&report.picture) {
+        Ok(picture)
     } else {
         Err(RunFault::WrongPicture)
     }
-}
-
-/// The rows at the end of the replay of a report's history at its own prices.
-fn replayed_rows(
-    alloc: Global,
-    report: &Report,
-    start: &Picture,
-    table: PriceTable,
-) -> Result<Rows, ReplayFault>
-    requires { table ≡ price_table report.now.prices }
-    ensures replayed { IfOk result (λ rows. Replays (priced report.now.prices)
-        start.now.limits start.now.rows report.now.history rows) }
-    ensures first_wrong { IfErr result
-        (IsFaultOf (priced report.now.prices) start.now.limits start.now.rows report.now.history) }
-    ensures illegal { IfErr result
-        (IsIllegalAt (priced report.now.prices)
-        start.now.limits start.now.rows report.now.history) }
-{
-    let picture = priced_replay(alloc, report, start, table)?;
-    match picture.into_rows(alloc) {
-        Ok(rows) => Ok(rows),
-        Err(_) => Err(ReplayFault::Memory),
-    }
-}
-
-/// The replay of a report's history at its own prices.
-fn priced_replay(
-    alloc: Global,
-    report: &Report,
-    start: &Picture,
-    table: PriceTable,
-) -> Result<Picture, ReplayFault>
-    requires { table ≡ price_table report.now.prices }
-    ensures replayed { IfOk result (λ p. Replays (priced report.now.prices)
-        start.now.limits start.now.rows report.now.history p.rows) }
-    ensures first_wrong { IfErr result
-        (IsFaultOf (priced report.now.prices) start.now.limits start.now.rows report.now.history) }
-    ensures illegal { IfErr result
-        (IsIllegalAt (priced report.now.prices)
-        start.now.limits start.now.rows report.now.history) }
-{
-    // For the proof: what the type keeps.
-    table.laws();
-    asked_replay(alloc, report, start, table)
-}
-
-/// The replay of a report's history at the prices that a closure answers.
-fn asked_replay<F: PriceFn + Drop>(
-    alloc: Global,
-    report: &Report,
-    start: &Picture,
-    ask: F,
-) -> Result<Picture, ReplayFault>
-    requires callable { F.is_callable ask }
-    requires promise { IsPromise (F.may_return ask) }
-    ensures replayed { IfOk result (λ p. Replays (prices_of (F.may_return ask))
-        start.now.limits start.now.rows report.now.history p.rows) }
-    ensures first_wrong { IfErr result
-        (IsFaultOf (prices_of (F.may_return ask))
-        start.now.limits start.now.rows report.now.history) }
-    ensures illegal { IfErr result (IsIllegalAt (prices_of (F.may_return ask))
-        start.now.limits start.now.rows report.now.history) }
-{
-    let tariff = Tariff::new(ask);
-    replay(alloc, start, report.history.as_slice(), &tariff)
 }

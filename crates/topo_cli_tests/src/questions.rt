@@ -113,7 +113,7 @@ const ENVELOPES: &str = "\
 
 /// The answers.
 const ENVELOPES_ANSWERS: &str = "\
-{\"limits\":{\"crossings\":1048576,\"edges\":65536,\"vertices\":65536},\"program\":\"planar\",\"requests\":[\"about\",\"counts\",\"delete\",\"edge\",\"face\",\"grow\",\"insert\",\"open\",\"picture\",\"planned\",\"report\",\"route\",\"vertex\"],\"version\":\"0.5.0\"}
+{\"limits\":{\"crossings\":1048576,\"edges\":65536,\"vertices\":65536},\"program\":\"planar\",\"requests\":[\"about\",\"counts\",\"delete\",\"edge\",\"face\",\"forget\",\"grow\",\"insert\",\"open\",\"picture\",\"planned\",\"renumber\",\"reopen\",\"report\",\"route\",\"undo\",\"vertex\"],\"version\":\"0.5.0\"}
 {\"fault\":[72,\"NotOpen\"]}
 {\"fault\":[72,\"NotOpen\"]}
 {\"fault\":[52,\"BadShape\",\"$\"]}
@@ -135,9 +135,89 @@ const ENVELOPES_ANSWERS: &str = "\
 {\"crossings\":0,\"edges\":1,\"faces\":1,\"segments\":1,\"vertices\":2}
 ";
 
+/// Calls that are taken back, histories that are forgotten, ids that are closed up, and a report that a session
+/// goes on from.
+const TAKEN_BACK: &str = "\
+{\"version\":2,\"prices\":[3,null]}
+[\"undo\",0]
+[\"undo\",1]
+[\"grow\",0,0,1]
+[\"insert\",1,2,0]
+[\"grow\",0,1,0]
+[\"insert\",1,3,0]
+[\"grow\",2,0,0]
+[\"insert\",3,4,1]
+[\"insert\",0,0,0]
+[\"undo\",2]
+[\"insert\",3,4,1]
+[\"delete\",3]
+[\"undo\",4]
+[\"insert\",1,3,0]
+[\"undo\",5]
+[\"grow\",0,1,0]
+[\"insert\",1,3,0]
+[\"grow\",2,0,0]
+[\"insert\",3,4,1]
+[\"delete\",3]
+\"forget\"
+[\"undo\",1]
+[\"insert\",0,3,0]
+\"renumber\"
+[\"edge\",8]
+[\"undo\",1]
+{\"open\":{\"version\":1}}
+[\"grow\",0,0,0]
+\"report\"
+{\"reopen\":{\"version\":1}}
+{\"reopen\":{\"history\":[{\"call\":[\"grow\",0,0,0],\"caller\":0,\"reply\":{\"edge\":1,\"vertex\":2}}],\"limits\":{\"crossings\":1048576,\"edges\":65536,\"vertices\":65536},\"picture\":{\"crossings\":[],\"edges\":[{\"a\":0,\"b\":1,\"crossings\":[],\"id\":0,\"kind\":0},{\"a\":0,\"b\":2,\"crossings\":[],\"id\":1,\"kind\":0}],\"next_crossing\":0,\"next_edge\":2,\"rotations\":[[0,1],[0],[1]]},\"prices\":[],\"start\":{\"crossings\":[],\"edges\":[{\"a\":0,\"b\":1,\"crossings\":[],\"id\":0,\"kind\":0}],\"next_crossing\":0,\"next_edge\":1,\"rotations\":[[0],[0]]},\"version\":1}}
+[\"undo\",1]
+\"counts\"
+{\"call\":{\"reopen\":{\"history\":[{\"call\":[\"grow\",0,0,0],\"caller\":0,\"reply\":{\"edge\":2,\"vertex\":2}}],\"limits\":{\"crossings\":1048576,\"edges\":65536,\"vertices\":65536},\"picture\":{\"crossings\":[],\"edges\":[{\"a\":0,\"b\":1,\"crossings\":[],\"id\":0,\"kind\":0},{\"a\":0,\"b\":2,\"crossings\":[],\"id\":1,\"kind\":0}],\"next_crossing\":0,\"next_edge\":2,\"rotations\":[[0,1],[0],[1]]},\"prices\":[],\"start\":{\"crossings\":[],\"edges\":[{\"a\":0,\"b\":1,\"crossings\":[],\"id\":0,\"kind\":0}],\"next_crossing\":0,\"next_edge\":1,\"rotations\":[[0],[0]]},\"version\":1}}}
+";
+
+/// The answers.
+const TAKEN_BACK_ANSWERS: &str = "\
+{\"crossings\":0,\"edges\":1,\"faces\":1,\"segments\":1,\"vertices\":2}
+{\"crossings\":0,\"edges\":1,\"undone\":0,\"vertices\":2}
+{\"fault\":[70,\"NothingToUndo\",1]}
+{\"edge\":1,\"vertex\":2}
+{\"crossed\":[],\"edge\":2,\"end\":0,\"price\":0,\"start\":0}
+{\"edge\":3,\"vertex\":3}
+{\"crossed\":[],\"edge\":4,\"end\":0,\"price\":0,\"start\":0}
+{\"edge\":5,\"vertex\":4}
+{\"crossed\":[[2,0,\"back\"]],\"edge\":6,\"end\":0,\"price\":3,\"start\":0}
+{\"refused\":[2,\"SameEnds\"]}
+{\"crossings\":0,\"edges\":6,\"undone\":2,\"vertices\":5}
+{\"crossed\":[[2,0,\"back\"]],\"edge\":6,\"end\":0,\"price\":3,\"start\":0}
+{\"deleted\":3}
+{\"crossings\":0,\"edges\":4,\"undone\":4,\"vertices\":4}
+{\"crossed\":[],\"edge\":4,\"end\":0,\"price\":0,\"start\":0}
+{\"fault\":[70,\"NothingToUndo\",5]}
+{\"edge\":5,\"vertex\":4}
+{\"crossed\":[],\"edge\":6,\"end\":1,\"price\":0,\"start\":0}
+{\"edge\":7,\"vertex\":5}
+{\"crossed\":[],\"edge\":8,\"end\":0,\"price\":0,\"start\":1}
+{\"deleted\":3}
+{\"crossings\":0,\"edges\":8,\"faces\":4,\"segments\":8,\"vertices\":6}
+{\"fault\":[70,\"NothingToUndo\",1]}
+{\"crossed\":[],\"edge\":9,\"end\":2,\"price\":0,\"start\":1}
+{\"crossings\":[],\"edges\":[0,1,2,4,5,6,7,8,9]}
+{\"a\":0,\"b\":3,\"crossings\":[],\"id\":8,\"kind\":0,\"price\":3}
+{\"fault\":[70,\"NothingToUndo\",1]}
+{\"crossings\":0,\"edges\":1,\"faces\":1,\"segments\":1,\"vertices\":2}
+{\"edge\":1,\"vertex\":2}
+{\"history\":[{\"call\":[\"grow\",0,0,0],\"caller\":0,\"reply\":{\"edge\":1,\"vertex\":2}}],\"limits\":{\"crossings\":1048576,\"edges\":65536,\"vertices\":65536},\"picture\":{\"crossings\":[],\"edges\":[{\"a\":0,\"b\":1,\"crossings\":[],\"id\":0,\"kind\":0},{\"a\":0,\"b\":2,\"crossings\":[],\"id\":1,\"kind\":0}],\"next_crossing\":0,\"next_edge\":2,\"rotations\":[[0,1],[0],[1]]},\"prices\":[],\"start\":{\"crossings\":[],\"edges\":[{\"a\":0,\"b\":1,\"crossings\":[],\"id\":0,\"kind\":0}],\"next_crossing\":0,\"next_edge\":1,\"rotations\":[[0],[0]]},\"version\":1}
+{\"fault\":[52,\"BadShape\",\"$/reopen/history\"]}
+{\"crossings\":0,\"edges\":2,\"faces\":1,\"segments\":2,\"vertices\":3}
+{\"crossings\":0,\"edges\":1,\"undone\":1,\"vertices\":2}
+{\"crossings\":0,\"edges\":1,\"faces\":1,\"segments\":1,\"vertices\":2}
+{\"answer\":{\"fault\":[60,\"WrongReply\",0]}}
+";
+
 #[test]
 fn questions(rt: HostRuntime) {
     check(&rt, TRIANGLE, TRIANGLE_ANSWERS);
+    check(&rt, TAKEN_BACK, TAKEN_BACK_ANSWERS);
     check(&rt, CROSSED, CROSSED_ANSWERS);
 }
 

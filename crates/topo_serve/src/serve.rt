@@ -16,9 +16,8 @@ use std::io::{Read, Write};
 use topo_forms::ScriptFault;
 use topo_forms::row_forms::MAX_PICTURE_BYTES;
 use topo_price::table::PriceTable;
-use topo_session::tables::FromTable;
 use topo_session::{Session, answer, answer_first};
-use topo_settings::RunFault;
+use topo_settings::{FromTable, RunFault};
 use topo_settings::writing::write_text;
 
 /// Reads one line after another until the input ends, and answers each before it reads the next. An

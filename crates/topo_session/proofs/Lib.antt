@@ -2,4 +2,5 @@ pub mod Interface
 mod Entering
 mod Legal
 mod QuestionLaws
+mod Renaming
 mod Responding

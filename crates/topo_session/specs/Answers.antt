@@ -11,10 +11,11 @@ use Rattle.topo_forms.specs.declared.fault.ScriptFault.TheVariants.{Memory as No
 use Rattle.topo_forms.specs.declared.lines.Asked.{Asked as Asking}
 use Rattle.topo_forms.specs.declared.lines.Line.{Line}
 use Rattle.topo_forms.specs.declared.lines.Frame.TheVariants.{Opening}
+use Rattle.topo_forms.specs.declared.reports.Report.{Report}
 use Rattle.topo_forms.specs.declared.sessions.Opening.{Opening as Opened}
 use Rattle.topo_forms.specs.declared.sessions.Request.{Request}
 use Rattle.topo_forms.specs.declared.sessions.Request.TheVariants.{Carry, Counts as AskCounts, Picture as AskPicture, Report as AskReport, About}
-use Rattle.topo_forms.specs.declared.sessions.Request.TheVariants.{Route, Edge, Vertex, Face, Open}
+use Rattle.topo_forms.specs.declared.sessions.Request.TheVariants.{Route, Edge, Vertex, Face, Open, Undo, Forget, Renumber, Reopen}
 use Rattle.topo_forms.specs.Reads.{Read}
 use Rattle.topo_picture.specs.declared.counts.Counts.{Counts}
 use Rattle.topo_picture.specs.Faces.{IsFaceOf}
@@ -22,12 +23,15 @@ use Rattle.topo_picture.specs.Totals.{AreCountsOf}
 use Rattle.topo_script.specs.Pictures.{rows_text}
 use Rattle.topo_script.specs.ReportTexts.{reply_data, report_text}
 use Rattle.topo_settings.specs.declared.fault.RunFault.{RunFault}
-use Rattle.topo_settings.specs.declared.fault.RunFault.TheVariants.{Memory, Script}
+use Rattle.topo_settings.specs.declared.fault.RunFault.TheVariants.{Load, Memory, Script}
 use Rattle.topo_settings.specs.Settings.{IsUnsound, start_of}
 use Rattle.topo_session.specs.Questions.{edge_asked, vertex_asked}
-use Rattle.topo_session.specs.Standings.{Enters, IsOpened, IsRouteReply, Standing, report_so_far}
-use Rattle.topo_session.specs.Texts.{about_text, counts_text, edge_data, face_data, fault_text, framed, no_dart_text, no_edge_text}
-use Rattle.topo_session.specs.Texts.{no_vertex_text, not_open_text, route_reply_data, vertex_data}
+use Rattle.topo_check.specs.Replays.{IsUntrue}
+use Rattle.topo_session.specs.declared.renumbering.Renumbered.{Renumbered}
+use Rattle.topo_session.specs.declared.session.Undone.{Undone}
+use Rattle.topo_session.specs.Standings.{Enters, IsOpened, IsReopened, IsRouteReply, IsUndone, Renumbers, Standing, begins_with, report_so_far}
+use Rattle.topo_session.specs.Texts.{about_text, counts_text, edge_data, face_data, fault_text, framed, no_dart_text, no_edge_text, nothing_text}
+use Rattle.topo_session.specs.Texts.{no_vertex_text, not_open_text, renumbered_data, route_reply_data, undone_data, vertex_data}
 
 -- ---- Answers of a session
 
@@ -41,6 +45,11 @@ pub record TellsCounts (rows : Rows) (text : List ℕ) : Type 0 where
 pub record Opens (opening : Opened) (text : List ℕ) (new : Standing) : Type 0 where
   pub opened : IsOpened opening new
   pub told : TellsCounts (start_of opening.start) text
+
+-- a session goes on from a report, and the text is that of the counts of its picture
+pub record Reopens (report : Report) (text : List ℕ) (new : Standing) : Type 0 where
+  pub reopened : IsReopened report new
+  pub told : TellsCounts report.picture text
 
 -- the command is carried out by a step, which is the last of the history from now on, and the text is its reply
 pub record CarriesOut (caller : ℕ) (command : Command) (text : List ℕ) (old new : Standing) : Type 0 where
@@ -74,8 +83,25 @@ edge_text s e = unwrap_or (option_map (λ found. compact_text (edge_data found))
 abbrev pub vertex_text : Standing → ℕ → List ℕ
 vertex_text s v = unwrap_or (option_map (λ found. compact_text (vertex_data found)) (vertex_asked s.picture v)) no_vertex_text
 
--- The text answers a request, and the session stands so behind it. Only a command changes the picture, and an opening puts
--- another in its place.
+-- what is told of entries taken back, so many, or that there are not so many
+abbrev pub undo_text : ℕ → Option Undone → List ℕ
+undo_text entries (Some told) = compact_text (undone_data told)
+undo_text entries None = nothing_text entries
+
+-- so many entries are taken back, if there are so many, and the text tells which
+pub record TellsUndone (entries : ℕ) (text : List ℕ) (old new : Standing) : Type 0 where
+  pub found : Option Undone
+  pub is : IsUndone entries old new found
+  pub told : text ≡ undo_text entries found
+
+-- the ids are closed up, and the text tells those of before
+pub record TellsRenumbered (text : List ℕ) (old new : Standing) : Type 0 where
+  pub ids : Renumbered
+  pub is : Renumbers ids old new
+  pub told : text ≡ compact_text (renumbered_data ids)
+
+-- The text answers a request, and the session stands so behind it. A command changes the picture, what takes commands back or
+-- closes ids up does, and an opening puts another in its place. Nothing else does.
 abbrev pub Answers : ℕ → Request → List ℕ → Standing → Standing → Type 0
 Answers caller (Carry command) text old new = CarriesOut caller command text old new
 Answers caller AskCounts text old new = TellsCounts old.picture text × (new ≡ old)
@@ -87,11 +113,23 @@ Answers caller (Edge e) text old new = (text ≡ edge_text old e) × (new ≡ ol
 Answers caller (Vertex v) text old new = (text ≡ vertex_text old v) × (new ≡ old)
 Answers caller (Face d) text old new = TellsFace old.picture d text × (new ≡ old)
 Answers caller (Open opening) text old new = Opens opening text new
+Answers caller (Undo entries) text old new = TellsUndone entries text old new
+Answers caller Forget text old new = TellsCounts old.picture text × (new ≡ begins_with old.picture old)
+Answers caller Renumber text old new = TellsRenumbered text old new
+Answers caller (Reopen report) text old new = Reopens report text new
 
--- The fault of a request is none but that of an opening: of its limits, its prices or its start. Any request may be out of
--- memory.
+-- a fault of loading a picture. A renumbering has this, as far as this says; tests have never seen one
+abbrev pub IsOfLoading : RunFault → Type 0
+IsOfLoading Memory = ⊤
+IsOfLoading (Load fault) = ⊤
+IsOfLoading _ = ⊥
+
+-- The fault of a request is that of an opening, of its limits, its prices or its start, or that of a report. Any request may
+-- be out of memory.
 abbrev pub IsFaultOfRequest : Request → RunFault → Type 0
 IsFaultOfRequest (Open opening) fault = IsUnsound opening.limits opening.prices opening.start fault
+IsFaultOfRequest (Reopen report) fault = IsUntrue report fault
+IsFaultOfRequest Renumber fault = IsOfLoading fault
 IsFaultOfRequest request fault = fault ≡ Memory
 
 -- What a request that is at fault leaves: all is as it was. Where it is out of memory it may be done, and only the text lost.
@@ -101,10 +139,11 @@ LeavesBy _ caller request old new = new ≡ old
 
 -- ---- One request, whether a session is open or not
 
--- where no session is open, only these two requests are answered, and each other one is told so
+-- where no session is open, only these three requests are answered, and each other one is told so
 abbrev pub AnswersClosed : Request → List ℕ → Option Standing → Type 0
 AnswersClosed About text new = (text ≡ about_text) × (new ≡ None)
 AnswersClosed (Open opening) text new = (s : Standing) × (new ≡ Some s) × Opens opening text s
+AnswersClosed (Reopen report) text new = (s : Standing) × (new ≡ Some s) × Reopens report text s
 AnswersClosed request text new = (text ≡ not_open_text) × (new ≡ None)
 
 -- the text answers what was asked without fault

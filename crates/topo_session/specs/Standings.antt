@@ -1,5 +1,5 @@
 -- Where a session stands, and what calls make of it.
-use Rattle.std.specs.Prelude.{◌≡◌, ℕ, List, [], ◌∷◌, ◌++◌, Option, None, Some, ⊤}
+use Rattle.std.specs.Prelude.{◌≡◌, ◌<◌, ◌≤◌, ◌-◌, ℕ, List, [], ◌∷◌, ◌++◌, length, take, Option, None, Some, ⊤}
 use Rattle.topo_book.specs.Books.{BookState, IsDue}
 use Rattle.topo_core.specs.declared.calls.Call.{Call}
 use Rattle.topo_core.specs.declared.calls.Call.TheVariants.{Insert}
@@ -12,7 +12,11 @@ use Rattle.topo_core.specs.Steps.{Step}
 use Rattle.topo_forms.specs.declared.reports.Report.{Report}
 use Rattle.topo_forms.specs.declared.scripts.LimitRows.{LimitRows}
 use Rattle.topo_forms.specs.declared.sessions.Opening.{Opening}
+use Rattle.topo_check.specs.Replays.{IsSoundReport, LeadsTo}
 use Rattle.topo_settings.specs.Settings.{IsSound, priced, start_of}
+use Rattle.topo_session.specs.declared.renumbering.Renumbered.{Renumbered}
+use Rattle.topo_session.specs.declared.session.Undone.{Undone}
+use Rattle.topo_session.specs.Renumbering.{IsRenumbered}
 
 -- what a report says before its history, the limits that these numbers are, and with it the history so far and the picture now
 pub record Standing : Type 0 where
@@ -54,6 +58,44 @@ pub record Enters (caller : ℕ) (call : Call) (reply : Reply) (old new : Standi
   pub next : Rows
   pub step : Step (priced old.prices) old.limits old.picture call reply next
   pub moved : new ≡ record old { history = old.history ++ record { caller = caller; call = call; reply = reply } ∷ []; picture = next }
+
+-- the last entries are taken back, so many: the history is the list without them, and the picture the one that this leads to
+pub record TakesBack (entries : ℕ) (old new : Standing) : Type 0 where
+  pub there : entries ≤ length old.history
+  pub next : Rows
+  pub replayed : Replays (priced old.prices) old.limits old.start (take (length old.history - entries) old.history) next
+  pub moved : new ≡ record old { history = take (length old.history - entries) old.history; picture = next }
+
+-- what is told of so many entries taken back, which led to this picture
+abbrev pub undone : ℕ → Rows → Undone
+undone entries rows = record { crossings = rows.next_crossing; edges = rows.next_edge; undone = entries; vertices = length rows.rotations }
+
+-- so many are taken back, or there are not so many
+abbrev pub IsUndone : ℕ → Standing → Standing → Option Undone → Type 0
+IsUndone entries old new (Some told) = TakesBack entries old new × (told ≡ undone entries new.picture)
+IsUndone entries old new None = (length old.history < entries) × (new ≡ old)
+
+-- a picture begins, at the same prices and under the same limits
+abbrev pub begins_with : Rows → Standing → Standing
+begins_with rows s = record s { start = rows; history = []; picture = rows }
+
+-- the ids of the picture are closed up, and it begins so
+pub record Renumbers (ids : Renumbered) (old new : Standing) : Type 0 where
+  pub next : Rows
+  pub renumbered : IsRenumbered old.picture ids next
+  pub moved : new ≡ begins_with next old
+
+-- where a session stands that goes on from a report
+abbrev pub goes_on : Report → Limits → Standing
+goes_on report limits =
+    record { numbers = report.limits; prices = report.prices; limits = limits; start = report.start; history = report.history; picture = report.picture }
+
+-- a true report, and where a session stands that goes on from it
+pub record IsReopened (report : Report) (s : Standing) : Type 0 where
+  pub limits : Limits
+  pub sound : IsSoundReport report limits
+  pub replayed : LeadsTo report limits report.picture
+  pub stands : s ≡ goes_on report limits
 
 -- the reply that an insertion of an edge of kind 0 would have now
 abbrev pub IsRouteReply : Standing → ℕ → ℕ → Reply → Type 0

@@ -22,6 +22,8 @@ use Rattle.topo_script.specs.Pictures.{list_data, number_data, sign_data}
 use Rattle.topo_script.specs.ReportTexts.{dart_data, price_data, reply_data}
 use Rattle.topo_session.specs.declared.edges.EdgeAnswer.{EdgeAnswer}
 use Rattle.topo_session.specs.declared.edges.Meeting.{Meeting}
+use Rattle.topo_session.specs.declared.renumbering.Renumbered.{Renumbered}
+use Rattle.topo_session.specs.declared.session.Undone.{Undone}
 use Rattle.topo_session.specs.declared.vertices.End.{End}
 use Rattle.topo_session.specs.declared.vertices.End.TheVariants.{A, B}
 use Rattle.topo_session.specs.declared.vertices.VertexAnswer.{VertexAnswer}
@@ -77,6 +79,17 @@ vertex_data v = object (member (codes "edges") (list_data number_data v.edges) (
 abbrev pub face_data : List Dart → Data
 face_data darts = object (member (codes "darts") (list_data dart_data darts) no_members)
 
+abbrev pub undone_data : Undone → Data
+undone_data told = object
+    (member (codes "crossings") (number_data told.crossings)
+    (member (codes "edges") (number_data told.edges)
+    (member (codes "undone") (number_data told.undone)
+    (member (codes "vertices") (number_data told.vertices) no_members))))
+
+abbrev pub renumbered_data : Renumbered → Data
+renumbered_data ids =
+    object (member (codes "crossings") (list_data number_data ids.crossings) (member (codes "edges") (list_data number_data ids.edges) no_members))
+
 -- ---- Texts
 
 abbrev pub counts_text : Counts → List ℕ
@@ -94,9 +107,12 @@ no_dart_text = codes "{\"refused\":[71,\"NoDart\"]}"
 abbrev pub not_open_text : List ℕ
 not_open_text = codes "{\"fault\":[72,\"NotOpen\"]}"
 
+abbrev pub nothing_text : ℕ → List ℕ
+nothing_text entries = codes "{\"fault\":[70,\"NothingToUndo\"," ++ (decimal entries ++ codes "]}")
+
 -- what the program is, and which requests it knows
 abbrev pub about_text : List ℕ
-about_text = codes "{\"limits\":{\"crossings\":1048576,\"edges\":65536,\"vertices\":65536},\"program\":\"planar\",\"requests\":[\"about\",\"counts\",\"delete\",\"edge\",\"face\",\"grow\",\"insert\",\"open\",\"picture\",\"planned\",\"report\",\"route\",\"vertex\"],\"version\":\"0.5.0\"}"
+about_text = codes "{\"limits\":{\"crossings\":1048576,\"edges\":65536,\"vertices\":65536},\"program\":\"planar\",\"requests\":[\"about\",\"counts\",\"delete\",\"edge\",\"face\",\"forget\",\"grow\",\"insert\",\"open\",\"picture\",\"planned\",\"renumber\",\"reopen\",\"report\",\"route\",\"undo\",\"vertex\"],\"version\":\"0.5.0\"}"
 
 -- ---- Faults
 

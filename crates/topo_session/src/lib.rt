@@ -23,8 +23,8 @@
 
 pub mod edges;
 pub mod lines;
+pub mod renumbering;
 pub mod session;
-pub mod tables;
 pub mod texts;
 pub mod vertices;
 

@@ -10,30 +10,37 @@ ghost use Rattle.topo_script.specs.ReportTexts.{reply_data, report_text};
 ghost use Rattle.topo_session.specs.Answers.{Answers, AnswersClosed, AnswersFirst, AnswersLine};
 ghost use Rattle.topo_session.specs.Answers.{CarriesOut, IsBadOpening, IsFaultOfAsked, IsFaultOfRequest};
 ghost use Rattle.topo_session.specs.Answers.{Leaves, LeavesBy, LosesLine, Opens, RespondsTo};
-ghost use Rattle.topo_session.specs.Answers.{TellsCounts, TellsFace, TellsRoute};
+ghost use Rattle.topo_session.specs.Answers.{IsOfLoading, Reopens, TellsCounts, TellsFace, TellsRoute};
+ghost use Rattle.topo_session.specs.Answers.{TellsRenumbered, TellsUndone};
 ghost use Rattle.topo_session.specs.Answers.{edge_text, vertex_text};
-ghost use Rattle.topo_session.specs.Standings.{report_so_far};
+ghost use Rattle.topo_check.specs.Replays.{IsUntrue};
+ghost use Rattle.topo_forms.specs.declared.sessions.Request.TheVariants.{Renumber};
+ghost use Rattle.topo_session.specs.Standings.{begins_with, report_so_far};
 ghost use Rattle.topo_session.specs.Texts.{fault_text};
 ghost use Rattle.topo_settings.specs.declared.fault.RunFault.TheVariants.{Memory};
 ghost use Rattle.topo_settings.specs.Settings.{IsUnsound};
 
 use crate::session::Session;
-use crate::tables::FromTable;
-use crate::texts::{counts_text, face_text, fault_text, framed, route_text, text_like, text_of};
+use crate::texts::{
+    counts_text, face_text, fault_text, framed, nothing_text, route_text, text_like, text_of,
+};
 use std::alloc::{AllocError, Global};
 use std::mem;
 use topo_core::calls::{Call, Command, Refusal, Reply};
 use topo_core::darts::Dart;
-use topo_forms::{Asked, Frame, Line, Opening, Request, ScriptFault, read_command, read_line};
+use topo_forms::{
+    Asked, Frame, Line, Opening, Report, Request, ScriptFault, read_command, read_line,
+};
 use topo_price::tariff::PriceFn;
+use topo_rows::LoadFault;
 use topo_script::{picture_text, report};
-use topo_settings::RunFault;
+use topo_settings::{FromTable, RunFault};
 
 /// What the program is, how large a picture may be, and which requests there are.
 const ABOUT: &str =
-    "{\"limits\":{\"crossings\":1048576,\"edges\":65536,\"vertices\":65536},\"program\":\"planar\",\"requests\":[\"about\",\"counts\",\"delete\",\"edge\",\"face\",\"grow\",\"insert\",\"open\",\"picture\",\"planned\",\"report\",\"route\",\"vertex\"],\"version\":\"0.5.0\"}";
+    "{\"limits\":{\"crossings\":1048576,\"edges\":65536,\"vertices\":65536},\"program\":\"planar\",\"requests\":[\"about\",\"counts\",\"delete\",\"edge\",\"face\",\"forget\",\"grow\",\"insert\",\"open\",\"picture\",\"planned\",\"renumber\",\"reopen\",\"report\",\"route\",\"undo\",\"vertex\"],\"version\":\"0.5.0\"}";
 
-/// What each request but two is answered where no session is open.
+/// What each request but three is answered where no session is open.
 const NOT_OPEN: &str = "{\"fault\":[72,\"NotOpen\"]}";
 
 /// Carries a command out, and gives the text of its reply. A planned insertion is looked for as any
@@ -189,6 +196,84 @@ fn open_another<F: FromTable>(
     Ok(text)
 }
 
+/// Opens a session that goes on from a report, and gives the text of its counts.
+fn reopen<F: FromTable>(alloc: Global, report: Report) -> Result<(Session<F>, String), RunFault>
+    ensures reopened { IfOk result (λ made. Reopens report (string_bytes made.1) made.0) }
+    ensures fault { IfErr result (IsUntrue report) }
+{
+    let session = Session::reopen(alloc, report)?;
+    match tell_counts(alloc, &session) {
+        Ok(text) => Ok((session, text)),
+        Err(_) => Err(RunFault::Memory),
+    }
+}
+
+/// Puts the picture of a report in place of the one of a session.
+fn reopen_another<F: FromTable>(
+    alloc: Global,
+    session: &mut Session<F>,
+    report: Report,
+) -> Result<String, RunFault>
+    ensures reopened { IfOk result (λ text. Reopens report (string_bytes text) session.new) }
+    ensures fault { IfErr result (IsUntrue report) }
+    ensures unchanged { OnErr result (session.new ≡ session.old) }
+{
+    let (another, text) = reopen(alloc, report)?;
+    let before = mem::replace(session, another);
+    drop(before);
+    Ok(text)
+}
+
+/// Takes entries back, so many, and gives the text that tells it.
+fn tell_undo<F: PriceFn + Drop>(
+    alloc: Global,
+    session: &mut Session<F>,
+    entries: u32,
+) -> Result<String, AllocError>
+    ensures told { IfOk result
+        (λ text. TellsUndone entries (string_bytes text) session.old session.new) }
+    ensures lost { OnErr result ((session.new ≡ session.old)
+        ⊎ ((text : List ℕ) × TellsUndone entries text session.old session.new)) }
+{
+    match session.undo(alloc, entries)? {
+        Some(told) => text_of(alloc, &told),
+        None => nothing_text(alloc, entries),
+    }
+}
+
+/// Lets the history be empty, and gives the text of the counts.
+fn tell_forget<F: PriceFn + Drop>(
+    alloc: Global,
+    session: &mut Session<F>,
+) -> Result<String, AllocError>
+    ensures told { IfOk result (λ text. TellsCounts session.old.picture (string_bytes text)
+        × (session.new ≡ begins_with session.old.picture session.old)) }
+    ensures unchanged { OnErr result (session.new ≡ session.old) }
+{
+    let text = tell_counts(alloc, session)?;
+    session.forget(alloc)?;
+    Ok(text)
+}
+
+/// Closes the ids up, and gives the text of those of before.
+fn tell_renumber<F: PriceFn + Drop>(
+    alloc: Global,
+    session: &mut Session<F>,
+) -> Result<String, RunFault>
+    ensures told { IfOk result
+        (λ text. TellsRenumbered (string_bytes text) session.old session.new) }
+    ensures fault { IfErr result IsOfLoading }
+    ensures lost { IfErr result
+        (λ fault. LeavesBy fault 0 Renumber session.old session.new) }
+{
+    let ids = match session.renumber(alloc) {
+        Ok(ids) => ids,
+        Err(LoadFault::Memory) => return Err(RunFault::Memory),
+        Err(fault) => return Err(RunFault::Load(fault)),
+    };
+    or_memory(text_of(alloc, &ids))
+}
+
 /// A text, or out of memory as the fault that it is.
 fn or_memory(text: Result<String, AllocError>) -> Result<String, RunFault>
     ensures { MatchResult text (λ text. result ≡ Ok text) (λ _. result ≡ Err Memory) }
@@ -223,6 +308,10 @@ impl<F: FromTable> Session<F> {
             Request::Vertex(vertex) => or_memory(tell_vertex(alloc, self, vertex)),
             Request::Face(dart) => or_memory(tell_face(alloc, self, dart)),
             Request::Open(opening) => open_another(alloc, self, opening),
+            Request::Undo(entries) => or_memory(tell_undo(alloc, self, entries)),
+            Request::Forget => or_memory(tell_forget(alloc, self)),
+            Request::Renumber => tell_renumber(alloc, self),
+            Request::Reopen(report) => reopen_another(alloc, self, report),
         }
     }
 }
@@ -243,6 +332,11 @@ fn answer_closed<F: FromTable>(
         Request::About => or_memory(text_like(alloc, ABOUT)),
         Request::Open(opening) => {
             let (opened, text) = open(alloc, opening)?;
+            *session = Some(opened);
+            Ok(text)
+        }
+        Request::Reopen(report) => {
+            let (opened, text) = reopen(alloc, report)?;
             *session = Some(opened);
             Ok(text)
         }

@@ -1,25 +1,33 @@
 //! A session with one picture.
 
-ghost use Rattle.std.specs.Prelude.{◌≡◌, ◌++◌, ◌∷◌, [], IfErr, IfOk, OnErr};
+ghost use Rattle.std.specs.Prelude.{◌≡◌, ◌++◌, ◌∷◌, [], IfErr, IfOk, OnErr, OnOk};
 ghost use Rattle.std.specs.Prelude.{◌≢◌, is_some};
 ghost use Rattle.topo_core.specs.declared.calls.Call.TheVariants.{Delete, Grow, Insert};
 ghost use Rattle.topo_core.specs.declared.calls.Refusal.TheVariants.{Memory};
 ghost use Rattle.topo_core.specs.declared.calls.Reply.TheVariants.{Refused};
 ghost use Rattle.topo_core.specs.Picture.{edge_row};
+ghost use Rattle.topo_check.specs.Replays.{IsUntrue};
 ghost use Rattle.topo_picture.specs.Faces.{IsFaceOf};
 ghost use Rattle.topo_picture.specs.Totals.{AreCountsOf};
-ghost use Rattle.topo_price.specs.Prices.{IsPromise};
-ghost use Rattle.topo_settings.specs.Settings.{IsSound, IsUnsound, price_table, start_of};
+ghost use Rattle.topo_book.specs.Books.{IsBook};
+ghost use Rattle.topo_price.specs.Prices.{IsPromise, prices_of};
+ghost use Rattle.topo_settings.specs.Settings.{AnswersPrices, IsSound, IsUnsound, price_table};
+ghost use Rattle.topo_settings.specs.Settings.{start_of};
+ghost use Rattle.topo_session.specs.Renumbering.{IsRenumbered};
 ghost use Rattle.topo_session.specs.Questions.{edge_asked, vertex_asked};
-ghost use Rattle.topo_session.specs.Standings.{Enters, IsOpened, IsRouteReply, report_so_far};
+ghost use Rattle.topo_session.specs.Standings.{Enters, IsOpened, IsReopened, IsRouteReply};
+ghost use Rattle.topo_session.specs.Standings.{IsUndone, Renumbers, begins_with, report_so_far};
+ghost use Rattle.topo_session.specs.Standings.{undone};
 
 use crate::edges::{EdgeAnswer, edge_found};
-use crate::tables::FromTable;
+use crate::renumbering::{Renumbered, close_up};
 use crate::vertices::{VertexAnswer, vertex_asked};
 use std::alloc::{AllocError, Global};
 use std::marker::Model;
+use std::mem;
 use std::sync::Arc;
 use topo_book::Book;
+use topo_check::replay_report;
 use topo_core::calls::{Call, Entry, Reply};
 use topo_core::darts::Dart;
 use topo_core::listed::Listed;
@@ -27,8 +35,9 @@ use topo_forms::{LimitRows, Opening, Report};
 use topo_picture::{Counts, Picture};
 use topo_price::table::PriceTable;
 use topo_price::tariff::{PriceFn, Tariff};
-use topo_settings::RunFault;
+use topo_rows::LoadFault;
 use topo_settings::settings::{price_of_kind, validate};
+use topo_settings::{FromTable, RunFault};
 
 /// One picture with its history, at the prices and under the limits that it was opened with.
 pub struct Session<F: PriceFn> {
@@ -60,6 +69,17 @@ impl<F: PriceFn> Model for Session<F> {
     ghost view = { λ s. standing_of s.limits s.prices s.book };
 
     ghost invariant = { λ s. AnswersPrices (F.may_return s.book.tariff) s.prices };
+}
+
+/// What entries that were taken back led from: the ids that are given next, and the number of
+/// vertices.
+#[derive(Drop, Debug)]
+pub struct Undone {
+    pub crossings: u32,
+    pub edges: u32,
+    /// How many entries were taken back.
+    pub undone: u32,
+    pub vertices: u32,
 }
 
 /// The prices of all kinds and the picture that an opening sets.
@@ -111,6 +131,143 @@ impl<F: FromTable> Session<F> {
             Err(_) => Err(RunFault::Memory),
         }
     }
+
+    /// The session that goes on from a report that is true, or the report's first fault.
+    pub fn reopen(alloc: Global, report: Report) -> Result<Self, RunFault>
+        ensures reopened { IfOk result (IsReopened report) }
+        ensures fault { IfErr result (IsUntrue report) }
+    {
+        let prices = report.prices.as_slice();
+        let (table, start) = validate(alloc, report.limits, prices, Some(&report.start))?;
+        let tariff = Tariff::new(F::from_table(table));
+        let picture = replay_report(alloc, &report, &start, &tariff)?;
+        match go_on(alloc, report, start, picture, tariff) {
+            Ok(session) => Ok(session),
+            Err(_) => Err(RunFault::Memory),
+        }
+    }
+}
+
+/// The session that goes on from a report, whose history leads from this start to this picture.
+fn go_on<F: PriceFn + Drop>(
+    alloc: Global,
+    report: Report,
+    start: Picture,
+    picture: Picture,
+    tariff: Tariff<F>,
+) -> Result<Session<F>, AllocError>
+    requires prices { AnswersPrices (F.may_return tariff) report.prices }
+    requires book { IsBook (prices_of (F.may_return tariff)) start report.history picture }
+    ensures { IfOk result (λ s. s ≡ record {
+      numbers = report.limits;
+      prices = report.prices;
+      limits = picture.limits;
+      start = start.rows;
+      history = report.history;
+      picture = picture.rows;
+    }) }
+{
+    let tariff = Arc::new(alloc, tariff)?;
+    let Report {
+        limits,
+        prices,
+        start: rows,
+        history,
+        picture: last_rows,
+    } = report;
+    drop(rows);
+    drop(last_rows);
+    Ok(Session {
+        limits,
+        prices,
+        book: Book::resume(alloc, start, history.into_vec(), picture, tariff)?,
+    })
+}
+
+impl<F: PriceFn + Drop> Session<F> {
+    /// Takes the last entries of the history back, so many, refused ones too: the picture is the one
+    /// after those that are left, with its ids. None where there are not so many.
+    pub fn undo(&mut self, alloc: Global, entries: u32) -> Result<Option<Undone>, AllocError>
+        ensures undone { IfOk result (IsUndone entries self.old self.new) }
+        ensures unchanged { OnErr result (self.new ≡ self.old) }
+    {
+        let kept = self.book.history().len();
+        if kept < entries as usize {
+            return Ok(None);
+        }
+        self.book.take_back(alloc, kept - entries as usize)?;
+        Ok(Some(self.undone(entries)))
+    }
+
+    /// What is told of so many entries taken back.
+    fn undone(&self, entries: u32) -> Undone
+        ensures { result ≡ undone entries self.now.picture }
+    {
+        let rows = self.book.picture().kept_rows();
+        Undone {
+            crossings: rows.next_crossing(),
+            edges: rows.next_edge(),
+            undone: entries,
+            vertices: self.book.picture().counts().vertices,
+        }
+    }
+
+    /// Lets the picture of now be the start, and the history empty.
+    pub fn forget(&mut self, alloc: Global) -> Result<(), AllocError>
+        ensures forgotten { OnOk result (self.new ≡ begins_with self.old.picture self.old) }
+        ensures unchanged { OnErr result (self.new ≡ self.old) }
+    {
+        let start = self.book.picture().copy(alloc)?;
+        self.begin_with(alloc, start)
+    }
+
+    /// Closes the ids up from 0, in their order, and lets the picture be the start, and the history
+    /// empty. The ids of before stand at the places that are the ids of now. No picture that was
+    /// tried was ever refused; that none can be is not proved.
+    pub fn renumber(&mut self, alloc: Global) -> Result<Renumbered, LoadFault>
+        ensures renumbered { IfOk result (λ ids. Renumbers ids self.old self.new) }
+        ensures unchanged { OnErr result (self.new ≡ self.old) }
+    {
+        let (ids, start) = closed_picture(alloc, self.book.picture())?;
+        match self.begin_with(alloc, start) {
+            Ok(()) => Ok(ids),
+            Err(_) => Err(LoadFault::Memory),
+        }
+    }
+
+    /// Begins anew with a picture under the limits of before, at the prices of before.
+    fn begin_with(&mut self, alloc: Global, start: Picture) -> Result<(), AllocError>
+        requires { start.limits ≡ self.old.limits }
+        ensures begun { OnOk result (self.new ≡ begins_with start.rows self.old) }
+        ensures unchanged { OnErr result (self.new ≡ self.old) }
+    {
+        let tariff = Arc::try_clone(self.book.shared_tariff())?;
+        let book = Book::new(alloc, start, tariff)?;
+        let before = mem::replace(&mut self.book, book);
+        drop(before);
+        Ok(())
+    }
+}
+
+/// A picture with its ids closed up, and the ids of before.
+fn closed_picture(alloc: Global, picture: &Picture) -> Result<(Renumbered, Picture), LoadFault>
+    ensures renumbered { IfOk result
+        (λ made. IsRenumbered picture.now.rows made.0 made.1.rows) }
+    ensures limits { IfOk result (λ made. made.1.limits ≡ picture.now.limits) }
+{
+    let Ok(rows) = picture.rows(alloc) else {
+        return Err(LoadFault::Memory);
+    };
+    let Ok(found) = close_up(alloc, &rows) else {
+        return Err(LoadFault::Memory);
+    };
+    drop(rows);
+    // No picture has an id in a list of which it has no row.
+    let Some((ids, rows)) = found else {
+        return Err(LoadFault::BadPath);
+    };
+    let picture = Picture::load(alloc, picture.limits(), &rows)?;
+    Ok((ids, picture))
 }
 
 impl<F: PriceFn> Session<F> {

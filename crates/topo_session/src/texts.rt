@@ -6,10 +6,13 @@ ghost use Rattle.serde_json.specs.Written.{compact_text};
 ghost use Rattle.topo_forms.specs.Paths.{path_text};
 ghost use Rattle.topo_session.specs.Texts.{counts_text, edge_data, end_data, face_data};
 ghost use Rattle.topo_session.specs.Texts.{fault_text, framed, id_data, meeting_data};
-ghost use Rattle.topo_session.specs.Texts.{numbered_text, priced_text, route_data};
-ghost use Rattle.topo_session.specs.Texts.{route_reply_data, script_fault_text, vertex_data};
+ghost use Rattle.topo_session.specs.Texts.{nothing_text, numbered_text, priced_text};
+ghost use Rattle.topo_session.specs.Texts.{renumbered_data, route_data, route_reply_data};
+ghost use Rattle.topo_session.specs.Texts.{script_fault_text, undone_data, vertex_data};
 
 use crate::edges::{EdgeAnswer, Meeting};
+use crate::renumbering::Renumbered;
+use crate::session::Undone;
 use crate::vertices::{End, VertexAnswer};
 use serde_json::Value;
 use std::alloc::{AllocError, Global};
@@ -66,6 +69,28 @@ impl Written for EdgeAnswer {
         write_after(out, ",\"id\":", &self.id)?;
         write_after(out, ",\"kind\":", &self.kind)?;
         write_after(out, ",\"price\":", &self.price)?;
+        out.push('}')
+    }
+}
+
+impl Written for Undone {
+    ghost value = { undone_data };
+
+    fn write(&self, out: &mut String) -> Result<(), AllocError> {
+        write_after(out, "{\"crossings\":", &self.crossings)?;
+        write_after(out, ",\"edges\":", &self.edges)?;
+        write_after(out, ",\"undone\":", &self.undone)?;
+        write_after(out, ",\"vertices\":", &self.vertices)?;
+        out.push('}')
+    }
+}
+
+impl Written for Renumbered {
+    ghost value = { renumbered_data };
+
+    fn write(&self, out: &mut String) -> Result<(), AllocError> {
+        write_after(out, "{\"crossings\":", &self.crossings)?;
+        write_after(out, ",\"edges\":", &self.edges)?;
         out.push('}')
     }
 }
@@ -157,6 +182,13 @@ pub fn text_like(alloc: Global, letters: &str) -> Result<String, AllocError>
     let mut text = String::new(alloc);
     text.push_str(letters)?;
     Ok(text)
+}
+
+/// The text that tells that there are not so many entries to take back.
+pub fn nothing_text(alloc: Global, entries: u32) -> Result<String, AllocError>
+    ensures { IfOk result (λ text. string_bytes text ≡ nothing_text entries) }
+{
+    format!(in alloc; "{{\"fault\":[70,\"NothingToUndo\",{entries}]}}")
 }
 
 /// The text of a fault with its number and its name.

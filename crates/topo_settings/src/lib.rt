@@ -5,6 +5,8 @@
 pub mod fault;
 pub mod reading;
 pub mod settings;
+pub mod tables;
 pub mod writing;
 
 pub use fault::RunFault;
+pub use tables::FromTable;

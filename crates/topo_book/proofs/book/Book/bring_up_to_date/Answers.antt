@@ -10,7 +10,6 @@ returns-clause-equal g c =
     let price = prices_of (g.F.PriceFn.may_return s.tariff) in
     let book = subst (λ (b : BookState _). IsBook (prices_of (g.F.PriceFn.may_return b.tariff)) b.start b.history b.picture)
     c.self.view_is c.self.invariant.book in
-    let reached = c.replay_missed-replica in
+    let carried = c.carry_on in
     let long = ap (λ (b : BookState _). length b.history) c.self.view_is in
-    let all : reached.result ≡ length s.history = omega (arith, reached.ensures.there, c.self.inside.history.ok) in
-    up_to_date price s.start s.history s.picture book _ (subst (λ n. IsReplica price s.start s.history n reached.new.picture) all reached.ensures)
+    ?

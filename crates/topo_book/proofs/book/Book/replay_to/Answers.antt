@@ -7,7 +7,7 @@ use Rattle.topo_price.specs.Prices.{prices_of}
 use Rattle.topo_book.specs.Books.{BookState, IsBook, IsDue}
 use Rattle.topo_book.proofs.Histories.{book_lawful, on_ok}
 use Rattle.topo_book.proofs.ReplicaLaws.{due_at, one_on}
-use Rattle.topo_book.proofs.book.Book.replay_missed.Goals as goal
+use Rattle.topo_book.proofs.book.Book.replay_to.Goals as goal
 
 pub apply_entry-requires-clause-lawful : goal.apply_entry-requires-clause-lawful
 apply_entry-requires-clause-lawful g c =
