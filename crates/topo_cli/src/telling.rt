@@ -10,9 +10,9 @@ use std::io;
 use topo_settings::RunFault;
 use topo_settings::writing::write_text;
 
-/// The room for the line of a fault, in bytes. The longest has 170: `planar: 54 BadNumber $`, seven
+/// The room for the line of a fault, in bytes. The longest has 191: `planar: 54 BadNumber $`, eight
 /// indices of 20 digits, each behind a `/`, and the line feed.
-const MAX_FAULT_LINE_BYTES: usize = 176;
+const MAX_FAULT_LINE_BYTES: usize = 192;
 
 /// Writes the line of a fault, and gives whether the writer took it and passed it on. The line is
 /// laid out first, which takes no memory.

@@ -12,11 +12,11 @@ use Rattle.topo_core.specs.declared.calls.Command.{Command}
 use Rattle.topo_forms.specs.declared.fault.ScriptFault.{ScriptFault}
 use Rattle.topo_forms.specs.declared.fault.ScriptFault.TheVariants.{Memory, BadShape}
 use Rattle.topo_forms.specs.declared.path.Key.{Key}
-use Rattle.topo_forms.specs.declared.path.Key.TheVariants.{Call, Limits, Open, Prices, Start, Version}
+use Rattle.topo_forms.specs.declared.path.Key.TheVariants.{Call, Limits, Open, Prices, Reopen, Start, Version}
 use Rattle.topo_forms.specs.declared.path.Path.{Path}
 use Rattle.topo_forms.specs.declared.lines.Asked.{Asked}
 use Rattle.topo_forms.specs.declared.lines.Frame.{Frame}
-use Rattle.topo_forms.specs.declared.lines.Frame.TheVariants.{Opening as AsOpening, Bare, Envelope}
+use Rattle.topo_forms.specs.declared.lines.Frame.TheVariants.{Opening as AsOpening, Envelope}
 use Rattle.topo_forms.specs.declared.lines.Line.{Line}
 use Rattle.topo_forms.specs.declared.lines.LineId.{LineId}
 use Rattle.topo_forms.specs.declared.sessions.Opening.{Opening}
@@ -151,7 +151,8 @@ opening_line d o e =
     let keys = opening_keys whole d o e in
     let no_call = other_key (Version ∷ []) (Limits ∷ Prices ∷ Start ∷ []) whole Call d refl refl keys in
     let no_open = other_key (Version ∷ []) (Limits ∷ Prices ∷ Start ∷ []) whole Open d refl refl keys in
-    rw (no_call, no_open, no_text_opens (codes "about") whole d o e, opening_asked d o e) refl
+    let no_reopen = other_key (Version ∷ []) (Limits ∷ Prices ∷ Start ∷ []) whole Reopen d refl refl keys in
+    rw (no_call, no_open, no_reopen, no_text_opens (codes "about") whole d o e, opening_asked d o e) refl
 
 first_found : (found : Read Data) (o : Opening) → and_then found (opening_form whole) ≡ Ok o
     → line_or true found ≡ record { frame = AsOpening; asked = Ok (record { caller = 0; request = OpenRequest o }) }
@@ -234,11 +235,15 @@ carry_read path d command e =
       no_text (codes "counts") path d command e,
       no_text (codes "picture") path d command e,
       no_text (codes "report") path d command e,
+      no_text (codes "forget") path d command e,
+      no_text (codes "renumber") path d command e,
       apart (codes "route") (record { planned = refl; grow = refl; insert = refl; delete = refl }) 3,
       apart (codes "edge") (record { planned = refl; grow = refl; insert = refl; delete = refl }) 2,
       apart (codes "vertex") (record { planned = refl; grow = refl; insert = refl; delete = refl }) 2,
       apart (codes "face") (record { planned = refl; grow = refl; insert = refl; delete = refl }) 4,
+      apart (codes "undo") (record { planned = refl; grow = refl; insert = refl; delete = refl }) 2,
       no_key Open path d command e,
+      no_key Reopen path d command e,
     )
     (went (command_form path d) (λ (found : Command). Ok (Carry found)) command e)
 

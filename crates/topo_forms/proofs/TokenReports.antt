@@ -13,7 +13,7 @@ use Rattle.topo_forms.specs.declared.path.Key.TheVariants.{Crossings, Edges, His
 use Rattle.topo_forms.specs.declared.path.Path.{Path}
 use Rattle.topo_forms.specs.declared.reports.Report.{Report}
 use Rattle.topo_forms.specs.declared.scripts.LimitRows.{LimitRows}
-use Rattle.topo_forms.specs.Paths.{element_of, whole}
+use Rattle.topo_forms.specs.Paths.{element_of}
 use Rattle.topo_forms.specs.Prices.{without_ones}
 use Rattle.topo_forms.specs.Reads.{Read, and_then, number_below, number_form, list_form, items_from, has_keys}
 use Rattle.topo_forms.specs.ReplyForms.{entry_form}
@@ -143,34 +143,34 @@ abbrev report_object : Data → Data → Data → Data → Data → Data → Dat
 report_object history limits picture prices start version =
     object (members_of report_order (Some history ∷ Some limits ∷ Some picture ∷ Some prices ∷ Some start ∷ Some version ∷ []))
 
-report_keys : (history limits picture prices start version : Data)
-    → has_keys whole report_order [] (report_object history limits picture prices start version) ≡ Ok tt
+report_keys : (path : Path) (history limits picture prices start version : Data)
+    → has_keys path report_order [] (report_object history limits picture prices start version) ≡ Ok tt
 unfolding has_keys and_then
-report_keys history limits picture prices start version = refl
+report_keys path history limits picture prices start version = refl
 
-version_read : (n : ℕ) (nulls : Bool) (history limits picture prices start version : Data) → ((path : Path) → number_form path version ≡ Ok n)
-    → nulls_of n ≡ Ok nulls → nulls_in whole (report_object history limits picture prices start version) ≡ Ok nulls
+version_read : (path : Path) (n : ℕ) (nulls : Bool) (history limits picture prices start version : Data) → ((path : Path) → number_form path version ≡ Ok n)
+    → nulls_of n ≡ Ok nulls → nulls_in path (report_object history limits picture prices start version) ≡ Ok nulls
 unfolding nulls_in
-version_read n nulls history limits picture prices start version read of =
+version_read path n nulls history limits picture prices start version read of =
     went _ _ tt refl ∙ went _ _ n
-    (member_read number_form whole Version (report_object history limits picture prices start version) refl read) ∙ of
+    (member_read number_form path Version (report_object history limits picture prices start version) refl read) ∙ of
 
 pub report_tokens : {x : Report} {m n : ℕ} {ps : List (Option ℕ)} {ts rest : List Token} {os p1 p2 p3 p4 p5 : List (Option Data)}
     → SpellsValue n ts (object (members_of report_order os)) rest → n ≤ 6
     → IsDue (list_form entry_form) x.history os p1 → IsDue limits_form x.limits p1 p2 → IsDue rows_form x.picture p2 p3
     → IsDue (list_form (price_form true)) ps p3 p4 → IsDue rows_form x.start p4 p5 → IsDue number_form m p5 [] → ArePricesOf m ps x.prices
-    → Spells 6 (λ path. report_form) ts x rest
+    → Spells 6 report_form ts x rest
 unfolding report_form
 report_tokens {x} {m} {ps = ps} v within history limits picture prices start version kept =
     let values = Some history.spelled ∷ Some limits.spelled ∷ Some picture.spelled ∷ Some prices.spelled ∷ Some start.spelled ∷ Some version.spelled ∷ [] in
     let d = object (members_of report_order values) in
     object_tokens report_order values v within (then history (then limits (then picture (then prices (then start version.is)))))
     (λ path.
-    went _ _ kept.0 (version_read m kept.0 _ _ _ _ _ _ version.reads kept.1)
-    ∙ went _ _ tt (report_keys _ _ _ _ _ _)
-    ∙ went _ _ x.history (member_read (list_form entry_form) whole History d refl history.reads)
-    ∙ went _ _ x.limits (member_read limits_form whole Limits d refl limits.reads)
-    ∙ went _ _ x.picture (member_read rows_form whole Picture d refl picture.reads)
-    ∙ went _ _ x.prices (member_read (prices_form kept.0) whole Prices d refl
+    went _ _ kept.0 (version_read path m kept.0 _ _ _ _ _ _ version.reads kept.1)
+    ∙ went _ _ tt (report_keys path _ _ _ _ _ _)
+    ∙ went _ _ x.history (member_read (list_form entry_form) path History d refl history.reads)
+    ∙ went _ _ x.limits (member_read limits_form path Limits d refl limits.reads)
+    ∙ went _ _ x.picture (member_read rows_form path Picture d refl picture.reads)
+    ∙ went _ _ x.prices (member_read (prices_form kept.0) path Prices d refl
     (λ p. prices_read kept.0 p prices.spelled ps x.prices (prices.reads p) kept.2 kept.3 kept.4))
-    ∙ went _ _ x.start (member_read rows_form whole Start d refl start.reads))
+    ∙ went _ _ x.start (member_read rows_form path Start d refl start.reads))

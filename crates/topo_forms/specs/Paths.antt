@@ -3,7 +3,7 @@ use Rattle.std.specs.Prelude.{ℕ, List, [], ◌++◌, codes, decimal, Option, S
 use Rattle.topo_forms.specs.declared.path.Key.{Key}
 use Rattle.topo_forms.specs.declared.path.Key.TheVariants.{A, B, Call, Caller, Crossed, Crossings, Deleted, Edge, Edges, End, History}
 use Rattle.topo_forms.specs.declared.path.Key.TheVariants.{Id, Kind, Limits, Newcomer, NextCrossing, NextEdge, Open, Picture, Price, Prices}
-use Rattle.topo_forms.specs.declared.path.Key.TheVariants.{Refused, Reply, Rotations, Sign, Start, Version, Vertex, Vertices, Workers}
+use Rattle.topo_forms.specs.declared.path.Key.TheVariants.{Refused, Reopen, Reply, Rotations, Sign, Start, Version, Vertex, Vertices, Workers}
 use Rattle.topo_forms.specs.declared.path.Step.{Step}
 use Rattle.topo_forms.specs.declared.path.Step.TheVariants.{Member, Element}
 use Rattle.topo_forms.specs.declared.path.Path.{Path}
@@ -32,6 +32,7 @@ key_name Picture = codes "picture"
 key_name Price = codes "price"
 key_name Prices = codes "prices"
 key_name Refused = codes "refused"
+key_name Reopen = codes "reopen"
 key_name Reply = codes "reply"
 key_name Rotations = codes "rotations"
 key_name Sign = codes "sign"
@@ -43,7 +44,7 @@ key_name Workers = codes "workers"
 
 -- the whole text
 abbrev pub whole : Path
-whole = record { first = None; second = None; third = None; fourth = None; fifth = None; sixth = None; seventh = None }
+whole = record { first = None; second = None; third = None; fourth = None; fifth = None; sixth = None; seventh = None; eighth = None }
 
 -- one step further: the first place that is free takes it
 unfoldable pub under : Path → Step → Path
@@ -53,8 +54,9 @@ under path step =
     if is_none path.third then record path { third = Some step } else (
     if is_none path.fourth then record path { fourth = Some step } else (
     if is_none path.fifth then record path { fifth = Some step } else (
-    if is_none path.sixth then record path { sixth = Some step } else
-    record path { seventh = Some step })))))
+    if is_none path.sixth then record path { sixth = Some step } else (
+    if is_none path.seventh then record path { seventh = Some step } else
+    record path { eighth = Some step }))))))
 
 abbrev pub member_of : Path → Key → Path
 member_of path key = under path (Member key)
@@ -73,4 +75,5 @@ three_text a b c = step_text a ++ (step_text b ++ step_text c)
 
 -- a path as it is printed
 abbrev pub path_text : Path → List ℕ
-path_text path = codes "$" ++ (three_text path.first path.second path.third ++ (three_text path.fourth path.fifth path.sixth ++ step_text path.seventh))
+path_text path = codes "$" ++ (three_text path.first path.second path.third ++ (three_text path.fourth path.fifth path.sixth
+    ++ (step_text path.seventh ++ step_text path.eighth)))

@@ -94,17 +94,17 @@ script_of bytes = value_of 1048576 bytes >>= λ d. script_form d
 
 -- ---- Reports
 
-unfoldable pub report_form : Data → Read Report
-report_form d = do
-  nulls ← nulls_in whole d
-  _ ← has_keys whole (History ∷ Limits ∷ Picture ∷ Prices ∷ Start ∷ Version ∷ []) [] d
-  history ← member_form (list_form entry_form) whole History d
-  limits ← member_form limits_form whole Limits d
-  picture ← member_form rows_form whole Picture d
-  prices ← member_form (prices_form nulls) whole Prices d
-  start ← member_form rows_form whole Start d
+unfoldable pub report_form : Path → Data → Read Report
+report_form path d = do
+  nulls ← nulls_in path d
+  _ ← has_keys path (History ∷ Limits ∷ Picture ∷ Prices ∷ Start ∷ Version ∷ []) [] d
+  history ← member_form (list_form entry_form) path History d
+  limits ← member_form limits_form path Limits d
+  picture ← member_form rows_form path Picture d
+  prices ← member_form (prices_form nulls) path Prices d
+  start ← member_form rows_form path Start d
   Ok (record { limits = limits; prices = prices; start = start; history = history; picture = picture })
 
 -- the report that bytes spell, or their first fault
 unfoldable pub report_of : List ℕ → Read Report
-report_of bytes = value_of 268435456 bytes >>= λ d. report_form d
+report_of bytes = value_of 268435456 bytes >>= λ d. report_form whole d

@@ -7,7 +7,7 @@ use Rattle.serde_json.specs.Data.{Data}
 use Rattle.serde_json.specs.Find.{as_str}
 use Rattle.topo_core.specs.declared.calls.Command.{Command}
 use Rattle.topo_forms.specs.declared.fault.ScriptFault.TheVariants.{Memory, BadShape}
-use Rattle.topo_forms.specs.declared.path.Key.TheVariants.{Call, Caller, Id, Limits, Open, Prices, Start, Version}
+use Rattle.topo_forms.specs.declared.path.Key.TheVariants.{Call, Caller, Id, Limits, Open, Prices, Reopen, Start, Version}
 use Rattle.topo_forms.specs.declared.path.Path.{Path}
 use Rattle.topo_forms.specs.declared.lines.Asked.{Asked}
 use Rattle.topo_forms.specs.declared.lines.Frame.{Frame}
@@ -17,12 +17,13 @@ use Rattle.topo_forms.specs.declared.lines.LineId.{LineId}
 use Rattle.topo_forms.specs.declared.lines.LineId.TheVariants.{Text, Number}
 use Rattle.topo_forms.specs.declared.sessions.Opening.{Opening}
 use Rattle.topo_forms.specs.declared.sessions.Request.{Request}
-use Rattle.topo_forms.specs.declared.sessions.Request.TheVariants.{Carry, Counts, Picture, Report, About, Route, Edge, Vertex, Face, Open as OpenRequest}
+use Rattle.topo_forms.specs.declared.sessions.Request.TheVariants.{Carry, Counts, Picture, Report, About, Route, Edge, Vertex, Face}
+use Rattle.topo_forms.specs.declared.sessions.Request.TheVariants.{Undo, Forget, Renumber, Open as OpenRequest, Reopen as ReopenRequest}
 use Rattle.topo_forms.specs.Paths.{whole}
 use Rattle.topo_forms.specs.Reads.{Read, ◌>>=◌, number_below, number_form, is_text, element, has_key, has_keys, member_form, member_or, value_of}
 use Rattle.topo_forms.specs.CallForms.{begins, command_form}
 use Rattle.topo_forms.specs.ReplyForms.{way_form}
-use Rattle.topo_forms.specs.Scripts.{greatest_limits, limits_form, nulls_in, prices_form, start_form}
+use Rattle.topo_forms.specs.Scripts.{greatest_limits, limits_form, nulls_in, prices_form, start_form, report_form}
 
 -- ---- Openings
 
@@ -69,6 +70,12 @@ face_form path d = do
   way ← element way_form path 3 d
   Ok (Face (record { edge = edge; seg = seg; way = way }))
 
+-- to take back the last commands
+unfoldable pub undo_form : Path → Data → Read Request
+undo_form path d = do
+  count ← element number_form path 1 d
+  Ok (Undo count)
+
 -- an opening, of which the session begins anew
 unfoldable pub opened_form : Path → Data → Read Request
 opened_form path d = do
@@ -82,29 +89,40 @@ open_form path d = do
   opening ← member_form opening_form path Open d
   Ok (OpenRequest opening)
 
+-- a report, as the one member of an object, with which the session goes on
+unfoldable pub reopen_form : Path → Data → Read Request
+reopen_form path d = do
+  _ ← has_keys path (Reopen ∷ []) [] d
+  report ← member_form report_form path Reopen d
+  Ok (ReopenRequest report)
+
 unfoldable pub carry_form : Path → Data → Read Request
 carry_form path d = do
   command ← command_form path d
   Ok (Carry command)
 
--- what an array or an object asks for: a look at the picture, an opening, or a command
+-- what an array or an object asks for: a look at the picture, a step back, an opening, a report to go on with, or a command
 unfoldable pub look_form : Path → Data → Read Request
 look_form path d =
     if begins (codes "route") 3 d then route_form path d else (
     if begins (codes "edge") 2 d then edge_form path d else (
     if begins (codes "vertex") 2 d then vertex_form path d else (
     if begins (codes "face") 4 d then face_form path d else (
-    if has_key Open d then open_form path d else
-    carry_form path d))))
+    if begins (codes "undo") 2 d then undo_form path d else (
+    if has_key Open d then open_form path d else (
+    if has_key Reopen d then reopen_form path d else
+    carry_form path d))))))
 
--- the text `about`, `counts`, `picture` or `report`, or what an array or an object asks for
+-- the text `about`, `counts`, `picture`, `report`, `forget` or `renumber`, or what an array or an object asks for
 unfoldable pub request_form : Path → Data → Read Request
 request_form path d =
     if is_text (codes "about") d then Ok About else (
     if is_text (codes "counts") d then Ok Counts else (
     if is_text (codes "picture") d then Ok Picture else (
-    if is_text (codes "report") d then Ok Report else
-    look_form path d)))
+    if is_text (codes "report") d then Ok Report else (
+    if is_text (codes "forget") d then Ok Forget else (
+    if is_text (codes "renumber") d then Ok Renumber else
+    look_form path d)))))
 
 -- ---- Ids and callers
 
@@ -161,7 +179,7 @@ bare_asked form d = do
 
 -- whether a first line is the opening itself: it has no envelope, and asks for nothing else that may come first
 abbrev pub is_opening : Data → Bool
-is_opening d = not (has_key Open d) && not (is_text (codes "about") d)
+is_opening d = not (has_key Open d) && not (has_key Reopen d) && not (is_text (codes "about") d)
 
 -- a line as a value, which is the first one of its session or not
 unfoldable pub line_form : Bool → Data → Line

@@ -220,7 +220,7 @@ fn asked_bare(alloc: Global, value: &Value) -> Result<Asked, ScriptFault>
 fn is_opening(value: &Value) -> bool
     ensures { result ≡ is_opening (view value.now) }
 {
-    !has_key(Key::Open, value) && !is_text("about", value)
+    !has_key(Key::Open, value) && !has_key(Key::Reopen, value) && !is_text("about", value)
 }
 
 /// The line that a value is.

@@ -31,6 +31,7 @@ pub enum Key {
     Price,
     Prices,
     Refused,
+    Reopen,
     Reply,
     Rotations,
     Sign,
@@ -69,6 +70,7 @@ impl Key {
             Key::Price => "price",
             Key::Prices => "prices",
             Key::Refused => "refused",
+            Key::Reopen => "reopen",
             Key::Reply => "reply",
             Key::Rotations => "rotations",
             Key::Sign => "sign",
@@ -89,7 +91,7 @@ pub enum Step {
 }
 
 /// A place in a text: the steps that lead there from the whole. It is printed as `$` and then, for
-/// each step, `/` and the key or the index. No form nests deeper than seven steps, and a path
+/// each step, `/` and the key or the index. No form nests deeper than eight steps, and a path
 /// holds no more.
 #[derive(Clone, Copy, Debug, PartialEq, Eq)]
 pub struct Path {
@@ -100,6 +102,7 @@ pub struct Path {
     pub fifth: Option<Step>,
     pub sixth: Option<Step>,
     pub seventh: Option<Step>,
+    pub eighth: Option<Step>,
 }
 
 impl Path {
@@ -114,6 +117,7 @@ impl Path {
         fifth: None,
         sixth: None,
         seventh: None,
+        eighth: None,
     };
 
     /// The path of what one step leads to.
@@ -129,7 +133,8 @@ impl Path {
             fourth,
             fifth,
             sixth,
-            seventh: _,
+            seventh,
+            eighth: _,
         } = self;
         if first.is_none() {
             Path {
@@ -161,9 +166,14 @@ impl Path {
                 sixth: step,
                 ..self
             }
-        } else {
+        } else if seventh.is_none() {
             Path {
                 seventh: step,
+                ..self
+            }
+        } else {
+            Path {
+                eighth: step,
                 ..self
             }
         }
@@ -222,6 +232,7 @@ impl fmt::Display for Path {
         f.write_str("$")?;
         write_three(&self.first, &self.second, &self.third, f)?;
         write_three(&self.fourth, &self.fifth, &self.sixth, f)?;
-        write_step(&self.seventh, f)
+        write_step(&self.seventh, f)?;
+        write_step(&self.eighth, f)
     }
 }

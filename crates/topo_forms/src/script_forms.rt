@@ -243,24 +243,23 @@ pub fn read_script(alloc: Global, bytes: &[u8]) -> Result<Script, ScriptFault>
 /// The prices and the start of a report.
 fn prices_and_start(
     alloc: Global,
+    path: Path,
     nulls: bool,
     value: &Value,
 ) -> Result<(Listed<Option<u32>>, Rows), ScriptFault>
-    ensures { Gives result (both (member_form (prices_form nulls) whole Prices (view value.now))
-        (member_form rows_form whole Start (view value.now))) }
+    ensures { Gives result (both (member_form (prices_form nulls) path Prices (view value.now))
+        (member_form rows_form path Start (view value.now))) }
 {
-    let prices = read_price_member(alloc, Path::WHOLE, nulls, value)?;
-    let start = read_member(alloc, Path::WHOLE, Key::Start, value)?;
+    let prices = read_price_member(alloc, path, nulls, value)?;
+    let start = read_member(alloc, path, Key::Start, value)?;
     Ok((prices, start))
 }
 
 impl Form for Report {
-    ghost form = { λ path. report_form };
+    ghost form = { report_form };
 
-    // It stands nowhere but at the whole of a text.
-    fn read(alloc: Global, _path: Path, value: &Value) -> Result<Self, ScriptFault> {
-        let whole = Path::WHOLE;
-        let nulls = read_nulls(alloc, whole, value)?;
+    fn read(alloc: Global, path: Path, value: &Value) -> Result<Self, ScriptFault> {
+        let nulls = read_nulls(alloc, path, value)?;
         let keys = [
             Key::History,
             Key::Limits,
@@ -269,9 +268,9 @@ impl Form for Report {
             Key::Start,
             Key::Version,
         ];
-        check_keys(whole, &keys, &[], value)?;
-        let head = read_three(alloc, whole, Key::History, Key::Limits, Key::Picture, value)?;
-        match prices_and_start(alloc, nulls, value) {
+        check_keys(path, &keys, &[], value)?;
+        let head = read_three(alloc, path, Key::History, Key::Limits, Key::Picture, value)?;
+        match prices_and_start(alloc, path, nulls, value) {
             Ok((prices, start)) => {
                 let (history, limits, picture) = head;
                 Ok(Report {

@@ -3,13 +3,14 @@
 ghost use Rattle.serde_json.specs.View.{view};
 ghost use Rattle.topo_forms.specs.Reads.{Gives};
 ghost use Rattle.topo_forms.specs.Sessions.{carry_form, opening_form, opened_form};
-ghost use Rattle.topo_forms.specs.Sessions.{route_form, edge_form, vertex_form, face_form};
-ghost use Rattle.topo_forms.specs.Sessions.{open_form, look_form, request_form};
+ghost use Rattle.topo_forms.specs.Sessions.{route_form, edge_form, vertex_form, face_form, undo_form};
+ghost use Rattle.topo_forms.specs.Sessions.{open_form, reopen_form, look_form, request_form};
 
 use crate::calls::begins;
 use crate::fault::ScriptFault;
 use crate::form::{Form, check_keys, has_key, is_text, read_element, read_elements, read_member};
 use crate::path::{Key, Path};
+use crate::reports;
 use crate::script_forms::{read_nulls, read_settings};
 use crate::scripts::LimitRows;
 use serde_json::Value;
@@ -48,8 +49,16 @@ pub enum Request {
     Vertex(u32),
     /// The face beside a dart.
     Face(Dart),
+    /// To take so many of the last commands back.
+    Undo(u32),
+    /// To drop the history.
+    Forget,
+    /// To number what is there anew.
+    Renumber,
     /// To begin anew.
     Open(Opening),
+    /// To go on from a report.
+    Reopen(reports::Report),
 }
 
 impl Form for Opening {
@@ -97,6 +106,13 @@ fn read_face(alloc: Global, path: Path, value: &Value) -> Result<Request, Script
     Ok(Request::Face(Dart { edge, seg, way }))
 }
 
+fn read_undo(alloc: Global, path: Path, value: &Value) -> Result<Request, ScriptFault>
+    ensures { Gives result (undo_form path (view value.now)) }
+{
+    let count = read_element(alloc, path, 1, value)?;
+    Ok(Request::Undo(count))
+}
+
 /// An opening, as what is asked for.
 pub(crate) fn read_opened(alloc: Global, path: Path, value: &Value) -> Result<Request, ScriptFault>
     ensures { Gives result (opened_form path (view value.now)) }
@@ -111,6 +127,14 @@ fn read_open(alloc: Global, path: Path, value: &Value) -> Result<Request, Script
     check_keys(path, &[Key::Open], &[], value)?;
     let opening = read_member(alloc, path, Key::Open, value)?;
     Ok(Request::Open(opening))
+}
+
+fn read_reopen(alloc: Global, path: Path, value: &Value) -> Result<Request, ScriptFault>
+    ensures { Gives result (reopen_form path (view value.now)) }
+{
+    check_keys(path, &[Key::Reopen], &[], value)?;
+    let report = read_member(alloc, path, Key::Reopen, value)?;
+    Ok(Request::Reopen(report))
 }
 
 fn read_carry(alloc: Global, path: Path, value: &Value) -> Result<Request, ScriptFault>
@@ -133,8 +157,12 @@ fn read_look(alloc: Global, path: Path, value: &Value) -> Result<Request, Script
         read_vertex(alloc, path, value)
     } else if begins("face", 4, value) {
         read_face(alloc, path, value)
+    } else if begins("undo", 2, value) {
+        read_undo(alloc, path, value)
     } else if has_key(Key::Open, value) {
         read_open(alloc, path, value)
+    } else if has_key(Key::Reopen, value) {
+        read_reopen(alloc, path, value)
     } else {
         read_carry(alloc, path, value)
     }
@@ -153,6 +181,10 @@ impl Form for Request {
             Ok(Request::Picture)
         } else if is_text("report", value) {
             Ok(Request::Report)
+        } else if is_text("forget", value) {
+            Ok(Request::Forget)
+        } else if is_text("renumber", value) {
+            Ok(Request::Renumber)
         } else {
             read_look(alloc, path, value)
         }

@@ -78,7 +78,7 @@ type ReportSlots = Slot<
 >;
 
 impl FromTokens for Report {
-    ghost form = { λ path. report_form };
+    ghost form = { report_form };
 
     ghost nesting = { 6 };
 

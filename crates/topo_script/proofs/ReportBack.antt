@@ -254,7 +254,7 @@ report_keys : (r : Report) → has_keys whole (key.History ∷ key.Limits ∷ ke
 unfolding has_keys and_then
 report_keys r = refl
 
-pub report_back : (r : Report) → ReportFits r → length r.prices ≤ KINDS → without_ones r.prices ≡ r.prices → report_form (report_data r) ≡ Ok r
+pub report_back : (r : Report) → ReportFits r → length r.prices ≤ KINDS → without_ones r.prices ≡ r.prices → report_form whole (report_data r) ≡ Ok r
 unfolding report_form
 report_back r h short kept =
     let entries = all_map EntryFits (λ entry. (p : Path) → entry_form p (entry_data entry) ≡ Ok entry) r.history

@@ -20,13 +20,18 @@ fn frame_text(alloc: Global, frame: &Frame) -> Result<String, AllocError> {
     }
 }
 
-/// The caller and what is asked for. Of an opening it is how many prices it has.
+/// The caller and what is asked for. Of an opening it is how many prices it has, and of a report
+/// how many entries.
 fn asked_text(alloc: Global, asked: &Asked) -> Result<String, AllocError> {
     let caller = asked.caller;
     match &asked.request {
         Request::Open(opening) => {
             let count = opening.prices.len();
             format!(in alloc; "{caller} open with {count} prices")
+        }
+        Request::Reopen(report) => {
+            let count = report.history.len();
+            format!(in alloc; "{caller} reopen with {count} entries")
         }
         request => format!(in alloc; "{caller} {request:?}"),
     }
@@ -55,6 +60,12 @@ fn read_text(alloc: Global, first: bool, bytes: &[u8]) -> Result<String, AllocEr
     text
 }
 
+/// The rows of an edge.
+const ROWS: &str = concat!(
+    r#"{"crossings":[],"edges":[{"a":0,"b":1,"crossings":[],"id":0,"kind":0}],"#,
+    r#""next_crossing":0,"next_edge":1,"rotations":[[0],[0]]}"#,
+);
+
 /// First lines, and what they are read as.
 const FIRST: &[(&str, &str)] = &[
     (r#"{"version":1}"#, "opening 0 open with 0 prices"),
@@ -76,6 +87,11 @@ const FIRST: &[(&str, &str)] = &[
     (r#""counts""#, "opening 52 BadShape $"),
     (r#"["delete",1]"#, "opening 52 BadShape $"),
     (r#"{"open":{"version":1}}"#, "bare 0 open with 0 prices"),
+    (
+        r#"{"reopen":{"version":1}}"#,
+        "bare 52 BadShape $/reopen/history",
+    ),
+    (r#"{"reopen":1,"version":1}"#, "bare 52 BadShape $"),
     (r#"{"call":"counts"}"#, "envelope 0 Counts"),
 ];
 
@@ -113,10 +129,16 @@ const BARE: &[(&str, &str)] = &[
     ),
     (r#"["face",1,2,"left"]"#, "52 BadShape $/3"),
     (r#"["face",1,2]"#, "52 BadShape $"),
+    (r#"["undo",3]"#, "0 Undo(3)"),
+    (r#"["undo",-1]"#, "54 BadNumber $/1"),
+    (r#"["undo"]"#, "52 BadShape $"),
+    (r#""forget""#, "0 Forget"),
+    (r#""renumber""#, "0 Renumber"),
     (
         r#"{"open":{"version":2,"prices":[null]}}"#,
         "0 open with 1 prices",
     ),
+    (r#"{"open":{"version":1},"reopen":1}"#, "52 BadShape $"),
     (r#"{"open":{"version":1},"x":1}"#, "52 BadShape $"),
     (r#"{"open":{"version":1,"x":1}}"#, "52 BadShape $/open"),
     (r#"{"open":{"version":3}}"#, "53 BadVersion"),
@@ -162,6 +184,14 @@ const ENVELOPES: &[(&str, &str)] = &[
             r#""rotations":[[0],[0]]}}},"id":"x"}"#,
         ),
         "'x' 54 BadNumber $/call/open/start/edges/0/crossings/0",
+    ),
+    (
+        concat!(
+            r#"{"call":{"reopen":{"history":[{"call":["delete",0],"caller":0,"reply":"#,
+            r#"{"crossed":[[0,0,1]],"edge":0,"end":0,"price":0,"start":0}}],"limits":0,"#,
+            r#""picture":0,"prices":0,"start":0,"version":1}}}"#,
+        ),
+        "52 BadShape $/call/reopen/history/0/reply/crossed/0/2",
     ),
 ];
 
@@ -244,6 +274,27 @@ fn long_ids(rt: HostRuntime) -> Result<(), Fail> {
     assert!(rt; read.len() == MAX_ID_BYTES + "envelope '' 0 About".len());
     let read = with_id(rt.alloc(), MAX_ID_BYTES + 1)?;
     assert!(rt; read.as_str() == "envelope 52 BadShape $/id");
+    Ok(())
+}
+
+/// What stands in a line with a report before, between and behind its two pictures.
+const REPORT: [&str; 3] = [
+    concat!(
+        r#"{"reopen":{"history":[{"call":["delete",1],"caller":0,"reply":{"refused":[4,"NoEdge"]}}],"#,
+        r#""limits":{"crossings":0,"edges":5,"vertices":9},"picture":"#,
+    ),
+    r#","prices":[],"start":"#,
+    r#","version":1}}"#,
+];
+
+#[test]
+fn a_report_to_go_on_with(rt: HostRuntime) -> Result<(), Fail> {
+    let [head, between, tail] = REPORT;
+    let line = format!(in rt.alloc(); "{head}{ROWS}{between}{ROWS}{tail}")?;
+    for first in [true, false] {
+        let read = read_text(rt.alloc(), first, line.as_bytes())?;
+        assert!(rt; read.as_str() == "bare 0 reopen with 1 entries");
+    }
     Ok(())
 }
 
