@@ -53,6 +53,11 @@ pub on_ok : {A E P : Type 0} (r : Result A E) → is_err r ≡ false → OnOk r 
 on_ok (Ok x) h p = p
 on_ok (Err e) h p = cc
 
+-- what follows where a call does not fail
+pub on_ok_so : {A E P Q : Type 0} (r : Result A E) → (P → Q) → OnOk r P → OnOk r Q
+on_ok_so (Ok x) f p = f p
+on_ok_so (Err e) f p = p
+
 -- what holds where a call fails
 pub on_err : {A E P : Type 0} (r : Result A E) → is_err r ≡ true → OnErr r P → P
 on_err (Ok x) h p = cc

@@ -112,7 +112,7 @@ impl<F: PriceFn> Model for Book<F> {
     } };
 
     ghost invariant = { λ b. IsBookWith (prices_of (F.may_return (arc_value b.tariff)))
-        b.start b.history.items (arc_value b.picture) b.replicas };
+        b.start b.history.items (arc_value b.picture) b.replicas b.follower };
 }
 
 impl<F: PriceFn> Book<F> {

@@ -25,7 +25,7 @@ apply_entry-requires-clause-due g c =
     c.self.view_is c.self.invariant.book in
     let there = subst (λ (h : List Entry). slice_get h c.loop-index.index ≡ Some entry) history
     (slice_get_read c.history-history.result.now (length c.history-history.result.now)
-    c.loop-index.index entry refl c.loop-index-test.true c.index-history-index.is) in
+    c.loop-index.index entry refl (omega (arith, c.loop-index-test.true, c.requires.there, ap (λ (h : List Entry). length h) history)) c.index-history-index.is) in
     subst (λ t. IsDue (prices_of (g.F.PriceFn.may_return t)) picture.limits picture.rows entry.call entry.reply) (sym tariff)
     (due_at (prices_of (g.F.PriceFn.may_return s.tariff)) s.start s.history s.picture book c.loop-index.index entry picture c.loop-index.invariant there)
 
@@ -36,10 +36,10 @@ loop-index-preserved g c =
     let picture = c.loop-index.picture in
     let history : c.history-history.result.now ≡ s.history = c.history-history.ensures.entries in
     let tariff : c.deref.result.now ≡ s.tariff = c.deref.ensures ∙ ap (λ (b : BookState _). b.tariff) c.self.view_is in
+    let long = ap (λ (h : List Entry). length h) history in
     let there = subst (λ (h : List Entry). slice_get h c.loop-index.index ≡ Some entry) history
     (slice_get_read c.history-history.result.now (length c.history-history.result.now)
-    c.loop-index.index entry refl c.loop-index-test.true c.index-history-index.is) in
-    let long = ap (λ (h : List Entry). length h) history in
+    c.loop-index.index entry refl (omega (arith, c.loop-index-test.true, c.requires.there, long)) c.index-history-index.is) in
     let done = on_ok c.apply_entry.result (sym c.is_err.ensures.value ∙ c.if-is_err.false) c.apply_entry.ensures.step in
     let step =
     subst (λ t. Step (prices_of (g.F.PriceFn.may_return t)) picture.limits picture.rows entry.call entry.reply c.apply_entry.new.picture.rows) tariff done in
@@ -48,4 +48,4 @@ loop-index-preserved g c =
     c.apply_entry.ensures.same_limits c.apply_entry.ensures.lawful
 
 pub loop-index-init : goal.loop-index-init
-loop-index-init g c = c.requires
+loop-index-init g c = c.requires.stands
