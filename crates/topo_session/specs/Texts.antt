@@ -107,8 +107,13 @@ no_dart_text = codes "{\"refused\":[71,\"NoDart\"]}"
 abbrev pub not_open_text : List ℕ
 not_open_text = codes "{\"fault\":[72,\"NotOpen\"]}"
 
+-- a fault with its number, its name and a number more: a kind whose price is none, a place in a history, or a number of entries
+abbrev pub counted_text : ℕ → List ℕ → ℕ → List ℕ
+counted_text number name count = codes "{\"fault\":[" ++ (decimal number ++ (codes ",\"" ++ (name ++ (codes "\"," ++ (decimal count ++ codes "]}")))))
+
+-- there are not so many entries to take back
 abbrev pub nothing_text : ℕ → List ℕ
-nothing_text entries = codes "{\"fault\":[70,\"NothingToUndo\"," ++ (decimal entries ++ codes "]}")
+nothing_text entries = counted_text 70 (codes "NothingToUndo") entries
 
 -- what the program is, and which requests it knows
 abbrev pub about_text : List ℕ
@@ -134,20 +139,16 @@ script_fault_text (BadShape path) = placed_text (BadShape path) path
 script_fault_text BadVersion = numbered_text (script_number BadVersion) (script_name BadVersion)
 script_fault_text (BadNumber path) = placed_text (BadNumber path) path
 
--- a price that is none, with its kind
-abbrev pub priced_text : ℕ → List ℕ → ℕ → List ℕ
-priced_text number name kind = codes "{\"fault\":[" ++ (decimal number ++ (codes ",\"" ++ (name ++ (codes "\"," ++ (decimal kind ++ codes "]}")))))
-
 -- what is told of a fault, of a line or of what it opens
 abbrev pub fault_text : RunFault → List ℕ
 fault_text Memory = numbered_text (fault_number Memory) (fault_name Memory)
 fault_text (Script fault) = script_fault_text fault
 fault_text BadLimits = numbered_text (fault_number BadLimits) (fault_name BadLimits)
-fault_text (Price (BadPrice kind)) = priced_text (fault_number (Price (BadPrice kind))) (fault_name (Price (BadPrice kind))) kind
+fault_text (Price (BadPrice kind)) = counted_text (fault_number (Price (BadPrice kind))) (fault_name (Price (BadPrice kind))) kind
 fault_text (Load fault) = numbered_text (fault_number (Load fault)) (fault_name (Load fault))
 fault_text NoSeat = numbered_text (fault_number NoSeat) (fault_name NoSeat)
 fault_text (Mismatch list place) = numbered_text (fault_number (Mismatch list place)) (fault_name (Mismatch list place))
-fault_text (WrongReply place) = numbered_text (fault_number (WrongReply place)) (fault_name (WrongReply place))
+fault_text (WrongReply place) = counted_text (fault_number (WrongReply place)) (fault_name (WrongReply place)) place
 fault_text WrongPicture = numbered_text (fault_number WrongPicture) (fault_name WrongPicture)
 fault_text ReadFault = numbered_text (fault_number ReadFault) (fault_name ReadFault)
 fault_text WriteFault = numbered_text (fault_number WriteFault) (fault_name WriteFault)

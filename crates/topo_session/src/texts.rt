@@ -6,7 +6,7 @@ ghost use Rattle.serde_json.specs.Written.{compact_text};
 ghost use Rattle.topo_forms.specs.Paths.{path_text};
 ghost use Rattle.topo_session.specs.Texts.{counts_text, edge_data, end_data, face_data};
 ghost use Rattle.topo_session.specs.Texts.{fault_text, framed, id_data, meeting_data};
-ghost use Rattle.topo_session.specs.Texts.{nothing_text, numbered_text, priced_text};
+ghost use Rattle.topo_session.specs.Texts.{counted_text, nothing_text, numbered_text};
 ghost use Rattle.topo_session.specs.Texts.{renumbered_data, route_data, route_reply_data};
 ghost use Rattle.topo_session.specs.Texts.{script_fault_text, undone_data, vertex_data};
 
@@ -188,7 +188,7 @@ pub fn text_like(alloc: Global, letters: &str) -> Result<String, AllocError>
 pub fn nothing_text(alloc: Global, entries: u32) -> Result<String, AllocError>
     ensures { IfOk result (λ text. string_bytes text ≡ nothing_text entries) }
 {
-    format!(in alloc; "{{\"fault\":[70,\"NothingToUndo\",{entries}]}}")
+    counted_text(alloc, 70, "NothingToUndo", entries as usize)
 }
 
 /// The text of a fault with its number and its name.
@@ -207,11 +207,11 @@ fn placed_text(alloc: Global, number: u32, name: &str, path: Path) -> Result<Str
     format!(in alloc; "{{\"fault\":[{number},\"{name}\",\"{path}\"]}}")
 }
 
-/// The text of a fault with its number, its name and a kind.
-fn priced_text(alloc: Global, number: u32, name: &str, kind: u8) -> Result<String, AllocError>
-    ensures { IfOk result (λ text. string_bytes text ≡ priced_text number name.now kind) }
+/// The text of a fault with its number, its name and a number more.
+fn counted_text(alloc: Global, number: u32, name: &str, count: usize) -> Result<String, AllocError>
+    ensures { IfOk result (λ text. string_bytes text ≡ counted_text number name.now count) }
 {
-    format!(in alloc; "{{\"fault\":[{number},\"{name}\",{kind}]}}")
+    format!(in alloc; "{{\"fault\":[{number},\"{name}\",{count}]}}")
 }
 
 /// The text of a fault of a line.
@@ -238,13 +238,15 @@ pub fn fault_text(alloc: Global, fault: RunFault) -> Result<String, AllocError>
     let name = fault.name();
     match fault {
         RunFault::Script(fault) => script_fault_text(alloc, fault),
-        RunFault::Price(PriceFault::BadPrice(kind)) => priced_text(alloc, number, name, kind),
+        RunFault::Price(PriceFault::BadPrice(kind)) => {
+            counted_text(alloc, number, name, kind as usize)
+        }
         RunFault::Memory => numbered_text(alloc, number, name),
         RunFault::BadLimits => numbered_text(alloc, number, name),
         RunFault::Load(_) => numbered_text(alloc, number, name),
         RunFault::NoSeat => numbered_text(alloc, number, name),
         RunFault::Mismatch(_, _) => numbered_text(alloc, number, name),
-        RunFault::WrongReply(_) => numbered_text(alloc, number, name),
+        RunFault::WrongReply(place) => counted_text(alloc, number, name, place),
         RunFault::WrongPicture => numbered_text(alloc, number, name),
         RunFault::ReadFault => numbered_text(alloc, number, name),
         RunFault::WriteFault => numbered_text(alloc, number, name),
