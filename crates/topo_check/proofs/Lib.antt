@@ -1,2 +1,2 @@
-mod FaultsByTable
+mod SameFaults
 mod Telling

@@ -19,10 +19,10 @@ use topo_forms::{Report, ScriptFault, read_report};
 use topo_picture::Picture;
 use topo_price::table::PriceTable;
 use topo_price::tariff::{PriceFn, Tariff};
-use topo_settings::{FromTable, RunFault};
 use topo_settings::reading::{CountedReader, read_bytes};
 use topo_settings::settings::validate;
 use topo_settings::writing::write_text;
+use topo_settings::{FromTable, RunFault};
 
 /// Reads a report, carries out its history again from its start, under its limits and at its
 /// prices, and writes how many calls it has, where each reply is the one due and the picture at the
