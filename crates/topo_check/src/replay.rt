@@ -5,7 +5,8 @@ ghost use Rattle.std.specs.Prelude.{string_bytes};
 ghost use Rattle.topo_book.specs.Books.{IsBook};
 ghost use Rattle.topo_price.specs.Prices.{prices_of};
 ghost use Rattle.topo_check.specs.Replays.{IsReplayed, IsSoundReport, IsTrueReport, IsUntrue};
-ghost use Rattle.topo_check.specs.Replays.{ReplayFailsBy, TellsCalls, TellsUntrue, calls_line};
+ghost use Rattle.topo_check.specs.Replays.{LeadsTo, ReplayFailsBy, TellsCalls, TellsUntrue};
+ghost use Rattle.topo_check.specs.Replays.{calls_line};
 ghost use Rattle.topo_forms.specs.Reads.{Gives};
 ghost use Rattle.topo_forms.specs.Scripts.{report_of};
 ghost use Rattle.topo_settings.specs.Reading.{most_calls};
@@ -115,7 +116,8 @@ pub fn replay_report<F: PriceFn>(
     ensures book { IfOk result
         (IsBook (prices_of (F.may_return tariff.now)) start.now report.now.history) }
     ensures same { IfOk result (λ p. p.rows ≡ report.now.picture) }
-    ensures good { IfOk result (λ _. IsTrueReport report.now) }
+    ensures replayed { IfOk result
+        (λ _. LeadsTo report.now start.now.limits report.now.picture) }
     ensures fault { IfErr result (IsUntrue report.now) }
 {
     let picture = match replay(alloc, start, report.history.as_slice(), tariff) {

@@ -196,6 +196,8 @@ impl<F: PriceFn + Drop> Session<F> {
             return Ok(None);
         }
         self.book.take_back(alloc, kept - entries as usize)?;
+        // For the proof: what the book keeps.
+        self.book.picture();
         Ok(Some(self.undone(entries)))
     }
 

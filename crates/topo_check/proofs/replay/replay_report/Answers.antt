@@ -32,8 +32,8 @@ returns-in-Err-WrongReply-clause-fault g c =
       illegal = illegal_so price (priced report.prices) own.only own.each start.limits report.start report.history fault illegal_here;
     }
 
-pub returns-then-equals-clause-good : goal.returns-then-equals-clause-good
-returns-then-equals-clause-good g c =
+pub returns-then-equals-clause-replayed : goal.returns-then-equals-clause-replayed
+returns-then-equals-clause-replayed g c =
     let report = c.args.report.now in
     let start = c.args.start.now in
     let price = prices_of (g.F.PriceFn.may_return c.args.tariff.now) in
@@ -41,12 +41,8 @@ returns-then-equals-clause-good g c =
     let same : c.in-Ok.picture.rows ≡ report.picture = sym c.in-Ok-rows.ensures.rows ∙ c.equals.ensures.0 c.if-equals.true in
     let replayed = subst (λ (h : List Entry). Replays price start.limits start.rows h c.in-Ok.picture.rows) c.as_slice.ensures c.in-Ok.ensures.replayed in
     let from = subst (λ (p : Rows). Replays price start.limits p report.history c.in-Ok.picture.rows) c.requires.start replayed in
-    record {
-      limits = start.limits;
-      sound = c.requires.sound;
-      replayed = replays_so price (priced report.prices) own.only own.each start.limits report.start report.history report.picture
-          (subst (λ (q : Rows). Replays price start.limits report.start report.history q) same from);
-    }
+    replays_so price (priced report.prices) own.only own.each start.limits report.start report.history report.picture
+    (subst (λ (q : Rows). Replays price start.limits report.start report.history q) same from)
 
 pub returns-else-equals-clause-fault : goal.returns-else-equals-clause-fault
 returns-else-equals-clause-fault g c =
