@@ -80,7 +80,7 @@ impl FromTokens for Option<Rows> {
     ghost nesting = { 4 };
 
     fn from_tokens(alloc: Global, reader: &mut TokenReader<'_>) -> Option<Self> {
-        if reader.is_at_text() {
+        if reader.is_at(b'"') {
             token_seed(reader)
         } else {
             let rows = Rows::from_tokens(alloc, reader)?;
