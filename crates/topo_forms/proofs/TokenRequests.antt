@@ -1,6 +1,6 @@
 -- Tokens that spell what a line of a session asks for.
-use Rattle.std.proofs.Common.{◌≡◌, ℕ, ◌≤◌, List, [], ◌∷◌, codes, Option, Some, None, IfSome, Ok, refl, ◌∙◌, arith}
-use Rattle.json.specs.Token.{Token, string as text_token}
+use Rattle.std.proofs.Common.{◌≡◌, ℕ, ◌≤◌, List, [], ◌∷◌, codes, Option, Some, None, IfSome, Ok, refl, sym, ap, subst, ◌∙◌, arith}
+use Rattle.json.specs.Token.{Token, begin_array, string as text_token}
 use Rattle.json.specs.Json.{after_end_array}
 use Rattle.serde_json.specs.Data.{Data, array, item, no_items, string, object}
 use Rattle.topo_core.specs.declared.calls.Command.{Command}
@@ -73,8 +73,14 @@ face_asked {x} edge seg way close =
     ∙ went _ _ x.seg (element_read number_form path 2 (array ds) refl seg.reads)
     ∙ went _ _ x.way (element_read way_form path 3 (array ds) refl way.reads))
 
-pub command_asked : {command : Command} {ts rest : List Token} → Spells 1 command_form ts command rest → Spells 7 request_form ts (Carry command) rest
-command_asked {command} s = read_so s (omega arith) (λ path. carry_read path s.spelled command (s.reads path))
+pub array_asked : {word : List ℕ} {ts r1 r2 : List Token} (o : Option Request) (rest : List Token) → ts ≡ begin_array ∷ r1 → r1 ≡ text_token word ∷ r2
+    → IfSome o (λ request. SpellsAsked word r2 request rest) → IfSome o (λ request. Spells 7 request_form ts request rest)
+array_asked o rest e second s =
+    subst (λ us. IfSome o (λ request. Spells 7 request_form us request rest)) (sym (e ∙ ap (λ us. begin_array ∷ us) second)) s
+
+pub command_asked : {word : List ℕ} {command : Command} {ts rest : List Token} → Spells 1 command_form (begin_array ∷ text_token word ∷ ts) command rest
+    → SpellsAsked word ts (Carry command) rest
+command_asked {command = command} s = read_so s (omega arith) (λ path. carry_read path s.spelled command (s.reads path))
 
 -- ---- Texts
 

@@ -338,7 +338,7 @@ pub fn read_command(alloc: Global, bytes: &[u8]) -> Option<Command>
 }
 
 /// A later line. It is read from its tokens, if it can be, since that is quicker.
-#[inline(never)]
+#[inline(always)]
 fn read_later(alloc: Global, bytes: &[u8]) -> Line
     ensures { ReadsLine result (line_of false bytes.now) }
 {

@@ -13,9 +13,9 @@ use crate::reader::TokenReader;
 use crate::reports::Report;
 use crate::sessions::{Opening, Request};
 use crate::slots::{NoSlot, Slot, read_object};
+use crate::token_scripts::command_after;
 use crate::tokens::FromTokens;
 use std::alloc::Global;
-use topo_core::calls::Command;
 use topo_core::darts::Dart;
 
 /// What follows the word of a question for a route.
@@ -90,13 +90,12 @@ fn asked_after(alloc: Global, word: &[u8], reader: &mut TokenReader<'_>) -> Opti
     }
 }
 
-/// An array that is next, and no command.
-fn token_array(alloc: Global, reader: &mut TokenReader<'_>) -> Option<Request>
-    ensures { IfSome result (λ request. Spells 7 request_form reader.old request reader.new) }
-{
-    reader.begin_array()?;
-    let word = reader.next_text()?;
-    asked_after(alloc, word, reader)
+/// Whether a command begins with this word. No contract rests on it.
+fn is_command(word: &[u8]) -> bool {
+    bytes_are(word, "insert")
+        || bytes_are(word, "grow")
+        || bytes_are(word, "delete")
+        || bytes_are(word, "planned")
 }
 
 /// What a text asks for.
@@ -165,17 +164,19 @@ impl FromTokens for Request {
     ghost nesting = { 7 };
 
     fn from_tokens(alloc: Global, reader: &mut TokenReader<'_>) -> Option<Self> {
-        let begins = reader.copy();
-        if let Some(command) = Command::from_tokens(alloc, reader) {
-            return Some(Request::Carry(command));
+        if reader.is_at(b'"') {
+            return token_word(reader);
         }
-        *reader = begins;
-        if reader.is_at(b'[') {
-            token_array(alloc, reader)
-        } else if reader.is_at(b'"') {
-            token_word(reader)
+        if !reader.is_at(b'[') {
+            return token_begun(alloc, reader);
+        }
+        reader.begin_array()?;
+        let word = reader.next_text()?;
+        if is_command(word) {
+            let command = command_after(alloc, word, reader)?;
+            Some(Request::Carry(command))
         } else {
-            token_begun(alloc, reader)
+            asked_after(alloc, word, reader)
         }
     }
 }
