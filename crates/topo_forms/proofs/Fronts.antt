@@ -48,18 +48,22 @@ gap_passed_at (x ∷ rest) some h = sym (gap_passed x rest h)
 
 pub no_colon : (t : List ℕ) → ends_value t ≡ true → begins_colon (lex between t) ≡ false
 unfolding lex
-no_colon [] h = absurd (false≢true h)
-no_colon (x ∷ rest) h = last (or_cases ((x == 44) || (x == 93)) (x == 125) h)
+no_colon [] h = refl
+no_colon (x ∷ rest) h = last (or_cases ((length (x ∷ rest) == 0) || (x == 44) || (x == 93)) (x == 125) h)
   where
     at : (y : ℕ) → (x == y) ≡ true → begins_colon (lex between (y ∷ rest)) ≡ false → begins_colon (lex between (x ∷ rest)) ≡ false
     at y e passed = ap (λ z. begins_colon (lex between (z ∷ rest))) (eqb-true x y e) ∙ passed
 
-    first : ((x == 44) ≡ true) ⊎ ((x == 93) ≡ true) → begins_colon (lex between (x ∷ rest)) ≡ false
-    first (inl e) = at 44 e refl
+    none : ((length (x ∷ rest) == 0) ≡ true) ⊎ ((x == 44) ≡ true) → begins_colon (lex between (x ∷ rest)) ≡ false
+    none (inl e) = absurd (omega (arith, eqb-true (length (x ∷ rest)) 0 e))
+    none (inr e) = at 44 e refl
+
+    first : (((length (x ∷ rest) == 0) || (x == 44)) ≡ true) ⊎ ((x == 93) ≡ true) → begins_colon (lex between (x ∷ rest)) ≡ false
+    first (inl e) = none (or_cases (length (x ∷ rest) == 0) (x == 44) e)
     first (inr e) = at 93 e refl
 
-    last : (((x == 44) || (x == 93)) ≡ true) ⊎ ((x == 125) ≡ true) → begins_colon (lex between (x ∷ rest)) ≡ false
-    last (inl e) = first (or_cases (x == 44) (x == 93) e)
+    last : (((length (x ∷ rest) == 0) || (x == 44) || (x == 93)) ≡ true) ⊎ ((x == 125) ≡ true) → begins_colon (lex between (x ∷ rest)) ≡ false
+    last (inl e) = first (or_cases ((length (x ∷ rest) == 0) || (x == 44)) (x == 93) e)
     last (inr e) = at 125 e refl
 
 -- ---- Numbers

@@ -8,8 +8,10 @@ mod Lookups
 mod Objects
 mod PriceLists
 mod TokenCalls
+mod TokenLines
 mod TokenReplies
 mod TokenReports
+mod TokenRequests
 mod TokenRows
 mod TokenScripts
 mod TokenSessions

@@ -1,5 +1,5 @@
 -- What the lines of a session are read as.
-use Rattle.std.proofs.Common.{◌≡◌, ℕ, ◌<◌, ◌≤◌, Bool, true, false, ◌||◌, ◌==◌, List, [], ◌∷◌, length, nat_lt, bytes_eq, codes, Option, Some, None, option_map, unwrap_or}
+use Rattle.std.proofs.Common.{◌≡◌, ℕ, ◌<◌, ◌≤◌, Bool, true, false, ◌||◌, ◌&&◌, ◌==◌, if◌then◌else◌, List, [], ◌∷◌, length, nat_lt, bytes_eq, codes, Option, Some, None, option_map, unwrap_or}
 use Rattle.std.proofs.Common.{Ordering, Less, Equal, Greater, Ok, Err, inl, inr, refl, sym, ap, subst, ◌∙◌, arith}
 use Rattle.std.specs.Ordering.{nat_cmp, is_eq, match_ordering}
 use Rattle.std.specs.Cmp.Lexicographic.{slice_cmp}
@@ -7,7 +7,7 @@ use Rattle.std.proofs.lemmas.Bool.{and_parts, and_right, ltb-true, ltb-false}
 use Rattle.std.proofs.lemmas.Map.Text.{is_eq-slice_cmp}
 use Rattle.std.proofs.lemmas.Slice.Eq.{bytes_eq-Decides}
 use Rattle.serde_json.specs.Data.{Data, string, object, Members, no_members, member}
-use Rattle.serde_json.specs.Find.{at, as_str, get_member}
+use Rattle.serde_json.specs.Find.{at, as_object, as_str, get_member}
 use Rattle.topo_core.specs.declared.calls.Command.{Command}
 use Rattle.topo_forms.specs.declared.fault.ScriptFault.{ScriptFault}
 use Rattle.topo_forms.specs.declared.fault.ScriptFault.TheVariants.{Memory, BadShape}
@@ -23,11 +23,12 @@ use Rattle.topo_forms.specs.declared.sessions.Opening.{Opening}
 use Rattle.topo_forms.specs.declared.sessions.Request.{Request}
 use Rattle.topo_forms.specs.declared.sessions.Request.TheVariants.{Carry, Open as OpenRequest}
 use Rattle.topo_forms.specs.CallForms.{begins, call_form, command_form, plain_form}
-use Rattle.topo_forms.specs.Paths.{key_name, whole}
-use Rattle.topo_forms.specs.Reads.{Read, and_then, passes, json_of, is_text, element_count, has_key, is_known, all_known, all_there, has_keys, value_of, IsFirstFault, Gives}
+use Rattle.topo_forms.specs.Paths.{key_name, member_of, whole}
+use Rattle.topo_forms.specs.Reads.{Read, and_then, due, passes, json_of, is_text, element_count, has_key, is_known, all_known, all_there, has_keys, value_of, IsFirstFault, Gives}
 use Rattle.topo_forms.specs.Scripts.{nulls_in}
-use Rattle.topo_forms.specs.Sessions.{text_id, number_id, id_form, carry_form, look_form, request_form, opening_form, opened_form, bare_asked, envelope_head, envelope_asked, envelope_line}
-use Rattle.topo_forms.specs.Sessions.{line_form, line_limit, line_or, line_of, command_line, frame_without, has_brace, ReadsLine}
+use Rattle.topo_forms.specs.Sessions.{text_id, number_id, id_form, open_form, reopen_form, begins_anew, begun_form, carry_form, look_form, request_form}
+use Rattle.topo_forms.specs.Sessions.{opening_form, opened_form, bare_asked, envelope_head, envelope_asked, envelope_line}
+use Rattle.topo_forms.specs.Sessions.{is_opening, bare_line, object_line, line_form, line_limit, line_or, line_of, command_line, frame_without, has_brace, ReadsLine}
 use Rattle.topo_forms.proofs.Bytes.{too_long, within}
 use Rattle.topo_forms.proofs.Steps.{went}
 
@@ -226,7 +227,7 @@ no_word word n path d command is e = by_planned (begins (codes "planned") 4 d) r
     by_planned true h = one_word (codes "planned") word 4 n d h is.planned
     by_planned false h = by_grow (begins (codes "grow") 4 d) refl h
 
-carry_read : (path : Path) (d : Data) (command : Command) → command_form path d ≡ Ok command → request_form path d ≡ Ok (Carry command)
+pub carry_read : (path : Path) (d : Data) (command : Command) → command_form path d ≡ Ok command → request_form path d ≡ Ok (Carry command)
 unfolding request_form look_form carry_form
 carry_read path d command e =
     let apart : (word : List ℕ) → IsNoCommand word → (n : ℕ) → begins word n d ≡ false = λ word is n. no_word word n path d command is e in
@@ -247,12 +248,108 @@ carry_read path d command e =
     )
     (went (command_form path d) (λ (found : Command). Ok (Carry found)) command e)
 
-command_read : (d : Data) (command : Command) → command_form whole d ≡ Ok command → line_form false d ≡ command_line command
-unfolding line_form bare_asked
-command_read d command e =
-    let asked : bare_asked request_form d ≡ Ok (record { caller = 0; request = Carry command }) =
-    went (request_form whole d) _ (Carry command) (carry_read whole d command e) in
-    rw (no_key Call whole d command e, asked) refl
+-- ---- Objects that begin the session anew
+
+passed : (fault : ScriptFault) (b : Bool) → passes fault b ≡ Ok tt → b ≡ true
+passed fault true e = refl
+passed fault false e = absurd cc
+
+-- what has this key alone has it
+key_there : (path : Path) (key : Key) (d : Data) → has_keys path (key ∷ []) [] d ≡ Ok tt → has_key key d ≡ true
+unfolding has_keys
+key_there path key d h =
+    let members = went_back (due (BadShape path) (as_object d)) _ tt h in
+    let known = went_back (passes (BadShape path) (all_known (key ∷ []) [] members.0)) _ tt members.2 in
+    passed (BadShape (member_of path key)) (has_key key d) known.2
+
+-- what begins the session anew has one of the two keys, and is no envelope
+begun_keys : (path : Path) (d : Data) (request : Request) → begun_form path d ≡ Ok request → (begins_anew d ≡ true) × (has_key Call d ≡ false)
+unfolding begun_form open_form reopen_form
+begun_keys path d request e = by (has_key Open d) refl e
+  where
+    by : (b : Bool) → has_key Open d ≡ b → (if b then open_form path d else reopen_form path d) ≡ Ok request → (begins_anew d ≡ true) × (has_key Call d ≡ false)
+    by true h e =
+        let keys = went_back (has_keys path (Open ∷ []) [] d) _ request e in
+        (rw h refl, other_key (Open ∷ []) [] path Call d refl refl keys.1)
+    by false h e =
+        let keys = went_back (has_keys path (Reopen ∷ []) [] d) _ request e in
+        (rw h (key_there path Reopen d keys.1), other_key (Reopen ∷ []) [] path Call d refl refl keys.1)
+
+pub begun_read : (path : Path) (d : Data) (request : Request) → begun_form path d ≡ Ok request → request_form path d ≡ Ok request
+unfolding request_form look_form
+begun_read path (object ms) request e = rw (begun_keys path (object ms) request e).0 e
+begun_read path d request e = let none = (begun_keys path d request e).0 in absurd cc
+
+pub begun_line : (d : Data) (request : Request) → begun_form whole d ≡ Ok request → object_line d ≡ Ok (bare_line request)
+unfolding object_line
+begun_line d request e = rw (begun_keys whole d request e).1 (went (begun_form whole d) (λ (r : Request). Ok (bare_line r)) request e)
+
+pub envelope_read : (d : Data) (id : Option LineId) (asked : Asked) → has_key Call d ≡ true → envelope_head d ≡ Ok id → envelope_asked d ≡ Ok asked
+    → object_line d ≡ Ok (record { frame = Envelope id; asked = Ok asked })
+unfolding object_line envelope_line
+envelope_read d id asked there head found = rw (there, head, found) refl
+
+bare_read : (d : Data) (request : Request) → request_form whole d ≡ Ok request → bare_asked request_form d ≡ Ok (record { caller = 0; request = request })
+unfolding bare_asked
+bare_read d request e = went (request_form whole d) (λ (r : Request). Ok (record { caller = 0; request = r })) request e
+
+-- such a line is the same first and later
+object_read : (first : Bool) (d : Data) (line : Line) → object_line d ≡ Ok line → line_form first d ≡ line
+unfolding object_line line_form
+object_read first d line e = by (has_key Call d) refl e
+  where
+    by : (b : Bool) → has_key Call d ≡ b → (if b then Ok (envelope_line d) else and_then (begun_form whole d) (λ (r : Request). Ok (bare_line r))) ≡ Ok line
+        → line_form first d ≡ line
+    by true h e = let same : envelope_line d ≡ line = cc in rw h same
+    by false h e =
+        let begun = went_back (begun_form whole d) (λ (r : Request). Ok (bare_line r)) line e in
+        let anew = (begun_keys whole d begun.0 begun.1).0 in
+        let never : (first && is_opening d) ≡ false = and_right first (is_opening d) (rw anew refl) in
+        let same : bare_line begun.0 ≡ line = cc in
+        rw (h, never, bare_read d begun.0 (begun_read whole d begun.0 begun.1)) same
+
+object_found : (first : Bool) (found : Read Data) (line : Line) → and_then found object_line ≡ Ok line → line_or first found ≡ line
+unfolding and_then
+object_found first (Ok d) line e = object_read first d line e
+object_found first (Err fault) line e = absurd cc
+
+pub object_bytes : (first : Bool) (bytes : List ℕ) (line : Line) {limit : ℕ} → limit ≡ line_limit first bytes
+    → and_then (value_of limit bytes) object_line ≡ Ok line → ReadsLine line (line_of first bytes)
+unfolding line_of
+object_bytes first bytes line is e =
+    let same = subst (λ n. and_then (value_of n bytes) object_line ≡ Ok line) is e in
+    inr (sym (object_found first (value_of (line_limit first bytes) bytes) line same))
+
+-- ---- Requests
+
+-- no request is an envelope
+no_envelope : (path : Path) (d : Data) (request : Request) → request_form path d ≡ Ok request → has_key Call d ≡ false
+unfolding request_form look_form carry_form command_form plain_form call_form and_then
+no_envelope path (object ms) request e = by (begins_anew (object ms)) refl e
+  where
+    by : (b : Bool) → begins_anew (object ms) ≡ b → (if b then begun_form path (object ms) else carry_form path (object ms)) ≡ Ok request
+        → has_key Call (object ms) ≡ false
+    by true h e = (begun_keys path (object ms) request e).1
+    by false h e = absurd cc
+no_envelope path _ request e = refl
+
+request_read : (d : Data) (request : Request) → request_form whole d ≡ Ok request → line_form false d ≡ bare_line request
+unfolding line_form
+request_read d request e = rw (no_envelope whole d request e, bare_read d request e) refl
+
+request_found : (found : Read Data) (request : Request) → and_then found (request_form whole) ≡ Ok request → line_or false found ≡ bare_line request
+unfolding and_then
+request_found (Ok d) request e = request_read d request e
+request_found (Err fault) request e = absurd cc
+
+pub request_bytes : (bytes : List ℕ) (request : Request) (line : Line) {limit : ℕ} → limit ≡ line_limit false bytes
+    → and_then (value_of limit bytes) (request_form whole) ≡ Ok request → line ≡ bare_line request → ReadsLine line (line_of false bytes)
+unfolding line_of
+request_bytes bytes request line is e bare =
+    let same = subst (λ n. and_then (value_of n bytes) (request_form whole) ≡ Ok request) is e in
+    inr (bare ∙ sym (request_found (value_of (line_limit false bytes) bytes) request same))
+
+-- ---- Bytes of a command
 
 -- more bytes may be there
 value_more : (m n : ℕ) (bytes : List ℕ) (d : Data) (b : Bool) → m ≤ n → nat_lt m (length bytes) ≡ b → value_of m bytes ≡ Ok d → value_of n bytes ≡ Ok d
@@ -271,12 +368,9 @@ later_limit bytes d false h e = rw h e
 later_found : (bytes : List ℕ) (found : Read Data) (command : Command) → value_of 65536 bytes ≡ found → and_then found (command_form whole) ≡ Ok command
     → line_of false bytes ≡ command_line command
 unfolding line_of and_then
-later_found bytes (Ok d) command is e = rw (later_limit bytes d (has_brace bytes) refl is) (command_read d command e)
+later_found bytes (Ok d) command is e = rw (later_limit bytes d (has_brace bytes) refl is) (request_read d (Carry command) (carry_read whole d command e))
 later_found bytes (Err fault) command is e = absurd cc
 
 pub later_tokens : (bytes : List ℕ) (command : Command) → and_then (value_of 65536 bytes) (command_form whole) ≡ Ok command
     → line_of false bytes ≡ command_line command
 later_tokens bytes command e = later_found bytes (value_of 65536 bytes) command refl e
-
-pub reads_command : (bytes : List ℕ) (command : Command) → line_of false bytes ≡ command_line command → ReadsLine (command_line command) (line_of false bytes)
-reads_command bytes command e = inr (sym e)

@@ -41,16 +41,21 @@ word_tokens form word text a ts rest e is read = record {
   reads = read;
 }
 
--- what nests no deeper than this nests no deeper than more
-pub deeper : {A : Type 0} (inner outer : ℕ) (form : Path → Data → Read A) (ts : List Token) (a : A) (rest : List Token) → inner ≤ outer
-    → Spells inner form ts a rest → Spells outer form ts a rest
-deeper inner outer form ts a rest within s = record {
+-- what one form reads, another one may read too
+pub read_so : {A B : Type 0} {inner outer : ℕ} {form : Path → Data → Read A} {other : Path → Data → Read B} {ts rest : List Token} {a : A} {b : B}
+    (s : Spells inner form ts a rest) → inner ≤ outer → ((path : Path) → other path s.spelled ≡ Ok b) → Spells outer other ts b rest
+read_so s within read = record {
   written = s.written;
   spelled = s.spelled;
   begins = λ depth le. s.begins depth (omega arith);
   means = s.means;
-  reads = s.reads;
+  reads = read;
 }
+
+-- what nests no deeper than this nests no deeper than more
+pub deeper : {A : Type 0} (inner outer : ℕ) (form : Path → Data → Read A) (ts : List Token) (a : A) (rest : List Token) → inner ≤ outer
+    → Spells inner form ts a rest → Spells outer form ts a rest
+deeper inner outer form ts a rest within s = read_so s within s.reads
 
 -- ---- Arrays
 

@@ -24,6 +24,7 @@ use Rattle.topo_forms.specs.Tokens.{Spells}
 use Rattle.topo_forms.specs.TokenParts.{ArePricesOf}
 use Rattle.topo_forms.proofs.Lookups.{member_read}
 use Rattle.topo_forms.proofs.Objects.{IsDue, then, object_tokens}
+use Rattle.topo_forms.proofs.Spellings.{read_so}
 use Rattle.topo_forms.proofs.Steps.{went}
 use Rattle.topo_core.specs.declared.rows.TheConstants.{KINDS}
 
@@ -69,13 +70,7 @@ price_read path null n e = absurd cc
 price_read path d n e = went (number_form path d) (λ (k : ℕ). Ok (Some k)) n e
 
 pub price_tokens : {n : ℕ} {ts rest : List Token} → Spells 0 number_form ts n rest → Spells 0 (price_form true) ts (Some n) rest
-price_tokens {n} s = record {
-  written = s.written;
-  spelled = s.spelled;
-  begins = s.begins;
-  means = s.means;
-  reads = λ path. price_read path s.spelled n (s.reads path);
-}
+price_tokens {n} s = read_so s (omega arith) (λ path. price_read path s.spelled n (s.reads path))
 
 gone : {A B : Type 0} (r : Read A) (next : A → Read B) (b : B) → and_then r next ≡ Ok b → (a : A) × (r ≡ Ok a) × (next a ≡ Ok b)
 unfolding and_then

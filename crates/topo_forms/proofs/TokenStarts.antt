@@ -12,7 +12,7 @@ use Rattle.topo_forms.specs.RowForms.{rows_form}
 use Rattle.topo_forms.specs.Scripts.{picture_form, start_form, workers_form}
 use Rattle.topo_forms.specs.Tokens.{Spells}
 use Rattle.topo_forms.proofs.TokenReports.{counted}
-use Rattle.topo_forms.proofs.Spellings.{word_tokens, deeper}
+use Rattle.topo_forms.proofs.Spellings.{word_tokens, read_so, deeper}
 use Rattle.topo_forms.proofs.Steps.{went}
 use Rattle.topo_forms.specs.declared.script_forms.TheConstants.{MAX_WORKERS}
 
@@ -28,13 +28,7 @@ unfolding start_form picture_form
 start_read path d rows e = rw (no_seed path d rows e) (went (rows_form path d) (λ (found : Rows). Ok (Some found)) rows e)
 
 pub start_tokens : (rows : Rows) (ts rest : List Token) → Spells 4 rows_form ts rows rest → Spells 4 start_form ts (Some rows) rest
-start_tokens rows ts rest s = record {
-  written = s.written;
-  spelled = s.spelled;
-  begins = s.begins;
-  means = s.means;
-  reads = λ path. start_read path s.spelled rows (s.reads path);
-}
+start_tokens rows ts rest s = read_so s (omega arith) (λ path. start_read path s.spelled rows (s.reads path))
 
 pub seed_tokens : (text : List ℕ) (ts rest : List Token) → ts ≡ text_token text ∷ rest → text ≡ codes "seed" → Spells 4 start_form ts None rest
 unfolding start_form

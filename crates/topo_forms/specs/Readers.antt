@@ -1,5 +1,5 @@
 -- A reader of tokens: what is left of its text.
-use Rattle.std.specs.Prelude.{◌≡◌, ℕ, List, [], ◌∷◌, Some, Bool, ◌||◌, ◌==◌}
+use Rattle.std.specs.Prelude.{◌≡◌, ℕ, List, [], ◌∷◌, length, Some, Bool, ◌||◌, ◌==◌}
 use Rattle.json.specs.Ascii as ascii
 use Rattle.json.specs.Lex as lex
 use Rattle.json.specs.Lex.{between, in_string, punctuate}
@@ -20,9 +20,9 @@ place_of AfterValue = lex.after_value
 abbrev pub tokens_left : Inside → List Token
 tokens_left a = punctuate (place_of a.place) (lex.lex between a.rest.now)
 
--- a comma, or the end of an array or an object, is next
+-- the end of the text, a comma, or the end of an array or an object, is next
 abbrev pub ends_value : List ℕ → Bool
-ends_value t = (head t == ascii.comma) || (head t == ascii.close_bracket) || (head t == ascii.close_brace)
+ends_value t = (length t == 0) || (head t == ascii.comma) || (head t == ascii.close_bracket) || (head t == ascii.close_brace)
 
 -- the inside of a text begins with what stands for this letter, and goes on with the rest
 pub record StandsFor (inside : List ℕ) (letter : ℕ) (rest : List ℕ) : Type 0 where

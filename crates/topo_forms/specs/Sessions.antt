@@ -96,6 +96,13 @@ reopen_form path d = do
   report ← member_form report_form path Reopen d
   Ok (ReopenRequest report)
 
+-- an object that begins the session anew: by an opening, or by a report
+abbrev pub begins_anew : Data → Bool
+begins_anew d = has_key Open d || has_key Reopen d
+
+unfoldable pub begun_form : Path → Data → Read Request
+begun_form path d = if has_key Open d then open_form path d else reopen_form path d
+
 unfoldable pub carry_form : Path → Data → Read Request
 carry_form path d = do
   command ← command_form path d
@@ -109,9 +116,8 @@ look_form path d =
     if begins (codes "vertex") 2 d then vertex_form path d else (
     if begins (codes "face") 4 d then face_form path d else (
     if begins (codes "undo") 2 d then undo_form path d else (
-    if has_key Open d then open_form path d else (
-    if has_key Reopen d then reopen_form path d else
-    carry_form path d))))))
+    if begins_anew d then begun_form path d else
+    carry_form path d)))))
 
 -- the text `about`, `counts`, `picture`, `report`, `forget` or `renumber`, or what an array or an object asks for
 unfoldable pub request_form : Path → Data → Read Request
@@ -179,7 +185,7 @@ bare_asked form d = do
 
 -- whether a first line is the opening itself: it has no envelope, and asks for nothing else that may come first
 abbrev pub is_opening : Data → Bool
-is_opening d = not (has_key Open d) && not (has_key Reopen d) && not (is_text (codes "about") d)
+is_opening d = not (begins_anew d) && not (is_text (codes "about") d)
 
 -- a line as a value, which is the first one of its session or not
 unfoldable pub line_form : Bool → Data → Line
@@ -187,6 +193,14 @@ line_form first d =
     if has_key Call d then envelope_line d else (
     if first && is_opening d then record { frame = AsOpening; asked = bare_asked opened_form d } else
     record { frame = Bare; asked = bare_asked request_form d })
+
+-- the line that is this request itself
+abbrev pub bare_line : Request → Line
+bare_line request = record { frame = Bare; asked = Ok (record { caller = 0; request = request }) }
+
+-- a line that means the same first and later: an envelope, or an object that begins the session anew
+unfoldable pub object_line : Data → Read Line
+object_line d = if has_key Call d then Ok (envelope_line d) else (begun_form whole d >>= λ request. Ok (bare_line request))
 
 -- the first byte opens an object
 abbrev pub has_brace : List ℕ → Bool
@@ -211,7 +225,7 @@ line_of first bytes = line_or first (value_of (line_limit first bytes) bytes)
 
 -- the line that is this command itself
 abbrev pub command_line : Command → Line
-command_line command = record { frame = Bare; asked = Ok (record { caller = 0; request = Carry command }) }
+command_line command = bare_line (Carry command)
 
 -- the line is the one that is due, and only out of memory may take the place of what it asks for
 abbrev pub ReadsLine : Line → Line → Type 0

@@ -2,24 +2,30 @@
 use Rattle.std.specs.Prelude.{◌≡◌, ℕ, ◌≤◌, Bool, false, List, [], ◌∷◌, length, codes, Option, None, Ok, unwrap_or}
 use Rattle.std.specs.Option.{is_none}
 use Rattle.std.specs.List.{list_any}
-use Rattle.json.specs.Token.{Token, string as text_token}
+use Rattle.json.specs.Token.{Token, begin_array, string as text_token}
 use Rattle.serde_json.specs.Data.{Items, array, item, number, string, unsigned}
 use Rattle.topo_core.specs.declared.calls.Call.{Call}
 use Rattle.topo_core.specs.declared.calls.Refusal.{Refusal}
 use Rattle.topo_core.specs.declared.rows.Rows.{Rows}
 use Rattle.topo_forms.specs.declared.path.Path.{Path}
 use Rattle.topo_forms.specs.declared.scripts.LimitRows.{LimitRows}
+use Rattle.topo_forms.specs.declared.sessions.Request.{Request}
 use Rattle.topo_forms.specs.CallForms.{begins, call_form}
 use Rattle.topo_forms.specs.Prices.{without_ones}
 use Rattle.topo_forms.specs.ReplyForms.{refusal_form}
 use Rattle.topo_forms.specs.Scripts.{greatest_limits, nulls_of}
-use Rattle.topo_forms.specs.Tokens.{GoesOn}
+use Rattle.topo_forms.specs.Sessions.{request_form}
+use Rattle.topo_forms.specs.Tokens.{Spells, GoesOn}
 use Rattle.topo_core.specs.declared.rows.TheConstants.{KINDS}
 
 -- behind this word, the tokens go on to the end of a call, which is no planned insertion
 abbrev pub SpellsCall : List ℕ → List Token → Call → List Token → Type 0
 SpellsCall word ts call rest = (ds : Items) × GoesOn 0 (text_token word ∷ ts) ds rest × ((path : Path) → call_form path (array ds) ≡ Ok call)
     × (begins (codes "planned") 4 (array ds) ≡ false)
+
+-- behind this word, the tokens go on to the end of the array of a request
+abbrev pub SpellsAsked : List ℕ → List Token → Request → List Token → Type 0
+SpellsAsked word ts request rest = Spells 7 request_form (begin_array ∷ text_token word ∷ ts) request rest
 
 -- behind this number and this name, the tokens go on to the end of a refusal
 abbrev pub SpellsRefusal : ℕ → List ℕ → List Token → Refusal → List Token → Type 0

@@ -106,13 +106,13 @@ pub fn ends_word(bytes: &[u8]) -> bool
     byte == b',' || byte == b']' || byte == b'}' || is_space(byte)
 }
 
-/// Whether a comma, or the end of an array or an object, stands at the front.
+/// Whether nothing is left, or a comma or the end of an array or an object stands at the front.
 #[inline(always)]
 pub fn ends_value(bytes: &[u8]) -> bool
     ensures { result ≡ ends_value bytes.now }
 {
     if bytes.is_empty() {
-        return false;
+        return true;
     }
     let byte = bytes[0];
     byte == b',' || byte == b']' || byte == b'}'

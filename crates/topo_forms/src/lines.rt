@@ -9,7 +9,7 @@ ghost use Rattle.topo_forms.specs.Sessions.{text_id, number_id, id_form, some_id
 ghost use Rattle.topo_forms.specs.Sessions.{envelope_head, envelope_asked, envelope_line};
 ghost use Rattle.topo_forms.specs.Sessions.{bare_asked, opened_form, request_form, is_opening};
 ghost use Rattle.topo_forms.specs.Sessions.{has_brace, line_form, line_limit, frame_without};
-ghost use Rattle.topo_forms.specs.Sessions.{line_of, command_line, ReadsLine};
+ghost use Rattle.topo_forms.specs.Sessions.{bare_line, line_of, command_line, ReadsLine};
 
 use crate::fault::ScriptFault;
 use crate::form::{
@@ -17,7 +17,7 @@ use crate::form::{
 };
 use crate::path::{Key, Path};
 use crate::row_forms::MAX_PICTURE_BYTES;
-use crate::sessions::{Opening, Request, read_opened};
+use crate::sessions::{Opening, Request, begins_anew, read_opened};
 use crate::tokens::read_tokens;
 use serde_json::Value;
 use std::alloc::Global;
@@ -33,7 +33,7 @@ pub const MAX_LINE_BYTES: usize = 65_536;
 pub const MAX_ID_BYTES: usize = 256;
 
 /// The greatest number of a caller.
-const GREATEST_CALLER: u64 = MAX_PASSES as u64 - 1;
+pub(crate) const GREATEST_CALLER: u64 = MAX_PASSES as u64 - 1;
 
 /// The text of an id, which contracts see as its bytes.
 #[derive(Debug)]
@@ -98,7 +98,7 @@ pub struct Line {
 }
 
 /// A text of at most 256 bytes.
-fn read_text_id(alloc: Global, path: Path, text: &str) -> Result<LineId, ScriptFault>
+pub(crate) fn read_text_id(alloc: Global, path: Path, text: &str) -> Result<LineId, ScriptFault>
     ensures { Gives result (text_id path text.now) }
 {
     if text.len() > MAX_ID_BYTES {
@@ -220,7 +220,7 @@ fn asked_bare(alloc: Global, value: &Value) -> Result<Asked, ScriptFault>
 fn is_opening(value: &Value) -> bool
     ensures { result ≡ is_opening (view value.now) }
 {
-    !has_key(Key::Open, value) && !has_key(Key::Reopen, value) && !is_text("about", value)
+    !begins_anew(value) && !is_text("about", value)
 }
 
 /// The line that a value is.
@@ -286,6 +286,28 @@ fn line_of_value(alloc: Global, first: bool, bytes: &[u8]) -> Line
     }
 }
 
+/// The line that is a request itself.
+pub(crate) fn bare_line(request: Request) -> Line
+    ensures { result ≡ bare_line request }
+{
+    Line {
+        frame: Frame::Bare,
+        asked: Ok(Asked { caller: 0, request }),
+    }
+}
+
+/// A line that may be an envelope, or an object that begins the session anew. Such a one is read
+/// from its tokens, if it can be, so that a picture in it takes little memory.
+#[inline(never)]
+fn read_object_line(alloc: Global, first: bool, bytes: &[u8]) -> Line
+    ensures { ReadsLine result (line_of first bytes.now) }
+{
+    match read_tokens(alloc, line_limit(first, bytes), bytes) {
+        Some(line) => line,
+        None => line_of_value(alloc, first, bytes),
+    }
+}
+
 /// The first line of a session. An opening is read from its tokens, if it can be, so that a picture
 /// in it takes little memory.
 #[inline(never)]
@@ -300,7 +322,7 @@ fn read_first(alloc: Global, bytes: &[u8]) -> Line
                 request: Request::Open(opening),
             }),
         },
-        None => line_of_value(alloc, true, bytes),
+        None => read_object_line(alloc, true, bytes),
     }
 }
 
@@ -315,19 +337,16 @@ pub fn read_command(alloc: Global, bytes: &[u8]) -> Option<Command>
     Some(command)
 }
 
-/// A later line. A command is read from its tokens, if it can be, since that is quicker.
+/// A later line. It is read from its tokens, if it can be, since that is quicker.
 #[inline(always)]
 fn read_later(alloc: Global, bytes: &[u8]) -> Line
     ensures { ReadsLine result (line_of false bytes.now) }
 {
-    match read_command(alloc, bytes) {
-        Some(command) => Line {
-            frame: Frame::Bare,
-            asked: Ok(Asked {
-                caller: 0,
-                request: Request::Carry(command),
-            }),
-        },
+    if has_brace(bytes) {
+        return read_object_line(alloc, false, bytes);
+    }
+    match read_tokens(alloc, line_limit(false, bytes), bytes) {
+        Some(request) => bare_line(request),
         None => line_of_value(alloc, false, bytes),
     }
 }

@@ -125,9 +125,9 @@ impl<'a> TokenReader<'a> {
         self.rest.is_empty() && may_close(self.place)
     }
 
-    /// Whether a text in quotes is next, or a key. No contract rests on it.
-    pub fn is_at_text(&self) -> bool {
-        behind(self.rest, b'"').is_some()
+    /// Whether this byte is next. No contract rests on it.
+    pub fn is_at(&self, byte: u8) -> bool {
+        behind(self.rest, byte).is_some()
     }
 
     /// Goes on behind what opens an array or an object, or behind a key and its colon.

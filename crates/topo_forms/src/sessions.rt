@@ -1,10 +1,12 @@
 //! What a session can be asked for: its opening, and what a line of it asks for.
 
+ghost use Rattle.std.specs.Prelude.{◌≡◌};
 ghost use Rattle.serde_json.specs.View.{view};
 ghost use Rattle.topo_forms.specs.Reads.{Gives};
 ghost use Rattle.topo_forms.specs.Sessions.{carry_form, opening_form, opened_form};
 ghost use Rattle.topo_forms.specs.Sessions.{route_form, edge_form, vertex_form, face_form, undo_form};
-ghost use Rattle.topo_forms.specs.Sessions.{open_form, reopen_form, look_form, request_form};
+ghost use Rattle.topo_forms.specs.Sessions.{open_form, reopen_form, begun_form, begins_anew};
+ghost use Rattle.topo_forms.specs.Sessions.{look_form, request_form};
 
 use crate::calls::begins;
 use crate::fault::ScriptFault;
@@ -137,6 +139,24 @@ fn read_reopen(alloc: Global, path: Path, value: &Value) -> Result<Request, Scri
     Ok(Request::Reopen(report))
 }
 
+/// Whether a value is an object that begins the session anew.
+pub(crate) fn begins_anew(value: &Value) -> bool
+    ensures { result ≡ begins_anew (view value.now) }
+{
+    has_key(Key::Open, value) || has_key(Key::Reopen, value)
+}
+
+#[tactic(auto, unfolding(crate::specs::Sessions::begun_form))]
+fn read_begun(alloc: Global, path: Path, value: &Value) -> Result<Request, ScriptFault>
+    ensures { Gives result (begun_form path (view value.now)) }
+{
+    if has_key(Key::Open, value) {
+        read_open(alloc, path, value)
+    } else {
+        read_reopen(alloc, path, value)
+    }
+}
+
 fn read_carry(alloc: Global, path: Path, value: &Value) -> Result<Request, ScriptFault>
     ensures { Gives result (carry_form path (view value.now)) }
 {
@@ -159,10 +179,8 @@ fn read_look(alloc: Global, path: Path, value: &Value) -> Result<Request, Script
         read_face(alloc, path, value)
     } else if begins("undo", 2, value) {
         read_undo(alloc, path, value)
-    } else if has_key(Key::Open, value) {
-        read_open(alloc, path, value)
-    } else if has_key(Key::Reopen, value) {
-        read_reopen(alloc, path, value)
+    } else if begins_anew(value) {
+        read_begun(alloc, path, value)
     } else {
         read_carry(alloc, path, value)
     }

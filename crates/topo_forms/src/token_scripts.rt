@@ -39,7 +39,7 @@ fn token_plain(alloc: Global, word: &[u8], reader: &mut TokenReader<'_>) -> Opti
 }
 
 /// What follows the word of a command.
-fn token_command(alloc: Global, word: &[u8], reader: &mut TokenReader<'_>) -> Option<Command>
+pub fn command_after(alloc: Global, word: &[u8], reader: &mut TokenReader<'_>) -> Option<Command>
     ensures { IfSome result (λ command. Spells 1 command_form
         (begin_array ∷ string word.now ∷ reader.old) command reader.new) }
 {
@@ -58,7 +58,7 @@ impl FromTokens for Command {
     fn from_tokens(alloc: Global, reader: &mut TokenReader<'_>) -> Option<Self> {
         reader.begin_array()?;
         let word = reader.next_text()?;
-        token_command(alloc, word, reader)
+        command_after(alloc, word, reader)
     }
 }
 
@@ -80,7 +80,7 @@ impl FromTokens for Option<Rows> {
     ghost nesting = { 4 };
 
     fn from_tokens(alloc: Global, reader: &mut TokenReader<'_>) -> Option<Self> {
-        if reader.is_at_text() {
+        if reader.is_at(b'"') {
             token_seed(reader)
         } else {
             let rows = Rows::from_tokens(alloc, reader)?;

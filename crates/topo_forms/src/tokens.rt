@@ -138,12 +138,9 @@ pub fn read_tokens<T: FromTokens>(alloc: Global, limit: usize, bytes: &[u8]) -> 
     if bytes.len() > limit {
         return None;
     }
-    if !is_utf8(bytes) {
-        return None;
-    }
     let mut reader = TokenReader::new(bytes);
     let found = T::from_tokens(alloc, &mut reader)?;
-    if reader.is_at_end() {
+    if reader.is_at_end() && is_utf8(bytes) {
         Some(found)
     } else {
         None

@@ -7,4 +7,4 @@ pub returns-in-Some : goal.returns-in-Some
 returns-in-Some c = first_tokens c.args.bytes.now c.in-Some.opening (c.in-Some.ensures (omega arith) whole)
 
 pub returns-in-None : goal.returns-in-None
-returns-in-None c = c.line_of_value.ensures
+returns-in-None c = c.read_object_line.ensures

@@ -1,8 +1,8 @@
-use Rattle.topo_forms.proofs.LineLaws.{reads_command}
+use Rattle.std.proofs.Common.{arith}
+use Rattle.topo_forms.specs.Paths.{whole}
+use Rattle.topo_forms.proofs.LineLaws.{request_bytes}
 use Rattle.topo_forms.proofs.lines.read_later.Goals as goal
 
 pub returns-in-Some : goal.returns-in-Some
-returns-in-Some c = reads_command c.args.bytes.now c.in-Some.command c.in-Some.ensures
-
-pub returns-in-None : goal.returns-in-None
-returns-in-None c = c.line_of_value.ensures
+returns-in-Some c = request_bytes c.args.bytes.now c.in-Some.request c.bare_line.result c.line_limit.ensures
+    (c.in-Some.ensures (omega arith) whole) c.bare_line.ensures
