@@ -5,6 +5,6 @@ pub use Rattle.topo_settings.proofs.Faults.{by_writing, err_by, ok_by}
 -- One list, whose commands one caller has entered, is a run of it.
 pub use Rattle.topo_settings.proofs.OneList.{run_of_one}
 -- Two prices that agree on every edge allow the same runs.
-pub use Rattle.topo_settings.proofs.Pricing.{Allows, back, err_so, ok_so, own_prices, replays_by_table, replays_so, run_so, step_so, there}
+pub use Rattle.topo_settings.proofs.Pricing.{Allows, err_so, ok_so, own_prices, replays_so, run_so, step_so}
 -- What is set, in other words for the same.
 pub use Rattle.topo_settings.proofs.Validating.{sound_so}

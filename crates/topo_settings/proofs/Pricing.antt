@@ -96,15 +96,11 @@ price_there prices table kind is below =
 module _ (price : Pricing) (prices table : List (Option ℕ)) (is : table ≡ price_table prices)
     (tells : (facts : Facts) (n : ℕ) → price facts n → slice_get table facts.kind ≡ Some (Some n))
     (told : (facts : Facts) (n : ℕ) → slice_get table facts.kind ≡ Some (Some n) → price facts n) where
-  pub there : Allows price (priced prices)
+  there : Allows price (priced prices)
   there facts n h = sym (table_price prices table facts.kind (Some n) is facts.known_kind (tells facts n h))
 
-  pub back : Allows (priced prices) price
+  back : Allows (priced prices) price
   back facts n h = told facts n (price_there prices table facts.kind is facts.known_kind ∙ ap Some h)
-
-  pub replays_by_table : (limits : Limits) (p : Rows) (history : List Entry) (q : Rows) → Replays price limits p history q
-      → Replays (priced prices) limits p history q
-  replays_by_table = replays_so price (priced prices) there back
 
 -- a closure that answers what a table of the prices has
 pub own_prices : (answers : Asking) (prices table : List (Option ℕ)) → table ≡ price_table prices
