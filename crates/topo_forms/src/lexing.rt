@@ -238,7 +238,7 @@ fn behind_spelled<'a>(inside: &'a [u8], text: &[u8]) -> Option<&'a [u8]>
 }
 
 /// The words of the forms that are texts.
-const WORDS: [&str; 18] = [
+const WORDS: [&str; 29] = [
     "BadKind",
     "Cut",
     "Full",
@@ -248,15 +248,26 @@ const WORDS: [&str; 18] = [
     "NoRoute",
     "NoVertex",
     "SameEnds",
+    "about",
     "back",
+    "counts",
     "delete",
+    "edge",
+    "face",
+    "forget",
     "forward",
     "grow",
     "insert",
     "ltr",
+    "picture",
     "planned",
+    "renumber",
+    "report",
+    "route",
     "rtl",
     "seed",
+    "undo",
+    "vertex",
 ];
 
 /// The word of the forms that stands at the front of the inside of a text, and what follows it and
