@@ -277,20 +277,16 @@ fn long_ids(rt: HostRuntime) -> Result<(), Fail> {
     Ok(())
 }
 
-/// What stands in a line with a report before, between and behind its two pictures.
-const REPORT: [&str; 3] = [
-    concat!(
-        r#"{"reopen":{"history":[{"call":["delete",1],"caller":0,"reply":{"refused":[4,"NoEdge"]}}],"#,
-        r#""limits":{"crossings":0,"edges":5,"vertices":9},"picture":"#,
-    ),
-    r#","prices":[],"start":"#,
-    r#","version":1}}"#,
-];
+/// A line with a report, up to its first picture.
+const REPORT_BEGINS: &str = concat!(
+    r#"{"reopen":{"history":[{"call":["delete",1],"caller":0,"reply":{"refused":[4,"NoEdge"]}}],"#,
+    r#""limits":{"crossings":0,"edges":5,"vertices":9},"picture":"#,
+);
 
 #[test]
 fn a_report_to_go_on_with(rt: HostRuntime) -> Result<(), Fail> {
-    let [head, between, tail] = REPORT;
-    let line = format!(in rt.alloc(); "{head}{ROWS}{between}{ROWS}{tail}")?;
+    let pictures = format!(in rt.alloc(); "{ROWS},\"prices\":[],\"start\":{ROWS}")?;
+    let line = format!(in rt.alloc(); "{REPORT_BEGINS}{pictures},\"version\":1}}}}")?;
     for first in [true, false] {
         let read = read_text(rt.alloc(), first, line.as_bytes())?;
         assert!(rt; read.as_str() == "bare 0 reopen with 1 entries");
