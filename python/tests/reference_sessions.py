@@ -239,9 +239,7 @@ def reply(path: str, value: Any) -> dict[str, Any]:
     if "refused" in value:
         return members(path, value, refused=refused)
     if "crossed" in value:
-        crossed = lambda path, darts: array(path, darts, dart)  # noqa: E731
-        price = lambda path, value: number(path, value, 2**64)  # noqa: E731
-        return members(path, value, crossed=crossed, edge=number, end=number, price=price, start=number)
+        return members(path, value, crossed=darts, edge=number, end=number, price=cost, start=number)
     return members(path, value, edge=number, vertex=number)
 
 
@@ -251,6 +249,14 @@ def refused(path: str, value: Any) -> list[Any]:
     if value[1:2] != [REFUSALS[value[0]]] or len(value) != 2 + (value[0] == 6):
         raise Told(52, path)
     return value[:2] if len(value) == 2 else [*value[:2], number(f"{path}/2", value[2])]
+
+
+def cost(path: str, value: Any) -> int:
+    return number(path, value, 2**64)
+
+
+def darts(path: str, value: Any) -> tuple[Any, ...]:
+    return array(path, value, dart)
 
 
 def dart(path: str, value: Any) -> list[Any]:
