@@ -10,7 +10,7 @@ from typing import Any
 
 from .reference_sessions import Lines, Told
 from .support import EXAMPLES, ROOT
-from .test_session_lines import a_line, sessions_of_page
+from .test_session_lines import a_line, sessions_of_pages
 
 if find_spec("jsonschema"):
     from jsonschema import Draft202012Validator
@@ -87,7 +87,7 @@ class Schema(unittest.TestCase):
         self.assertGreater(broken, 500)
 
     def test_the_pages(self):
-        for shown in sessions_of_page():
+        for shown in sessions_of_pages():
             lines = Lines()
             for line in (line[2:] for line in shown if line[0] == ">"):
                 self.judge_line(lines, line.encode())

@@ -1,5 +1,5 @@
-"""The program's sessions against those of the second planarizer, on the examples of docs/FORMATS.md and on random
-lines: each answer is as it was predicted.
+"""The program's sessions against those of the second planarizer, on the examples of docs/FORMATS.md and docs/EDITOR.md
+and on random lines: each answer is as it was predicted.
 
 FEZDROK_LINES is how many lines are tried, 20,000 where it is not set, and FEZDROK_SEED the first seed.
 """
@@ -223,11 +223,16 @@ class RandomLines(unittest.TestCase):
         self.assertLessEqual(set(due.split()), names)
 
 
-def sessions_of_page() -> list[list[str]]:
-    """The examples of docs/FORMATS.md: the lines of each, which begin with `>`, `<` or `!`."""
+def sessions_of_pages() -> list[list[str]]:
+    """The examples of docs/FORMATS.md, and docs/EDITOR.md as one example: the lines of each, which begin with `>`, `<` or
+    `!`."""
+    return [*sessions_of_page("FORMATS.md"), [line for shown in sessions_of_page("EDITOR.md") for line in shown]]
+
+
+def sessions_of_page(page: str) -> list[list[str]]:
     sessions: list[list[str]] = []
     is_open = False
-    for line in (ROOT / "docs" / "FORMATS.md").read_text().splitlines():
+    for line in (ROOT / "docs" / page).read_text().splitlines():
         shown = line.startswith(("    > ", "    < ", "    ! "))
         if shown:
             sessions[-1].append(line[4:]) if is_open else sessions.append([line[4:]])
@@ -236,11 +241,11 @@ def sessions_of_page() -> list[list[str]]:
 
 
 class Page(unittest.TestCase):
-    """The examples of docs/FORMATS.md."""
+    """The examples of docs/FORMATS.md and docs/EDITOR.md."""
 
     @needs_program
     def test_the_program(self):
-        for shown in sessions_of_page():
+        for shown in sessions_of_pages():
             asked = "".join(f"{line[2:]}\n" for line in shown if line[0] == ">")
             done = subprocess.run([find_program(), "serve"], input=asked.encode(), capture_output=True, timeout=60)
             due = ["".join(f"{line[2:]}\n" for line in shown if line[0] == mark) for mark in "<!"]
@@ -248,7 +253,7 @@ class Page(unittest.TestCase):
             self.assertEqual(done.returncode, 1 if due[1] else 0)
 
     def test_the_second_planarizer(self):
-        for shown in sessions_of_page():
+        for shown in sessions_of_pages():
             lines, told, end = Lines(), [], []
             for line in (line for line in shown if line[0] == ">"):
                 told.append(line)
@@ -276,7 +281,7 @@ class Page(unittest.TestCase):
         self.assertEqual(done.stdout.decode().splitlines(), due)
 
     def test_each_request_and_each_fault_is_there(self):
-        shown = "\n".join(line for session in sessions_of_page() for line in session)
+        shown = "\n".join(line for session in sessions_of_page("FORMATS.md") for line in session)
         for name in ABOUT["requests"]:
             self.assertRegex(shown, rf"""> .*"{name}\b""")
         refusals = {1: "NoVertex", 2: "SameEnds", 4: "NoEdge", 7: "Full", 9: "NoRoute", 71: "NoDart"}
