@@ -1,11 +1,12 @@
-/* One edge at a time: session PROGRAM begins PROGRAM serve twice, over pipes. It asks the first some lines, one after another,
-   and prints what it answers. To the second it sends 20,000 lines ahead, and prints how many answers came. */
+/* One edge at a time: session PROGRAM begins PROGRAM serve twice, over pipes. It asks the first some lines, and prints what
+   it answers. To the second it sends 20,000 lines ahead, and prints how many answers came. */
 #define _POSIX_C_SOURCE 200809L
 #include <errno.h>
 #include <fcntl.h>
 #include <poll.h>
 #include <signal.h>
 #include <stdio.h>
+#include <stdlib.h>
 #include <string.h>
 #include <sys/wait.h>
 #include <unistd.h>
@@ -71,6 +72,22 @@ static size_t ask(struct session *it, const char *lines, FILE *answers) {
     return told;
 }
 
+/* Has the report told, and the session go on from it, as from one that was kept in a file. */
+static void go_on_from_report(struct session *it) {
+    char *line = NULL;
+    size_t length;
+    FILE *made = open_memstream(&line, &length);
+    if (!made)
+        return;
+    fputs("{\"reopen\":", made);
+    ask(it, "\"report\"\n", made);
+    fseek(made, -1, SEEK_CUR); /* its line feed */
+    fputs("}\n", made);
+    if (!fclose(made))
+        ask(it, line, stdout);
+    free(line);
+}
+
 /* Closes the input of the program, which ends it, and gives its status. */
 static int end(struct session *it) {
     int status = 0;
@@ -81,7 +98,7 @@ static int end(struct session *it) {
 }
 
 int main(int count, char **words) {
-    static const char *lines[] = {"{\"version\":1}\n", "[\"grow\",1,0,0]\n", "[\"route\",0,2]\n", "[\"insert\",0,2,7]\n", "[\"insert\",0,0,0]\n", "[\"delete\",0]\n", "\"counts\"\n", "\"picture\"\n"};
+    static const char *lines[] = {"{\"version\":1}\n", "[\"grow\",1,0,0]\n", "[\"route\",0,2]\n", "[\"insert\",0,2,7]\n", "[\"insert\",0,0,0]\n", "[\"delete\",0]\n", "\"picture\"\n", "[\"undo\",2]\n"};
     static char ahead[20000 * 15 + 1];
     const char *program = count > 1 ? words[1] : "planar";
     struct session one, other;
@@ -91,6 +108,8 @@ int main(int count, char **words) {
         return perror("session"), 1;
     for (size_t i = 0; i < sizeof lines / sizeof *lines && ask(&one, lines[i], stdout); i++)
         ;
+    go_on_from_report(&one);
+    ask(&one, "[\"undo\",1]\n[\"insert\",0,2,7]\n[\"delete\",0]\n\"renumber\"\n\"forget\"\n", stdout);
     status = end(&one);
     for (size_t i = 0; i < 20000; i++)
         memcpy(ahead + 15 * i, i ? "[\"delete\",  0]\n" : "{\"version\": 1}\n", 15);

@@ -12,7 +12,7 @@ from .drawing.qualities import Quality, quality
 from .drawing.step_pages import to_html
 from .drawing.straight_layout import chain, positions
 from .drawing.verification import Defect
-from .engine.answers import About, EdgeAnswer, Meeting, Route, VertexAnswer
+from .engine.answers import About, EdgeAnswer, Meeting, Renumbered, Route, Undone, VertexAnswer
 from .engine.faults import (
     Fault, FaultError, MemoryFault, MemoryFaultError, ModuleMissing, ModuleMissingError, NoReport, NoReportError,
     NotPlanarized, NotPlanarizedError, OtherReport, OtherReportError, PlanarError, PlanarWarning, ProgramFailed,
@@ -27,7 +27,7 @@ from .engine.planarizer import Planarizer
 from .engine.program import Program, find_program
 from .engine.reports import Delete, Deleted, Entry, Grow, Grown, Insert, Inserted, Limits, Planned, Refused, Report
 from .engine.results import Planarization, load
-from .engine.session import Renumbered, Session
+from .engine.session import Session
 from .files.embeddings import from_networkx_embedding, to_networkx_embedding
 from .files.multigraphs import to_networkx_graph
 from .layouts import layout
@@ -97,6 +97,7 @@ __all__ = [
     "Session",
     "SessionClosed",
     "SessionClosedError",
+    "Undone",
     "Unfinished",
     "UnfinishedError",
     "UsageRefused",

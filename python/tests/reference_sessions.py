@@ -6,12 +6,12 @@ from __future__ import annotations
 import json
 import math
 from collections.abc import Callable
-from dataclasses import dataclass, field
+from dataclasses import dataclass, field, replace
 from typing import Any, NamedTuple
 
-from fezdrok import Crossing, Dart, Delete, Edge, Entry, Grow, Insert, Inserted, Limits, Picture, Refused, Report
+from fezdrok import Crossing, Dart, Edge, Entry, Insert, Inserted, Limits, Picture, Refused, Report
 from fezdrok.engine.pictures import json_text
-from fezdrok.engine.reports import Call, Prices, call_from_json
+from fezdrok.engine.reports import Call, Prices, Reply, call_from_json
 
 from . import reference
 from .support import ROOT
@@ -19,7 +19,10 @@ from .support import ROOT
 NAMES = {
     10: "BadPrice", 11: "BadLimits", 20: "TooMany", 21: "BadPath", 22: "BadCrossing", 23: "BadRotation",
     24: "NotConnected", 25: "NotPlanar", 50: "NotJson", 51: "TooLong", 52: "BadShape", 53: "BadVersion",
-    54: "BadNumber", 72: "NotOpen",
+    54: "BadNumber", 60: "WrongReply", 61: "WrongPicture", 70: "NothingToUndo", 72: "NotOpen",
+}
+REFUSALS = {
+    1: "NoVertex", 2: "SameEnds", 3: "NoPosition", 4: "NoEdge", 5: "BadKind", 6: "Cut", 7: "Full", 9: "NoRoute",
 }
 #: The greatest limits, and how many bytes a line may have that begins with `{` or is the first, and another one.
 GREATEST = Limits(65536, 65536, 1048576)
@@ -28,17 +31,21 @@ ABOUT = {
     "limits": GREATEST.to_json(),
     "program": "planar",
     "requests": [
-        "about", "counts", "delete", "edge", "face", "grow", "insert", "open", "picture", "planned", "report", "route",
-        "vertex",
+        "about", "counts", "delete", "edge", "face", "forget", "grow", "insert", "open", "picture", "planned",
+        "renumber", "reopen", "report", "route", "undo", "vertex",
     ],
     "version": (ROOT / "VERSION").read_text().strip(),
 }
 #: Each request that is an array, with how many numbers it has; a face has a way behind them.
-NUMBERS = {"grow": 3, "insert": 3, "planned": 3, "delete": 1, "route": 2, "edge": 1, "vertex": 1, "face": 2}
+NUMBERS = {
+    "grow": 3, "insert": 3, "planned": 3, "delete": 1, "undo": 1, "route": 2, "edge": 1, "vertex": 1, "face": 2,
+}
+#: Each request that is a text.
+WORDS = ("counts", "picture", "report", "forget", "renumber")
 
 
 class Told(Exception):
-    """A fault, by its number, and its path or its kind of edges."""
+    """A fault, by its number, and what stands behind its name."""
 
     def __init__(self, number: int, *values: Any):
         super().__init__(number, *values)
@@ -140,10 +147,8 @@ def edge(path: str, value: Any) -> Edge:
     return Edge.from_json(members(path, value, a=number, b=number, crossings=numbers, id=number, kind=number))
 
 
-def start(path: str, value: Any) -> Picture:
-    if value == "seed":
-        return Picture.seed()
-    rows = members(
+def rows(path: str, value: Any) -> Picture:
+    found = members(
         path,
         value,
         crossings=lambda path, rows: array(path, rows, crossing),
@@ -152,10 +157,28 @@ def start(path: str, value: Any) -> Picture:
         next_edge=number,
         rotations=lambda path, rows: array(path, rows, numbers),
     )
-    return Picture(rows["rotations"], rows["edges"], rows["crossings"], rows["next_edge"], rows["next_crossing"])
+    return Picture(found["rotations"], found["edges"], found["crossings"], found["next_edge"], found["next_crossing"])
 
 
-def opening(path: str, value: Any) -> Opening:
+def start(path: str, value: Any) -> Picture:
+    return Picture.seed() if value == "seed" else rows(path, value)
+
+
+def limits(path: str, value: Any) -> Limits:
+    return Limits.from_json(members(path, value, crossings=number, edges=number, vertices=number))
+
+
+def prices_of(version: int) -> Callable[[str, Any], Prices]:
+    """What reads the prices of this version."""
+
+    def price(path: str, value: Any) -> int | None:
+        return None if value is None and version == 2 else number(path, value)
+
+    return lambda path, value: array(path, value, price, 64)
+
+
+def version_of(path: str, value: Any) -> int:
+    """The version of an opening or a report, which is read before all else."""
     if not isinstance(value, dict):
         raise Told(52, path)
     if "version" not in value:
@@ -163,19 +186,84 @@ def opening(path: str, value: Any) -> Opening:
     version = number(f"{path}/version", value["version"])
     if version not in (1, 2):
         raise Told(53)
+    return version
 
-    def price(path: str, value: Any) -> int | None:
-        return None if value is None and version == 2 else number(path, value)
 
-    def limits(path: str, value: Any) -> Limits:
-        return Limits.from_json(members(path, value, crossings=number, edges=number, vertices=number))
-
+def opening(path: str, value: Any) -> Opening:
+    prices = prices_of(version_of(path, value))
     keyed(path, value, ("version",), ("limits", "prices", "start"))
     return Opening(
         limits(f"{path}/limits", value["limits"]) if "limits" in value else GREATEST,
-        array(f"{path}/prices", value["prices"], price, 64) if "prices" in value else (),
+        prices(f"{path}/prices", value["prices"]) if "prices" in value else (),
         start(f"{path}/start", value["start"]) if "start" in value else Picture.seed(),
     )
+
+
+# ---- Reports
+
+
+def report(path: str, value: Any) -> tuple[Opening, tuple[Entry, ...], Picture]:
+    """The start of a report with its limits and prices, its history, and its picture."""
+    prices = prices_of(version_of(path, value))
+    read = members(
+        path,
+        value,
+        history=lambda path, entries: array(path, entries, entry),
+        limits=limits,
+        picture=rows,
+        prices=prices,
+        start=rows,
+        version=number,
+    )
+    return Opening(read["limits"], read["prices"], read["start"]), read["history"], read["picture"]
+
+
+def entry(path: str, value: Any) -> Entry:
+    return Entry.from_json(members(path, value, call=command, caller=number, reply=reply))
+
+
+def command(path: str, value: Any) -> list[Any]:
+    """A command of a history, where none is planned."""
+    if not isinstance(value, list) or value[:1] not in (["grow"], ["insert"], ["delete"]):
+        raise Told(52, path)
+    if len(value) != 1 + NUMBERS[value[0]]:
+        raise Told(52, path)
+    return [value[0], *(number(f"{path}/{place}", it) for place, it in enumerate(value) if place)]
+
+
+def reply(path: str, value: Any) -> dict[str, Any]:
+    if not isinstance(value, dict):
+        raise Told(52, path)
+    if "deleted" in value:
+        return members(path, value, deleted=number)
+    if "refused" in value:
+        return members(path, value, refused=refused)
+    if "crossed" in value:
+        return members(path, value, crossed=darts, edge=number, end=number, price=cost, start=number)
+    return members(path, value, edge=number, vertex=number)
+
+
+def refused(path: str, value: Any) -> list[Any]:
+    if not isinstance(value, list) or not value or type(value[0]) is not int or value[0] not in REFUSALS:
+        raise Told(52, path)
+    if value[1:2] != [REFUSALS[value[0]]] or len(value) != 2 + (value[0] == 6):
+        raise Told(52, path)
+    return value[:2] if len(value) == 2 else [*value[:2], number(f"{path}/2", value[2])]
+
+
+def cost(path: str, value: Any) -> int:
+    return number(path, value, 2**64)
+
+
+def darts(path: str, value: Any) -> tuple[Any, ...]:
+    return array(path, value, dart)
+
+
+def dart(path: str, value: Any) -> list[Any]:
+    if not isinstance(value, list) or len(value) != 3:
+        raise Told(52, path)
+    edge, segment = (number(f"{path}/{place}", value[place]) for place in (0, 1))
+    return [edge, segment, word(f"{path}/2", value[2], ("forward", "back"))]
 
 
 # ---- Where a session stands
@@ -183,11 +271,12 @@ def opening(path: str, value: Any) -> Opening:
 
 @dataclass
 class Standing:
-    """A picture that was opened, with its history."""
+    """A picture that was opened, with its history, and the picture before each entry of it."""
 
     opened: Opening
     picture: Picture = field(init=False)
     history: list[Entry] = field(init=False, default_factory=list)
+    before: list[Picture] = field(init=False, default_factory=list)
 
     def __post_init__(self) -> None:
         limits, prices, self.picture = self.opened
@@ -198,15 +287,51 @@ class Standing:
                 raise Told(10, kind)
         load(self.picture, limits)
 
+    @staticmethod
+    def of_report(opened: Opening, history: tuple[Entry, ...], picture: Picture) -> Standing:
+        """What a report leads to, if it is true."""
+        standing = Standing(opened)
+        for place, entry in enumerate(history):
+            if standing.entered(entry.caller, entry.call) != entry.reply:
+                raise Told(60, place)
+        if standing.picture != picture:
+            raise Told(61)
+        return standing
+
     def price(self, kind: int) -> int | None:
         return self.opened.prices[kind] if kind < len(self.opened.prices) else 1
 
     def enter(self, caller: int, command: list[Any]) -> Any:
         asked = call_from_json(command)
         call: Call = Insert(asked.u, asked.v, asked.kind) if isinstance(asked, Insert) else asked
+        return self.entered(caller, call).to_json()
+
+    def entered(self, caller: int, call: Call) -> Reply:
+        self.before.append(self.picture)
         reply, self.picture = reference.step(self.picture, call, self.opened.prices, self.opened.limits)
         self.history.append(Entry(call, caller, reply))
-        return reply.to_json()
+        return reply
+
+    def undo(self, count: int) -> Any:
+        if count > len(self.history):
+            raise Told(70, count)
+        for _ in range(count):
+            self.history.pop()
+            self.picture = self.before.pop()
+        now = self.picture
+        told = {"crossings": now.next_crossing, "edges": now.next_edge, "vertices": len(now.rotations)}
+        return {**told, "undone": count}
+
+    def forget(self) -> Any:
+        self.opened = self.opened._replace(start=self.picture)
+        self.history, self.before = [], []
+        return self.counts()
+
+    def renumber(self) -> Any:
+        old = {"crossings": [row.id for row in self.picture.crossings], "edges": [row.id for row in self.picture.edges]}
+        self.picture = closed_up(self.picture)
+        self.forget()
+        return old
 
     def counts(self) -> Any:
         return self.picture.counts._asdict()
@@ -248,6 +373,25 @@ class Standing:
         if row is None or segment >= row.segments:
             return Refused(4, "NoEdge").to_json() if row is None else {"refused": [71, "NoDart"]}
         return {"darts": [dart.to_json() for dart in self.picture.face(Dart(asked, segment, way == "back"))]}
+
+
+def closed_up(picture: Picture) -> Picture:
+    """The picture with its ids of edges and of crossings from 0 on, in their order."""
+    edges = {row.id: place for place, row in enumerate(picture.edges)}
+    crossings = {row.id: place for place, row in enumerate(picture.crossings)}
+    return Picture(
+        tuple(tuple(edges[it] for it in around) for around in picture.rotations),
+        tuple(
+            replace(row, id=edges[row.id], crossings=tuple(crossings[it] for it in row.crossings))
+            for row in picture.edges
+        ),
+        tuple(
+            replace(row, id=crossings[row.id], crossed=edges[row.crossed], newcomer=edges[row.newcomer])
+            for row in picture.crossings
+        ),
+        len(edges),
+        len(crossings),
+    )
 
 
 def load(rows: Picture, limits: Limits) -> None:
@@ -304,7 +448,7 @@ class Lines:
             return json_text({"fault": fault.words})
         if isinstance(value, dict) and "call" in value:
             return self.enveloped(value)
-        if first and value != "about" and not (isinstance(value, dict) and "open" in value):
+        if first and value != "about" and not (isinstance(value, dict) and ("open" in value or "reopen" in value)):
             return json_text(self.opened("$", value))
         return json_text(self.answer_to(lambda: self.asked("$", value, 0)))
 
@@ -341,13 +485,17 @@ class Lines:
         if isinstance(value, dict) and "open" in value:
             keyed(path, value, ("open",))
             return self.opened(f"{path}/open", value["open"])
-        if not isinstance(value, str) or value not in ("counts", "picture", "report"):
+        if isinstance(value, dict) and "reopen" in value:
+            keyed(path, value, ("reopen",))
+            self.standing = Standing.of_report(*report(f"{path}/reopen", value["reopen"]))
+            return self.standing.counts()
+        if not isinstance(value, str) or value not in WORDS:
             self.check_array(path, value)
         if self.standing is None:
             raise Told(72)
         if isinstance(value, str):
             return self.standing.picture.to_json() if value == "picture" else getattr(self.standing, value)()
-        if value[0] in ("route", "edge", "vertex", "face"):
+        if value[0] in ("undo", "route", "edge", "vertex", "face"):
             return getattr(self.standing, value[0])(*value[1:])
         return self.standing.enter(caller, value)
 

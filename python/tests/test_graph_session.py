@@ -173,21 +173,61 @@ class GraphSessions(unittest.TestCase):
         with self.assertRaisesRegex(ValueError, "no edge"):
             planarize(nx.Graph({"a": "b", "c": ""})).parts[1].session()
 
-    def test_compacting(self):
+    def test_renumbering(self):
         with planarize(nx.complete_graph(6), effort="quick").session() as session:
             for u, v in ((0, 1), (2, 3), (4, 5)):
                 session.delete_edge(u, v)
                 session.insert_edge(v, u)
             before = session.result()
-            new = session.compact()
+            old = session.renumber()
             after = session.result()
             session.grow_edge(0, 6)
             session.delete_edge(1, 2)
             self.judge(session.result())
+            with self.assertRaisesRegex(Fault, "70 NothingToUndo 3"):
+                session.undo(3)
+            session.undo(2)
+            self.assertEqual(session.result(), after)
         self.judge(after)
-        self.assertEqual(after.edge_of, {new.edges[edge_id]: edge for edge_id, edge in before.edge_of.items()})
+        self.assertEqual(after.edge_of, {place: before.edge_of[edge_id] for place, edge_id in enumerate(old.edges)})
         self.assertEqual([len(report.history) for report in after.reports], [14, 6, 0])
         self.assertEqual(after.picture.next_edge, 15)
+
+    def test_calls_that_are_taken_back(self):
+        self.graph.add_edge("c", "d", weight=7)
+        for kind in (nx.Graph, nx.MultiGraph, nx.DiGraph, nx.MultiDiGraph):
+            with planarize(kind(self.graph), effort="quick").session(prices=[None]) as session:
+                key = (0,) if session.graph.is_multigraph() else ()
+                results = [session.result()]
+                for call in (
+                    lambda: session.grow_edge("c", "e"),
+                    lambda: session.insert_edge("e", "a"),
+                    lambda: session.insert_edge("b", "d", price=None),
+                    lambda: session.delete_edge("c", "d", *key),
+                    lambda: session.insert_edge("b", "b"),
+                    lambda: session.grow_edge("e", "f"),
+                    lambda: session.insert_edge("f", "b"),
+                ):
+                    try:
+                        call()
+                    except NotPlanarized as refused:
+                        self.assertEqual((refused.edge[:2], session.graph.adj), (("b", "b"), results[-1].graph.adj))
+                    results.append(session.result())
+                for count in (1, 2, 4):
+                    session.undo(count)
+                    results = results[:-count]
+                    now = session.result()
+                    self.judge(now)
+                    self.assertEqual((now, now.reports[-1]), (results[-1], results[-1].reports[-1]))
+                    self.assertEqual(list(now.graph), list(results[-1].graph))
+                self.assertEqual(session.result().graph.edges[("c", "d", *key)], {"weight": 7})
+                self.assertEqual((session.grow_edge("a", "e").vertex, session.graph.has_node("f")), (4, False))
+                self.judge(session.result())
+                with self.assertRaisesRegex(Fault, "70 NothingToUndo 2"):
+                    session.undo(2)
+                session.undo(0)
+                session.undo()
+                self.assertEqual(session.result(), results[0])
 
     def test_calls_that_are_interrupted(self):
         for name in ("read", "write"):
@@ -196,6 +236,7 @@ class GraphSessions(unittest.TestCase):
                     lambda: session.insert_edge("b", "d"),
                     lambda: session.grow_edge("c", "e"),
                     lambda: session.delete_edge("a", "b"),
+                    lambda: session.undo(2),
                 ):
                     with mock.patch.object(line_process.os, name, side_effect=KeyboardInterrupt):
                         with self.assertRaises(KeyboardInterrupt):

@@ -13,8 +13,8 @@ from unittest import mock
 
 from fezdrok import (
     Counts, Dart, Deleted, EdgeAnswer, Fault, Grown, Inserted, Limits, Meeting, MemoryFault, Picture, PlanarError,
-    Planarizer, ProgramFailed, ProgramNotFound, ProgramNotStarted, Refused, Renumbered, Route, Session, SessionClosed,
-    UsageRefused, VertexAnswer, __version__,
+    Planarizer, ProgramFailed, ProgramNotFound, ProgramNotStarted, Refused, Renumbered, Report, Route, Session,
+    SessionClosed, Undone, UsageRefused, VertexAnswer, __version__,
 )
 from fezdrok.engine import line_process
 
@@ -251,8 +251,8 @@ class Questions(unittest.TestCase):
             self.assertEqual(session.report(), Planarizer(limits=Limits(3), prices=[None]).run())
             self.assertEqual(session.open(before).edges, 5)
             self.assertEqual(session.report().start, before)
-            session.compact()
-            self.assertEqual((session.counts().edges, session.prices), (5, ()))
+            session.renumber()
+            self.assertEqual((session.counts().edges, session.prices, session.process_id), (5, (), process))
             with mock.patch.object(line_process.os, "read", side_effect=KeyboardInterrupt):
                 with self.assertRaises(KeyboardInterrupt):
                     session.open(prices=[1])
@@ -260,7 +260,9 @@ class Questions(unittest.TestCase):
 
 
 @needs_program
-class Compacting(unittest.TestCase):
+class Reports(unittest.TestCase):
+    """What takes calls back, begins the report anew or goes on from one."""
+
     def crossed(self, session):
         """Takes edges out and puts them in again, in a picture with crossings."""
         for vertex in range(4):
@@ -269,28 +271,88 @@ class Compacting(unittest.TestCase):
         for edge in edges[::3]:
             session.delete(edge)
 
+    def test_calls_are_taken_back(self):
+        with Session(prices=[2]) as session:
+            told, counts = [], []
+            for name, *numbers in some_calls(60, 4):
+                told.append((session.picture(), session.report()))
+                counts.append(Counts(*session.counts()))
+                getattr(session, name)(*numbers)
+            due = session.report()
+            for count in (0, 1, 7, 30):
+                before, report = told[len(due.history) - count] if count else (due.picture, due)
+                undone = Undone(count, len(before.rotations), before.next_edge, before.next_crossing)
+                self.assertEqual(session.undo(count), undone)
+                self.assertEqual((session.picture(), session.report()), (before, report))
+                for entry in due.history[len(due.history) - count :]:
+                    name, *numbers = entry.call.to_json()
+                    self.assertEqual(getattr(session, name)(*numbers), entry.reply)
+                self.assertEqual(session.report(), due)
+            with self.assertRaises(Fault) as caught:
+                session.undo(61)
+            self.assertEqual(str(caught.exception), "70 NothingToUndo 61")
+            self.assertEqual(session.undo().undone, 1)
+            for count in (-1, 2**32):
+                with self.assertRaisesRegex(Fault, "54 BadNumber .*/1"):
+                    session.undo(count)
+            self.assertEqual(session.undo(59), Undone(59, 2, 1, 0))
+
+    def test_what_is_forgotten(self):
+        with Session(prices=[2]) as session:
+            self.crossed(session)
+            before = session.picture()
+            self.assertEqual(session.forget(), before.counts)
+            report = session.report()
+            self.assertEqual((report.history, report.start, report.picture), ((), before, before))
+            with self.assertRaisesRegex(Fault, "70 NothingToUndo 1"):
+                session.undo()
+            session.grow(0)
+            session.undo()
+            self.assertEqual(session.report(), report)
+
+    def test_a_report_is_gone_on_from(self):
+        with Session(limits=Limits(9, 99, 999), prices=[2, None]) as session:
+            self.crossed(session)
+            report, process = session.report(), session.process_id
+            session.open()
+            self.assertEqual(session.reopen(report), report.picture.counts)
+            self.assertEqual((session.prices, session.limits, session.process_id), ((2, None), Limits(9, 99, 999), process))
+            self.assertEqual(session.report(), report)
+            lie = Report(report.history[1:], report.limits, report.picture, (), report.start, 1)
+            for wrong, due in ((lie, "60 WrongReply 0"), (Report((), *list(vars(lie).values())[1:]), "61 WrongPicture")):
+                with self.assertRaises(Fault) as caught:
+                    session.reopen(wrong)
+                self.assertEqual(str(caught.exception), due)
+            self.assertEqual((session.report(), session.prices), (report, (2, None)))
+        with Session.from_report(report) as session:
+            self.assertEqual((session.report(), session.prices, session.limits), (report, (2, None), report.limits))
+            self.assertEqual(session.undo(len(report.history)), Undone(len(report.history), 2, 1, 0))
+            self.assertEqual(session.report(), Planarizer(limits=report.limits, prices=[2, None]).run())
+        with self.assertRaisesRegex(Fault, "60 WrongReply 0"):
+            Session.from_report(lie)
+
     def test_ids_begin_at_0(self):
         with Session(prices=[2]) as session:
             self.crossed(session)
-            before, counts = session.picture(), session.counts()
+            before, counts, process = session.picture(), session.counts(), session.process_id
             self.assertGreater(counts.crossings, 0)
-            new = session.compact()
+            old = session.renumber()
             after = session.picture()
             self.assertEqual((session.counts(), Planarizer().check(after)), (counts, counts))
-            self.assertEqual(session.report().prices, (2,))
-        self.assertIsInstance(new, Renumbered)
-        self.assertEqual(sorted(new.edges), [row.id for row in before.edges])
-        self.assertEqual(list(new.edges.values()), list(range(counts.edges)))
-        self.assertEqual(list(new.crossings.values()), list(range(counts.crossings)))
+            self.assertEqual((session.report().prices, session.report().start), ((2,), after))
+            self.assertEqual(session.process_id, process)
+        self.assertEqual(old.edges, tuple(row.id for row in before.edges))
+        self.assertEqual(old.crossings, tuple(row.id for row in before.crossings))
         self.assertEqual((after.next_edge, after.next_crossing), (counts.edges, counts.crossings))
-        for row in before.edges:
-            now = after.edge(new.edges[row.id])
-            self.assertEqual((now.a, now.b, now.kind), (row.a, row.b, row.kind))
-            self.assertEqual(now.crossings, tuple(new.crossings[it] for it in row.crossings))
-        for row in before.crossings:
-            now = after.crossing(new.crossings[row.id])
+        for place, row in enumerate(after.edges):
+            then = before.edge(old.edges[row.id])
+            self.assertEqual((row.id, row.a, row.b, row.kind), (place, then.a, then.b, then.kind))
+            self.assertEqual(tuple(old.crossings[it] for it in row.crossings), then.crossings)
+        for place, row in enumerate(after.crossings):
+            then = before.crossing(old.crossings[row.id])
             self.assertEqual(
-                (now.crossed, now.newcomer, now.sign), (new.edges[row.crossed], new.edges[row.newcomer], row.sign)
+                (row.id, old.edges[row.crossed], old.edges[row.newcomer], row.sign),
+                (place, then.crossed, then.newcomer, then.sign),
             )
 
     def test_it_makes_room_where_the_ids_have_run_out(self):
@@ -299,15 +361,21 @@ class Compacting(unittest.TestCase):
                 self.assertEqual(session.insert(0, 1).edge, edge)
                 session.delete(edge)
             self.assertEqual(session.insert(0, 1), Refused(7, "Full"))
-            self.assertEqual(session.compact(), Renumbered({0: 0}, {}))
+            self.assertEqual(session.renumber(), Renumbered((0,), ()))
             self.assertEqual(session.insert(0, 1).edge, 1)
 
-    def test_the_old_process_ends(self):
+    def test_an_interrupt(self):
+        """It ends the session where nothing tells later whether the request was carried out."""
         with Session() as session:
-            old = session.process_id
-            session.compact()
-            self.assertTrue(ended(old))
-            self.assertNotEqual(session.process_id, old)
+            report = session.report()
+        for name, words, is_closed in (
+            ("undo", (0,), False), ("forget", (), False), ("renumber", (), True), ("reopen", (report,), True),
+        ):
+            with Session() as session:
+                with mock.patch.object(line_process.os, "read", side_effect=KeyboardInterrupt):
+                    with self.assertRaises(KeyboardInterrupt):
+                        getattr(session, name)(*words)
+                self.assertEqual(session.is_closed, is_closed)
 
 
 class Ends(unittest.TestCase):
@@ -320,7 +388,7 @@ class Ends(unittest.TestCase):
         self.assertTrue(ended(process))
         self.assertTrue(session.is_closed)
         session.close()
-        for call in (session.counts, session.picture, session.report, session.compact, lambda: session.grow(0)):
+        for call in (session.counts, session.picture, session.undo, session.renumber, lambda: session.grow(0)):
             with self.assertRaises(SessionClosed):
                 call()
 

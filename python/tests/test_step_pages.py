@@ -190,7 +190,7 @@ class PagesOfSteps(unittest.TestCase):
         self.assertEqual([row["kind"] for row in rows["steps"]], ["start", "grown"])
         with planarize(nx.cycle_graph(5)).session() as session:
             session.insert_edge(0, 2)
-            session.compact()
+            session.renumber()
             session.insert_edge(1, 3)
             session.delete_edge(0, 1)
             rows = json.loads(data_of(session.to_html()))

@@ -1,4 +1,4 @@
-"""What a session answers to questions: routes, edges, vertices, and what the program is."""
+"""What a session answers: routes, edges, vertices, what the program is, and what became of ids."""
 
 from __future__ import annotations
 
@@ -123,6 +123,51 @@ class About(NamedTuple):
     def from_json(value: dict[str, Any]) -> "About":
         """What an object with these four keys says."""
         return About(Limits.from_json(value["limits"]), value["program"], tuple(value["requests"]), value["version"])
+
+
+class Undone(NamedTuple):
+    """How many entries of the report were taken back, and what comes next then: the numbers of the next vertex, edge and
+    crossing. What has such a number or a greater one is gone.
+
+    Examples
+    --------
+    >>> from fezdrok import Session
+    >>> with Session() as session:
+    ...     replies = session.grow(0), session.insert(2, 1)
+    ...     session.undo(2)
+    Undone(undone=2, vertices=2, next_edge=1, next_crossing=0)
+    """
+
+    undone: int
+    vertices: int
+    next_edge: int
+    next_crossing: int
+
+    @staticmethod
+    def from_json(value: dict[str, int]) -> "Undone":
+        """What an object with `crossings`, `edges`, `undone` and `vertices` says."""
+        return Undone(value["undone"], value["vertices"], value["edges"], value["crossings"])
+
+
+class Renumbered(NamedTuple):
+    """What `renumber` did: at place i stands the old id of the edge, or of the crossing, that has the id i now.
+
+    Examples
+    --------
+    >>> from fezdrok import Session
+    >>> with Session() as session:
+    ...     replies = session.insert(0, 1), session.delete(0)
+    ...     session.renumber()
+    Renumbered(edges=(1,), crossings=())
+    """
+
+    edges: tuple[int, ...]
+    crossings: tuple[int, ...]
+
+    @staticmethod
+    def from_json(value: dict[str, list[int]]) -> "Renumbered":
+        """What an object with `crossings` and `edges` says."""
+        return Renumbered(tuple(value["edges"]), tuple(value["crossings"]))
 
 
 def face_from_json(value: dict[str, Any]) -> tuple[Dart, ...] | Refused:

@@ -2,19 +2,22 @@
 
 from __future__ import annotations
 
-from collections.abc import Callable, Sequence
+from collections.abc import Callable, Mapping, Sequence
 from dataclasses import replace
 from types import TracebackType
 from typing import Any, Generic, TypeVar
 
+from .answers import Renumbered, Route
 from .faults import NotPlanarized
 from .graph_edges import KINDS, GraphEdge, Node, Price, judge_kinds, name_among
 from .graph_pictures import GraphPicture
 from .pictures import Counts
 from .program import PathLike
 from .reports import Deleted, Grown, Inserted, Limits, Refused, Reply, Report
-from .session import Renumbered, Session
+from .session import Session
 
+#: The edge that a call is for, and the attributes that it has in the graph.
+_Asked = tuple[GraphEdge, dict[str, Any]]
 #: What a session goes on from and gives: a Planarization.
 Result = TypeVar("Result", bound=GraphPicture)
 
@@ -70,8 +73,9 @@ class GraphSession(Generic[Result]):
         self._place_of: dict[Node, int] = {node: place for place, node in enumerate(self.graph)}
         self.edge_of: dict[int, GraphEdge] = {edge_id: self._name(*edge) for edge_id, edge in result.edge_of.items()}
         self._id_of: dict[GraphEdge, int] = {edge: edge_id for edge_id, edge in self.edge_of.items()}
-        self._asked: GraphEdge | None = None
-        self._calls = 0
+        self._asked: _Asked = ((), {})
+        self._entries: list[tuple[_Asked, Reply]] = []  # one for each call of the report
+        self._is_settled = True
         self._session = Session(result.picture, limits, self.prices, program)
 
     def __repr__(self) -> str:
@@ -86,17 +90,17 @@ class GraphSession(Generic[Result]):
 
         networkx.NodeNotFound where one of them is no node; ValueError where they are joined already and the graph is no
         multigraph, or where the price is none of `prices`; NotPlanarized where the program refuses the edge, as 9
-        NoRoute, and where the edge must not be crossed and its route crosses others: it is taken out again.
+        NoRoute, and where the edge must not be crossed and its route crosses others.
         """
         self._settle()
         start, end, kind = self._vertex(u), self._vertex(v), self._kind(price)
         if not self.graph.is_multigraph() and self.graph.has_edge(u, v):
             raise ValueError(f"the graph has the edge {(u, v)!r} already, and is no multigraph")
         name = self._name(u, v, self.graph.new_edge_key(u, v)) if self.graph.is_multigraph() else self._name(u, v)
-        inserted: Inserted = self._made(name, lambda: self._session.insert(start, end, kind))
-        if price is None and inserted.crossed:
-            self._made(name, lambda: self._session.delete(inserted.edge))
+        route = self._session.route(start, end) if price is None else None
+        if isinstance(route, Route) and route.crossed:
             raise NotPlanarized(name)
+        inserted: Inserted = self._made(name, lambda: self._session.insert(start, end, kind))
         return inserted
 
     def grow_edge(self, u: Node, v: Node, price: Price = 1, position: int = 0) -> Grown:
@@ -127,8 +131,21 @@ class GraphSession(Generic[Result]):
         self._settle()
         name = name_among(self._id_of, self.graph, (u, v, *key))
         edge_id = self._id_of[name]
-        deleted: Deleted = self._made(name, lambda: self._session.delete(edge_id))
+        deleted: Deleted = self._made(name, lambda: self._session.delete(edge_id), self.graph.edges[name])
         return deleted
+
+    def undo(self, calls: int = 1) -> None:
+        """Takes the last calls of `insert_edge`, `grow_edge` and `delete_edge` back, those that the program refused
+        too: graph, names and picture are as if they had never been made, and edges that were deleted have their
+        attributes again.
+
+        More than there are since the session began, or since `renumber`, is the Fault 70 NothingToUndo.
+        """
+        self._settle()
+        self._is_settled = False
+        self._session.undo(calls)
+        self._take_back_to(len(self._entries) - calls)
+        self._is_settled = True
 
     def _vertex(self, node: Node) -> int:
         if node not in self._vertex_of:
@@ -150,43 +167,65 @@ class GraphSession(Generic[Result]):
         is_turned = not self.graph.is_directed() and self._place_of[u] > self._place_of[v]
         return (v, u, *key) if is_turned else (u, v, *key)
 
-    def _made(self, name: GraphEdge, call: Callable[[], Reply]) -> Any:
+    def _made(self, name: GraphEdge, call: Callable[[], Reply], attributes: Mapping[str, Any] = {}) -> Any:
         """The reply to a call for this edge, which is noted; NotPlanarized where it is a refusal."""
-        self._asked = name
+        self._asked, self._is_settled = (name, dict(attributes)), False
         reply = call()
-        self._note(name, reply)
-        self._calls += 1
-        self._asked = None
+        self._enter(reply)
+        self._is_settled = True
         if isinstance(reply, Refused):
             raise NotPlanarized(name, reply)
         return reply
 
-    def _note(self, name: GraphEdge, reply: Reply) -> None:
-        """Changes the graph and the names as a reply says. Twice is as once, since it may be interrupted."""
-        if isinstance(reply, Refused):
+    def _settle(self) -> None:
+        """Finds out what became of a call that was interrupted: it is the last of the report or it is not there, and of
+        an `undo` the report is shorter or it is not."""
+        if self._is_settled:
             return
-        if isinstance(reply, Deleted):
-            self.edge_of.pop(reply.edge, None)
-            self._id_of.pop(name, None)
-            if self.graph.has_edge(*name):
-                self.graph.remove_edge(*name)
-            return
+        history = self._session.report().history
+        self._take_back_to(len(history))
+        if len(history) > len(self._entries):
+            self._enter(history[-1].reply)
+        self._is_settled = True
+
+    def _enter(self, reply: Reply) -> None:
+        """Changes the graph and the names as the reply to the call says, and notes it. Twice is as once, since it may be
+        interrupted."""
+        name = self._asked[0]
         if isinstance(reply, Grown):
             self._node_of[reply.vertex :] = [name[1]]
             self._vertex_of[name[1]] = reply.vertex
             self._place_of.setdefault(name[1], len(self._place_of))
-        self.graph.add_edge(*name)
-        self.edge_of[reply.edge] = name
-        self._id_of[name] = reply.edge
+        if isinstance(reply, Deleted):
+            self._remove(name, reply.edge)
+        elif not isinstance(reply, Refused):
+            self._add(name, reply.edge)
+        self._entries.append((self._asked, reply))
 
-    def _settle(self) -> None:
-        """Finds out what became of a call that was interrupted: it is the last of the history, or it is not there."""
-        if self._asked is not None:
-            history = self._session.report().history
-            if len(history) > self._calls:
-                self._note(self._asked, history[-1].reply)
-            self._calls = len(history)
-            self._asked = None
+    def _take_back_to(self, count: int) -> None:
+        """Does the contrary for all calls but so many; twice is as once here too."""
+        while len(self._entries) > count:
+            (name, attributes), reply = self._entries[-1]
+            if isinstance(reply, Deleted):
+                self._add(name, reply.edge, attributes)
+            elif not isinstance(reply, Refused):
+                self._remove(name, reply.edge)
+            if isinstance(reply, Grown):
+                del self._node_of[reply.vertex :]
+                self.graph.remove_nodes_from([name[1]])
+                self._vertex_of.pop(name[1], None)
+                self._place_of.pop(name[1], None)
+            self._entries.pop()
+
+    def _add(self, name: GraphEdge, edge_id: int, attributes: Mapping[str, Any] = {}) -> None:
+        self.graph.add_edge(*name, **attributes)
+        self.edge_of[edge_id] = name
+        self._id_of[name] = edge_id
+
+    def _remove(self, name: GraphEdge, edge_id: int) -> None:
+        self.graph.remove_edges_from([name])
+        self.edge_of.pop(edge_id, None)
+        self._id_of.pop(name, None)
 
     # ---- What there is now
 
@@ -209,25 +248,25 @@ class GraphSession(Generic[Result]):
 
     def to_html(self) -> str:
         """A page of HTML that steps through the calls of this session, with the names of the nodes; see
-        `fezdrok.to_html`. After `compact`, those since then."""
+        `fezdrok.to_html`. After `renumber`, those since then."""
         self._settle()
         return self._session.to_html(self._node_of)
 
-    def compact(self) -> Renumbered:
-        """Begins anew with the ids of edges and crossings from 0 on, as `Session.compact`, and gives the new id of each
-        old one. The names stay. In the result the next report begins from the picture with the new ids. Where this is
-        interrupted, the session is over."""
+    def renumber(self) -> Renumbered:
+        """Closes up the ids of edges and crossings, as `Session.renumber`, and gives the old ones. The names stay. In the
+        result the next report begins from the picture with the new ids. Where this is interrupted, the session is
+        over."""
         self._settle()
         reports = (*self._reports, self._session.report())
         try:
-            new = self._session.compact()
-            self.edge_of = {new.edges[edge_id]: name for edge_id, name in self.edge_of.items()}
+            old = self._session.renumber()
+            self.edge_of = {edge_id: self.edge_of[old_id] for edge_id, old_id in enumerate(old.edges)}
             self._id_of = {name: edge_id for edge_id, name in self.edge_of.items()}
-            self._reports, self._calls = reports, 0
+            self._reports, self._entries = reports, []
         except KeyboardInterrupt:
             self.close()
             raise
-        return new
+        return old
 
     # ---- Its end
 

@@ -6,12 +6,12 @@ import json
 from collections.abc import Callable, Sequence
 from operator import index
 from types import TracebackType
-from typing import Any, ClassVar, NamedTuple, TypeVar
+from typing import Any, ClassVar, TypeVar
 
-from .answers import About, EdgeAnswer, Route, VertexAnswer, face_from_json
+from .answers import About, EdgeAnswer, Renumbered, Route, Undone, VertexAnswer, face_from_json
 from .faults import Fault, ProgramFailed, SessionClosed
 from .line_process import HASTE, LineProcess
-from .pictures import Counts, Crossing, Dart, Edge, Picture, json_text
+from .pictures import Counts, Dart, Picture, json_text
 from .planarizer import Planarizer
 from .program import PathLike, Program
 from .reports import (
@@ -20,32 +20,6 @@ from .reports import (
 
 Value = TypeVar("Value")
 Own = TypeVar("Own", bound="Session")
-
-
-class Renumbered(NamedTuple):
-    """What `compact` did: for each id of an edge and of a crossing before it, the id after it."""
-
-    edges: dict[int, int]
-    crossings: dict[int, int]
-
-
-def renumbered(picture: Picture) -> tuple[Picture, Renumbered]:
-    """The same picture with the ids of edges and crossings from 0 on, in the order in which they were, and how they
-    map."""
-    new = Renumbered(
-        {row.id: place for place, row in enumerate(picture.edges)},
-        {row.id: place for place, row in enumerate(picture.crossings)},
-    )
-    rotations = tuple(tuple(new.edges[edge] for edge in around) for around in picture.rotations)
-    edges = tuple(
-        Edge(new.edges[row.id], row.a, row.b, row.kind, tuple(new.crossings[it] for it in row.crossings))
-        for row in picture.edges
-    )
-    crossings = tuple(
-        Crossing(new.crossings[row.id], new.edges[row.crossed], new.edges[row.newcomer], row.sign)
-        for row in picture.crossings
-    )
-    return Picture(rotations, edges, crossings, len(edges), len(crossings)), new
 
 
 class Session:
@@ -58,8 +32,9 @@ class Session:
     The process begins with the session, and ends with the `with` block or by `close`. A fault of the start, of the
     limits or of the prices is a Fault here, as by `Planarizer.run`.
 
-    `route`, `edge`, `vertex`, `face`, `counts`, `picture` and `report` are questions, which change nothing. `open`
-    begins anew with another picture in the same process.
+    `route`, `edge`, `vertex`, `face`, `counts`, `picture` and `report` are questions, which change nothing. `undo`
+    takes calls back, `forget` and `renumber` begin the report anew, and `open` and `reopen` put another picture in the
+    place of this one, in the same process. `from_report` begins a session where another one ended.
 
     A call that the program refuses changes nothing, and its reply is a Refused. Numbers that are none of the form's, as
     negative ones, are a Fault (54 BadNumber), which changes nothing either. Where the program ends before its time, the
@@ -67,8 +42,8 @@ class Session:
     PlanarError. The session is then closed, and every further call is SessionClosed.
 
     A call that was interrupted, as by Ctrl-C, may have been carried out; `report` says whether it was. The session goes
-    on, but where `open` is interrupted, or the next call while it waits for the end of that one; and it may be over
-    where `compact` is interrupted, or `answers` to more than 512 bytes. A session is for one thread.
+    on, but where `open`, `reopen` or `renumber` is interrupted, or the next call while it waits for the end of that
+    one; and it may be over where `answers` to more than 512 bytes is interrupted. A session is for one thread.
 
     Parameters
     ----------
@@ -99,10 +74,39 @@ class Session:
         prices: Sequence[int | None] | None = None,
         program: PathLike | None = None,
     ):
+        given = Planarizer(start, limits, prices)
+        self._begin(given, _opening(given), program)
+
+    @classmethod
+    def from_report(cls: type[Own], report: Report, program: PathLike | None = None) -> Own:
+        """A session that goes on from a report, with its limits, prices and calls, as by `reopen`.
+
+        Examples
+        --------
+        >>> from fezdrok import Session
+        >>> with Session() as session:
+        ...     reply = session.grow(0)
+        ...     report = session.report()
+        >>> with Session.from_report(report) as session:
+        ...     session.undo()
+        Undone(undone=1, vertices=2, next_edge=1, next_crossing=0)
+        """
+        session = cls.__new__(cls)
+        session._begin(_given_by(report), {"reopen": report.to_json()}, program)
+        return session
+
+    def _begin(self, given: Planarizer, first: dict[str, Any], program: PathLike | None) -> None:
+        """Begins the process with this line."""
         self._program = Program(program)
-        self._given = Planarizer(start, limits, prices)
+        self._given = given
         self._process: LineProcess | None = None
-        self._process = self._begun(start)
+        process = LineProcess(self._program.path)
+        try:
+            _understood(process, process.ask(json_text(first)), _counts)
+        except BaseException:
+            process.end()
+            raise
+        self._process = process
 
     def __repr__(self) -> str:
         return "<Session: closed>" if self._process is None else f"<Session: process {self._process.process_id}>"
@@ -126,17 +130,6 @@ class Session:
     def process_id(self) -> int | None:
         """The number of the program's process, or None where the session is over."""
         return None if self._process is None else self._process.process_id
-
-    def _begun(self, start: Picture | None) -> LineProcess:
-        """A process that has begun with this picture."""
-        opening = _opening(Planarizer(start, self._given.limits, self._given.prices))
-        process = LineProcess(self._program.path)
-        try:
-            _understood(process, process.ask(json_text(opening)), _counts)
-        except BaseException:
-            process.end()
-            raise
-        return process
 
     # ---- Calls
 
@@ -170,16 +163,44 @@ class Session:
         the prices are at fault, as by `Planarizer.run`, that is a Fault, and all is as it was.
         """
         given = Planarizer(start, limits, prices)
-        request = {"open": _opening(given)}
-        try:
-            counts: Counts = self._ask(request, _counts)
-        except Fault:
-            raise
-        except BaseException:
-            self.close()  # whether it was opened is not known
-            raise
+        counts = self._ask_once({"open": _opening(given)}, _counts)
         self._given = given
         return counts
+
+    def reopen(self, report: Report) -> Counts:
+        """Goes on from a report in the same process, and gives the counts of its picture.
+
+        Start, limits, prices and calls are the report's, so `undo` takes its calls back. The picture and the report of
+        before are gone. The program carries the calls out again: a report that is not true is the Fault of
+        `Planarizer.replay`, as 60 WrongReply, and all is as it was.
+        """
+        counts = self._ask_once({"reopen": report.to_json()}, _counts)
+        self._given = _given_by(report)
+        return counts
+
+    # ---- The report
+
+    def undo(self, entries: int = 1) -> Undone:
+        """Takes the last entries of the report back, refused calls too, and gives what comes next then.
+
+        Picture, ids and report are as if these calls had never been made; a call that is made again is answered as it
+        was. More than there are since the report began is the Fault 70 NothingToUndo, which changes nothing. The first
+        `undo` of a session, and one that goes far back, may take as long as the calls of the report took.
+        """
+        return self._ask(["undo", index(entries)], Undone.from_json)
+
+    def forget(self) -> Counts:
+        """Begins the report anew with the picture of now, and gives its counts: what came before takes no memory any
+        more, and cannot be taken back. Ids stay."""
+        return self._ask("forget", _counts)
+
+    def renumber(self) -> Renumbered:
+        """Begins the report anew, as `forget`, and closes up the ids of edges and crossings from 0 in their order.
+
+        Ids are never given twice, and the limits bound them, so after 65,536 edges in all an insertion is refused as 7
+        Full; then this makes room. Vertices keep their numbers.
+        """
+        return self._ask_once("renumber", Renumbered.from_json)
 
     # ---- What there is now
 
@@ -215,29 +236,15 @@ class Session:
         return self._ask("picture", Picture.from_json)
 
     def report(self) -> Report:
-        """The start, each call so far with its reply, and the picture now; `Planarizer.replay` accepts it."""
+        """The start, each call since then with its reply, and the picture now; `Planarizer.replay` accepts it."""
         return self._ask("report", Report.from_json)
 
     def to_html(self, names: Sequence[Any] | None = None) -> str:
         """A page of HTML that steps through the calls so far, with these names for the vertices; see
-        `fezdrok.to_html`. After `compact`, those since then."""
+        `fezdrok.to_html`. Where the report began anew, those since then."""
         pager = type(self).pager
         assert pager is not None, "the package fezdrok was not imported"
         return pager(self.report(), names=names, program=self._program.path)
-
-    def compact(self) -> Renumbered:
-        """Begins anew from the picture of now, with the ids of edges and crossings from 0 on in the order in which they
-        were, and gives the new id of each old one.
-
-        Ids are never given twice, and the limits bound them, so after 65,536 edges in all an insertion is refused as 7
-        Full; then this makes room. Vertices keep their numbers. The report begins anew too: take it before, if it is
-        wanted.
-        """
-        picture, new = renumbered(self.picture())
-        process = self._begun(picture)
-        self.close()
-        self._process = process
-        return new
 
     def picture_text(self) -> str:
         """The picture now, as the program writes it."""
@@ -257,6 +264,17 @@ class Session:
     def _ask(self, request: Any, read: Callable[[Any], Value]) -> Value:
         """The answer to a request, read by this function; Fault where the program refuses the line."""
         return self._asked([json_text(request)], lambda process, answers: _understood(process, answers[0], read))
+
+    def _ask_once(self, request: Any, read: Callable[[Any], Value]) -> Value:
+        """The same for a request that nothing tells later whether it was carried out: where it is interrupted, the
+        session is over."""
+        try:
+            return self._ask(request, read)
+        except Fault:
+            raise
+        except BaseException:
+            self.close()
+            raise
 
     def _asked(self, requests: Sequence[str], read: Callable[[LineProcess, list[bytes]], Value]) -> Value:
         """The answers to some lines, read by this function."""
@@ -292,6 +310,11 @@ def _opening(given: Planarizer) -> dict[str, Any]:
     opening = given.script()
     del opening["workers"]
     return opening
+
+
+def _given_by(report: Report) -> Planarizer:
+    """What a session that goes on from a report was given."""
+    return Planarizer(report.start, report.limits, report.prices)
 
 
 def _understood(process: LineProcess, answer: bytes, read: Callable[[Any], Value]) -> Value:

@@ -236,8 +236,8 @@ class SearchPicture:
         is_room = len(self._place_of) + len(places) <= limits.edges and self.crossings + crossings <= limits.crossings
         if is_full and is_room:
             saved = self.saved()
-            new = self._session.compact()
-            place_of = {new.edges[edge_id]: place for edge_id, place in saved.place_of.items()}
+            old_ids = self._session.renumber().edges
+            place_of = {edge_id: saved.place_of[old_id] for edge_id, old_id in enumerate(old_ids)}
             self._begin(self._session.picture(), place_of, saved)
 
     def _most_at_once(self) -> int:
