@@ -42,6 +42,32 @@ class RefusedAllocations(RefusedAllocationTest):
     def test_check(self):
         self.assertGreater(self.refuse_each("check", (EXAMPLES / "bipyramid.json").read_bytes()), 20)
 
+    def test_serve(self):
+        """A session that is out of memory ends; what it answered before stays."""
+        report = (EXAMPLES / "across_the_cheap_side.report.json").read_bytes().strip()
+        lines = [
+            b'{"version":1}', b'["grow",0,0,0]', b'["insert",1,2,0]', b'["undo",2]', b'["grow",1,0,0]', b'["delete",0]',
+            b'["face",1,0,"forward"]', b'"renumber"', b'["route",0,2]', b'{"call":{"reopen":%s},"id":"a report"}' % report,
+            b'["undo",1]', b'"forget"', b'["vertex",0]', b'"report"',
+        ]   # fmt: skip
+        text = b"".join(line + b"\n" for line in lines)
+        status, answers, told, _ = self.run_refusing("serve", text, 0)
+        self.assertEqual((status, told, answers.count(b"\n")), (0, b"", len(lines)))
+        self.assertNotIn(b'"fault"', answers)
+        wanted = 0
+        for number in range(1, MOST):
+            status, output, told, is_refused = self.run_refusing("serve", text, number)
+            if not is_refused:
+                self.assertEqual((status, output, told), (0, answers, b""))
+                break
+            self.assertTrue(answers.startswith(output) and output.endswith((b"\n", b"")), number)
+            if status:
+                self.assertEqual((status, told), (3, b"planar: 8 Memory\n"), number)
+                wanted += 1
+            else:
+                self.assertEqual((output, told), (answers, b""), number)   # it did without
+        self.assertGreater(wanted, 150)
+
 
 if __name__ == "__main__":
     unittest.main()

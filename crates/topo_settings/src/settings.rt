@@ -13,6 +13,7 @@ use topo_core::rows::{KINDS, Rows};
 use topo_forms::LimitRows;
 use topo_picture::Picture;
 use topo_price::table::{PriceFault, PriceTable};
+use topo_rows::LoadFault;
 
 /// The prices of all kinds and the picture that is started with, or the first fault of the limits,
 /// the prices and the start.
@@ -39,6 +40,7 @@ pub fn validate(
     match start {
         Some(rows) => match Picture::load(alloc, limits, rows) {
             Ok(picture) => Ok((table, picture)),
+            Err(LoadFault::Memory) => Err(RunFault::Memory),
             Err(fault) => Err(RunFault::Load(fault)),
         },
         None => match Picture::seed(alloc, limits) {
