@@ -18,7 +18,7 @@ class Refusals(unittest.TestCase):
         folder = tempfile.TemporaryDirectory()
         self.addCleanup(folder.cleanup)
         self.root = Path(folder.name)
-        for name in ("package", "VERSION", "c/fezdrok.h", "python/fezdrok/__init__.py"):
+        for name in ("package", "VERSION", "c/fezdrok.h", "clients/node/package.json", "python/fezdrok/__init__.py"):
             (self.root / name).parent.mkdir(parents=True, exist_ok=True)
             shutil.copy(ROOT / name, self.root / name)
         self.sources = self.root / ".ci" / "sources"
