@@ -55,6 +55,23 @@ def example_scripts() -> list[Path]:
     return [path.with_name(path.name.replace(".report", "")) for path in example_reports()]
 
 
+def example_rows() -> list[tuple[str, str, str]]:
+    """The rows of the examples: what is done, with which text, and what is told then."""
+    found = []
+    for file in sorted(EXAMPLES.glob("*.rows")):
+        for row in file.read_text().splitlines():
+            verb, *words = row.split(" | ")
+            if row.startswith("#") or len(words) < 2:
+                continue
+            text, *changes, told = words
+            if text.endswith(".json"):
+                text = (EXAMPLES / text).read_text(errors="replace")
+            for old, new in zip(changes[::2], changes[1::2]):
+                text = text.replace(old, new, 1)
+            found.append((verb, text, told))
+    return found
+
+
 # ---- Counts made from a networkx embedding alone
 
 

@@ -9,7 +9,7 @@ from importlib.util import find_spec
 from typing import Any
 
 from .reference_sessions import Lines, Told
-from .support import EXAMPLES, ROOT
+from .support import EXAMPLES, ROOT, example_rows
 from .test_session_lines import a_line, sessions_of_pages
 
 if find_spec("jsonschema"):
@@ -38,23 +38,6 @@ def value_of(text: str) -> Any:
     return value
 
 
-def rows() -> list[tuple[str, str, str]]:
-    """The rows of the examples: a form, a text, and what is told of it."""
-    found = []
-    for file in sorted(EXAMPLES.glob("*.rows")):
-        for row in file.read_text().splitlines():
-            verb, *words = row.split(" | ")
-            if row.startswith("#") or verb not in FORMS or len(words) < 2:
-                continue
-            text, *changes, told = words
-            if text.endswith(".json"):
-                text = (EXAMPLES / text).read_text(errors="replace")
-            for old, new in zip(changes[::2], changes[1::2]):
-                text = text.replace(old, new, 1)
-            found.append((FORMS[verb], text, told))
-    return found
-
-
 @unittest.skipUnless(find_spec("jsonschema"), "left out: jsonschema is not there")
 class Schema(unittest.TestCase):
     @classmethod
@@ -80,10 +63,12 @@ class Schema(unittest.TestCase):
 
     def test_the_examples(self):
         broken = 0
-        for form, text, told in rows():
+        for verb, text, told in example_rows():
+            if verb not in FORMS:
+                continue
             is_broken = told[:2] in ("52", "53", "54")
             if told[:2] not in ("50", "51"):
-                broken += self.judge(form, text, not is_broken) and is_broken
+                broken += self.judge(FORMS[verb], text, not is_broken) and is_broken
         self.assertGreater(broken, 500)
 
     def test_the_pages(self):

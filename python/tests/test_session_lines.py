@@ -15,7 +15,7 @@ from typing import Any
 from fezdrok import Picture, find_program
 
 from .reference_sessions import ABOUT, NAMES, Lines, Standing, Told, opening
-from .support import ROOT, needs_program
+from .support import ROOT, example_rows, needs_program
 
 COUNT, SEED = int(os.environ.get("FEZDROK_LINES", "20000")), int(os.environ.get("FEZDROK_SEED", "1"))
 
@@ -238,6 +238,28 @@ def sessions_of_page(page: str) -> list[list[str]]:
             sessions[-1].append(line[4:]) if is_open else sessions.append([line[4:]])
         is_open = shown
     return sessions
+
+
+@needs_program
+class ReopenedReports(unittest.TestCase):
+    def test_the_reports_of_the_examples(self):
+        """Where a row says what is told of a report, a session tells it too."""
+        lines, asked, due = Lines(), [b'{"call":"about"}'], []
+        lines.answer(asked[0])
+        for verb, text, told in example_rows():
+            if verb not in ("replay", "read report") or told[:2] in ("50", "51"):
+                continue
+            asked.append(b'{"reopen":' + text.replace("\n", " ").encode() + b"}")
+            due.append(lines.answer(asked[-1]))
+            words = told.replace("$", "$/reopen").split() if told[:1].isdigit() else []
+            if words:
+                self.assertEqual([str(it) for it in json.loads(due[-1])["fault"]], words, text[:2000])
+            elif verb == "replay":
+                self.assertEqual(told, f"replayed {len(lines.standing.history)} calls")
+        self.assertGreater(len(asked), 500)
+        done = subprocess.run([find_program(), "serve"], input=b"\n".join(asked), capture_output=True, timeout=60)
+        for line, answer, right in zip(asked[1:], done.stdout.decode().splitlines()[1:], due, strict=True):
+            self.assertEqual(answer, right, line[:2000])
 
 
 class Page(unittest.TestCase):
