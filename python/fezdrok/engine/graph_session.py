@@ -188,11 +188,10 @@ class GraphSession(Generic[Result]):
             self._enter(history[-1].reply)
         self._is_settled = True
 
-    # These change the graph and the names. Twice is as once, since they may be interrupted.
-
     def _enter(self, reply: Reply) -> None:
-        """Does what the reply to the call says, and notes it."""
-        (name, _) = self._asked
+        """Changes the graph and the names as the reply to the call says, and notes it. Twice is as once, since it may be
+        interrupted."""
+        name = self._asked[0]
         if isinstance(reply, Grown):
             self._node_of[reply.vertex :] = [name[1]]
             self._vertex_of[name[1]] = reply.vertex
@@ -204,7 +203,7 @@ class GraphSession(Generic[Result]):
         self._entries.append((self._asked, reply))
 
     def _take_back_to(self, count: int) -> None:
-        """Does the contrary for all calls but so many."""
+        """Does the contrary for all calls but so many; twice is as once here too."""
         while len(self._entries) > count:
             (name, attributes), reply = self._entries[-1]
             if isinstance(reply, Deleted):
