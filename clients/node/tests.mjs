@@ -90,6 +90,13 @@ async function walk(count) {
   if (count >= 3000) assert.deepEqual([...seen].filter((it) => it !== "Full").sort(), due);
 }
 
+/** Each method has its types. */
+function types() {
+  const declared = readFileSync(new URL("fezdrok.d.ts", import.meta.url), "utf8");
+  for (const name of [...Object.getOwnPropertyNames(Session.prototype), "static begin"])
+    assert.match(declared, new RegExp(`^  ${name}\\(`, "m"));
+}
+
 async function rejects(call, kind, message) {
   await assert.rejects(call, (error) => error instanceof kind && message.test(error.message));
 }
@@ -127,6 +134,7 @@ async function faultsAndEnds() {
   await rejects(Session.begin({ program: "yes" }), Ended, /no answer in its form, but serve/);
 }
 
+types();
 await walk(Number(calls));
 await faultsAndEnds();
 console.log(`node: ${calls} calls of a session are as the rules have them, and its faults and ends as they should be`);

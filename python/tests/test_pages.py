@@ -55,8 +55,8 @@ def python_examples(page: str) -> doctest.DocTest:
 
 
 def commands(page: str) -> list[tuple[str, str]]:
-    """The commands of a page, which begin with `$`, each with what it prints; `./test` itself is left out, and without
-    a C compiler what is compiled.
+    """The commands of a page, which begin with `$`, each with what it prints; `./test` itself is left out, and without a
+    C compiler or node what wants it.
 
     Lines that begin with `>` go on with a command. The lines below it, up to an empty one, are what it prints; where
     there are none, nothing is said of what it prints.
@@ -73,7 +73,8 @@ def commands(page: str) -> list[tuple[str, str]]:
         is_open = line.startswith("    $ ") or is_open and line.startswith("    ")
     joined = [("\n".join(lines), "\n".join(printed)) for lines, printed in found]
     in_c = ("cc ", "./session ") if shutil.which("cc") is None else ()
-    return [it for it in joined if not it[0].startswith(("./test", *in_c))]
+    in_node = ("node ",) if shutil.which("node") is None else ()
+    return [it for it in joined if not it[0].startswith(("./test", *in_c, *in_node))]
 
 
 def pattern_of(printed: str) -> str:
