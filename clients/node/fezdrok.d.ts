@@ -68,9 +68,9 @@ export interface Deleted {
 }
 
 export type Command =
-  | ["grow", u: number, position: number, kind: number]
-  | ["insert", u: number, v: number, kind: number]
-  | ["delete", edge: number];
+  | [name: "grow", u: number, position: number, kind: number]
+  | [name: "insert", u: number, v: number, kind: number]
+  | [name: "delete", edge: number];
 
 export interface Report {
   history: { call: Command; caller: number; reply: Grown | Inserted | Deleted | Refusal }[];
