@@ -45,6 +45,7 @@ class Schema(unittest.TestCase):
         cls.of = {
             name: Draft202012Validator({"$ref": f"#/$defs/{name}", "$defs": SCHEMA["$defs"]}) for name in SCHEMA["$defs"]
         }
+        cls.of["any"] = Draft202012Validator(SCHEMA)
 
     def judge(self, form: str, text: str, is_good: bool) -> bool:
         """Whether the schema tells what is due; gives whether there was something to judge."""
@@ -57,9 +58,7 @@ class Schema(unittest.TestCase):
 
     def test_it_is_a_schema(self):
         Draft202012Validator.check_schema(SCHEMA)
-        whole = Draft202012Validator(SCHEMA)
-        self.assertTrue(whole.is_valid(json.loads((EXAMPLES / "bipyramid.json").read_text())))
-        self.assertFalse(whole.is_valid({"rotations": []}))
+        self.assertFalse(self.of["any"].is_valid({"rotations": []}))
 
     def test_the_examples(self):
         broken = 0
@@ -72,12 +71,20 @@ class Schema(unittest.TestCase):
         self.assertGreater(broken, 500)
 
     def test_the_pages(self):
-        for shown in sessions_of_pages():
+        sessions = [[line[2:] for line in shown if line[0] == ">"] for shown in sessions_of_pages()]
+        for file in EXAMPLES.glob("*.lines"):
+            if not file.name.endswith(".answers.lines"):
+                sessions.append(file.read_text().splitlines())
+        for shown in sessions:
             lines = Lines()
-            for line in (line[2:] for line in shown if line[0] == ">"):
-                self.judge_line(lines, line.encode())
             for line in shown:
-                _ = line[0] == "<" and self.judge("answer", line[2:], True)
+                self.judge_line(lines, line.encode())
+        texts = 0
+        for page in (ROOT / "README.md", *(ROOT / "docs").glob("*.md")):
+            for line in page.read_text().splitlines():
+                if line.startswith(("    {", "    < ")):
+                    texts += self.judge("any", line[4:].removeprefix("< "), True)
+        self.assertGreater(texts, 150)
 
     def judge_line(self, lines: Lines, line: bytes) -> bool:
         """Judges a line by what is answered to it; gives whether it is broken, which the schema tells."""
