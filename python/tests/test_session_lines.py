@@ -56,7 +56,7 @@ def an_opening(chance: random.Random, kept: list[Any]) -> dict[str, Any]:
         }
     if chance.random() < 0.5:
         told["start"] = "seed" if not kept or chance.random() < 0.1 else copied(chance.choice(kept)["picture"])
-    if chance.random() < 0.05 and isinstance(start := told.get("start"), dict):
+    if chance.random() < 0.15 and isinstance(start := told.get("start"), dict):
         around = max(start["rotations"], key=len)
         around[1:] = reversed(around[1:])
     return told
@@ -169,8 +169,12 @@ def a_line(chance: random.Random, lines: Lines, kept: list[Any], is_long: bool =
         return json.dumps({"version": 1} if lines.is_first else a_request(chance, lines, kept, is_long)).encode()
     if chance.random() < 0.04:
         return chance.choice(TEXTS)
-    is_opening = lines.is_first and chance.random() < 0.8
-    value = an_opening(chance, kept) if is_opening else a_request(chance, lines, kept, is_long)
+    if lines.is_first and chance.random() < 0.15:
+        value = {"reopen": a_report(chance, lines, kept)}
+    elif lines.is_first and chance.random() < 0.8:
+        value = an_opening(chance, kept)
+    else:
+        value = a_request(chance, lines, kept, is_long)
     if isinstance(value, dict) and chance.random() < 0.3:
         value = nudged(chance, value)
     if chance.random() < (0.05 if lines.is_first else 0.4):
