@@ -1,5 +1,5 @@
-"""docs/fezdrok.schema.json: it takes what has its form, and refuses what the program calls a fault of form, in the examples,
-on the pages and on random lines."""
+"""docs/fezdrok.schema.json: it takes what has its form, and refuses what the program calls a fault of form, in the
+examples, on the pages and on random lines."""
 
 import json
 import random

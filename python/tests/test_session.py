@@ -9,12 +9,13 @@ import subprocess
 import sys
 import time
 import unittest
+from dataclasses import replace
 from unittest import mock
 
 from fezdrok import (
     Counts, Dart, Deleted, EdgeAnswer, Fault, Grown, Inserted, Limits, Meeting, MemoryFault, Picture, PlanarError,
-    Planarizer, ProgramFailed, ProgramNotFound, ProgramNotStarted, Refused, Renumbered, Report, Route, Session,
-    SessionClosed, Undone, UsageRefused, VertexAnswer, __version__,
+    Planarizer, ProgramFailed, ProgramNotFound, ProgramNotStarted, Refused, Renumbered, Route, Session, SessionClosed,
+    Undone, UsageRefused, VertexAnswer, __version__,
 )
 from fezdrok.engine import line_process
 
@@ -316,10 +317,10 @@ class Reports(unittest.TestCase):
             report, process = session.report(), session.process_id
             session.open()
             self.assertEqual(session.reopen(report), report.picture.counts)
-            self.assertEqual((session.prices, session.limits, session.process_id), ((2, None), Limits(9, 99, 999), process))
-            self.assertEqual(session.report(), report)
-            lie = Report(report.history[1:], report.limits, report.picture, (), report.start, 1)
-            for wrong, due in ((lie, "60 WrongReply 0"), (Report((), *list(vars(lie).values())[1:]), "61 WrongPicture")):
+            self.assertEqual((session.prices, session.limits), ((2, None), Limits(9, 99, 999)))
+            self.assertEqual((session.report(), session.process_id), (report, process))
+            lie = replace(report, history=report.history[1:])
+            for wrong, due in ((lie, "60 WrongReply 0"), (replace(report, history=()), "61 WrongPicture")):
                 with self.assertRaises(Fault) as caught:
                     session.reopen(wrong)
                 self.assertEqual(str(caught.exception), due)

@@ -1,5 +1,5 @@
-"""A session of many calls, which renumbers where its ids have run out, and takes calls back and makes them again now and then:
-its process does not grow.
+"""A session of many calls, which renumbers where its ids have run out, and takes calls back and makes them again now
+and then: its process does not grow.
 
 FEZDROK_CALLS is how many edges are taken out and put in, 20,000 where it is not set.
 """

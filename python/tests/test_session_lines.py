@@ -56,7 +56,7 @@ def an_opening(chance: random.Random, kept: list[Any]) -> dict[str, Any]:
         }
     if chance.random() < 0.5:
         told["start"] = "seed" if not kept or chance.random() < 0.1 else copied(chance.choice(kept)["picture"])
-    if chance.random() < 0.05 and isinstance(start := told.get("start"), dict):
+    if chance.random() < 0.15 and isinstance(start := told.get("start"), dict):
         around = max(start["rotations"], key=len)
         around[1:] = reversed(around[1:])
     return told
@@ -83,8 +83,8 @@ def a_report(chance: random.Random, lines: Lines, kept: list[Any]) -> dict[str, 
 
 
 def a_request(chance: random.Random, lines: Lines, kept: list[Any], is_long: bool) -> Any:
-    """A request, of which most numbers are of what may be there. In a long session the history is never ended, and it is
-    seldom taken back."""
+    """A request, of which most numbers are of what may be there. In a long session the history is never ended, and it
+    is seldom taken back."""
     picture = lines.standing.picture if lines.standing else Picture.seed()
     entries = len(lines.standing.history) if lines.standing else 0
     vertices, edges = len(picture.rotations), [row.id for row in picture.edges]
@@ -163,14 +163,18 @@ def nudged(chance: random.Random, value: Any) -> Any:
 
 
 def a_line(chance: random.Random, lines: Lines, kept: list[Any], is_long: bool = False) -> bytes:
-    """A line: a request or an opening, in an envelope or not, mostly without a fault, but for a long session. `kept` are
-    reports."""
+    """A line: a request or an opening, in an envelope or not, mostly without a fault. Those of a long session have no
+    envelope and no fault of form. `kept` are reports."""
     if is_long:
         return json.dumps({"version": 1} if lines.is_first else a_request(chance, lines, kept, is_long)).encode()
     if chance.random() < 0.04:
         return chance.choice(TEXTS)
-    is_opening = lines.is_first and chance.random() < 0.8
-    value = an_opening(chance, kept) if is_opening else a_request(chance, lines, kept, is_long)
+    if lines.is_first and chance.random() < 0.15:
+        value = {"reopen": a_report(chance, lines, kept)}
+    elif lines.is_first and chance.random() < 0.8:
+        value = an_opening(chance, kept)
+    else:
+        value = a_request(chance, lines, kept, is_long)
     if isinstance(value, dict) and chance.random() < 0.3:
         value = nudged(chance, value)
     if chance.random() < (0.05 if lines.is_first else 0.4):
@@ -218,14 +222,15 @@ class RandomLines(unittest.TestCase):
             tried, seed, names = tried + count, seed + 1, names | told
         if COUNT < 20000:
             return
-        due = "NothingToUndo WrongReply WrongPicture NoVertex SameEnds NoPosition NoEdge BadKind Cut Full NoRoute NoDart NotOpen NotJson TooLong BadShape"
+        due = "NoVertex SameEnds NoPosition NoEdge BadKind Cut Full NoRoute NoDart NotOpen NotJson TooLong BadShape"
         due += " BadVersion BadNumber BadPrice BadLimits TooMany BadPath BadCrossing BadRotation NotPlanar"
+        due += " NothingToUndo WrongReply WrongPicture"
         self.assertLessEqual(set(due.split()), names)
 
 
 def sessions_of_pages() -> list[list[str]]:
-    """The examples of docs/FORMATS.md, and docs/EDITOR.md as one example: the lines of each, which begin with `>`, `<` or
-    `!`."""
+    """The examples of docs/FORMATS.md, and docs/EDITOR.md as one example: the lines of each, which begin with `>`, `<`
+    or `!`."""
     return [*sessions_of_page("FORMATS.md"), [line for shown in sessions_of_page("EDITOR.md") for line in shown]]
 
 

@@ -126,8 +126,8 @@ class About(NamedTuple):
 
 
 class Undone(NamedTuple):
-    """How many entries of the report were taken back, and what comes next then: the numbers of the next vertex, edge and
-    crossing. What has such a number or a greater one is gone.
+    """How many entries of the report were taken back, and what comes next then: the numbers of the next vertex, edge
+    and crossing. What has such a number or a greater one is gone.
 
     Examples
     --------

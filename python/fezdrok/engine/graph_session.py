@@ -189,8 +189,8 @@ class GraphSession(Generic[Result]):
         self._is_settled = True
 
     def _enter(self, reply: Reply) -> None:
-        """Changes the graph and the names as the reply to the call says, and notes it. Twice is as once, since it may be
-        interrupted."""
+        """Changes the graph and the names as the reply to the call says, and notes it. Twice is as once, since it may
+        be interrupted."""
         name = self._asked[0]
         if isinstance(reply, Grown):
             self._node_of[reply.vertex :] = [name[1]]
@@ -253,8 +253,8 @@ class GraphSession(Generic[Result]):
         return self._session.to_html(self._node_of)
 
     def renumber(self) -> Renumbered:
-        """Closes up the ids of edges and crossings, as `Session.renumber`, and gives the old ones. The names stay. In the
-        result the next report begins from the picture with the new ids. Where this is interrupted, the session is
+        """Closes up the ids of edges and crossings, as `Session.renumber`, and gives the old ones. The names stay. In
+        the result the next report begins from the picture with the new ids. Where this is interrupted, the session is
         over."""
         self._settle()
         reports = (*self._reports, self._session.report())
