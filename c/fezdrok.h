@@ -1,22 +1,9 @@
 /* SPDX-License-Identifier: MIT OR Apache-2.0 */
-/* The commands `check` and `replay` of Fezdrok, for programs in C: from bytes to bytes, in memory of the caller's.
+/* Fezdrok for programs in C: judgements of texts, and sessions with one picture each.
  *
- * Each judges an input of INPUT_LENGTH bytes and has a text to tell: its answer, or the line of a fault, as the program
- * `planar` prints them. `*size` is set to the length of the text. Where the output has room for it, the text is put to
- * its front, without a zero byte behind it, and the result is
- *
- *     FEZDROK_DONE       the input is a lawful picture, or a true report
- *     FEZDROK_FAULT      it is not: the text is the line of the first fault
- *     FEZDROK_NO_MEMORY  out of memory
- *
- * Else the output stays as it was, and the result is FEZDROK_TOO_SMALL; a call with `*size` bytes of room has the text,
- * unless this or that call is out of memory. Its text then has 17 bytes, so with less room it is FEZDROK_TOO_SMALL too, and
- * the next call may have a longer text. 128 bytes are enough for any text that is not a fault at a deep path of a large
- * input.
- *
- * Input, output and size do not overlap, and none is NULL, even where a length is 0. Both functions allocate by malloc and
- * free what they allocate. They may be called from several threads at once, on memory of their own each, but from no signal
- * handler.
+ * All lengths are in bytes. No text has a zero byte behind it, or a line feed unless this is said. What is allocated is
+ * allocated by malloc and freed by free. Each function may be called from several threads at once, but from no signal
+ * handler, and from no forked child of a process with threads.
  */
 #ifndef FEZDROK_H
 #define FEZDROK_H
@@ -31,16 +18,79 @@ extern "C" {
 /* The version of this file, of the library and of the program. */
 #define FEZDROK_VERSION "0.5.0"
 
-#define FEZDROK_DONE 0
-#define FEZDROK_FAULT 1
-#define FEZDROK_NO_MEMORY 3
-#define FEZDROK_TOO_SMALL 4
+/* What a call comes to, its status. */
+#define FEZDROK_DONE 0           /* done */
+#define FEZDROK_FAULT 1          /* the input is at fault, which a text tells */
+#define FEZDROK_NO_MEMORY 3      /* out of memory */
+#define FEZDROK_TOO_SMALL 4      /* the output has no room for the text */
+#define FEZDROK_NULL_OR_CLOSED 5 /* an argument is NULL, or the session is closed: nothing was done */
+#define FEZDROK_IN_USE 6         /* another call of the session has not ended: nothing was done */
+
+/* The version of the library that is linked, and what a status says. They lie in the library. */
+const char *fezdrok_version(void);
+const char *fezdrok_status_text(uint8_t status);
+
+/* ---- Judgements: the commands `check` and `replay`, from bytes to bytes, in memory of the caller's
+ *
+ * Each judges an input of INPUT_LENGTH bytes and has a text to tell: its answer, or the line of a fault, as the program
+ * `planar` prints them, with its line feed. `*size` is set to the length of the text. Where the output has room for it, the
+ * text is put to its front, and the status is
+ *
+ *     FEZDROK_DONE       the input is a lawful picture, or a true report
+ *     FEZDROK_FAULT      it is not: the text is the line of the first fault
+ *     FEZDROK_NO_MEMORY  out of memory
+ *
+ * Else the output stays as it was, and the status is FEZDROK_TOO_SMALL; a call with `*size` bytes of room has the text,
+ * unless this or that call is out of memory. Its text then has 17 bytes, so with less room it is FEZDROK_TOO_SMALL too, and
+ * the next call may have a longer text. 128 bytes are enough for any text that is not a fault at a deep path of a large
+ * input.
+ *
+ * Input, output and size do not overlap, and none is NULL, even where a length is 0.
+ */
 
 /* Says how large the picture is that the input spells. */
 uint8_t fezdrok_check(const uint8_t *input, size_t input_length, uint8_t *output, size_t output_length, size_t *size);
 
 /* Carries out the history of a report again, and says how many calls it has. */
 uint8_t fezdrok_replay(const uint8_t *input, size_t input_length, uint8_t *output, size_t output_length, size_t *size);
+
+/* ---- Sessions: one picture each, asked line by line as `planar serve` is
+ *
+ * A session is the caller's from fezdrok_open to fezdrok_close. Any thread may call it, one at a time. What it answers lies
+ * in it, and can be read until its next call begins.
+ */
+
+typedef struct fezdrok_session fezdrok_session;
+
+/* Where a text lies, and its length. */
+typedef struct fezdrok_text {
+    const char *at;
+    size_t length;
+} fezdrok_text;
+
+/* Opens a session by the first line of `planar serve`, SETTINGS: a script without lists as {"version":1}, or any other line.
+ *
+ *     FEZDROK_DONE            *answer is what the line is answered; a line that is no opening leaves the picture to a later one
+ *     FEZDROK_FAULT           it is an opening that is at fault: *answer tells the fault, as {"fault":[50,"NotJson"]}, and the
+ *                             session is there, but has no picture
+ *     FEZDROK_NO_MEMORY       *session is NULL
+ *     FEZDROK_NULL_OR_CLOSED  an argument is NULL; nothing was done. SETTINGS may be NULL where its length is 0
+ */
+uint8_t fezdrok_open(const char *settings, size_t settings_length, fezdrok_session **session, fezdrok_text *answer);
+
+/* Answers a line, which stands here without its line feed: a command, a question, an opening or an envelope of these.
+ *
+ *     FEZDROK_DONE            *answer is what `planar serve` answers, also where it refuses the command or tells a fault of the line
+ *     FEZDROK_NO_MEMORY       *answer is empty; all is as it was, or what the line asks for is done and only its answer is lost.
+ *                             The session goes on
+ *     FEZDROK_NULL_OR_CLOSED  or FEZDROK_IN_USE: nothing was done, and *answer is as it was
+ *
+ * That a session is closed is told only while its memory has no new use: it is a fault of the program all the same.
+ */
+uint8_t fezdrok_call(fezdrok_session *session, const char *line, size_t line_length, fezdrok_text *answer);
+
+/* Closes a session, with its last answer. FEZDROK_DONE, or FEZDROK_NULL_OR_CLOSED or FEZDROK_IN_USE, where nothing was done. */
+uint8_t fezdrok_close(fezdrok_session *session);
 
 #ifdef __cplusplus
 }

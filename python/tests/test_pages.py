@@ -72,7 +72,7 @@ def commands(page: str) -> list[tuple[str, str]]:
             found[-1][1].append(line[4:])
         is_open = line.startswith("    $ ") or is_open and line.startswith("    ")
     joined = [("\n".join(lines), "\n".join(printed)) for lines, printed in found]
-    in_c = ("cc ", "./session ") if shutil.which("cc") is None else ()
+    in_c = ("cc ", "./session ", "./editor") if shutil.which("cc") is None else ()
     return [it for it in joined if not it[0].startswith(("./test", *in_c))]
 
 

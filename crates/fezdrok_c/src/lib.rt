@@ -1,19 +1,28 @@
-//! The commands `replay` and `check` for programs in C, from bytes to bytes. The caller keeps all
-//! memory.
+//! The commands `replay` and `check`, and sessions, for programs in C.
 //!
-//! `c/fezdrok.h` declares the functions. `run` is not among them: its lists run in threads, and a
-//! static library of this toolchain starts none.
+//! A judgement goes from bytes to bytes, in memory of the caller's. A session lies in a block of the
+//! caller's, which `fezdrok_begin` fills and `fezdrok_end` gives back. `c/fezdrok.h` declares what
+//! programs call: the judgements, and the functions of `c/fezdrok.c`, which makes the blocks and
+//! turns wrong use away. `run` is not among them: its lists run in threads, and a static library of
+//! this toolchain starts none.
 #![tactic(auto)]
 
 mod handing;
+mod handle;
 
+ghost use Rattle.std.specs.Prelude.{◌≡◌};
+ghost use Rattle.fezdrok_c.specs.Blocks.{Held, answered, begun, block_size, is_held, is_room};
 ghost use Rattle.fezdrok_c.specs.Handing.{Judges};
 ghost use Rattle.topo_check.specs.Checks.{IsSizeOfBytes, IsUnlawful};
 ghost use Rattle.topo_check.specs.Replays.{TellsCalls, TellsUntrue};
 
 use crate::handing::hand_out;
+use crate::handle::{Handle, Text, begin, respond, shut};
 use std::alloc::Global;
+use std::mem::size_of;
+use std::ptr;
 use topo_check::{check_bytes, replay_bytes};
+use topo_price::table::PriceTable;
 
 /// Judges the picture that the input spells. The text is the line that says how large it is, or the
 /// line of the first fault, as the program prints them. Its length goes to `size`, and where it
@@ -48,4 +57,59 @@ pub extern "C" fn fezdrok_replay(
         (TellsUntrue input.now) result output.old output.new size.new }
 {
     hand_out(alloc, replay_bytes(alloc, input), output, size)
+}
+
+/// How many bytes a session takes. A block for one is aligned to 16.
+#[unsafe(no_mangle)]
+pub extern "C" fn fezdrok_size() -> usize
+    ensures { result ≡ block_size }
+{
+    size_of::<Handle<PriceTable>>()
+}
+
+/// Begins a session in a block, by its first line. It is to be ended, also where that line is at
+/// fault: then it is not open. The status is 0 where the line is answered, 1 where it is at fault, and
+/// 3 for out of memory. The text is that of the answer or of the fault, and lies in the session until
+/// its next call.
+#[unsafe(no_mangle)]
+pub unsafe extern "C" fn fezdrok_begin(
+    heap: Global,
+    block: *mut u8,
+    settings: &[u8],
+    text: &mut Text,
+    status: &mut u8,
+)
+    requires* { is_room 𝓛 block }
+    ensures* { begun 𝓛 block settings.now text.new status.new }
+{
+    ptr::write(
+        block as *mut Handle<PriceTable>,
+        begin(heap, settings, text, status),
+    );
+}
+
+/// Answers a line, without its line feed. The result is 0, also where the answer tells a fault of
+/// the line, or 3 for out of memory. The text is that of the answer, and lies in the session until
+/// its next call.
+#[unsafe(no_mangle)]
+pub unsafe extern "C" fn fezdrok_answer(block: *mut u8, line: &[u8], text: &mut Text) -> u8
+    ghost held: { Held }
+    requires* { is_held 𝓛 block held }
+    ensures* { answered 𝓛 block held line.now result text.new }
+{
+    respond(
+        unsafe { &mut *(block as *mut Handle<PriceTable>) },
+        line,
+        text,
+    )
+}
+
+/// Ends a session. The block is the caller's again.
+#[unsafe(no_mangle)]
+pub unsafe extern "C" fn fezdrok_end(block: *mut u8)
+    ghost held: { Held }
+    requires* { is_held 𝓛 block held }
+    ensures* { is_room 𝓛 block }
+{
+    shut(ptr::read(block as *mut Handle<PriceTable>));
 }

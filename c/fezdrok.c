@@ -1,0 +1,98 @@
+/* SPDX-License-Identifier: MIT OR Apache-2.0 */
+/* What stands between a program in C and the proved functions of crates/fezdrok_c. It is not proved: it gives a session its
+ * block, and turns wrong use away before it comes to them. */
+#include "fezdrok.h"
+
+/* Of the C library. Its headers are not read, so that the bytes of this object do not depend on them. */
+void *malloc(size_t size);
+void free(void *block);
+
+/* The proved functions. None may be given NULL, and a session goes from begin over calls, one at a time, to end. */
+size_t fezdrok_size(void);
+void fezdrok_begin(void *block, const char *settings, size_t settings_length, fezdrok_text *text, uint8_t *status);
+uint8_t fezdrok_answer(void *block, const char *line, size_t line_length, fezdrok_text *text);
+void fezdrok_end(void *block);
+
+enum { CLOSED = 0, OPEN = 0x6e65706f, IN_USE = 0x65737575 };
+
+struct fezdrok_session {
+    char spare[16]; /* glibc writes here when the block is freed, so `state` says for a while that it is closed */
+    uint32_t state;
+    _Alignas(16) char block[];
+};
+
+/* Takes a session for a call, or says why it cannot be taken. */
+static uint8_t take(fezdrok_session *session) {
+    uint32_t found = OPEN;
+    if (!session)
+        return FEZDROK_NULL_OR_CLOSED;
+    if (__atomic_compare_exchange_n(&session->state, &found, IN_USE, 0, __ATOMIC_SEQ_CST, __ATOMIC_SEQ_CST))
+        return FEZDROK_DONE;
+    return found == IN_USE ? FEZDROK_IN_USE : FEZDROK_NULL_OR_CLOSED;
+}
+
+/* Says that no call has the session any more. */
+static void leave(fezdrok_session *session, uint32_t state) {
+    __atomic_store_n(&session->state, state, __ATOMIC_SEQ_CST);
+}
+
+uint8_t fezdrok_open(const char *settings, size_t settings_length, fezdrok_session **session, fezdrok_text *answer) {
+    uint8_t status;
+    fezdrok_session *made;
+    if ((!settings && settings_length) || !session || !answer)
+        return FEZDROK_NULL_OR_CLOSED;
+    *session = NULL;
+    made = malloc(sizeof *made + fezdrok_size());
+    if (!made) {
+        *answer = (fezdrok_text){"", 0};
+        return FEZDROK_NO_MEMORY;
+    }
+    fezdrok_begin(made->block, settings ? settings : "", settings_length, answer, &status);
+    if (status == FEZDROK_NO_MEMORY) {
+        *answer = (fezdrok_text){"", 0};
+        fezdrok_end(made->block);
+        free(made);
+        return status;
+    }
+    leave(made, OPEN);
+    *session = made;
+    return status;
+}
+
+uint8_t fezdrok_call(fezdrok_session *session, const char *line, size_t line_length, fezdrok_text *answer) {
+    uint8_t status;
+    if ((!line && line_length) || !answer)
+        return FEZDROK_NULL_OR_CLOSED;
+    status = take(session);
+    if (status)
+        return status;
+    status = fezdrok_answer(session->block, line ? line : "", line_length, answer);
+    leave(session, OPEN);
+    return status;
+}
+
+uint8_t fezdrok_close(fezdrok_session *session) {
+    uint8_t status = take(session);
+    if (status)
+        return status;
+    fezdrok_end(session->block);
+    leave(session, CLOSED);
+    free(session);
+    return FEZDROK_DONE;
+}
+
+const char *fezdrok_version(void) {
+    return FEZDROK_VERSION;
+}
+
+const char *fezdrok_status_text(uint8_t status) {
+    switch (status) {
+    case FEZDROK_DONE: return "done";
+    case FEZDROK_FAULT: return "the input is at fault";
+    case FEZDROK_NO_MEMORY: return "out of memory";
+    case FEZDROK_TOO_SMALL: return "the output is too small";
+    case FEZDROK_NULL_OR_CLOSED: return "an argument is NULL, or the session is closed";
+    case FEZDROK_IN_USE: return "the session is in use";
+    default: return "no status";
+    }
+}
