@@ -275,7 +275,7 @@ class Package(Folder):
         self.prebuilt.parent.mkdir(parents=True, exist_ok=True)
         self.prebuilt.write_text('#!/bin/sh\necho "prebuilt $@"\n')
         self.prebuilt.chmod(0o755)
-        lines = ["kit some kit", "glibc 2.34", f"planar 0123 {sources}", "libfezdrok.a 4567 89ab", ""]
+        lines = ["kit some kit", "glibc 2.34", f"planar 0123 {sources}", "libfezdrok.a 4567 89ab", "libfezdrok.so 4567 89ab", ""]
         self.prebuilt.with_name("MANIFEST").write_text("\n".join(lines))
 
     def sources(self) -> str:

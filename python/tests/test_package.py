@@ -10,7 +10,7 @@ from pathlib import Path
 
 from .support import ROOT
 
-NAMES = ("planar", "libfezdrok.a")
+NAMES = ("planar", "libfezdrok.a", "libfezdrok.so")
 
 
 class Refusals(unittest.TestCase):
@@ -47,7 +47,7 @@ class Refusals(unittest.TestCase):
             (self.prebuilt / name).write_text(name)
 
     def test_a_file_that_is_missing(self):
-        for name in ("libfezdrok.a", "planar", "MANIFEST"):
+        for name in ("libfezdrok.so", "libfezdrok.a", "planar", "MANIFEST"):
             (self.prebuilt / name).unlink()
             self.assertEqual(self.refused(), f"package: there is no prebuilt/x86_64-linux/{name}\n")
 
