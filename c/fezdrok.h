@@ -57,7 +57,8 @@ uint8_t fezdrok_replay(const uint8_t *input, size_t input_length, uint8_t *outpu
 /* ---- Sessions: one picture each, asked line by line as `planar serve` is
  *
  * A session is the caller's from fezdrok_open to fezdrok_close. Any thread may call it, one at a time. What it answers lies
- * in it, and can be read until its next call begins.
+ * in it, and can be read until its next call begins; an answer that is to be a line of the same session is copied before.
+ * The arguments of a call do not overlap, and nobody writes to a line while it is answered.
  */
 
 typedef struct fezdrok_session fezdrok_session;

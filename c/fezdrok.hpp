@@ -3,6 +3,7 @@
 #ifndef FEZDROK_HPP
 #define FEZDROK_HPP
 
+#include <cstdint>
 #include <memory>
 #include <new>
 #include <stdexcept>
@@ -43,7 +44,7 @@ public:
     /* What the first line was answered, until the next call. */
     std::string_view opened() const noexcept { return opened_; }
 
-    /* What a line is answered, until the next call. */
+    /* What a line is answered, until the next call. The line is no part of what the session answered before. */
     std::string_view call(std::string_view line) {
         fezdrok_text told{nullptr, 0};
         opened_ = {};

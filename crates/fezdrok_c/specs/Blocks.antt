@@ -18,7 +18,8 @@ use Rattle.fezdrok_c.specs.declared.handle.Handle.{Handle}
 use Rattle.fezdrok_c.specs.declared.handle.Text.{Text}
 use Rattle.fezdrok_c.specs.Sessions.{IsAnswered, IsBegun}
 
--- a table of prices, in the place of what is asked for them
+-- a table of prices, in the place of what is asked for them; a session has it behind a pointer, so the layout of a session is
+-- the same whatever its place
 abbrev pub T : RattleType
 T = arg (raw (layout table)) no table
 
