@@ -17,6 +17,8 @@ from fezdrok import find_program
 from .support import ROOT, needs_program
 
 PAGES = ("README.md", "docs/USING.md")
+#: The C library of these sources, where the gate has built it.
+LIBRARY = os.environ.get("FEZDROK_C_LIBRARY", "")
 MARK = "-- the next command --"
 
 #: What stands for GNU parallel where it is not there: it does what the two lines of the page want of it, one after
@@ -72,8 +74,9 @@ def commands(page: str) -> list[tuple[str, str]]:
             found[-1][1].append(line[4:])
         is_open = line.startswith("    $ ") or is_open and line.startswith("    ")
     joined = [("\n".join(lines), "\n".join(printed)) for lines, printed in found]
-    in_c = ("cc ", "./session ", "./editor") if shutil.which("cc") is None else ()
-    return [it for it in joined if not it[0].startswith(("./test", *in_c))]
+    in_c = ("cc ", "./session ") if shutil.which("cc") is None else ()
+    over_library = ("cc -O2 -Ic ", "./editor") if in_c or not LIBRARY else ()
+    return [it for it in joined if not it[0].startswith(("./test", *in_c, *over_library))]
 
 
 def pattern_of(printed: str) -> str:
@@ -129,6 +132,8 @@ class Pages(unittest.TestCase):
         for place in ("out", "prebuilt/x86_64-linux"):
             (folder / place).mkdir(parents=True)
             (folder / place / "planar").symlink_to(Path(find_program()).resolve())
+        if LIBRARY:
+            (folder / "prebuilt/x86_64-linux/libfezdrok.a").symlink_to(LIBRARY)
         (folder / "out" / "planar.sources").write_bytes(subprocess.check_output([".ci/sources", "planar"], cwd=folder))
         return folder
 
