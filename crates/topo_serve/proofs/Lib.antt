@@ -1,6 +1,7 @@
 mod AnswerLaws
 mod KeptLines
 mod LineLaws
+mod OpeningFaults
 mod OpeningLaws
 mod SessionLaws
 mod TakingLaws

@@ -1,11 +1,9 @@
 -- The first line of a session, and the session behind it.
-use Rattle.std.proofs.Common.{◌≡◌, ℕ, Bool, true, false, List, [], ◌∷◌, ◌++◌, Option, None, Ok, Err, take, length, ◌<◌, ◌≤◌}
+use Rattle.std.proofs.Common.{◌≡◌, ℕ, Bool, true, false, List, [], ◌∷◌, ◌++◌, Option, None, Err, take, length, ◌<◌, ◌≤◌}
 use Rattle.std.proofs.Common.{inl, inr, refl, sym, ap, subst, ◌∙◌, arith, append_assoc, append-nil, length-append, ltb-true}
-use Rattle.std.specs.Prelude.{⊤}
 use Rattle.std.specs.Io.KnownBytes.{Appends, Keeps}
 use Rattle.std.proofs.KnownBytes.{Appends-trans, Consumes-trans}
-use Rattle.topo_forms.specs.declared.fault.ScriptFault.{ScriptFault}
-use Rattle.topo_forms.specs.declared.fault.ScriptFault.TheVariants.{Memory as NoMemory, NotJson, TooLong, BadShape, BadVersion, BadNumber}
+use Rattle.topo_forms.specs.declared.fault.ScriptFault.TheVariants.{NotJson, TooLong}
 use Rattle.topo_forms.specs.declared.lines.Frame.TheVariants.{Opening}
 use Rattle.topo_forms.specs.declared.lines.Line.{Line}
 use Rattle.topo_forms.specs.Sessions.{line_limit, line_of}
@@ -13,14 +11,7 @@ use Rattle.topo_settings.specs.declared.fault.RunFault.{RunFault}
 use Rattle.topo_settings.specs.declared.fault.RunFault.TheVariants.{Memory, Script, BadLimits, Price, Load, NoSeat, Mismatch}
 use Rattle.topo_settings.specs.declared.fault.RunFault.TheVariants.{WrongReply, WrongPicture, ReadFault, WriteFault}
 use Rattle.topo_settings.specs.Reading.{IsOfReading}
-use Rattle.topo_forms.specs.declared.lines.Asked.{Asked as Asking}
-use Rattle.topo_forms.specs.declared.scripts.LimitRows.{LimitRows}
-use Rattle.topo_forms.specs.declared.sessions.Request.{Request}
-use Rattle.topo_forms.specs.declared.sessions.Request.TheVariants.{Open}
-use Rattle.topo_core.specs.declared.rows.Rows.{Rows}
-use Rattle.topo_forms.specs.Reads.{Read}
-use Rattle.topo_settings.specs.Settings.{IsUnsound}
-use Rattle.topo_session.specs.Answers.{AnswersFirst, IsBadOpening, IsFaultOfAsked, IsFaultOfRequest}
+use Rattle.topo_session.specs.Answers.{AnswersFirst, IsBadOpening}
 use Rattle.topo_session.specs.Standings.{Standing}
 use Rattle.topo_session.proofs.Interface.{line_legal}
 use Rattle.topo_serve.specs.declared.ahead.Part.{Part}
@@ -31,6 +22,7 @@ use Rattle.topo_serve.specs.Taking.{OverUnless, ReadsNoFeed, Takes, TakesFirst, 
 use Rattle.topo_serve.specs.Turns.{Begins, BeginsPart, FirstFailsBy, FirstLineFailsBy, IsBegunBy, IsPartlyBegunBy, LinesFailBy}
 use Rattle.topo_serve.specs.Turns.{ServesAll, ServesPart, ServesSome, Streams}
 use Rattle.topo_serve.proofs.AnswerLaws.{answered_legal}
+use Rattle.topo_serve.proofs.OpeningFaults.{bad_opening}
 use Rattle.topo_serve.proofs.KeptLines.{json_none, kept_long, line_kept, value_long, value_none}
 use Rattle.topo_serve.proofs.LineLaws.{first_behind, first_of_line, first_of_plain, line_alone, line_then}
 
@@ -49,46 +41,6 @@ line_empty = rw (value_none 268435456 [] json_none refl) refl
 not_empty_line : (line : Line) (text : List ℕ) (to : Option Standing) → line ≡ record { frame = Opening; asked = Err NotJson }
     → AnswersFirst line text to → ⊥
 not_empty_line line text to is first = rw is at (first.opens (ap (λ (l : Line). l.frame) is))
-
--- ---- The faults that a first line may have
-
-abbrev IsOfOpening : RunFault → Type 0
-IsOfOpening Memory = ⊤
-IsOfOpening (Script fault) = ⊤
-IsOfOpening BadLimits = ⊤
-IsOfOpening (Price fault) = ⊤
-IsOfOpening (Load fault) = ⊤
-IsOfOpening _ = ⊥
-
-unsound_of : (numbers : LimitRows) (prices : List (Option ℕ)) (start : Option Rows) (fault : RunFault) → IsUnsound numbers prices start fault
-    → IsOfOpening fault
-unsound_of numbers prices start Memory is = tt
-unsound_of numbers prices start (Script fault) is = tt
-unsound_of numbers prices start BadLimits is = tt
-unsound_of numbers prices start (Price fault) is = tt
-unsound_of numbers prices start (Load fault) is = tt
-unsound_of numbers prices start _ is = absurd is
-
-memory_of : (fault : RunFault) → fault ≡ Memory → IsOfOpening fault
-memory_of fault is = subst IsOfOpening (sym is) tt
-
-request_of : (request : Request) (fault : RunFault) → IsFaultOfRequest request fault → IsOfOpening fault
-request_of (Open opening) fault is = unsound_of opening.limits opening.prices opening.start fault is
-request_of _ fault is = memory_of fault is
-
-script_of : (script : ScriptFault) (fault : RunFault) → IsFaultOfAsked (Err script) fault → IsOfOpening fault
-script_of script Memory is = tt
-script_of NoMemory fault is = absurd is
-script_of NotJson fault is = subst IsOfOpening (sym is) tt
-script_of TooLong fault is = subst IsOfOpening (sym is) tt
-script_of (BadShape path) fault is = subst IsOfOpening (sym is) tt
-script_of BadVersion fault is = subst IsOfOpening (sym is) tt
-script_of (BadNumber path) fault is = subst IsOfOpening (sym is) tt
-
-of_opening : (asked : Read Asking) (fault : RunFault) → IsFaultOfAsked asked fault → IsOfOpening fault
-of_opening asked Memory is = tt
-of_opening (Err script) fault is = script_of script fault is
-of_opening (Ok asked) fault is = request_of asked.request fault is
 
 -- ---- A first line that is no opening
 
@@ -206,7 +158,7 @@ module _ (old_left new_left old_held new_held : Option (List ℕ)) (old ahead ke
     pub first_told : (fault : RunFault) → FirstLineFailsBy fault kept old_held new_held → FirstFailsBy fault from to
     first_told Memory is = is
     first_told WriteFault is = begins_part is
-    first_told ReadFault is = absurd (of_opening _ ReadFault is.0.is)
+    first_told ReadFault is = absurd (bad_opening kept ReadFault is.0)
     first_told (Script fault) is = bad (Script fault) is
     first_told BadLimits is = bad BadLimits is
     first_told (Price fault) is = bad (Price fault) is
@@ -392,7 +344,7 @@ first_fails (Script fault) old new is = is
 first_fails BadLimits old new is = is
 first_fails (Price fault) old new is = is
 first_fails (Load fault) old new is = is
-first_fails NoSeat old new is = of_opening _ NoSeat is.0.first.is
-first_fails (Mismatch list i) old new is = of_opening _ (Mismatch list i) is.0.first.is
-first_fails (WrongReply i) old new is = of_opening _ (WrongReply i) is.0.first.is
-first_fails WrongPicture old new is = of_opening _ WrongPicture is.0.first.is
+first_fails NoSeat old new is = bad_opening (first_line is.0.input) NoSeat is.0.first
+first_fails (Mismatch list i) old new is = bad_opening (first_line is.0.input) (Mismatch list i) is.0.first
+first_fails (WrongReply i) old new is = bad_opening (first_line is.0.input) (WrongReply i) is.0.first
+first_fails WrongPicture old new is = bad_opening (first_line is.0.input) WrongPicture is.0.first
