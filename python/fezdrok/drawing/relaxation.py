@@ -282,11 +282,15 @@ def _weights(lines: Sequence[_Line], points: Sequence[Position] | None) -> dict[
     for line in lines:
         weight = STRAIGHTEN * (1 + MORE * (len(line.passed) - 1))
         if points is not None:
-            ways = [complex(*points[two]) - complex(*points[one]) for one, two in zip(line.nodes, line.nodes[1:])]
-            turn = sum(abs(phase(two * one.conjugate())) for one, two in zip(ways, ways[1:]))
-            weight *= max(1.0, turn / FAR) ** POWER
+            weight *= max(1.0, turn_along([complex(*points[node]) for node in line.nodes]) / FAR) ** POWER
         found.update(dict.fromkeys(line.passed, weight))
     return found
+
+
+def turn_along(points: Sequence[complex]) -> float:
+    """How many radians a chain of straight lines turns at its points, whichever way."""
+    ways = [end - start for start, end in zip(points, points[1:])]
+    return sum(abs(phase(two * one.conjugate())) for one, two in zip(ways, ways[1:]))
 
 
 def _energy(
