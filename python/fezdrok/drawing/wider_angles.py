@@ -23,7 +23,7 @@ TURN = 0.004
 CROWDED = 0.05
 #: Below which distance a point and a line are near, for one point; for n points it is less by the root of n.
 ROOM = 0.4
-#: In how many directions a point is tried. Its step at first and at least, where the disk has a radius of 1, and by what
+#: In how many directions a point is tried. Its step at first and at least, where the disk has the radius 1, and by what
 #: it gets longer and shorter.
 DIRECTIONS = 8
 FIRST = 0.1
