@@ -13,6 +13,8 @@ import unittest
 from contextlib import nullcontext, redirect_stderr, redirect_stdout
 from importlib.util import find_spec
 from pathlib import Path
+from types import SimpleNamespace
+from unittest import mock
 from xml.etree import ElementTree
 
 import networkx as nx
@@ -133,6 +135,29 @@ class Commands(Files):
         self.assertEqual(self.ran("draw", "k6.planar.json", "-o", "again.svg")[0], 0)
         self.assertEqual(Path("again.svg").read_bytes(), Path("curved/k6.svg").read_bytes())
 
+    def test_draw_as_pdf_and_png(self):
+        """By the suffix of the output; without the package the words are refused, before anything is planarized."""
+        package = SimpleNamespace(
+            svg2pdf=lambda bytestring: b"%PDF" + bytestring, svg2png=lambda bytestring, scale: b"%PNG" + bytestring
+        )
+        with mock.patch.dict("sys.modules", {"cairosvg": package}):
+            for name in ("k6.pdf", "k6.PNG"):
+                self.assertEqual(self.ran("draw", "k6.gml", "-o", name)[0::2], (0, []))
+                self.assertRegex(Path(name).read_bytes(), f"^%{name[3:].upper()}<svg ".encode())
+        with mock.patch.dict("sys.modules", {"cairosvg": None}):
+            status, lines, told = self.ran("draw", "k6.gml", "-o", "no.pdf")
+        self.assertEqual((status, lines, Path("no.pdf").exists()), (2, [], False))
+        self.assertRegex(told[0], "want the package cairosvg.*pip install cairosvg, the extra 'pdf' of fezdrok")
+
+    def test_node_size(self):
+        for size in ("fixed", "grow"):
+            words = ("--style", "orthogonal", "--node-size", size, "-o", f"{size}.svg")
+            self.assertEqual(self.ran("draw", "k6.gml", *words)[0::2], (0, []))
+        self.ran("draw", "k6.gml", "--style", "orthogonal", "-o", "as_it_is.svg")
+        self.assertEqual(Path("fixed.svg").read_bytes(), Path("as_it_is.svg").read_bytes())
+        self.assertNotEqual(Path("fixed.svg").read_bytes(), Path("grow.svg").read_bytes())
+        self.assertEqual(self.ran("draw", "k6.gml", "--node-size", "none")[0], 2)
+
     def test_colours_stand_at_their_nodes(self):
         graph = nx.Graph([(letter, other) for letter in "abcd" for other in "wxyz"])
         nx.set_node_attributes(graph, {node: f"#0000{ord(node):02x}" for node in graph}, "color")
@@ -208,6 +233,9 @@ class Commands(Files):
             status, lines, told = self.ran(*words)
             self.assertEqual((status, told), (0, []))
         self.assertEqual(lines, [f"fezdrok {__version__}"])
+        shown = " ".join(self.ran("draw", "--help")[1])
+        for word in ("--node-size {fixed,grow}", "g.pdf or g.png", "SVG, PDF or PNG"):
+            self.assertIn(word, " ".join(shown.split()))
 
 
 @needs_program

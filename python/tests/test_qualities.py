@@ -72,8 +72,8 @@ class Bounds(unittest.TestCase):
                     self.assertLessEqual(its.node_share, 0.1)
                 else:
                     self.assertLessEqual(its.node_share, 0.06)
-                    self.assertLessEqual(its.small_angles, 0.1 if name in dense else 0.02)
-                    self.assertLessEqual(its.mean_turn, 65 if name in dense else 30)
+                    self.assertLessEqual(its.small_angles, 0.02)
+                    self.assertLessEqual(its.mean_turn, 45 if name in dense else 30)
                     self.assertLessEqual(its.length_ratio, 8)
                 if style == "curved":
                     self.assertEqual(its.bends, 0)

@@ -10,9 +10,9 @@ from collections.abc import Callable, Iterator
 from contextlib import contextmanager
 from typing import Any
 
-from ..drawing.drawings import to_svg
+from ..drawing.drawings import drawing_of, to_svg
 from ..drawing.step_pages import to_html
-from ..engine.faults import PlanarError, PlanarWarning
+from ..engine.faults import ModuleMissing, PlanarError, PlanarWarning
 from ..engine.reports import Report
 from ..engine.results import SUFFIX, Planarization, single
 from ..engine.whole_files import write_whole
@@ -201,7 +201,7 @@ def draw_files(words: argparse.Namespace) -> int:
     def work(path: str) -> None:
         place = outputs.place_for(path)
         result = planarized(path, words)
-        put(drawn(result, words.style, words.labels, words.color).encode(), place, line_of(path, result))
+        put(drawn(result, place, words), place, line_of(path, result))
 
     return Run().each(inputs, work)
 
@@ -256,22 +256,26 @@ def view_files(words: argparse.Namespace) -> int:
 # ---- Drawings
 
 
-def drawn(result: Planarization, style: str | None, labels: str | None, color: str | None) -> str:
-    """The drawing as SVG, its nodes with the labels and in the colours that attributes of theirs say."""
-    if color is not None and not any(color in row for _, row in result.graph.nodes(data=True)):
-        raise ValueError(f"no node has the attribute {color!r}")
-    words: dict[str, Any] = {"style": style, "labels": labels, "node_color": color}
-    return to_svg(result, **{word: value for word, value in words.items() if value is not None})
+def drawn(result: Planarization, place: str, words: argparse.Namespace) -> bytes:
+    """The drawing as a file with such a name holds it: PDF, PNG, or else SVG. Its nodes have the labels and the colours
+    that attributes of theirs say."""
+    if words.color is not None and not any(words.color in row for _, row in result.graph.nodes(data=True)):
+        raise ValueError(f"no node has the attribute {words.color!r}")
+    options = {"style": words.style, "labels": words.labels, "node_size": words.node_size}
+    drawing = drawing_of(result, **{name: value for name, value in options.items() if value is not None})
+    paint = {} if words.color is None else {"node_color": words.color}
+    if place.lower().endswith(".pdf"):
+        return drawing.to_pdf(**paint)
+    return drawing.to_png(**paint) if place.lower().endswith(".png") else drawing.to_svg(**paint).encode()
 
 
-def style_fault(style: str | None) -> str | None:
-    """What is wrong with the name of a style, or None."""
-    if style is not None:
-        import networkx
+def drawing_fault(words: argparse.Namespace) -> str | None:
+    """Why nothing can be drawn with these words, be it for want of a package, or None."""
+    import networkx
 
-        try:
-            to_svg(single(networkx.empty_graph(1), 0, ()), style=style)
-        except ValueError as fault:
-            return str(fault)
+    try:
+        plain = argparse.Namespace(**{**vars(words), "labels": None, "color": None})
+        drawn(single(networkx.empty_graph(1), 0, ()), words.output or DASH, plain)
+    except (ValueError, ModuleMissing) as fault:
+        return str(fault)
     return None
-

@@ -13,7 +13,7 @@ from ..engine.program import Program
 from ..files.graph_files import FORMATS, GraphFileError
 from ..files.graphs import Objective
 from ..search.options import EffortName
-from .graph_work import convert_files, draw_files, output_form, planarize_files, style_fault, verify_file, view_files
+from .graph_work import convert_files, draw_files, drawing_fault, output_form, planarize_files, verify_file, view_files
 from .lines import answer_lines
 from .statistics import show_statistics
 from .streams import INTERRUPTED, REFUSED, OutputLostError, complain, let_go, say
@@ -78,7 +78,7 @@ def _parser(version: str) -> Parser:
         return added
 
     _add_planarize(command("planarize", "planarize graphs, and write each with its picture", planarize_files))
-    _add_draw(command("draw", "planarize graphs, and draw each as SVG", draw_files))
+    _add_draw(command("draw", "planarize graphs, and draw each as SVG, PDF or PNG", draw_files))
     _add_stats(command("stats", "how large graphs are, and how few crossings they have", show_statistics))
     verify = command("verify", "judge whether a planarization is whole, and true of its graph", verify_file)
     verify.add_argument("file", metavar="PLANARIZATION", help="a file that fezdrok planarize wrote, or -")
@@ -116,8 +116,10 @@ def _add_planarize(parser: argparse.ArgumentParser) -> None:
 
 
 def _add_draw(parser: argparse.ArgumentParser) -> None:
-    _add_files(parser, "a file as g.svg, a folder, or - for standard output")
+    _add_files(parser, "a file as g.svg, g.pdf or g.png (these two want cairosvg), a folder, or - for standard output")
     parser.add_argument("--style", help="the style of the drawing: straight, curved (the default) or orthogonal")
+    size_help = "in the style orthogonal: small nodes (fixed, the default), or such that edges bend little (grow)"
+    parser.add_argument("--node-size", choices=("fixed", "grow"), help=size_help)
     parser.add_argument("--labels", metavar="ATTR", help="the attribute of nodes that is their label")
     parser.add_argument("--color", metavar="ATTR", help="the attribute of nodes by which they are coloured")
     _add_search(parser)
@@ -151,7 +153,7 @@ def _judge(parser: Parser, words: argparse.Namespace) -> None:
         parser.error(f"{words.command}: several files want a folder: -o FOLDER")
     if files.count("-") > 1:
         parser.error(f"{words.command}: standard input can be read only once")
-    if fault := style_fault(getattr(words, "style", None)):
+    if words.command == "draw" and (fault := drawing_fault(words)):
         parser.error(f"draw: {fault}")
     if words.command == "convert":
         try:

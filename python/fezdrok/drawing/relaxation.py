@@ -133,11 +133,11 @@ class _Forces:
 
     def __init__(self, count: int, shape: float):
         self.shape = shape
-        self.links: list[list[tuple[int, float]]] = [[] for _ in range(count)]
-        self.triangles: list[list[tuple[int, int, float]]] = [[] for _ in range(count)]
-        self.lines: list[list[tuple[int, int, float]]] = [[] for _ in range(count)]
-        self.ends: list[list[tuple[int, int, float]]] = [[] for _ in range(count)]
-        self.squared: list[list[Position]] = [[] for _ in range(count)]
+        self.links: list[Sequence[tuple[int, float]]] = [()] * count
+        self.triangles: list[Sequence[tuple[int, int, float]]] = [()] * count
+        self.lines: list[Sequence[tuple[int, int, float]]] = [()] * count
+        self.ends: list[Sequence[tuple[int, int, float]]] = [()] * count
+        self.squared: list[Sequence[Position]] = [()] * count
         self.crossed: list[tuple[int, tuple[int, int, int, int]]] = []
 
     @staticmethod
@@ -160,32 +160,37 @@ class _Forces:
     def of_all(filled: FilledGraph, weights: Mapping[tuple[int, int], float]) -> "_Forces":
         """What acts where all nodes are there; `weights` is how much edges pull into one line at their crossings."""
         forces = _Forces(len(filled.links), SHAPE / len(filled.triangles))
-        forces.links = filled.links
+        forces.links = list(filled.links)
+        triangles: list[list[tuple[int, int, float]]] = [[] for _ in filled.links]
+        lines: list[list[tuple[int, int, float]]] = [[] for _ in filled.links]
+        ends: list[list[tuple[int, int, float]]] = [[] for _ in filled.links]
+        forces.triangles, forces.lines, forces.ends = list(triangles), list(lines), list(ends)
         ring = set(filled.ring)
         for first, second, third in filled.triangles:
             weight = 1.0 if ring.isdisjoint((first, second, third)) else PUSH_AT_RING
             push = PUSH / len(filled.triangles) ** 2 * weight
-            forces.triangles[first].append((second, third, push))
-            forces.triangles[second].append((third, first, push))
-            forces.triangles[third].append((first, second, push))
+            triangles[first].append((second, third, push))
+            triangles[second].append((third, first, push))
+            triangles[third].append((first, second, push))
         forces.crossed = filled.crossed
         for node, four in filled.crossed:
             for place, other in enumerate(four):
                 weight = weights[node, place % 2]
-                forces.lines[node].append((other, four[place - 2], weight))
-                forces.ends[other].append((node, four[place - 2], weight))
+                lines[node].append((other, four[place - 2], weight))
+                ends[other].append((node, four[place - 2], weight))
         return forces
 
     def square(self, points: Sequence[Position]) -> None:
         """Look where the neighbours of crossings would lie if two lines met there at right angles, as far away as they
         are now and turned as little as they can be."""
-        self.squared = [[] for _ in points]
+        squared: list[list[Position]] = [[] for _ in points]
         for node, four in self.crossed:
             ways = [complex(points[other][0] - points[node][0], points[other][1] - points[node][1]) for other in four]
             turned = sum(way / abs(way) * 1j**place for place, way in enumerate(ways))
             for place, (other, way) in enumerate(zip(four, ways)):
                 end = complex(*points[node]) + abs(way) * turned / (abs(turned) or 1.0) / 1j**place
-                self.squared[other].append((end.real, end.imag))
+                squared[other].append((end.real, end.imag))
+        self.squared = list(squared)
 
     def pull(self, node: int, points: Sequence[Position]) -> tuple[float, float, float]:
         """The point that a node is pulled to by all that pulls it, and the weight of that."""
@@ -282,11 +287,15 @@ def _weights(lines: Sequence[_Line], points: Sequence[Position] | None) -> dict[
     for line in lines:
         weight = STRAIGHTEN * (1 + MORE * (len(line.passed) - 1))
         if points is not None:
-            ways = [complex(*points[two]) - complex(*points[one]) for one, two in zip(line.nodes, line.nodes[1:])]
-            turn = sum(abs(phase(two * one.conjugate())) for one, two in zip(ways, ways[1:]))
-            weight *= max(1.0, turn / FAR) ** POWER
+            weight *= max(1.0, turn_along([complex(*points[node]) for node in line.nodes]) / FAR) ** POWER
         found.update(dict.fromkeys(line.passed, weight))
     return found
+
+
+def turn_along(points: Sequence[complex]) -> float:
+    """How many radians a chain of straight lines turns at its points, whichever way."""
+    ways = [end - start for start, end in zip(points, points[1:])]
+    return sum(abs(phase(two * one.conjugate())) for one, two in zip(ways, ways[1:]))
 
 
 def _energy(

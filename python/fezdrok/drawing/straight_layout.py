@@ -14,9 +14,10 @@ from ..engine.graph_pictures import Dummy
 from ..engine.results import Planarization
 from ..files.embeddings import to_networkx_embedding
 from .orthogonal_layout import SHORT, path_order
-from .relaxation import SWEEPS, between, spread
+from .relaxation import SWEEPS, between, spread, turn_along
 from .scenes import Position, toward
 from .shelf_packing import shelf_packing
+from .wider_angles import widened
 
 if TYPE_CHECKING:
     import networkx
@@ -54,7 +55,9 @@ def positions(result: Planarization, embedding: "networkx.PlanarEmbedding | None
         found = faces.best(found)
     if found is None:
         warnings.warn("no drawing was found in which faces are of like size: its points lie on a grid", PlanarWarning)
-        found = grid_positions(result, embedding)
+        return grid_positions(result, embedding)
+    if len(found) <= MOST_TRIED and faces.small(found):
+        return widened(faces.rotations, faces.crossings, faces.chains.values(), found)
     return found
 
 
@@ -77,11 +80,8 @@ class _Faces:
 
     def turning(self, places: Mapping[Any, Position]) -> float:
         """The share of edges that turn by more than half a circle."""
-        far = 0
-        for nodes in self.chains.values():
-            ways = [complex(*toward(places[one], places[two])) for one, two in zip(nodes, nodes[1:])]
-            far += sum(abs(phase(two * one.conjugate())) for one, two in zip(ways, ways[1:])) > pi
-        return far / len(self.chains)
+        turns = [turn_along([complex(*places[node]) for node in nodes]) for nodes in self.chains.values()]
+        return sum(turn > pi for turn in turns) / len(turns)
 
     def small(self, places: Mapping[Any, Position]) -> float:
         """The share of small angles between edges at nodes and crossings."""

@@ -55,7 +55,7 @@ def true_scene(
 ) -> tuple[Scene, list[Defect]]:
     """A scene with straight or with curved lines, and what is false in it: nothing, unless its straight lines
     themselves are false with all decimals that there may be."""
-    least = 1 if len(names) <= MANY else 2
+    least = 1 if len(names) <= MANY else 3
     scene = replace(straight_scene(chains, names, color), decimals=least)
     false: list[Defect] = []
     if is_curved:
@@ -136,6 +136,8 @@ def _scales(chains: Chains, sizes: Sequence[tuple[float, float]], unit: float) -
         scale = 1.0
         for place in grid.near(x - right, y - up, x + right, y + up):
             p, q, r, s, _, start, end = lines[place]
+            if max(p, r) < x - right or min(p, r) > x + right or max(q, s) < y - up or min(q, s) > y + up:
+                continue
             if node not in (start, end):
                 scale = min(scale, _reach((p - x, q - y), (r - x, s - y), right, up))
             else:
@@ -212,7 +214,7 @@ def _curved(chains: Chains, scene: Scene, false: list[Defect]) -> tuple[Scene, l
         reaches.update(less)
         changed = {edge_id: _curve(chains, strokes[edge_id], passing, reaches) for edge_id, _ in less}
         strokes.update(changed)
-        found = judge.drawn_otherwise([page.line(stroke) for stroke in changed.values()])
+        found = judge.drawn_otherwise([page.line(stroke) for stroke in changed.values()], less)
 
 
 def _curve(

@@ -7,7 +7,8 @@ numbers are whole, so nothing is rounded in any test. Lines that could meet are 
 from __future__ import annotations
 
 from collections import Counter
-from collections.abc import Iterable, Iterator, Sequence
+from collections.abc import Container, Iterable, Iterator, Sequence
+from math import inf
 from typing import NamedTuple
 
 from ..engine.pictures import Dart, Point
@@ -19,6 +20,8 @@ from .segment_grid import SegmentGrid
 Piece = tuple[int, int]
 #: How far, in pixels, a curve may be from the straight lines that stand for it.
 TOLERANCE = 0.1
+#: The extent of a line that is not judged.
+NOWHERE = (inf, inf, -inf, -inf)
 
 
 class Defect(NamedTuple):
@@ -54,13 +57,14 @@ def defects(result: Planarization, page: Page) -> list[Defect]:
 
 class Judge:
     """A page with all its straight lines, and how the darts of the picture leave their points. Edges can be drawn
-    otherwise, and are then judged beside all that stays."""
+    otherwise, and are then judged beside all that stays. `extents` are the least x and y of each line, and the
+    greatest."""
 
     def __init__(self, result: Planarization, page: Page):
         self.result, self.page, self.picture = result, page, result.picture
         self.lines: list[_Straight] = []
+        self.extents: list[tuple[float, float, float, float]] = []
         self.places_of: dict[int, range] = {}
-        self.gone: set[int] = set()
         self.found: list[Defect] = []
         self.place_of: dict[Point, PagePoint] = {}
         self.leaving: dict[Dart, tuple[PagePoint, PagePoint, Piece]] = {}
@@ -76,12 +80,9 @@ class Judge:
     def defects(self) -> list[Defect]:
         """What is false."""
         hubs = [self._hub(line) for line in self.lines]
-        seen = set()
         for places in self.grid.squares.values():
-            for pair in _pairs(places, hubs):
-                if pair not in seen:
-                    seen.add(pair)
-                    self._judge_pair(*pair)
+            for one, other in _pairs(places, hubs, self.extents):
+                self._judge_pair(one, other)
         self._judge_orders(self.picture.points)
         own = self._judge_ends()
         for point, shape in self.shapes.items():
@@ -91,28 +92,28 @@ class Judge:
         self._judge_overlaps()
         return self._told()
 
-    def drawn_otherwise(self, lines: Sequence[PageLine]) -> list[Defect]:
-        """What is false about these edges where they are drawn like this from now on."""
+    def drawn_otherwise(self, lines: Sequence[PageLine], pieces: Container[Piece]) -> list[Defect]:
+        """What is false about these pieces where the edges are drawn like this from now on. No other piece of these
+        edges may be drawn otherwise; what is false among others alone is not told again."""
         first = len(self.lines)
         for drawn in lines:
-            self.gone.update(self.places_of[drawn.edge_id])
+            for place in self.places_of[drawn.edge_id]:
+                self.extents[place] = NOWHERE
             self._add(drawn)
+        judged = []
         for place in range(first, len(self.lines)):
-            self.grid.add(place, self.lines[place])
-        for place in range(first, len(self.lines)):
-            line = self.lines[place]
-            others = {other for square in self.grid.passed(line) for other in self.grid.squares[square]}
-            hub = self._hub(line)
-            for other in others - self.gone:
-                if other < place and (hub is None or self._hub(self.lines[other]) != hub):
-                    self._judge_pair(other, place)
+            if self.lines[place].piece in pieces:
+                judged.append(place)
+            else:
+                self.grid.add(place, self.lines[place])
+        for place in judged:
+            self._judge_line(place)
         self._judge_orders({point for drawn in lines for point in self.picture.path(drawn.edge_id)})
         own, shapes = self._judge_ends(), list(self.shapes.items())
-        for line in self.lines[first:]:
-            left, right = sorted((line.x, line.u))
-            top, bottom = sorted((line.y, line.v))
-            for place in self.boxes.near(left, top, right, bottom):
-                point, shape = shapes[place]
+        for place in judged:
+            line = self.lines[place]
+            for number in self.boxes.near(*self.extents[place]):
+                point, shape = shapes[number]
                 self._judge_shape(shape, line, (line.piece, point) in own)
         return self._told()
 
@@ -160,6 +161,8 @@ class Judge:
             for step, (start, end) in enumerate(zip(points, points[1:])):
                 ends = (marks[0] if step == 0 else None, marks[1] if step == last else None)
                 self.lines.append(_Straight(*start, *end, own, number, *ends))
+                (x, y), (u, v) = start, end
+                self.extents.append((x if x < u else u, y if y < v else v, u if x < u else x, v if y < v else y))
                 number += 1
             segment += marks[1] is not None
         self.places_of[line.edge_id] = range(first, len(self.lines))
@@ -172,13 +175,24 @@ class Judge:
 
     def _judge_pair(self, one: int, other: int) -> None:
         """Two lines that have a point in common have to share an end, and nothing else."""
-        if _meet_falsely(self.lines[one], self.lines[other]):
-            self._tell_meeting(self.lines[one], self.lines[other])
+        first, second = self.lines[min(one, other)], self.lines[max(one, other)]
+        if _meet_falsely(first, second):
+            its, others = self._name(first.piece[0]), self._name(second.piece[0])
+            words = f"{its} meets {others}" if its != others else f"{its} meets itself"
+            self._tell(words, _meeting(first, second), first.piece, second.piece)
 
-    def _tell_meeting(self, first: _Straight, second: _Straight) -> None:
-        one, other = self._name(first.piece[0]), self._name(second.piece[0])
-        words = f"{one} meets {other}" if one != other else f"{one} meets itself"
-        self._tell(words, _meeting(first, second), first.piece, second.piece)
+    def _judge_line(self, place: int) -> None:
+        """A line and all others that are in the grid, to which it is added."""
+        left, top, right, bottom = self.extents[place]
+        hub = self._hub(self.lines[place])
+        for square in self.grid.passed(self.lines[place]):
+            others = self.grid.squares.setdefault(square, [])
+            for other in others:
+                x, y, u, v = self.extents[other]
+                if x <= right and u >= left and y <= bottom and v >= top:
+                    if hub is None or self._hub(self.lines[other]) != hub:
+                        self._judge_pair(other, place)
+            others.append(place)
 
     # ---- The order round points
 
@@ -210,6 +224,10 @@ class Judge:
 
     def _judge_shape(self, shape: "_Shape", line: _Straight, is_own: bool) -> None:
         """A node and a line that is near it, which may be one of the node's own."""
+        left, top, right, bottom = shape.bounds
+        x, y, u, v = line[:4]
+        if x < left and u < left or x > right and u > right or y < top and v < top or y > bottom and v > bottom:
+            return
         for mark, end in ((line.start, (line.x, line.y)), (line.end, (line.u, line.v))):
             if mark is not None and mark.is_crossing and shape.has(end):
                 self._tell(f"the node {shape.node!r} lies on a crossing", end, line.piece)
@@ -247,14 +265,10 @@ class _Shape:
         return across <= self.right and up <= self.down
 
     def meets(self, line: _Straight) -> bool:
-        """Whether a straight line has a point in the shape or on its rim."""
+        """Whether a straight line that is not wholly on one side of it has a point in the shape or on its rim."""
         if self.has((line.x, line.y)) or self.has((line.u, line.v)):
             return True
         left, top, right, bottom = self.bounds
-        if max(line.x, line.u) < left or min(line.x, line.u) > right:
-            return False
-        if max(line.y, line.v) < top or min(line.y, line.v) > bottom:
-            return False
         start, end = (line.x, line.y), (line.u, line.v)
         if self.is_round:
             across, up = end[0] - start[0], end[1] - start[1]
@@ -304,8 +318,10 @@ def _way(at: PagePoint, end: PagePoint, beside: PagePoint) -> PagePoint:
     return beside[0] - end[0], beside[1] - end[1]
 
 
-def _pairs(places: Sequence[int], hubs: Sequence[Point | None]) -> Iterator[tuple[int, int]]:
-    """All pairs of lines of which not both come from one hub, the lesser first. Two lines that do meet elsewhere only
+def _pairs(
+    places: Sequence[int], hubs: Sequence[Point | None], extents: Sequence[tuple[float, float, float, float]]
+) -> Iterator[tuple[int, int]]:
+    """All pairs of lines whose extents meet, of which not both come from one hub. Two lines that do meet elsewhere only
     where they have one direction, which the order round the hub tells."""
     groups: dict[Point | None, list[int]] = {}
     for place in places:
@@ -313,19 +329,18 @@ def _pairs(places: Sequence[int], hubs: Sequence[Point | None]) -> Iterator[tupl
     before: list[int] = []
     for hub, group in groups.items():
         for number, place in enumerate(group):
+            left, top, right, bottom = extents[place]
             for other in before if hub is not None else (*before, *group[:number]):
-                yield (place, other) if place < other else (other, place)
+                x, y, u, v = extents[other]
+                if x <= right and u >= left and y <= bottom and v >= top:
+                    yield place, other
         before += group
 
 
 def _meet_falsely(first: _Straight, second: _Straight) -> bool:
-    """Whether two lines have a point in common that is no end which they share."""
+    """Whether two lines whose extents meet have a point in common that is no end which they share."""
     x, y, u, v = first[:4]
     p, q, r, s = second[:4]
-    if (x if x > u else u) < (p if p < r else r) or (p if p > r else r) < (x if x < u else u):
-        return False
-    if (y if y > v else v) < (q if q < s else s) or (q if q > s else s) < (y if y < v else v):
-        return False
     one = (u - x) * (q - y) - (v - y) * (p - x)
     other = (u - x) * (s - y) - (v - y) * (r - x)
     if one > 0 and other > 0 or one < 0 and other < 0:

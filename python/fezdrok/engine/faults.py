@@ -140,6 +140,10 @@ ProgramNotFoundError, ProgramNotStartedError = ProgramNotFound, ProgramNotStarte
 SessionClosedError, UnfinishedError, UsageRefusedError = SessionClosed, Unfinished, UsageRefused
 
 
+#: The extras of this package in which others are.
+EXTRAS = {"matplotlib": "drawing", "cairosvg": "pdf", "pydot": "dot"}
+
+
 def wanted(module: str, purpose: str) -> Any:
     """A module that is imported where it is used; ModuleMissing where it is not there."""
     try:
@@ -148,8 +152,9 @@ def wanted(module: str, purpose: str) -> Any:
         package = module.split(".")[0]
         if missing.name is None or missing.name.split(".")[0] != package:
             raise
+        extra = f", the extra {EXTRAS[package]!r} of fezdrok" if package in EXTRAS else ""
         raise ModuleMissing(
-            f"{purpose} want the package {package}, which is not there: pip install {package}"
+            f"{purpose} want the package {package}, which is not there: pip install {package}{extra}"
         ) from missing
 
 
