@@ -97,13 +97,21 @@ fn judge<F: FromTable>(alloc: Global, report: &Report) -> Result<(), RunFault>
     let prices = report.prices.as_slice();
     let (table, start) = validate(alloc, report.limits, prices, Some(&report.start))?;
     let tariff = Tariff::new(F::from_table(table));
-    replay_report(alloc, report, &start, &tariff)?;
-    Ok(())
+    let picture = replay_report(alloc, report, &start, &tariff)?;
+    drop(start);
+    let Ok(rows) = picture.into_rows(alloc) else {
+        return Err(RunFault::Memory);
+    };
+    if rows.equals(&report.picture) {
+        Ok(())
+    } else {
+        Err(RunFault::WrongPicture)
+    }
 }
 
 /// The picture at the end of a report's history, carried out again from the picture of its start at
-/// its prices, where the report is true; or the first of its replies and its picture that is at
-/// fault.
+/// its prices, or the first of its replies that is at fault. The report's own picture is not looked
+/// at.
 pub fn replay_report<F: PriceFn>(
     alloc: Global,
     report: &Report,
@@ -115,22 +123,12 @@ pub fn replay_report<F: PriceFn>(
     requires start { start.now.rows ≡ report.now.start }
     ensures book { IfOk result
         (IsBook (prices_of (F.may_return tariff.now)) start.now report.now.history) }
-    ensures same { IfOk result (λ p. p.rows ≡ report.now.picture) }
-    ensures replayed { IfOk result
-        (λ _. LeadsTo report.now start.now.limits report.now.picture) }
+    ensures replayed { IfOk result (λ p. LeadsTo report.now start.now.limits p.rows) }
     ensures fault { IfErr result (IsUntrue report.now) }
 {
-    let picture = match replay(alloc, start, report.history.as_slice(), tariff) {
-        Ok(picture) => picture,
-        Err(ReplayFault::WrongReply(place)) => return Err(RunFault::WrongReply(place)),
-        Err(ReplayFault::Memory) => return Err(RunFault::Memory),
-    };
-    let Ok(rows) = picture.rows(alloc) else {
-        return Err(RunFault::Memory);
-    };
-    if rows.equals(&report.picture) {
-        Ok(picture)
-    } else {
-        Err(RunFault::WrongPicture)
+    match replay(alloc, start, report.history.as_slice(), tariff) {
+        Ok(picture) => Ok(picture),
+        Err(ReplayFault::WrongReply(place)) => Err(RunFault::WrongReply(place)),
+        Err(ReplayFault::Memory) => Err(RunFault::Memory),
     }
 }

@@ -141,6 +141,13 @@ impl<F: FromTable> Session<F> {
         let (table, start) = validate(alloc, report.limits, prices, Some(&report.start))?;
         let tariff = Tariff::new(F::from_table(table));
         let picture = replay_report(alloc, &report, &start, &tariff)?;
+        let Ok(rows) = picture.rows(alloc) else {
+            return Err(RunFault::Memory);
+        };
+        if !rows.equals(&report.picture) {
+            return Err(RunFault::WrongPicture);
+        }
+        drop(rows);
         match go_on(alloc, report, start, picture, tariff) {
             Ok(session) => Ok(session),
             Err(_) => Err(RunFault::Memory),

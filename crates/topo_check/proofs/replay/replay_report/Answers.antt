@@ -1,5 +1,4 @@
-use Rattle.std.proofs.Common.{◌≡◌, ◌∙◌, Err, IfErr, List, rules, subst, sym}
-use Rattle.std.proofs.lemmas.Bool.{false≢true}
+use Rattle.std.proofs.Common.{◌≡◌, Err, IfErr, List, rules, subst}
 use Rattle.topo_book.specs.Faults.{IsFaultOf, IsIllegalAt}
 use Rattle.topo_book.specs.declared.replaying.ReplayFault.TheVariants.{WrongReply}
 use Rattle.topo_core.specs.declared.calls.Entry.{Entry}
@@ -25,37 +24,19 @@ returns-in-Err-WrongReply-clause-fault g c =
     (subst (λ (h : List Entry). IsFaultOf price start.limits start.rows h fault) c.as_slice.ensures first) in
     let illegal_here = subst (λ (p : Rows). IsIllegalAt price start.limits p report.history fault) c.requires.start
     (subst (λ (h : List Entry). IsIllegalAt price start.limits start.rows h fault) c.as_slice.ensures illegal) in
-    rw c.in-Err-WrongReply.field-0-is record {
+    record {
       limits = start.limits;
       sound = c.requires.sound;
       first = fault_so price (priced report.prices) own.only own.each start.limits report.start report.history fault first_here;
       illegal = illegal_so price (priced report.prices) own.only own.each start.limits report.start report.history fault illegal_here;
     }
 
-pub returns-then-equals-clause-replayed : goal.returns-then-equals-clause-replayed
-returns-then-equals-clause-replayed g c =
-    let report = c.args.report.now in
-    let start = c.args.start.now in
-    let price = prices_of (g.F.PriceFn.may_return c.args.tariff.now) in
-    let own = c.requires.prices in
-    let same : c.in-Ok.picture.rows ≡ report.picture = sym c.in-Ok-rows.ensures.rows ∙ c.equals.ensures.0 c.if-equals.true in
-    let replayed = subst (λ (h : List Entry). Replays price start.limits start.rows h c.in-Ok.picture.rows) c.as_slice.ensures c.in-Ok.ensures.replayed in
-    let from = subst (λ (p : Rows). Replays price start.limits p report.history c.in-Ok.picture.rows) c.requires.start replayed in
-    replays_so price (priced report.prices) own.only own.each start.limits report.start report.history report.picture
-    (subst (λ (q : Rows). Replays price start.limits report.start report.history q) same from)
-
-pub returns-else-equals-clause-fault : goal.returns-else-equals-clause-fault
-returns-else-equals-clause-fault g c =
+pub returns-in-Ok-clause-replayed : goal.returns-in-Ok-clause-replayed
+returns-in-Ok-clause-replayed g c =
     let report = c.args.report.now in
     let start = c.args.start.now in
     let price = prices_of (g.F.PriceFn.may_return c.args.tariff.now) in
     let own = c.requires.prices in
     let replayed = subst (λ (h : List Entry). Replays price start.limits start.rows h c.in-Ok.picture.rows) c.as_slice.ensures c.in-Ok.ensures.replayed in
-    let from = subst (λ (p : Rows). Replays price start.limits p report.history c.in-Ok.picture.rows) c.requires.start replayed in
-    record {
-      limits = start.limits;
-      sound = c.requires.sound;
-      rows = c.in-Ok.picture.rows;
-      replayed = replays_so price (priced report.prices) own.only own.each start.limits report.start report.history c.in-Ok.picture.rows from;
-      other = λ same. false≢true (sym c.if-equals.false ∙ c.equals.ensures.1 (c.in-Ok-rows.ensures.rows ∙ same));
-    }
+    replays_so price (priced report.prices) own.only own.each start.limits report.start report.history c.in-Ok.picture.rows
+    (subst (λ (p : Rows). Replays price start.limits p report.history c.in-Ok.picture.rows) c.requires.start replayed)
