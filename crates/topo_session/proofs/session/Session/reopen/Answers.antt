@@ -1,4 +1,7 @@
-use Rattle.std.proofs.Common.{◌∙◌, ap, refl, subst, sym}
+use Rattle.std.proofs.Common.{◌≡◌, ◌∙◌, ap, refl, subst, sym}
+use Rattle.std.proofs.lemmas.Bool.{false≢true}
+use Rattle.topo_check.specs.Replays.{LeadsTo}
+use Rattle.topo_core.specs.declared.rows.Rows.{Rows}
 use Rattle.topo_settings.proofs.Interface.{sound_so}
 use Rattle.topo_settings.specs.Settings.{AnswersPrices, price_table}
 use Rattle.topo_session.proofs.session.Session.reopen.Goals as goal
@@ -20,12 +23,24 @@ go_on-requires-clause-prices g c =
     subst (λ f. AnswersPrices (g.F.PriceFn.may_return f) prices) (sym c.new-tariff.ensures)
     (c.from_table.ensures.own prices (c.in_ok-table.ensures.prices ∙ ap price_table c.as_slice-prices.ensures))
 
-pub returns-in-Ok-clause-reopened : goal.returns-in-Ok-clause-reopened
-returns-in-Ok-clause-reopened g c =
+pub returns-then-not-equals-clause-fault : goal.returns-then-not-equals-clause-fault
+returns-then-not-equals-clause-fault g c =
     let report = c.args.report in
     record {
       limits = c.in_ok-table.start.limits;
       sound = sound_so report.limits _ report.prices _ _ c.in_ok-table.start.limits c.as_slice-prices.ensures refl c.in_ok-table.ensures.sound;
+      rows = c.in_ok-picture.picture.rows;
       replayed = c.in_ok-picture.ensures.replayed;
-      stands = c.in-Ok.ensures ∙ rw (c.in_ok-picture.ensures.book.same_limits, c.in_ok-table.ensures.rows, c.in_ok-picture.ensures.same) refl;
+      other = λ same. false≢true (sym c.if-not-equals.true ∙ c.equals.ensures.1 (c.in-Ok.ensures.rows ∙ same));
+    }
+
+pub returns-in-Ok-go_on-clause-reopened : goal.returns-in-Ok-go_on-clause-reopened
+returns-in-Ok-go_on-clause-reopened g c =
+    let report = c.args.report in
+    let same = sym c.in-Ok.ensures.rows ∙ c.equals.ensures.0 c.if-not-equals.false in
+    record {
+      limits = c.in_ok-table.start.limits;
+      sound = sound_so report.limits _ report.prices _ _ c.in_ok-table.start.limits c.as_slice-prices.ensures refl c.in_ok-table.ensures.sound;
+      replayed = subst (λ (q : Rows). LeadsTo report c.in_ok-table.start.limits q) same c.in_ok-picture.ensures.replayed;
+      stands = c.in-Ok-go_on.ensures ∙ rw (c.in_ok-picture.ensures.book.same_limits, c.in_ok-table.ensures.rows, same) refl;
     }
