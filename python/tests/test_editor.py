@@ -9,6 +9,7 @@ import signal
 import subprocess
 import sys
 import tempfile
+import time
 import unittest
 from contextlib import redirect_stderr
 from pathlib import Path
@@ -16,7 +17,7 @@ from unittest import mock
 
 import networkx as nx
 
-from fezdrok import Planarizer, Refused, Report, load, planarize
+from fezdrok import Planarizer, Progress, Refused, Report, load, planarize
 from fezdrok.__main__ import main
 from fezdrok.edit import editors, tabs
 from fezdrok.edit.boards import Board, NotDoneError
@@ -380,6 +381,29 @@ class Servers(Served):
         answer = await talk.ask("delete", 1, seen=0)
         self.assertEqual(answer["refused"], "the picture has changed meanwhile: look again")
 
+    async def test_a_search_that_is_ended(self):
+        """By a word, and by a change."""
+
+        def endless(*words, progress, **options):
+            while True:
+                progress(Progress("shakes", 1, 1, 3, 2, 0.5))
+                time.sleep(0.01)
+
+        await self.serve(k5_without_an_edge())
+        talk = await self.talk()
+        with mock.patch("fezdrok.edit.tidying.planarize", endless):
+            for word in ("stop", "undo", "delete"):
+                self.assertEqual(await talk.ask("tidy"), {})
+                self.assertEqual((await talk.ask("tidy"))["refused"], "Tidy is under way")
+                await talk.until(lambda message: message.get("tidy") == "Tidy: 2 crossings, 0.5 s")
+                await talk.ask(word, *([0] if word == "delete" else []))
+                if word == "undo":  # there is nothing to take back, so it goes on
+                    await talk.until(lambda message: message.get("tidy"))
+                    await talk.ask("stop")
+                told = await talk.until(lambda message: "told" in message)
+                self.assertEqual(told, {"tidy": None, "told": "Tidy was ended: the picture is as it was"})
+        self.assertEqual([change["word"] for change in talk.changes], ["delete"])
+
     async def test_files_and_tidying(self):
         graph = nx.complete_graph(7)
         name = "</script><script>alert(1)</script>"
@@ -456,8 +480,10 @@ class Ends(unittest.TestCase):
 
     def test_what_cannot_be_opened(self):
         (self.folder / "g.edges").write_text("a b\nc d\n")
+        file = os.fspath(self.folder / "g.edges")
         for words, status, due in (
-            ([os.fspath(self.folder / "g.edges")], 1, "a graph that is edited is connected, and has an edge"),
+            ([file], 1, "a graph that is edited is connected, and has an edge"),
+            ([file, "--record", file], 1, "written over it"),
             (["none.edges"], 1, "No such file or directory"),
             (["--port", "99999"], 2, "invalid port value: '99999'"),
         ):

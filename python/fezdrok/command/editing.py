@@ -48,6 +48,9 @@ def edit_file(words: argparse.Namespace) -> int:
 
 def _opened(words: argparse.Namespace) -> Planarization:
     """The planarization that is edited; ValueError where it is of no graph that can be."""
+    if words.record is not None and words.file not in (None, DASH):
+        if Path(words.record).exists() and Path(words.record).samefile(words.file):
+            raise ValueError("the report would be written over it")
     if words.file is None:
         return planarize([("0", "1")], program=words.program)
     if is_saved(words.file, words.format):

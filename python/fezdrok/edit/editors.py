@@ -58,12 +58,8 @@ class Editor:
         self._shown: str | None = None
         self._tidying: Tidying | None = None
         self._drawings = 0
-        self.saved = 0
-
-    @property
-    def number(self) -> int:
-        """The number of the last change."""
-        return self._board.number
+        self.number = 0  # of the last change that the tabs were told of
+        self.saved = 0  # of the last change that was saved
 
     async def _by_hand(self, work: Callable[..., Value], *words: Any) -> Value:
         """Does something with the sessions, in their thread."""
@@ -136,6 +132,7 @@ class Editor:
 
     def _publish(self, change: Change) -> None:
         self._changes.append(change)
+        self.number = change.number
         self.tabs.tell(json_text({"change": change.to_json()}))
         self._is_to_draw.set()
         if self._tidying is not None and self._tidying.number < change.number:
@@ -177,10 +174,12 @@ class Editor:
         route = session.route(u, v)
         if isinstance(route, Refused):
             raise NotDoneError(WORDS[route.number])
+        told: dict[str, Any] = {"crossed": [dart.edge for dart in route.crossed], "price": route.price}
         view = self._views.get(session)
-        is_drawn = view is not None and view.number == board.number
-        line = view.route(u, v, route) if view is not None and is_drawn else {}
-        return {"crossed": [dart.edge for dart in route.crossed], "price": route.price, **line}
+        if view is not None and view.number == board.number:
+            with suppress(ArithmeticError, LookupError, ValueError):  # the faces are too small for a line
+                told.update(view.route(u, v, route))
+        return told
 
     def _snapshot(self) -> tuple[EditedSession, int, Planarization]:
         return self._board.session, self._board.number, self._board.session.snapshot()

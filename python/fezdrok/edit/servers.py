@@ -9,8 +9,10 @@ from __future__ import annotations
 import asyncio
 import secrets
 import time
+from base64 import b64encode
 from collections.abc import Awaitable, Callable
 from contextlib import suppress
+from hashlib import sha256
 from importlib.resources import files
 from typing import Any
 
@@ -44,6 +46,8 @@ class Server:
         self._editor = editor
         self.token = secrets.token_urlsafe(24)
         self._page = files(__package__).joinpath("edit_page.html").read_text(encoding="utf-8")
+        script = self._page.partition("<script>")[2].partition("</script>")[0]
+        self._script = b64encode(sha256(script.encode()).digest()).decode()
         self._runner: Any = None
         self._drawing: asyncio.Task[None] | None = None
         self.port = 0
@@ -117,7 +121,7 @@ class Server:
         """The headers of each answer: the page reaches nothing but this server, and no other page reaches it."""
         own = " ".join(f"ws://{name}:{self.port}" for name in NAMES)
         policy = (
-            "default-src 'none'; style-src 'unsafe-inline'; script-src 'unsafe-inline'; img-src data:; "
+            f"default-src 'none'; style-src 'unsafe-inline'; script-src 'sha256-{self._script}'; img-src data:; "
             f"connect-src 'self' {own}; base-uri 'none'; form-action 'none'; frame-ancestors 'none'"
         )
         return {
