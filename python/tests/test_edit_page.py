@@ -88,6 +88,12 @@ class Pages(Served):
         await self.shows(6, 1, 12, 7)
         seen = await browser.value("[faults, window.alerted === true, document.scripts.length]")
         self.assertEqual(seen, [[], False, 1])
+        box = "document.getElementById('picture').getAttribute('viewBox')"
+        views = [await browser.value(box)]
+        for key in "+0":
+            await browser.press(key)
+            views.append(await browser.value(box))
+        self.assertEqual((views[0] == views[1], views[0] == views[2]), (False, True))
         shades = [await browser.value("document.documentElement.dataset.shade")]
         await browser.press("d")
         shades.append(await browser.value("document.documentElement.dataset.shade"))
