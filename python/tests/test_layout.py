@@ -12,7 +12,8 @@ ALLOWED = {
     "files": {"engine"},
     "drawing": {"engine", "files"},
     "search": {"engine", "files"},
-    "command": {"engine", "files", "drawing", "search"},
+    "edit": {"engine", "files", "drawing", "search"},
+    "command": {"engine", "files", "drawing", "search", "edit"},
 }
 #: The modules that may import all subpackages.
 TOP = {"fezdrok", "fezdrok.__main__", "fezdrok.layouts"}

@@ -57,6 +57,19 @@ def is_over(process_id: int) -> bool:
 
 @needs_program
 class Calls(unittest.TestCase):
+    def test_callers(self):
+        with Session() as session:
+            session.grow(0)
+            session.caller = 15
+            self.assertEqual(session.insert(1, 2), Inserted(2, (), 0, 0, 0))
+            self.assertEqual(session.insert(1, 1), Refused(2, "SameEnds"))
+            session.caller = 16
+            with self.assertRaisesRegex(Fault, "54 BadNumber"):
+                session.delete(0)
+            session.caller = 3
+            self.assertEqual(session.delete(0), Deleted(0))
+            self.assertEqual([entry.caller for entry in session.report().history], [0, 15, 15, 3])
+
     def test_each_is_answered_at_once(self):
         with Session() as session:
             self.assertEqual(session.grow(1), Grown(2, 1))

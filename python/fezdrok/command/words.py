@@ -56,7 +56,14 @@ def _jobs(text: str) -> int:
     return value
 
 
-_seconds.__name__, _jobs.__name__ = "number of seconds", "number of processes"
+def _port(text: str) -> int:
+    value = int(text)
+    if not 0 <= value < 65536:
+        raise ValueError
+    return value
+
+
+_seconds.__name__, _jobs.__name__, _port.__name__ = "number of seconds", "number of processes", "port"
 
 
 def _parser(version: str) -> Parser:
@@ -88,6 +95,7 @@ def _parser(version: str) -> Parser:
     view = command("view", "make pages of HTML that step through the calls of reports", view_files)
     view.add_argument("files", metavar="REPORT", nargs="+", help="reports, as planar run prints them, or -")
     view.add_argument("-o", "--output", metavar="PLACE", help="a file as page.html, a folder, or - for standard output")
+    _add_edit(command("edit", "edit a picture on a page of the browser", _work_edit))
     command("lines", "answer scripts, one a line, each by one line", _work_lines)
     return parser
 
@@ -137,6 +145,20 @@ def _add_stats(parser: argparse.ArgumentParser) -> None:
 def _add_convert(parser: argparse.ArgumentParser) -> None:
     _add_files(parser, "a file, a folder, or - for standard output")
     parser.add_argument("--to", choices=[*FORMATS, "planar", "svg"], metavar="FORMAT", help="the format of the outputs")
+
+
+def _add_edit(parser: argparse.ArgumentParser) -> None:
+    parser.add_argument("file", metavar="FILE", nargs="?", help="a graph or a planarization; without it, two nodes")
+    parser.add_argument("--format", choices=[*FORMATS, "planar"], metavar="FORMAT", help="the format of the file")
+    parser.add_argument("--port", type=_port, default=0, help="the port of this machine; without it a free one")
+    parser.add_argument("--no-browser", action="store_true", help="open no browser, but say the address")
+    parser.add_argument("--record", metavar="REPORT", help="write the report at the end, for fezdrok view")
+
+
+def _work_edit(words: argparse.Namespace) -> int:
+    from .editing import edit_file
+
+    return edit_file(words)
 
 
 def _work_lines(words: argparse.Namespace) -> int:

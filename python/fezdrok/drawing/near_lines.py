@@ -27,7 +27,7 @@ def near_chains(result: Planarization, before: Planarization, scene: Scene) -> C
     if result.parts or before.parts or not result.picture.edges:
         return None
     kept = _common(result, before)
-    if not kept or not _hangs_together(restricted(result.picture, kept)):
+    if not kept or not hangs_together(restricted(result.picture, kept)):
         return None
     drawn = _kept_lines(result, before, scene, kept)
     left = [row.id for row in result.picture.edges if row.id not in kept]
@@ -101,7 +101,7 @@ def turned(picture: Picture, edge_id: int) -> Picture:
     return Picture(picture.rotations, edges, crossings, picture.next_edge, picture.next_crossing)
 
 
-def _hangs_together(picture: Picture) -> bool:
+def hangs_together(picture: Picture) -> bool:
     """Whether all edges of a picture hang together, by vertices and crossings."""
     import networkx
 

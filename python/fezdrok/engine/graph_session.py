@@ -11,7 +11,7 @@ from .answers import Renumbered, Route
 from .faults import NotPlanarized
 from .graph_edges import KINDS, GraphEdge, Node, Price, judge_kinds, name_among
 from .graph_pictures import GraphPicture
-from .pictures import Counts
+from .pictures import Counts, Picture
 from .program import PathLike
 from .reports import Deleted, Grown, Inserted, Limits, Refused, Reply, Report
 from .session import Session
@@ -237,14 +237,18 @@ class GraphSession(Generic[Result]):
         """The planarization of the graph of now. The session goes on, and the result stays as it is."""
         self._settle()
         report = self._session.report()
-        kinds = max(len(self._source.prices), *(row.kind + 1 for row in report.picture.edges))
+        return self._result(report.picture, (*self._reports, report))
+
+    def _result(self, picture: Picture, reports: Sequence[Report]) -> Result:
+        """The planarization of the graph of now, whose picture is this one."""
+        kinds = max(len(self._source.prices), *(row.kind + 1 for row in picture.edges))
         now = {
             "graph": self.graph.copy(),
-            "picture": report.picture,
+            "picture": picture,
             "node_of": tuple(self._node_of),
             "edge_of": dict(self.edge_of),
         }
-        return replace(self._source, **now, prices=self.prices[:kinds], reports=(*self._reports, report))
+        return replace(self._source, **now, prices=self.prices[:kinds], reports=reports)
 
     def to_html(self) -> str:
         """A page of HTML that steps through the calls of this session, with the names of the nodes; see

@@ -36,6 +36,8 @@ class Session:
     takes calls back, `forget` and `renumber` begin the report anew, and `open` and `reopen` put another picture in the
     place of this one, in the same process. `from_report` begins a session where another one ended.
 
+    `caller` is the number, from 0 to 15, that calls have in the report as their caller; it may be set before each call.
+
     A call that the program refuses changes nothing, and its reply is a Refused. Numbers that are none of the form's, as
     negative ones, are a Fault (54 BadNumber), which changes nothing either. Where the program ends before its time, the
     exception of its status is raised, with what it wrote on standard error: ProgramFailed, as for a signal, or another
@@ -99,6 +101,7 @@ class Session:
         """Begins the process with this line."""
         self._program = Program(program)
         self._given = given
+        self.caller = 0
         self._process: LineProcess | None = None
         process = LineProcess(self._program.path)
         try:
@@ -149,7 +152,8 @@ class Session:
         return reply
 
     def _call(self, call: Call) -> Any:
-        return self._ask(call.to_json(), reply_from_json)
+        request: Any = call.to_json()
+        return self._ask({"call": request, "caller": self.caller} if self.caller else request, reply_from_json)
 
     def open(
         self,
@@ -322,6 +326,7 @@ def _understood(process: LineProcess, answer: bytes, read: Callable[[Any], Value
     ended, and that is ProgramFailed."""
     try:
         value = json.loads(answer)
+        value = value.get("answer", value)  # that to an envelope
         fault = value.get("fault")
         if fault is None:
             return read(value)

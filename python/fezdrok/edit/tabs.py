@@ -1,0 +1,88 @@
+"""The tabs that show the picture: each with a number, and with what is still to be sent to it."""
+
+from __future__ import annotations
+
+import asyncio
+from collections import deque
+from collections.abc import Awaitable, Callable, Iterator
+
+#: How many tabs there may be: a report knows callers from 0 to 15, and the editor itself is 0.
+MOST_TABS = 15
+#: How many messages may wait for a tab that does not read, before its connection is cut.
+MOST_WAITING = 1000
+
+
+class Tab:
+    """A tab. What is told to it waits here, so that a slow one holds nobody up; of drawings the last alone waits."""
+
+    def __init__(self, number: int, cut: Callable[[], None]):
+        self.number = number
+        self.cut = cut
+        self._waiting: deque[str] = deque()
+        self._drawing: str | None = None
+        self._is_cut = False
+        self._has_more = asyncio.Event()
+
+    def tell(self, text: str) -> None:
+        """Has a message be sent. Where too many wait, the connection is cut: the tab comes again and asks for what it
+        missed."""
+        self._waiting.append(text)
+        self._has_more.set()
+        if len(self._waiting) > MOST_WAITING and not self._is_cut:
+            self._is_cut = True
+            self.cut()
+
+    def show(self, text: str) -> None:
+        """Has a drawing be sent, in the place of one that still waits."""
+        self._drawing = text
+        self._has_more.set()
+
+    async def send_all(self, send: Callable[[str], Awaitable[None]]) -> None:
+        """Sends what is told, for ever."""
+        while True:
+            await self._has_more.wait()
+            self._has_more.clear()
+            while self._waiting:
+                await send(self._waiting.popleft())
+            text, self._drawing = self._drawing, None
+            if text is not None:
+                await send(text)
+
+
+class Tabs:
+    """The tabs that are there, by their numbers."""
+
+    def __init__(self) -> None:
+        self._tabs: dict[int, Tab] = {}
+        self._free = deque(range(1, MOST_TABS + 1))  # those that were left longest ago come first
+
+    def __iter__(self) -> Iterator[Tab]:
+        return iter(list(self._tabs.values()))
+
+    def __len__(self) -> int:
+        return len(self._tabs)
+
+    def come(self, wanted: int | None, cut: Callable[[], None]) -> Tab | None:
+        """A new tab, with the wanted number if nobody has it; None where there are too many."""
+        if not self._free:
+            return None
+        number = wanted if wanted in self._free else self._free[0]
+        assert number is not None
+        self._free.remove(number)
+        self._tabs[number] = tab = Tab(number, cut)
+        return tab
+
+    def go(self, tab: Tab) -> None:
+        """The tab is left; its number is free."""
+        del self._tabs[tab.number]
+        self._free.append(tab.number)
+
+    def tell(self, text: str) -> None:
+        """Tells all tabs this."""
+        for tab in self:
+            tab.tell(text)
+
+    def show(self, text: str) -> None:
+        """Shows all tabs this drawing."""
+        for tab in self:
+            tab.show(text)

@@ -1,0 +1,104 @@
+"""The page of the editor, in a browser where there is one."""
+
+import unittest
+
+import networkx as nx
+
+from fezdrok import planarize
+
+from .edit_support import Browser, Served, needs_browser, needs_server
+
+NAME = "<script>window.alerted = true</script>"
+
+
+def at(vertex):
+    """The mark of a node on the page."""
+    return f"[data-vertex='{vertex}'] rect"
+
+
+@needs_server
+@needs_browser
+class Pages(Served):
+    async def counted(self, *marks):
+        """How many elements with each of these marks there are."""
+        return [await self.browser.value(f"document.querySelectorAll('{mark}').length") for mark in marks]
+
+    async def shows(self, number, crossings, edges, nodes=6):
+        """Waits until the page shows the picture after a change, and judges how large it is."""
+        await self.browser.until(f"document.documentElement?.dataset.number === '{number}'")
+        self.assertEqual(await self.counted(".crossing", ".edge", ".node"), [crossings, edges, nodes])
+        words = await self.browser.value("document.getElementById('counts').textContent")
+        self.assertEqual(words, f"{nodes} nodes, {edges} edges, {crossings} crossing{'' if crossings == 1 else 's'}, "
+                                f"cost {crossings}")
+
+    async def take_out(self, edge):
+        """Chooses an edge, and takes it out."""
+        await self.browser.value(f"document.querySelector('[data-edge=\"{edge}\"] .wide')"
+                                 ".dispatchEvent(new MouseEvent('click', {bubbles: true}))")
+        await self.browser.press("Delete")
+
+    async def test_in_a_browser(self):
+        graph = nx.complete_graph(5)
+        graph.remove_edge(0, 1)
+        graph.add_edge(2, NAME)
+        await self.serve(planarize(graph))
+        start = self.editor._last
+        u, v = start.vertex_of[0], start.vertex_of[1]
+        with start.session() as session:
+            due = session._session.route(u, v)
+        browser = self.browser = Browser(self, self.web)
+        await browser.begin()
+        await browser.send("Page.navigate", url=self.server.address)
+        await self.shows(0, 0, 10)
+
+        await browser.click(*await browser.middle(at(u)))
+        await browser.move(*await browser.middle(at(v)))
+        await browser.until("document.documentElement?.dataset.route")
+        count = len(due.crossed)
+        self.assertEqual(await self.counted(".priced", ".edge.crossed", ".route"), [count, count, 1])
+        words = await browser.value("document.getElementById('beside').textContent")
+        self.assertEqual(words, f"{count} crossing, price {due.price}")
+        await browser.click(*await browser.middle(at(v)))
+        await self.shows(1, 1, 11)
+        await browser.press("z", control=True)
+        await self.shows(2, 0, 10)
+        await browser.press("y", control=True)
+        await self.shows(3, 1, 11)
+
+        await browser.click(*await browser.middle(at(u)))
+        await browser.move(*await browser.middle(at(v)))
+        await browser.until("document.getElementById('beside').textContent === 'these nodes are joined already'")
+        await browser.press("Escape")
+        await self.take_out(start.edge_id(2, NAME))
+        await browser.until("document.getElementById('beside').textContent === 'this would part the picture'")
+        await self.take_out(start.picture.next_edge)
+        await self.shows(4, 0, 10)
+
+        await browser.value("document.getElementById('name').value = '<b>new</b>'")
+        await browser.click(*await browser.middle(at(u)))
+        await browser.click(5, 300)
+        await self.shows(5, 0, 11, 7)
+        names = await browser.value("[...document.querySelectorAll('.node title')].map(it => it.textContent)")
+        self.assertEqual(set(names), {"0", "1", "2", "3", "4", NAME, "<b>new</b>"})
+        other = await self.talk()
+        await other.ask("insert", u, v)
+        await self.shows(6, 1, 12, 7)
+        await browser.send("Page.reload")
+        await browser.until("document.title === 'fezdrok edit: tab 3' || document.title === 'fezdrok edit: tab 1'")
+        await self.shows(6, 1, 12, 7)
+        seen = await browser.value("[faults, window.alerted === true, document.scripts.length]")
+        self.assertEqual(seen, [[], False, 1])
+        box = "document.getElementById('picture').getAttribute('viewBox')"
+        views = [await browser.value(box)]
+        for key in "+0":
+            await browser.press(key)
+            views.append(await browser.value(box))
+        self.assertEqual((views[0] == views[1], views[0] == views[2]), (False, True))
+        shades = [await browser.value("document.documentElement.dataset.shade")]
+        await browser.press("d")
+        shades.append(await browser.value("document.documentElement.dataset.shade"))
+        self.assertEqual(sorted(shades), ["dark", "light"])
+
+
+if __name__ == "__main__":
+    unittest.main()
