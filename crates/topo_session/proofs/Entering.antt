@@ -23,7 +23,7 @@ use Rattle.topo_settings.specs.Settings.{IsSound, start_of}
 use Rattle.topo_forms.specs.declared.sessions.Request.TheVariants.{Renumber}
 use Rattle.topo_settings.specs.declared.fault.RunFault.{RunFault}
 use Rattle.topo_settings.specs.declared.fault.RunFault.TheVariants.{Memory}
-use Rattle.topo_session.specs.declared.renumbering.Renumbered.{Renumbered}
+use Rattle.topo_renumbering.specs.declared.Renumbered.{Renumbered}
 use Rattle.topo_session.specs.declared.session.Undone.{Undone}
 use Rattle.topo_session.specs.Texts.{renumbered_data}
 use Rattle.topo_session.specs.Answers.{CarriesOut, LeavesBy, TellsUndone, undo_text}

@@ -27,7 +27,7 @@ use Rattle.topo_settings.specs.declared.fault.RunFault.TheVariants.{Load, Memory
 use Rattle.topo_settings.specs.Settings.{IsUnsound, start_of}
 use Rattle.topo_session.specs.Questions.{edge_asked, vertex_asked}
 use Rattle.topo_check.specs.Replays.{IsUntrue}
-use Rattle.topo_session.specs.declared.renumbering.Renumbered.{Renumbered}
+use Rattle.topo_renumbering.specs.declared.Renumbered.{Renumbered}
 use Rattle.topo_session.specs.declared.session.Undone.{Undone}
 use Rattle.topo_session.specs.Standings.{Enters, IsOpened, IsReopened, IsRouteReply, IsUndone, Renumbers, Standing, begins_with, report_so_far}
 use Rattle.topo_session.specs.Texts.{about_text, counts_text, edge_data, face_data, fault_text, framed, no_dart_text, no_edge_text, nothing_text}

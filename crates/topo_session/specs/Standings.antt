@@ -14,9 +14,9 @@ use Rattle.topo_forms.specs.declared.scripts.LimitRows.{LimitRows}
 use Rattle.topo_forms.specs.declared.sessions.Opening.{Opening}
 use Rattle.topo_check.specs.Replays.{IsSoundReport, LeadsTo}
 use Rattle.topo_settings.specs.Settings.{IsSound, priced, start_of}
-use Rattle.topo_session.specs.declared.renumbering.Renumbered.{Renumbered}
+use Rattle.topo_renumbering.specs.declared.Renumbered.{Renumbered}
 use Rattle.topo_session.specs.declared.session.Undone.{Undone}
-use Rattle.topo_session.specs.Renumbering.{IsRenumbered}
+use Rattle.topo_renumbering.specs.Renumbering.{IsRenumbered}
 
 -- what a report says before its history, the limits that these numbers are, and with it the history so far and the picture now
 pub record Standing : Type 0 where

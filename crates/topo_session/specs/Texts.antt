@@ -22,7 +22,7 @@ use Rattle.topo_script.specs.Pictures.{list_data, number_data, sign_data}
 use Rattle.topo_script.specs.ReportTexts.{dart_data, price_data, reply_data}
 use Rattle.topo_session.specs.declared.edges.EdgeAnswer.{EdgeAnswer}
 use Rattle.topo_session.specs.declared.edges.Meeting.{Meeting}
-use Rattle.topo_session.specs.declared.renumbering.Renumbered.{Renumbered}
+use Rattle.topo_renumbering.specs.declared.Renumbered.{Renumbered}
 use Rattle.topo_session.specs.declared.session.Undone.{Undone}
 use Rattle.topo_session.specs.declared.vertices.End.{End}
 use Rattle.topo_session.specs.declared.vertices.End.TheVariants.{A, B}

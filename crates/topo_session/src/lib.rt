@@ -23,7 +23,6 @@
 
 pub mod edges;
 pub mod lines;
-pub mod renumbering;
 pub mod session;
 pub mod texts;
 pub mod vertices;

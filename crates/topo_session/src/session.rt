@@ -13,14 +13,14 @@ ghost use Rattle.topo_book.specs.Books.{IsBook};
 ghost use Rattle.topo_price.specs.Prices.{IsPromise, prices_of};
 ghost use Rattle.topo_settings.specs.Settings.{AnswersPrices, IsSound, IsUnsound, price_table};
 ghost use Rattle.topo_settings.specs.Settings.{start_of};
-ghost use Rattle.topo_session.specs.Renumbering.{IsRenumbered};
+ghost use Rattle.topo_renumbering.specs.Renumbering.{IsRenumbered};
 ghost use Rattle.topo_session.specs.Questions.{edge_asked, vertex_asked};
 ghost use Rattle.topo_session.specs.Standings.{Enters, IsOpened, IsReopened, IsRouteReply};
 ghost use Rattle.topo_session.specs.Standings.{IsUndone, Renumbers, begins_with, report_so_far};
 ghost use Rattle.topo_session.specs.Standings.{undone};
 
 use crate::edges::{EdgeAnswer, edge_found};
-use crate::renumbering::{Renumbered, close_up};
+use topo_renumbering::{Renumbered, close_up};
 use crate::vertices::{VertexAnswer, vertex_asked};
 use std::alloc::{AllocError, Global};
 use std::marker::Model;

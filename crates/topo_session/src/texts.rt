@@ -11,7 +11,7 @@ ghost use Rattle.topo_session.specs.Texts.{renumbered_data, route_data, route_re
 ghost use Rattle.topo_session.specs.Texts.{script_fault_text, undone_data, vertex_data};
 
 use crate::edges::{EdgeAnswer, Meeting};
-use crate::renumbering::Renumbered;
+use topo_renumbering::Renumbered;
 use crate::session::Undone;
 use crate::vertices::{End, VertexAnswer};
 use serde_json::Value;

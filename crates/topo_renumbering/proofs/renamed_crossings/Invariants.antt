@@ -1,8 +1,8 @@
 use Rattle.std.proofs.Common.{◌≡◌, map, take}
 use Rattle.std.specs.List.{range_with_len}
 use Rattle.topo_core.specs.declared.rows.CrossRow.{CrossRow}
-use Rattle.topo_session.specs.Renumbering.{cross_named}
-use Rattle.topo_session.proofs.renumbering.renamed_crossings.Given as goal
+use Rattle.topo_renumbering.specs.Renumbering.{cross_named}
+use Rattle.topo_renumbering.proofs.renamed_crossings.Given as goal
 
 abbrev pub invariant-loop-place : goal.invariant-loop-place
 invariant-loop-place l = record {

@@ -4,7 +4,7 @@ use Rattle.std.specs.List.{range_with_len}
 use Rattle.topo_core.specs.declared.rows.CrossRow.{CrossRow}
 use Rattle.topo_core.specs.declared.rows.EdgeRow.{EdgeRow}
 use Rattle.topo_core.specs.declared.rows.Rows.{Rows}
-use Rattle.topo_session.specs.declared.renumbering.Renumbered.{Renumbered}
+use Rattle.topo_renumbering.specs.declared.Renumbered.{Renumbered}
 
 -- the id of before of the one that has this id now
 abbrev pub named : List ℕ → ℕ → ℕ

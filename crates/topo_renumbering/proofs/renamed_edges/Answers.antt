@@ -1,8 +1,8 @@
 use Rattle.std.proofs.Common.{◌∙◌}
 use Rattle.topo_core.specs.declared.rows.EdgeRow.{EdgeRow}
-use Rattle.topo_session.specs.Renumbering.{edge_named}
-use Rattle.topo_session.proofs.Renaming.{one_named, one_numbered}
-use Rattle.topo_session.proofs.renumbering.renamed_edges.Goals as goal
+use Rattle.topo_renumbering.specs.Renumbering.{edge_named}
+use Rattle.topo_renumbering.proofs.Renaming.{one_named, one_numbered}
+use Rattle.topo_renumbering.proofs.renamed_edges.Goals as goal
 
 pub loop-place-preserved : goal.loop-place-preserved
 loop-place-preserved c =

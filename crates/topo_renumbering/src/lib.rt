@@ -1,8 +1,22 @@
-//! Pictures whose ids are closed up.
+//! Rows whose ids are closed up.
+//!
+//! Ids run out where many edges come and go. Then the rows of a picture are written anew, with ids
+//! from 0 in the order of the old ones, and a list tells the id of before of each.
+//!
+//! A caller:
+//!
+//! ```rust
+//! /// The rows of a picture with their ids from 0 on.
+//! pub fn begun_anew(alloc: Global, rows: &Rows) -> Result<Option<Rows>, AllocError> {
+//!     let closed = close_up(alloc, rows)?;
+//!     Ok(closed.map(|(_ids, rows)| rows))
+//! }
+//! ```
+#![tactic(auto)]
 
 ghost use Rattle.std.specs.Prelude.{◌≡◌, IfOk, IfSome, length, map};
 ghost use Rattle.std.specs.List.{range_with_len};
-ghost use Rattle.topo_session.specs.Renumbering.{IsRenumbered, cross_named, edge_named, named};
+ghost use Rattle.topo_renumbering.specs.Renumbering.{IsRenumbered, cross_named, edge_named, named};
 
 use std::alloc::{AllocError, Global};
 use topo_core::listed::Listed;
@@ -186,7 +200,7 @@ fn next_id(rows: usize) -> Option<u32>
 
 /// These rows with their ids closed up from 0 in their order, and what that did. Rows of a picture
 /// have such rows.
-pub(crate) fn close_up(alloc: Global, old: &Rows) -> Result<Option<(Renumbered, Rows)>, AllocError>
+pub fn close_up(alloc: Global, old: &Rows) -> Result<Option<(Renumbered, Rows)>, AllocError>
     ensures { IfOk result (λ found. IfSome found (λ made. IsRenumbered old.now made.0 made.1)) }
 {
     let ids = Renumbered {

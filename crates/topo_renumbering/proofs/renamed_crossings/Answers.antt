@@ -1,7 +1,7 @@
 use Rattle.topo_core.specs.declared.rows.CrossRow.{CrossRow}
-use Rattle.topo_session.specs.Renumbering.{cross_named}
-use Rattle.topo_session.proofs.Renaming.{one_named, one_numbered}
-use Rattle.topo_session.proofs.renumbering.renamed_crossings.Goals as goal
+use Rattle.topo_renumbering.specs.Renumbering.{cross_named}
+use Rattle.topo_renumbering.proofs.Renaming.{one_named, one_numbered}
+use Rattle.topo_renumbering.proofs.renamed_crossings.Goals as goal
 
 pub loop-place-preserved : goal.loop-place-preserved
 loop-place-preserved c =
