@@ -1,0 +1,3 @@
+pub mod Graphs
+pub mod Parts
+pub mod Planarizations
