@@ -12,7 +12,7 @@ use Rattle.topo_forms.specs.Reads.{IsFirstFault}
 use Rattle.topo_forms.specs.RowForms.{rows_of}
 use Rattle.topo_forms.specs.Scripts.{greatest_limits}
 use Rattle.topo_settings.specs.declared.fault.RunFault.{RunFault}
-use Rattle.topo_settings.specs.declared.fault.RunFault.TheVariants.{Memory, Script, BadLimits, Price, Load, NoSeat, Mismatch}
+use Rattle.topo_settings.specs.declared.fault.RunFault.TheVariants.{Memory, Script, BadLimits, Price, Load, Graph, NoSeat, Mismatch}
 use Rattle.topo_settings.specs.declared.fault.RunFault.TheVariants.{WrongReply, WrongPicture, ReadFault, WriteFault}
 use Rattle.topo_settings.specs.Limiting.{AreLimits}
 use Rattle.topo_settings.specs.Reading.{HasFailed, ReaderState, Spells, SpellsNone}
@@ -52,6 +52,7 @@ IsUnlawful bytes (Script fault) = IsFirstFault (rows_of bytes) fault
 IsUnlawful bytes BadLimits = ⊥
 IsUnlawful bytes (Price fault) = ⊥
 IsUnlawful bytes (Load fault) = IsUnlawfulAt bytes fault
+IsUnlawful bytes (Graph fault) = ⊥
 IsUnlawful bytes NoSeat = ⊥
 IsUnlawful bytes (Mismatch list i) = ⊥
 IsUnlawful bytes (WrongReply i) = ⊥
@@ -100,6 +101,7 @@ CheckFailsBy (Script fault) old new old_held new_held = SpellsNone rows_of 26843
 CheckFailsBy BadLimits old new old_held new_held = ⊥
 CheckFailsBy (Price fault) old new old_held new_held = ⊥
 CheckFailsBy (Load fault) old new old_held new_held = IsUnlawfulInput old.left new.left fault × Keeps old_held new_held
+CheckFailsBy (Graph fault) old new old_held new_held = ⊥
 CheckFailsBy NoSeat old new old_held new_held = ⊥
 CheckFailsBy (Mismatch list i) old new old_held new_held = ⊥
 CheckFailsBy (WrongReply i) old new old_held new_held = ⊥

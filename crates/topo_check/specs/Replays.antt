@@ -9,7 +9,7 @@ use Rattle.topo_forms.specs.Reads.{IsFirstFault}
 use Rattle.topo_forms.specs.Scripts.{report_of}
 use Rattle.topo_forms.specs.declared.reports.Report.{Report}
 use Rattle.topo_settings.specs.declared.fault.RunFault.{RunFault}
-use Rattle.topo_settings.specs.declared.fault.RunFault.TheVariants.{Memory, Script, BadLimits, Price, Load, NoSeat, Mismatch}
+use Rattle.topo_settings.specs.declared.fault.RunFault.TheVariants.{Memory, Script, BadLimits, Price, Load, Graph, NoSeat, Mismatch}
 use Rattle.topo_settings.specs.declared.fault.RunFault.TheVariants.{WrongReply, WrongPicture, ReadFault, WriteFault}
 use Rattle.topo_settings.specs.Reading.{HasFailed, ReaderState, Spells, SpellsNone}
 use Rattle.topo_settings.specs.Settings.{IsSound, IsUnsound, priced}
@@ -80,6 +80,7 @@ TellsUntrue bytes (Script fault) = IsFirstFault (report_of bytes) fault
 TellsUntrue bytes BadLimits = IsUntrueReport bytes BadLimits
 TellsUntrue bytes (Price fault) = IsUntrueReport bytes (Price fault)
 TellsUntrue bytes (Load fault) = IsUntrueReport bytes (Load fault)
+TellsUntrue bytes (Graph fault) = ⊥
 TellsUntrue bytes NoSeat = ⊥
 TellsUntrue bytes (Mismatch list i) = ⊥
 TellsUntrue bytes (WrongReply i) = IsUntrueReport bytes (WrongReply i)
@@ -122,6 +123,7 @@ ReplayFailsBy (Script fault) old new old_held new_held = SpellsNone report_of 26
 ReplayFailsBy BadLimits old new old_held new_held = ReportsUntruly old.left new.left BadLimits × Keeps old_held new_held
 ReplayFailsBy (Price fault) old new old_held new_held = ReportsUntruly old.left new.left (Price fault) × Keeps old_held new_held
 ReplayFailsBy (Load fault) old new old_held new_held = ReportsUntruly old.left new.left (Load fault) × Keeps old_held new_held
+ReplayFailsBy (Graph fault) old new old_held new_held = ⊥
 ReplayFailsBy NoSeat old new old_held new_held = ⊥
 ReplayFailsBy (Mismatch list i) old new old_held new_held = ⊥
 ReplayFailsBy (WrongReply i) old new old_held new_held = ReportsUntruly old.left new.left (WrongReply i) × Keeps old_held new_held

@@ -1,13 +1,14 @@
 pub mod CallForms
 pub mod FaultTexts
+pub mod Graphs
 pub mod Paths
 pub mod Prices
-pub mod Reads
 pub mod Readers
+pub mod Reads
 pub mod ReplyForms
 pub mod RowForms
 pub mod Scripts
 pub mod Sessions
 pub mod Slots
-pub mod Tokens
 pub mod TokenParts
+pub mod Tokens

@@ -1,9 +1,9 @@
 -- Places in a text, and the names of keys.
 use Rattle.std.specs.Prelude.{ℕ, List, [], ◌++◌, codes, decimal, Option, Some, None, is_none, if◌then◌else◌}
 use Rattle.topo_forms.specs.declared.path.Key.{Key}
-use Rattle.topo_forms.specs.declared.path.Key.TheVariants.{A, B, Call, Caller, Crossed, Crossings, Deleted, Edge, Edges, End, History}
+use Rattle.topo_forms.specs.declared.path.Key.TheVariants.{A, B, Call, Caller, Crossed, Crossings, Deleted, Edge, Edges, Effort, End, History}
 use Rattle.topo_forms.specs.declared.path.Key.TheVariants.{Id, Kind, Limits, Newcomer, NextCrossing, NextEdge, Open, Picture, Price, Prices}
-use Rattle.topo_forms.specs.declared.path.Key.TheVariants.{Refused, Reopen, Reply, Rotations, Sign, Start, Version, Vertex, Vertices, Workers}
+use Rattle.topo_forms.specs.declared.path.Key.TheVariants.{Refused, Reopen, Reply, Rotations, Seconds, Seed, Sign, Start, Version, Vertex, Vertices, Workers}
 use Rattle.topo_forms.specs.declared.path.Step.{Step}
 use Rattle.topo_forms.specs.declared.path.Step.TheVariants.{Member, Element}
 use Rattle.topo_forms.specs.declared.path.Path.{Path}
@@ -19,6 +19,7 @@ key_name Crossings = codes "crossings"
 key_name Deleted = codes "deleted"
 key_name Edge = codes "edge"
 key_name Edges = codes "edges"
+key_name Effort = codes "effort"
 key_name End = codes "end"
 key_name History = codes "history"
 key_name Id = codes "id"
@@ -35,6 +36,8 @@ key_name Refused = codes "refused"
 key_name Reopen = codes "reopen"
 key_name Reply = codes "reply"
 key_name Rotations = codes "rotations"
+key_name Seconds = codes "seconds"
+key_name Seed = codes "seed"
 key_name Sign = codes "sign"
 key_name Start = codes "start"
 key_name Version = codes "version"

@@ -1,6 +1,6 @@
-//! The JSON forms of the project, read: scripts, pictures, reports, and the lines of a session.
+//! The JSON forms of the project, read: scripts, pictures, reports, graphs, and the lines of a session.
 //!
-//! `read_script`, `read_rows`, `read_report` and `read_line` give what the definitions of `specs/`
+//! `read_script`, `read_rows`, `read_report`, `read_graph` and `read_line` give what the definitions of `specs/`
 //! give on the value of a text: the form, or its first fault with its path.
 //! `docs/FORMATS.md` has the forms in words.
 #![tactic(auto)]
@@ -8,6 +8,8 @@
 mod calls;
 pub mod fault;
 pub mod form;
+pub mod graph_forms;
+pub mod graphs;
 mod lexing;
 pub mod lines;
 pub mod path;
@@ -32,6 +34,8 @@ mod token_settings;
 mod tokens;
 
 pub use fault::ScriptFault;
+pub use graph_forms::read_graph;
+pub use graphs::GraphAsked;
 pub use lines::{Asked, Frame, IdText, Line, LineId, read_command, read_line};
 pub use reports::Report;
 pub use row_forms::read_rows;

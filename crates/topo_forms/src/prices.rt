@@ -19,7 +19,12 @@ use topo_core::rows::KINDS;
 /// The greatest number of prices in a list: one for each kind.
 pub(crate) const MAX_PRICES: usize = KINDS;
 
-fn read_some_price(alloc: Global, path: Path, value: &Value) -> Result<Option<u32>, ScriptFault>
+/// A number, as a price.
+pub(crate) fn read_some_price(
+    alloc: Global,
+    path: Path,
+    value: &Value,
+) -> Result<Option<u32>, ScriptFault>
     ensures { Gives result (some_price path (view value.now)) }
 {
     let price = u32::read(alloc, path, value)?;

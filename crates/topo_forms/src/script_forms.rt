@@ -117,7 +117,7 @@ fn read_price_member(
 }
 
 /// The prices of a script or an opening, which may be missing.
-fn read_prices_or_none(
+pub(crate) fn read_prices_or_none(
     alloc: Global,
     path: Path,
     nulls: bool,

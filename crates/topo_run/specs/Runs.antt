@@ -12,7 +12,7 @@ use Rattle.topo_forms.specs.Scripts.{script_of}
 use Rattle.topo_script.specs.ReportTexts.{report_text}
 use Rattle.topo_run.specs.Working.{IsOfRun}
 use Rattle.topo_settings.specs.declared.fault.RunFault.{RunFault}
-use Rattle.topo_settings.specs.declared.fault.RunFault.TheVariants.{Memory, Script as OfScript, BadLimits, Price, Load, NoSeat}
+use Rattle.topo_settings.specs.declared.fault.RunFault.TheVariants.{Memory, Script as OfScript, BadLimits, Price, Load, Graph, NoSeat}
 use Rattle.topo_settings.specs.declared.fault.RunFault.TheVariants.{Mismatch, WrongReply, WrongPicture, ReadFault, WriteFault}
 use Rattle.topo_settings.specs.Limiting.{AreLimits}
 use Rattle.topo_settings.specs.Reading.{HasFailed, ReaderState, Spells, SpellsNone}
@@ -60,6 +60,7 @@ FailsRun script (OfScript fault) = ⊥
 FailsRun script BadLimits = IsUnsound script.limits script.prices script.start BadLimits
 FailsRun script (Price fault) = IsUnsound script.limits script.prices script.start (Price fault)
 FailsRun script (Load fault) = IsUnsound script.limits script.prices script.start (Load fault)
+FailsRun script (Graph fault) = ⊥
 FailsRun script NoSeat = IsSoundScript script × IsOfRun script.workers NoSeat
 FailsRun script (Mismatch list i) = IsSoundScript script × IsOfRun script.workers (Mismatch list i)
 FailsRun script (WrongReply i) = ⊥
@@ -88,6 +89,7 @@ IsFaultOfBytes bytes (OfScript fault) = IsFirstFault (script_of bytes) fault
 IsFaultOfBytes bytes BadLimits = IsFailingScript bytes BadLimits
 IsFaultOfBytes bytes (Price fault) = IsFailingScript bytes (Price fault)
 IsFaultOfBytes bytes (Load fault) = IsFailingScript bytes (Load fault)
+IsFaultOfBytes bytes (Graph fault) = ⊥
 IsFaultOfBytes bytes NoSeat = IsFailingScript bytes NoSeat
 IsFaultOfBytes bytes (Mismatch list i) = IsFailingScript bytes (Mismatch list i)
 IsFaultOfBytes bytes (WrongReply i) = ⊥
@@ -131,6 +133,7 @@ FailsBy (OfScript fault) old new old_held new_held = SpellsNone script_of MAX_SC
 FailsBy BadLimits old new old_held new_held = AsksInVain old.left new.left BadLimits × Keeps old_held new_held
 FailsBy (Price fault) old new old_held new_held = AsksInVain old.left new.left (Price fault) × Keeps old_held new_held
 FailsBy (Load fault) old new old_held new_held = AsksInVain old.left new.left (Load fault) × Keeps old_held new_held
+FailsBy (Graph fault) old new old_held new_held = ⊥
 FailsBy NoSeat old new old_held new_held = AsksInVain old.left new.left NoSeat × Keeps old_held new_held
 FailsBy (Mismatch list i) old new old_held new_held = AsksInVain old.left new.left (Mismatch list i) × Keeps old_held new_held
 FailsBy (WrongReply i) old new old_held new_held = ⊥

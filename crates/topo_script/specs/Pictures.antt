@@ -8,6 +8,7 @@ use Rattle.topo_core.specs.declared.darts.Sign.TheVariants.{LeftToRight, RightTo
 use Rattle.topo_core.specs.declared.rows.Rows.{Rows}
 use Rattle.topo_core.specs.declared.rows.EdgeRow.{EdgeRow}
 use Rattle.topo_core.specs.declared.rows.CrossRow.{CrossRow}
+use Rattle.topo_shown.specs.declared.parts.Part.{Part}
 
 abbrev pub number_data : ℕ → Data
 number_data n = number (unsigned n)
@@ -42,6 +43,13 @@ rows_data rows = object
     (member (codes "next_crossing") (number_data rows.next_crossing)
     (member (codes "next_edge") (number_data rows.next_edge)
     (member (codes "rotations") (list_data (list_data number_data) rows.rotations) no_members)))))
+
+-- a picture that shows a part of a graph
+abbrev pub part_data : Part → Data
+part_data part = object
+    (member (codes "edges") (list_data number_data part.edges)
+    (member (codes "picture") (rows_data part.rows)
+    (member (codes "vertices") (list_data number_data part.vertices) no_members)))
 
 -- the text of rows: no space, and keys in the order of their bytes
 unfoldable pub rows_text : Rows → List ℕ

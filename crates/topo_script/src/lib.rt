@@ -1,10 +1,11 @@
-//! The JSON forms of the project, pictures and reports, as they are written.
+//! The JSON forms of the project, pictures, reports and parts of graphs, as they are written.
 //!
 //! The readers are those of `topo_forms`. `picture_text` and `report` write: compact, keys in the
 //! order of their bytes, nothing else. What is written is read back as what was written.
 //! `docs/FORMATS.md` has the forms in words.
 #![tactic(auto)]
 
+mod parts;
 pub mod report_text;
 mod rows;
 pub mod written;

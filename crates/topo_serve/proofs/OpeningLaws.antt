@@ -8,7 +8,7 @@ use Rattle.topo_forms.specs.declared.lines.Frame.TheVariants.{Opening}
 use Rattle.topo_forms.specs.declared.lines.Line.{Line}
 use Rattle.topo_forms.specs.Sessions.{line_limit, line_of}
 use Rattle.topo_settings.specs.declared.fault.RunFault.{RunFault}
-use Rattle.topo_settings.specs.declared.fault.RunFault.TheVariants.{Memory, Script, BadLimits, Price, Load, NoSeat, Mismatch}
+use Rattle.topo_settings.specs.declared.fault.RunFault.TheVariants.{Memory, Script, BadLimits, Price, Load, Graph, NoSeat, Mismatch}
 use Rattle.topo_settings.specs.declared.fault.RunFault.TheVariants.{WrongReply, WrongPicture, ReadFault, WriteFault}
 use Rattle.topo_settings.specs.Reading.{IsOfReading}
 use Rattle.topo_session.specs.Answers.{AnswersFirst, IsBadOpening}
@@ -163,6 +163,7 @@ module _ (old_left new_left old_held new_held : Option (List ℕ)) (old ahead ke
     first_told BadLimits is = bad BadLimits is
     first_told (Price fault) is = bad (Price fault) is
     first_told (Load fault) is = bad (Load fault) is
+    first_told (Graph fault) is = bad (Graph fault) is
     first_told NoSeat is = bad NoSeat is
     first_told (Mismatch list i) is = bad (Mismatch list i) is
     first_told (WrongReply i) is = bad (WrongReply i) is
@@ -344,6 +345,7 @@ first_fails (Script fault) old new is = is
 first_fails BadLimits old new is = is
 first_fails (Price fault) old new is = is
 first_fails (Load fault) old new is = is
+first_fails (Graph fault) old new is = bad_opening (first_line is.0.input) (Graph fault) is.0.first
 first_fails NoSeat old new is = bad_opening (first_line is.0.input) NoSeat is.0.first
 first_fails (Mismatch list i) old new is = bad_opening (first_line is.0.input) (Mismatch list i) is.0.first
 first_fails (WrongReply i) old new is = bad_opening (first_line is.0.input) (WrongReply i) is.0.first

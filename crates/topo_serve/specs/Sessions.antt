@@ -3,7 +3,7 @@ use Rattle.std.specs.Prelude.{◌≡◌, ◌⊎◌, ◌<◌, ◌≤◌, ℕ, Lis
 use Rattle.std.specs.Io.KnownBytes.{Appends, Consumes, IsAtEnd, Keeps}
 use Rattle.topo_forms.specs.Sessions.{line_of}
 use Rattle.topo_settings.specs.declared.fault.RunFault.{RunFault}
-use Rattle.topo_settings.specs.declared.fault.RunFault.TheVariants.{Memory, Script, BadLimits, Price, Load, NoSeat, Mismatch}
+use Rattle.topo_settings.specs.declared.fault.RunFault.TheVariants.{Memory, Script, BadLimits, Price, Load, Graph, NoSeat, Mismatch}
 use Rattle.topo_settings.specs.declared.fault.RunFault.TheVariants.{WrongReply, WrongPicture, ReadFault, WriteFault}
 use Rattle.topo_session.specs.Answers.{AnswersFirst, AnswersLine, IsBadOpening}
 use Rattle.topo_session.specs.Standings.{HasLegalHistory, Standing}
@@ -106,6 +106,7 @@ ServeFailsBy (Script fault) old_left new_left old_held new_held = OpensNone old_
 ServeFailsBy BadLimits old_left new_left old_held new_held = OpensNone old_left new_left BadLimits × Keeps old_held new_held
 ServeFailsBy (Price fault) old_left new_left old_held new_held = OpensNone old_left new_left (Price fault) × Keeps old_held new_held
 ServeFailsBy (Load fault) old_left new_left old_held new_held = OpensNone old_left new_left (Load fault) × Keeps old_held new_held
+ServeFailsBy (Graph fault) old_left new_left old_held new_held = ⊥
 ServeFailsBy NoSeat old_left new_left old_held new_held = ⊥
 ServeFailsBy (Mismatch list i) old_left new_left old_held new_held = ⊥
 ServeFailsBy (WrongReply i) old_left new_left old_held new_held = ⊥

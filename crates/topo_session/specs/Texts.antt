@@ -28,7 +28,7 @@ use Rattle.topo_session.specs.declared.vertices.End.{End}
 use Rattle.topo_session.specs.declared.vertices.End.TheVariants.{A, B}
 use Rattle.topo_session.specs.declared.vertices.VertexAnswer.{VertexAnswer}
 use Rattle.topo_settings.specs.declared.fault.RunFault.{RunFault}
-use Rattle.topo_settings.specs.declared.fault.RunFault.TheVariants.{Memory, Script, BadLimits, Price, Load, NoSeat, Mismatch}
+use Rattle.topo_settings.specs.declared.fault.RunFault.TheVariants.{Memory, Script, BadLimits, Price, Load, Graph, NoSeat, Mismatch}
 use Rattle.topo_settings.specs.declared.fault.RunFault.TheVariants.{WrongReply, WrongPicture, ReadFault, WriteFault}
 use Rattle.topo_settings.specs.Statuses.{fault_name, fault_number}
 
@@ -146,6 +146,7 @@ fault_text (Script fault) = script_fault_text fault
 fault_text BadLimits = numbered_text (fault_number BadLimits) (fault_name BadLimits)
 fault_text (Price (BadPrice kind)) = counted_text (fault_number (Price (BadPrice kind))) (fault_name (Price (BadPrice kind))) kind
 fault_text (Load fault) = numbered_text (fault_number (Load fault)) (fault_name (Load fault))
+fault_text (Graph fault) = numbered_text (fault_number (Graph fault)) (fault_name (Graph fault))
 fault_text NoSeat = numbered_text (fault_number NoSeat) (fault_name NoSeat)
 fault_text (Mismatch list place) = numbered_text (fault_number (Mismatch list place)) (fault_name (Mismatch list place))
 fault_text (WrongReply place) = counted_text (fault_number (WrongReply place)) (fault_name (WrongReply place)) place

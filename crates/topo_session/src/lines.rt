@@ -22,7 +22,8 @@ ghost use Rattle.topo_settings.specs.Settings.{IsUnsound};
 
 use crate::session::Session;
 use crate::texts::{
-    counts_text, face_text, fault_text, framed, nothing_text, route_text, text_like, text_of,
+    counts_text, face_text, fault_text, framed, nothing_text, renumbered_text, route_text,
+    text_like, text_of,
 };
 use std::alloc::{AllocError, Global};
 use std::mem;
@@ -271,7 +272,7 @@ fn tell_renumber<F: PriceFn + Drop>(
         Err(LoadFault::Memory) => return Err(RunFault::Memory),
         Err(fault) => return Err(RunFault::Load(fault)),
     };
-    or_memory(text_of(alloc, &ids))
+    or_memory(renumbered_text(alloc, &ids))
 }
 
 /// A text, or out of memory as the fault that it is.

@@ -20,7 +20,6 @@ ghost use Rattle.topo_session.specs.Standings.{IsUndone, Renumbers, begins_with,
 ghost use Rattle.topo_session.specs.Standings.{undone};
 
 use crate::edges::{EdgeAnswer, edge_found};
-use topo_renumbering::{Renumbered, close_up};
 use crate::vertices::{VertexAnswer, vertex_asked};
 use std::alloc::{AllocError, Global};
 use std::marker::Model;
@@ -35,6 +34,7 @@ use topo_forms::{LimitRows, Opening, Report};
 use topo_picture::{Counts, Picture};
 use topo_price::table::PriceTable;
 use topo_price::tariff::{PriceFn, Tariff};
+use topo_renumbering::{Renumbered, close_up};
 use topo_rows::LoadFault;
 use topo_settings::settings::{price_of_kind, validate};
 use topo_settings::{FromTable, RunFault};

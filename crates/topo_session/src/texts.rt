@@ -11,7 +11,6 @@ ghost use Rattle.topo_session.specs.Texts.{renumbered_data, route_data, route_re
 ghost use Rattle.topo_session.specs.Texts.{script_fault_text, undone_data, vertex_data};
 
 use crate::edges::{EdgeAnswer, Meeting};
-use topo_renumbering::Renumbered;
 use crate::session::Undone;
 use crate::vertices::{End, VertexAnswer};
 use serde_json::Value;
@@ -24,6 +23,7 @@ use topo_forms::path::Path;
 use topo_forms::{Frame, LineId, ScriptFault};
 use topo_picture::Counts;
 use topo_price::table::PriceFault;
+use topo_renumbering::Renumbered;
 use topo_script::written::{Written, write_after, write_next};
 use topo_settings::RunFault;
 
@@ -85,14 +85,23 @@ impl Written for Undone {
     }
 }
 
-impl Written for Renumbered {
-    ghost value = { renumbered_data };
+/// Writes what a renumbering did at the end of a text.
+fn write_renumbered(out: &mut String, ids: &Renumbered) -> Result<(), AllocError>
+    ensures { OnOk result (string_bytes out.new
+        ≡ string_bytes out.old ++ compact_text (renumbered_data ids.now)) }
+{
+    write_after(out, "{\"crossings\":", &ids.crossings)?;
+    write_after(out, ",\"edges\":", &ids.edges)?;
+    out.push_str("}")
+}
 
-    fn write(&self, out: &mut String) -> Result<(), AllocError> {
-        write_after(out, "{\"crossings\":", &self.crossings)?;
-        write_after(out, ",\"edges\":", &self.edges)?;
-        out.push('}')
-    }
+/// The text of what a renumbering did.
+pub fn renumbered_text(alloc: Global, ids: &Renumbered) -> Result<String, AllocError>
+    ensures { IfOk result (λ text. string_bytes text ≡ compact_text (renumbered_data ids.now)) }
+{
+    let mut text = String::new(alloc);
+    write_renumbered(&mut text, ids)?;
+    Ok(text)
 }
 
 impl Written for End {
@@ -244,6 +253,7 @@ pub fn fault_text(alloc: Global, fault: RunFault) -> Result<String, AllocError>
         RunFault::Memory => numbered_text(alloc, number, name),
         RunFault::BadLimits => numbered_text(alloc, number, name),
         RunFault::Load(_) => numbered_text(alloc, number, name),
+        RunFault::Graph(_) => numbered_text(alloc, number, name),
         RunFault::NoSeat => numbered_text(alloc, number, name),
         RunFault::Mismatch(_, _) => numbered_text(alloc, number, name),
         RunFault::WrongReply(place) => counted_text(alloc, number, name, place),

@@ -15,7 +15,7 @@ use Rattle.topo_price.specs.declared.table.PriceFault.TheVariants.{BadPrice}
 use Rattle.topo_price.specs.Prices.{Asking, first_bad}
 use Rattle.topo_forms.specs.declared.scripts.LimitRows.{LimitRows}
 use Rattle.topo_settings.specs.declared.fault.RunFault.{RunFault}
-use Rattle.topo_settings.specs.declared.fault.RunFault.TheVariants.{Memory, Script, BadLimits, Price, Load, NoSeat, Mismatch}
+use Rattle.topo_settings.specs.declared.fault.RunFault.TheVariants.{Memory, Script, BadLimits, Price, Load, Graph, NoSeat, Mismatch}
 use Rattle.topo_settings.specs.declared.fault.RunFault.TheVariants.{WrongReply, WrongPicture, ReadFault, WriteFault}
 use Rattle.topo_settings.specs.Limiting.{AreLimits}
 use Rattle.topo_core.specs.declared.rows.TheConstants.{KINDS}
@@ -75,6 +75,7 @@ IsUnsound numbers prices start Memory = ⊤
 IsUnsound numbers prices start BadLimits = HasLimits numbers → ⊥
 IsUnsound numbers prices start (Price fault) = HasLimits numbers × IsBadPrice prices fault
 IsUnsound numbers prices start (Load fault) = (first_bad (price_table prices) ≡ None) × HasBadStart numbers start fault
+IsUnsound numbers prices start (Graph fault) = ⊥
 IsUnsound numbers prices start (Script fault) = ⊥
 IsUnsound numbers prices start NoSeat = ⊥
 IsUnsound numbers prices start (Mismatch list i) = ⊥

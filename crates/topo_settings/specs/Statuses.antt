@@ -3,8 +3,9 @@ use Rattle.std.specs.Prelude.{ℕ, List, [], ◌∷◌, ◌++◌, ◌==◌, code
 use Rattle.topo_forms.specs.FaultTexts.{fault_name as script_name, fault_number as script_number, fault_text as script_text}
 use Rattle.topo_rows.specs.FaultTexts.{fault_name as load_name, fault_number as load_number, fault_text as load_text}
 use Rattle.topo_price.specs.FaultTexts.{fault_name as price_name, fault_number as price_number, fault_text as price_text}
+use Rattle.topo_graph.specs.FaultTexts.{fault_name as graph_name, fault_number as graph_number, fault_text as graph_text}
 use Rattle.topo_settings.specs.declared.fault.RunFault.{RunFault}
-use Rattle.topo_settings.specs.declared.fault.RunFault.TheVariants.{Memory, Script, BadLimits, Price, Load, NoSeat, Mismatch}
+use Rattle.topo_settings.specs.declared.fault.RunFault.TheVariants.{Memory, Script, BadLimits, Price, Load, Graph, NoSeat, Mismatch}
 use Rattle.topo_settings.specs.declared.fault.RunFault.TheVariants.{WrongReply, WrongPicture, ReadFault, WriteFault}
 
 abbrev pub fault_number : RunFault → ℕ
@@ -13,6 +14,7 @@ fault_number (Script fault) = script_number fault
 fault_number BadLimits = 11
 fault_number (Price fault) = price_number fault
 fault_number (Load fault) = load_number fault
+fault_number (Graph fault) = graph_number fault
 fault_number NoSeat = 41
 fault_number (Mismatch list place) = 40
 fault_number (WrongReply place) = 60
@@ -26,6 +28,7 @@ fault_name (Script fault) = script_name fault
 fault_name BadLimits = codes "BadLimits"
 fault_name (Price fault) = price_name fault
 fault_name (Load fault) = load_name fault
+fault_name (Graph fault) = graph_name fault
 fault_name NoSeat = codes "NoSeat"
 fault_name (Mismatch list place) = codes "Mismatch"
 fault_name (WrongReply place) = codes "WrongReply"
@@ -43,6 +46,7 @@ fault_text (Script fault) = script_text fault
 fault_text BadLimits = numbered BadLimits
 fault_text (Price fault) = price_text fault
 fault_text (Load fault) = load_text fault
+fault_text (Graph fault) = graph_text fault
 fault_text NoSeat = numbered NoSeat
 fault_text (Mismatch list place) = decimal (fault_number (Mismatch list place))
     ++ (codes " " ++ (fault_name (Mismatch list place) ++ (codes " " ++ (decimal list ++ (codes " " ++ decimal place)))))

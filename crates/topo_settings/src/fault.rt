@@ -6,6 +6,7 @@ ghost use Rattle.topo_settings.specs.Statuses.{fault_name, fault_number, fault_t
 use std::fmt;
 use thiserror::Error;
 use topo_forms::ScriptFault;
+use topo_graph::GraphFault;
 use topo_price::table::PriceFault;
 use topo_rows::LoadFault;
 
@@ -22,6 +23,8 @@ pub enum RunFault {
     Price(PriceFault),
     /// The rows are no picture within the limits.
     Load(LoadFault),
+    /// The graph has no answer.
+    Graph(GraphFault),
     /// No place was left for a list of the script: there are more than 16 lists, or the store of
     /// versions gives no further reader.
     NoSeat,
@@ -50,6 +53,7 @@ impl RunFault {
             RunFault::BadLimits => 11,
             RunFault::Price(fault) => fault.number(),
             RunFault::Load(fault) => fault.number(),
+            RunFault::Graph(fault) => fault.number(),
             RunFault::NoSeat => 41,
             RunFault::Mismatch(_, _) => 40,
             RunFault::WrongReply(_) => 60,
@@ -69,6 +73,7 @@ impl RunFault {
             RunFault::BadLimits => "BadLimits",
             RunFault::Price(fault) => fault.name(),
             RunFault::Load(fault) => fault.name(),
+            RunFault::Graph(fault) => fault.name(),
             RunFault::NoSeat => "NoSeat",
             RunFault::Mismatch(_, _) => "Mismatch",
             RunFault::WrongReply(_) => "WrongReply",
@@ -97,6 +102,7 @@ impl fmt::Display for RunFault {
             RunFault::Script(fault) => write!(f, "{fault}"),
             RunFault::Price(fault) => write!(f, "{fault}"),
             RunFault::Load(fault) => write!(f, "{fault}"),
+            RunFault::Graph(fault) => write!(f, "{fault}"),
             RunFault::Mismatch(list, place) => write!(f, "{number} {name} {list} {place}"),
             RunFault::WrongReply(place) => write!(f, "{number} {name} {place}"),
             _ => write!(f, "{number} {name}"),

@@ -51,7 +51,7 @@ pub fn validate(
 }
 
 /// The table of the prices of all kinds, where each is one.
-fn table_of(prices: &[Option<u32>]) -> Result<PriceTable, PriceFault>
+pub fn table_of(prices: &[Option<u32>]) -> Result<PriceTable, PriceFault>
     ensures table { IfOk result (λ table. table ≡ price_table prices.now) }
     ensures good { IfOk result (λ _. first_bad (price_table prices.now) ≡ None) }
     ensures bad { IfErr result (IsBadPrice prices.now) }

@@ -1,0 +1,13 @@
+//! The command `planarize`: a graph in, pictures with few crossings out.
+//!
+//! The graph is parted into its components, each is searched by itself, and what was found is judged
+//! before it is written: it shows the graph, or there is a fault. Nothing is promised of how few the
+//! crossings are.
+#![tactic(auto)]
+
+mod answers;
+mod components;
+pub mod planarize;
+mod searches;
+
+pub use planarize::{planarize_bytes, planarize_io};

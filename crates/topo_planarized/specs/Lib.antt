@@ -1,3 +1,0 @@
-pub mod Graphs
-pub mod Parts
-pub mod Planarizations

@@ -1,0 +1,439 @@
+//! The search, step by step.
+
+use crate::best::{Best, keep};
+use crate::board::{Board, Score};
+use crate::graph::Graph;
+use crate::lists::first_numbers;
+use crate::moves::{add_crossed, put_in};
+use crate::orders::{begin_order, first_forbidden};
+use crate::repair::Repair;
+use crate::shakes::{Shaken, about_shaken, shake};
+use std::alloc::{AllocError, Global};
+use std::sync::Arc;
+use topo_core::rows::Rows;
+use topo_picture::LoadFault;
+use topo_graph::{Effort, GraphEdge};
+use topo_price::tariff::{PriceFn, Tariff};
+
+/// What a search is told.
+#[derive(Clone, Copy, Debug, PartialEq, Eq)]
+pub struct Options {
+    /// The same seed gives the same pictures.
+    pub seed: u32,
+    pub effort: Effort,
+}
+
+/// Why a search has ended without a picture, or before its time.
+#[derive(Clone, Copy, Debug, Drop, PartialEq, Eq)]
+pub enum SearchFault {
+    /// A growth of memory was refused.
+    Memory,
+    /// This edge has no route that crosses only edges that may be crossed, or must not be crossed
+    /// itself and has no route that crosses nothing. Another picture of the others may have one.
+    NotPlanarized(u32),
+    /// There are more vertices, edges or crossings than a picture may have.
+    TooLarge,
+    /// The planar part of the graph is no picture, as where the graph is not connected.
+    NotLoaded(LoadFault),
+}
+
+impl From<AllocError> for SearchFault {
+    fn from(_lack: AllocError) -> SearchFault {
+        SearchFault::Memory
+    }
+}
+
+/// How far a search has come.
+#[derive(Clone, Copy, Debug, PartialEq, Eq)]
+pub enum Progress {
+    /// It goes on. `crossings` is how many the best picture so far has, where there is one, and
+    /// `orders` how many orders have ended.
+    Going { crossings: Option<u64>, orders: u32 },
+    /// It has ended.
+    Done,
+}
+
+/// What comes next, once nothing waits to be put in again.
+#[derive(Clone, Copy)]
+enum Stage {
+    /// An order begins.
+    Order,
+    /// The edges that wait are put in.
+    Inserting,
+    /// A round over all crossed edges has ended; before it the picture was so dear.
+    Round(Score),
+    /// A shake begins.
+    Shake,
+    /// The edges that were taken out are put in.
+    Replacing,
+    /// A shake ends.
+    Settling,
+    /// Nothing.
+    Done,
+}
+
+/// A step ends once it has done so much, in faces looked at.
+const STEP_COST: u64 = 400_000;
+
+/// And after so many moves.
+const STEP_MOVES: u32 = 100_000;
+
+/// Where an order ends with at most so many crossings, a quick search tries another, and where it
+/// ends with at most so many, a longer one does.
+const FEW_CROSSINGS: u64 = 30;
+
+const SOME_CROSSINGS: u64 = 300;
+
+/// So many orders are tried at most.
+const QUICK_ORDERS: u32 = 3;
+
+const ORDERS: u32 = 2;
+
+/// So many orders at most may fail before there is a picture.
+const FAILED_ORDERS: u32 = 8;
+
+/// So many passes go over what a shake has touched.
+const SETTLING_PASSES: u32 = 3;
+
+/// So many shakes in a row that save nothing end the search: between these, by the crossings.
+const LEAST_IDLE: u64 = 40;
+
+const MOST_IDLE: u64 = 200;
+
+const CROSSINGS_FOR_EACH: u64 = 10;
+
+/// A search for a picture of a graph with few crossings.
+pub struct Search<F: PriceFn> {
+    board: Board<F>,
+    options: Options,
+    stage: Stage,
+    repair: Repair,
+    // Edges to be put in, the next one last.
+    waiting: Vec<u32>,
+    shaken: Shaken,
+    best: Option<Best>,
+    tries: Vec<u64>,
+    // How many shakes in a row have saved nothing.
+    idle: u64,
+    failed: u32,
+    is_hurried: bool,
+}
+
+// Written out, so that it is proved once: a derived one is proved anew in each function that lets
+// such a value go.
+impl<F: PriceFn + Drop> Drop for Search<F> {
+    fn drop(self) {
+        let Search {
+            board,
+            options: _,
+            stage: _,
+            repair,
+            waiting,
+            shaken,
+            best,
+            tries,
+            idle: _,
+            failed: _,
+            is_hurried: _,
+        } = self;
+        drop(board);
+        drop(repair);
+        drop(waiting);
+        drop(shaken);
+        drop(best);
+        drop(tries);
+    }
+}
+
+impl<F: PriceFn> Search<F> {
+    /// A search for pictures of the graph with so many vertices and these edges, which is connected
+    /// and has no loops and at least one edge, at these prices. Prices are those of kinds; where
+    /// they are not known by the kind, they count as 1.
+    pub fn new(
+        alloc: Global,
+        vertices: usize,
+        edges: Vec<GraphEdge>,
+        tariff: Arc<Tariff<F>>,
+        options: Options,
+    ) -> Result<Self, AllocError>
+    where
+        F: Drop,
+    {
+        let graph = Graph::new(alloc, vertices, edges, &tariff)?;
+        Ok(Search {
+            board: Board::new(alloc, graph, tariff, options.seed)?,
+            options,
+            stage: Stage::Order,
+            repair: Repair::none(alloc),
+            waiting: Vec::new(alloc),
+            shaken: Shaken {
+                out: Vec::new(alloc),
+                crossed: Vec::new(alloc),
+            },
+            best: None,
+            tries: Vec::new(alloc),
+            idle: 0,
+            failed: 0,
+            is_hurried: false,
+        })
+    }
+
+    /// Searches for a while, some 50 milliseconds, and says how far it has come. An order begins in
+    /// one step. Once a fault was answered the search has ended, and the best picture is kept.
+    pub fn step(&mut self, alloc: Global) -> Result<Progress, SearchFault> {
+        self.board.spent = 0;
+        for _ in 0..STEP_MOVES {
+            if self.is_done() || self.board.spent >= STEP_COST {
+                break;
+            }
+            if let Err(why) = self.advance(alloc) {
+                self.note_fault(why)?;
+            }
+        }
+        Ok(self.progress())
+    }
+
+    /// The rows of the best picture so far, with ids from 0 on, and for each row of an edge the
+    /// place of its edge in the graph. Each edge leads from its `a` to its `b`.
+    pub fn best(&self) -> Option<(&Rows, &[u32])> {
+        match &self.best {
+            Some(best) => Some((&best.rows, best.edges.as_slice())),
+            None => None,
+        }
+    }
+
+    /// As `best`, in place of the search.
+    pub fn into_best(self) -> Option<(Rows, Vec<u32>)>
+    where
+        F: Drop,
+    {
+        let Search {
+            board,
+            options: _,
+            stage: _,
+            repair,
+            waiting,
+            shaken,
+            best,
+            tries,
+            idle: _,
+            failed: _,
+            is_hurried: _,
+        } = self;
+        drop(board);
+        drop(repair);
+        drop(waiting);
+        drop(shaken);
+        drop(tries);
+        let Best { rows, edges, .. } = best?;
+        Some((rows, edges))
+    }
+
+    /// The crossings at the end of each order.
+    pub fn tries(&self) -> &[u64] {
+        &self.tries
+    }
+
+    /// Leaves repair out until there is a picture.
+    pub fn hurry(&mut self) {
+        self.is_hurried = true;
+    }
+
+    /// Whether it has ended.
+    fn is_done(&self) -> bool {
+        matches!(self.stage, Stage::Done)
+    }
+
+    /// How far it has come.
+    fn progress(&self) -> Progress {
+        if self.is_done() {
+            return Progress::Done;
+        }
+        Progress::Going {
+            crossings: self.best_crossings(),
+            orders: self.orders(),
+        }
+    }
+
+    /// How many crossings the best picture has.
+    fn best_crossings(&self) -> Option<u64> {
+        match &self.best {
+            Some(best) => Some(best.score.crossings),
+            None => None,
+        }
+    }
+
+    /// How many orders have ended with a picture.
+    fn orders(&self) -> u32 {
+        crate::lists::length_of(&self.tries)
+    }
+
+    /// Ends the search, or has it try another order where one has led nowhere.
+    fn note_fault(&mut self, why: SearchFault) -> Result<(), SearchFault> {
+        let may_retry = matches!(self.stage, Stage::Inserting)
+            && matches!(why, SearchFault::NotPlanarized(_))
+            && self.failed < FAILED_ORDERS;
+        if may_retry {
+            self.failed = self.failed.saturating_add(1);
+            self.stage = Stage::Order;
+            return Ok(());
+        }
+        self.stage = Stage::Done;
+        if self.best.is_some() && why != SearchFault::Memory {
+            return Ok(());
+        }
+        Err(why)
+    }
+
+    /// Puts one edge in again, or begins what comes next.
+    fn advance(&mut self, alloc: Global) -> Result<(), SearchFault> {
+        if self.repair.advance(alloc, &mut self.board)? {
+            return Ok(());
+        }
+        match self.stage {
+            Stage::Order => self.begin_order(alloc),
+            Stage::Inserting => self.insert_next(alloc),
+            Stage::Round(before) => self.end_round(alloc, before),
+            Stage::Shake => self.begin_shake(alloc),
+            Stage::Replacing => self.replace_next(alloc),
+            Stage::Settling => self.end_shake(alloc),
+            Stage::Done => Ok(()),
+        }
+    }
+
+    /// Begins an order.
+    fn begin_order(&mut self, alloc: Global) -> Result<(), SearchFault> {
+        let is_random = self.orders() > 0 || self.failed > 0;
+        self.waiting = begin_order(alloc, &mut self.board, is_random)?;
+        if let Some(edge) = first_forbidden(&self.board.graph, &self.waiting) {
+            return Err(SearchFault::NotPlanarized(edge));
+        }
+        self.stage = Stage::Inserting;
+        Ok(())
+    }
+
+    /// Puts the next edge of an order in, or begins the first round.
+    fn insert_next(&mut self, alloc: Global) -> Result<(), SearchFault> {
+        let Some(edge) = self.waiting.pop() else {
+            keep(alloc, &self.board, &mut self.best)?;
+            return self.begin_round(alloc);
+        };
+        put_in(alloc, &mut self.board, edge)?;
+        if self.is_hurried && self.best.is_none() {
+            return Ok(());
+        }
+        self.repair_about(alloc, edge)
+    }
+
+    /// Has an edge and those that it crosses put in again.
+    fn repair_about(&mut self, alloc: Global, edge: u32) -> Result<(), SearchFault> {
+        let mut about = Vec::new(alloc);
+        add_crossed(&self.board, edge, &mut about)?;
+        crate::lists::append(&mut about, edge)?;
+        self.repair.begin(alloc, &mut self.board, about, 1)?;
+        Ok(())
+    }
+
+    /// Has all crossed edges put in again.
+    fn begin_round(&mut self, alloc: Global) -> Result<(), SearchFault> {
+        let all = first_numbers(alloc, self.board.graph.edge_count())?;
+        let before = self.board.score();
+        self.repair.begin(alloc, &mut self.board, all, 1)?;
+        self.stage = Stage::Round(before);
+        Ok(())
+    }
+
+    /// Begins another round where the last one has saved something, and else ends the order.
+    fn end_round(&mut self, alloc: Global, before: Score) -> Result<(), SearchFault> {
+        keep(alloc, &self.board, &mut self.best)?;
+        if self.board.score() < before {
+            return self.begin_round(alloc);
+        }
+        self.note_try(alloc)?;
+        if self.wants_order() {
+            self.stage = Stage::Order;
+            return Ok(());
+        }
+        self.end_orders(alloc)
+    }
+
+    /// Notes the crossings at the end of an order.
+    fn note_try(&mut self, _alloc: Global) -> Result<(), AllocError> {
+        let crossings = self.board.crossings();
+        self.tries.push(crossings)?;
+        Ok(())
+    }
+
+    /// Whether to try another order.
+    fn wants_order(&self) -> bool {
+        let (crossings, orders) = match self.options.effort {
+            Effort::Quick => (FEW_CROSSINGS, QUICK_ORDERS),
+            _ => (SOME_CROSSINGS, ORDERS),
+        };
+        match self.best_crossings() {
+            Some(0) | None => false,
+            Some(best) => best <= crossings && self.orders() < orders,
+        }
+    }
+
+    /// Goes on from the best picture with shakes, or ends.
+    fn end_orders(&mut self, alloc: Global) -> Result<(), SearchFault> {
+        if self.options.effort == Effort::Quick {
+            self.stage = Stage::Done;
+            return Ok(());
+        }
+        if let Some(best) = &self.best {
+            let cost = best.score.cost;
+            self.board.load(alloc, &best.rows, &best.edges, cost)?;
+        }
+        self.stage = Stage::Shake;
+        Ok(())
+    }
+
+    /// Whether enough shakes in a row have saved nothing, or nothing can be saved.
+    fn has_shaken_enough(&self) -> bool {
+        let best = self.best_crossings().unwrap_or(0);
+        let limit = match self.options.effort {
+            Effort::Thorough => MOST_IDLE,
+            _ => (best / CROSSINGS_FOR_EACH).clamp(LEAST_IDLE, MOST_IDLE),
+        };
+        best == 0 || self.idle >= limit
+    }
+
+    /// Begins a shake: takes some edges out. Or ends the search.
+    fn begin_shake(&mut self, alloc: Global) -> Result<(), SearchFault> {
+        if self.has_shaken_enough() {
+            self.stage = Stage::Done;
+            return Ok(());
+        }
+        self.shaken = shake(alloc, &mut self.board)?;
+        self.waiting = Vec::from_slice(alloc, &self.shaken.out)?;
+        self.stage = Stage::Replacing;
+        Ok(())
+    }
+
+    /// Puts the next of the edges in that were taken out, or goes over what the shake has touched.
+    fn replace_next(&mut self, alloc: Global) -> Result<(), SearchFault> {
+        if let Some(edge) = self.waiting.pop() {
+            put_in(alloc, &mut self.board, edge)?;
+            return self.repair_about(alloc, edge);
+        }
+        let about = about_shaken(alloc, &mut self.board, &mut self.shaken)?;
+        self.repair
+            .begin(alloc, &mut self.board, about, SETTLING_PASSES)?;
+        self.stage = Stage::Settling;
+        Ok(())
+    }
+
+    /// Ends a shake.
+    fn end_shake(&mut self, alloc: Global) -> Result<(), SearchFault> {
+        let has_saved = keep(alloc, &self.board, &mut self.best)?;
+        self.idle = if has_saved {
+            0
+        } else {
+            self.idle.saturating_add(1)
+        };
+        self.stage = Stage::Shake;
+        Ok(())
+    }
+}
