@@ -5,7 +5,7 @@ use Rattle.clap.specs.Kinds.{Kinds, or_else}
 use Rattle.clap.specs.Words.{App, Shape, Text, fault_of, new_app, subcommand_of, with_subcommand}
 use Rattle.clap.specs.declared.error.kind.ErrorKind.TheVariants.{MissingSubcommand}
 use Rattle.topo_cli.specs.declared.Verb.{Verb}
-use Rattle.topo_cli.specs.declared.Verb.TheVariants.{Run, Replay, Check, Serve}
+use Rattle.topo_cli.specs.declared.Verb.TheVariants.{Run, Replay, Check, Serve, Planarize}
 
 -- a command must be named, no word at all asks for help, and there is a version
 abbrev pub planar_shape : Shape → Shape
@@ -16,12 +16,14 @@ with_command app name = with_subcommand app (new_app name).top
 
 -- the program with its commands
 abbrev pub planar_app : App
-planar_app = with_command
-    (with_command (with_command (with_command (on_top planar_shape (new_app (codes "planar"))) (codes "run")) (codes "replay")) (codes "check")) (codes "serve")
+planar_app = with_command (with_command
+    (with_command (with_command (with_command (on_top planar_shape (new_app (codes "planar"))) (codes "run")) (codes "replay")) (codes "check")) (codes "serve"))
+    (codes "planarize")
 
 abbrev pub verb_named : Text → Option Verb
 verb_named name = if bytes_eq name (codes "run") then Some Run else (if bytes_eq name (codes "replay") then Some Replay else
-    (if bytes_eq name (codes "check") then Some Check else (if bytes_eq name (codes "serve") then Some Serve else None)))
+    (if bytes_eq name (codes "check") then Some Check else (if bytes_eq name (codes "serve") then Some Serve else
+    (if bytes_eq name (codes "planarize") then Some Planarize else None))))
 
 -- the command that the words name
 abbrev pub asked_verb : List Text → Option Verb

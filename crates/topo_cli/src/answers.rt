@@ -6,16 +6,18 @@ ghost use Rattle.topo_cli.specs.Commands.{CommandFailsBy, IsAnswered};
 use crate::Verb;
 use std::alloc::Global;
 use std::io::{Read, Write};
+use std::rt::Clock;
 use std::sync::Wait;
 use std::thread::Threads;
 use topo_check::{check_io, replay_io};
+use topo_planarize::planarize_io;
 use topo_run::{OpenGate, run_io};
 use topo_serve::serve_io;
 use topo_settings::RunFault;
 use topo_settings::reading::CountedReader;
 
 /// Carries out a command: it reads its input from the reader and writes its answer to the writer.
-pub fn answer<R: Threads + Wait + Sync, I: Read, O: Write>(
+pub fn answer<R: Threads + Wait + Clock + Sync, I: Read, O: Write>(
     rt: &R,
     alloc: Global,
     verb: Verb,
@@ -32,5 +34,6 @@ pub fn answer<R: Threads + Wait + Sync, I: Read, O: Write>(
         Verb::Replay => replay_io(alloc, reader, writer),
         Verb::Check => check_io(alloc, reader, writer),
         Verb::Serve => serve_io(alloc, reader, writer),
+        Verb::Planarize => planarize_io(rt, alloc, reader, writer),
     }
 }

@@ -25,4 +25,6 @@ pub enum Verb {
     Check,
     /// Answer line by line, with one picture.
     Serve,
+    /// Read a graph and print pictures of it with few crossings.
+    Planarize,
 }

@@ -14,6 +14,7 @@ use clap::error::ErrorKind;
 use std::alloc::Global;
 use std::convert::AsStr;
 use std::io::{Read, Write};
+use std::rt::Clock;
 use std::sync::Wait;
 use std::thread::Threads;
 use topo_settings::RunFault;
@@ -70,7 +71,7 @@ enum Unread {
 /// ask for, on the reader and `out`. Where they ask for the version, it goes to `out`. A fault is one
 /// line on `err`. Where `clap` refuses the words, or they ask for help, its text goes to `err`. Only
 /// a command reads. A write to `err` that fails changes no status.
-pub fn perform<'a, R: Threads + Wait + Sync, S: AsStr, I: Read, O: Write, E: Write>(
+pub fn perform<'a, R: Threads + Wait + Clock + Sync, S: AsStr, I: Read, O: Write, E: Write>(
     rt: &R,
     alloc: Global,
     words: &'a [S],
@@ -121,7 +122,7 @@ fn read_words<'a, S: AsStr>(alloc: Global, words: &'a [S]) -> Result<Asked, Unre
 }
 
 /// Carries out a command. A fault is written on `err`.
-fn carry_out<R: Threads + Wait + Sync, I: Read, O: Write, E: Write>(
+fn carry_out<R: Threads + Wait + Clock + Sync, I: Read, O: Write, E: Write>(
     rt: &R,
     alloc: Global,
     verb: Verb,

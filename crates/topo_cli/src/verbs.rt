@@ -25,6 +25,7 @@ Examples:
   planar replay < report.json
   planar check < picture.json
   echo '{\"version\":1}' | planar serve
+  planar planarize < graph.json > pictures.json
 
 Statuses:
   0  done
@@ -120,6 +121,36 @@ and changes nothing.
 A fault of the first line, of reading or of writing ends the session with one
 line on standard error, as: planar: 53 BadVersion";
 
+const PLANARIZE: &str = "Reads a graph and prints pictures of it with few crossings";
+
+const PLANARIZE_LONG: &str = "\
+Reads a graph from standard input, searches for a picture with few crossings of
+each component that has an edge, and prints the pictures on one line of standard
+output. They are judged before: they show the graph, or there is a fault. How few
+the crossings are is not promised.
+
+A graph is a JSON object with how many vertices there are, and the two ends and
+the kind, from 0 to 63, of each edge:
+
+  {\"edges\":[[0,1,0],[1,2,0],[2,0,7]],\"version\":1,\"vertices\":3}
+
+It may also have \"effort\", which is \"quick\", \"default\" or \"thorough\";
+\"prices\" as in a script, where an edge of a kind without a price has no crossing
+at all; \"seconds\", after which the search ends with the best so far; and \"seed\",
+a number that its choices begin with. The same graph, effort and seed have the
+same answer, unless time ends the search.
+
+The answer has the number of crossings and their cost, which is the sum of the
+products of the prices of both edges; \"parts\", each with a picture and the graph's
+vertices and edges by the numbers of the picture's; \"lonely\", the vertices
+without an edge; and \"tries\", the crossings at the end of each attempt.
+
+A fault is one line on standard error. planar: 80 Loop 3 says that both ends of
+edge 3, counted from 0, are one vertex, and planar: 81 NoEnd 3 that one of them is
+no vertex. planar: 82 TooLarge tells of a component with more than 65,536 vertices
+or edges, or whose picture needs too many crossings, and planar: 83 NotPlanarized 3
+that no picture was found in which edge 3 has no crossing.";
+
 /// The program with one command more.
 fn with_command<'a>(
     alloc: Global,
@@ -161,7 +192,8 @@ fn planar_command<'a>(alloc: Global) -> Result<Command<'a>, AllocError>
     let planar = with_command(alloc, planar, "run", RUN, RUN_LONG)?;
     let planar = with_command(alloc, planar, "replay", REPLAY, REPLAY_LONG)?;
     let planar = with_command(alloc, planar, "check", CHECK, CHECK_LONG)?;
-    with_command(alloc, planar, "serve", SERVE, SERVE_LONG)
+    let planar = with_command(alloc, planar, "serve", SERVE, SERVE_LONG)?;
+    with_command(alloc, planar, "planarize", PLANARIZE, PLANARIZE_LONG)
 }
 
 /// The command of this name.
@@ -173,6 +205,7 @@ fn verb_named(name: &str) -> Option<Verb>
         "replay" => Some(Verb::Replay),
         "check" => Some(Verb::Check),
         "serve" => Some(Verb::Serve),
+        "planarize" => Some(Verb::Planarize),
         _ => None,
     }
 }

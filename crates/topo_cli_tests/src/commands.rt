@@ -4,6 +4,7 @@ use crate::streams::LentReader;
 use std::alloc::Global;
 use std::io::{Read, Write};
 use std::process::Abort;
+use std::rt::Clock;
 use std::sync::Wait;
 use std::test::Fail;
 use std::thread::Threads;
@@ -46,9 +47,9 @@ pub(crate) const COMMANDS: &[(Verb, &str, &str)] = &[
 ];
 
 /// What a test hands on to what it calls.
-pub(crate) trait TestRuntime: Threads + Wait + Abort + AllocGlobal + Sync {}
+pub(crate) trait TestRuntime: Threads + Wait + Clock + Abort + AllocGlobal + Sync {}
 
-impl<R: Threads + Wait + Abort + AllocGlobal + Sync> TestRuntime for R {}
+impl<R: Threads + Wait + Clock + Abort + AllocGlobal + Sync> TestRuntime for R {}
 
 /// The command ends so on this reader and this writer.
 pub(crate) fn ends<R: TestRuntime, I: Read, O: Write>(

@@ -7,6 +7,7 @@
 #![tactic(auto)]
 
 use anyhow::Result;
+use std::rt::Clock;
 use std::sync::Wait;
 use std::thread::Threads;
 
@@ -26,7 +27,7 @@ use reports::tell_reports;
 use services::tell_services;
 use sessions::tell_sessions;
 
-fn run<R: Print + AllocGlobal + Threads + Wait + Sync>(rt: &R) -> Result<()> {
+fn run<R: Print + AllocGlobal + Threads + Wait + Clock + Sync>(rt: &R) -> Result<()> {
     tell_sessions(rt)?;
     tell_reports(rt)?;
     tell_lists(rt)?;

@@ -6,6 +6,7 @@ use crate::streams::{HoldingWriter, SlowWriter};
 use crate::texts::{Flaw, judgement, pairs_report, pairs_script};
 use anyhow::Result;
 use std::alloc::{AllocError, Global};
+use std::rt::Clock;
 use std::sync::Wait;
 use std::thread::Threads;
 use topo_check::{check_io, replay_io};
@@ -104,7 +105,7 @@ fn deep_fault(alloc: Global) -> Result<String, AllocError> {
 }
 
 /// What the program tells of a report on standard error, and whether it was told whole.
-fn complaint<R: Threads + Wait + Sync>(rt: &R, alloc: Global, report: &str) -> Result<String> {
+fn complaint<R: Threads + Wait + Clock + Sync>(rt: &R, alloc: Global, report: &str) -> Result<String> {
     let mut out: Vec<u8> = Vec::new(alloc);
     let mut err: Vec<u8> = Vec::new(alloc);
     let words = ["planar", "replay"];
@@ -131,7 +132,7 @@ fn complaint<R: Threads + Wait + Sync>(rt: &R, alloc: Global, report: &str) -> R
 }
 
 /// A fault with a long line.
-fn tell_complaint<R: Print + AllocGlobal + Threads + Wait + Sync>(rt: &R) -> Result<()> {
+fn tell_complaint<R: Print + AllocGlobal + Threads + Wait + Clock + Sync>(rt: &R) -> Result<()> {
     let report = deep_fault(rt.alloc())?;
     let told = complaint(rt, rt.alloc(), report.as_str());
     drop(report);
@@ -140,7 +141,7 @@ fn tell_complaint<R: Print + AllocGlobal + Threads + Wait + Sync>(rt: &R) -> Res
 }
 
 /// Whether a slow writer is given what is due by a run of a script.
-fn slowly<R: Threads + Wait + Sync>(
+fn slowly<R: Threads + Wait + Clock + Sync>(
     rt: &R,
     alloc: Global,
     script: &str,
@@ -159,7 +160,7 @@ fn slowly<R: Threads + Wait + Sync>(
 }
 
 /// Whether a writer that passes on where it is flushed has passed on what is due.
-fn held<R: Threads + Wait + Sync>(
+fn held<R: Threads + Wait + Clock + Sync>(
     rt: &R,
     alloc: Global,
     script: &str,
@@ -184,7 +185,7 @@ fn report_line(alloc: Global, pairs: u32) -> Result<String, AllocError> {
 }
 
 /// What becomes of the report of so many pairs, at a writer that is slow or holds it.
-fn written<R: Threads + Wait + Sync>(
+fn written<R: Threads + Wait + Clock + Sync>(
     rt: &R,
     alloc: Global,
     pairs: u32,
@@ -203,7 +204,7 @@ fn written<R: Threads + Wait + Sync>(
 }
 
 /// A line for each report. The last script has nearly as many bytes as one may have.
-pub(crate) fn tell_reports<R: Print + AllocGlobal + Threads + Wait + Sync>(rt: &R) -> Result<()> {
+pub(crate) fn tell_reports<R: Print + AllocGlobal + Threads + Wait + Clock + Sync>(rt: &R) -> Result<()> {
     tell_replays(rt)?;
     tell_check(rt)?;
     tell_complaint(rt)?;

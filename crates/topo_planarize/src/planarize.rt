@@ -153,9 +153,9 @@ fn told(
     prices: &PriceTable,
     tries: Vec<u64>,
 ) -> Result<Answer, RunFault>
-    requires { prices.now ≡ planarized.prices }
-    ensures told { IfOk result (λ answer. (answer.parts ≡ planarized.parts)
-        × (answer.lonely ≡ planarized.others)) }
+    requires { prices.now ≡ planarized.entry.prices }
+    ensures told { IfOk result (λ answer. (answer.parts ≡ planarized.entry.parts)
+        × (answer.lonely ≡ planarized.entry.others)) }
     ensures cost { IfOk result (λ answer. answer.cost ≡ total_cost prices.now answer.parts) }
     ensures crossings { IfOk result
         (λ answer. answer.crossings ≡ total_crossings answer.parts) }

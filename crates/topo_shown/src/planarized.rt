@@ -186,8 +186,8 @@ impl<'a> Planarized<'a> {
 
     /// The parts, and the vertices that have no edge.
     pub fn into_lists(self) -> (Vec<Part>, Vec<u32>)
-        ensures parts { result.0.items ≡ self.parts }
-        ensures others { result.1.items ≡ self.others }
+        ensures parts { result.0.items ≡ self.entry.parts }
+        ensures others { result.1.items ≡ self.entry.others }
     {
         let Planarized {
             limits: _,
