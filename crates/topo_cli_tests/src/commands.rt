@@ -39,11 +39,22 @@ pub(crate) const CROSSED: &str = concat!(
 /// The line of that picture.
 pub(crate) const SIZE: &str = "lawful vertices=4 crossings=1 edges=2 segments=4 faces=1\n";
 
+pub(crate) const GRAPH: &str = "{\"edges\":[[0,1,0]],\"version\":1,\"vertices\":3}";
+
+/// What shows that graph.
+pub(crate) const PLANARIZED: &str = concat!(
+    r#"{"cost":0,"crossings":0,"lonely":[2],"parts":[{"edges":[0],"picture":{"crossings":[],"#,
+    r#""edges":[{"a":0,"b":1,"crossings":[],"id":0,"kind":0}],"next_crossing":0,"#,
+    r#""next_edge":1,"rotations":[[0],[0]]},"vertices":[0,1]}],"tries":[0]}"#,
+    "\n"
+);
+
 /// Commands that read all before they write, a text that each reads, and what it writes then.
 pub(crate) const COMMANDS: &[(Verb, &str, &str)] = &[
     (Verb::Run, SCRIPT, REPORT),
     (Verb::Replay, REPORT, REPLAYED),
     (Verb::Check, CROSSED, SIZE),
+    (Verb::Planarize, GRAPH, PLANARIZED),
 ];
 
 /// What a test hands on to what it calls.

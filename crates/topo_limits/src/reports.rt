@@ -105,7 +105,11 @@ fn deep_fault(alloc: Global) -> Result<String, AllocError> {
 }
 
 /// What the program tells of a report on standard error, and whether it was told whole.
-fn complaint<R: Threads + Wait + Clock + Sync>(rt: &R, alloc: Global, report: &str) -> Result<String> {
+fn complaint<R: Threads + Wait + Clock + Sync>(
+    rt: &R,
+    alloc: Global,
+    report: &str,
+) -> Result<String> {
     let mut out: Vec<u8> = Vec::new(alloc);
     let mut err: Vec<u8> = Vec::new(alloc);
     let words = ["planar", "replay"];
@@ -204,7 +208,9 @@ fn written<R: Threads + Wait + Clock + Sync>(
 }
 
 /// A line for each report. The last script has nearly as many bytes as one may have.
-pub(crate) fn tell_reports<R: Print + AllocGlobal + Threads + Wait + Clock + Sync>(rt: &R) -> Result<()> {
+pub(crate) fn tell_reports<R: Print + AllocGlobal + Threads + Wait + Clock + Sync>(
+    rt: &R,
+) -> Result<()> {
     tell_replays(rt)?;
     tell_check(rt)?;
     tell_complaint(rt)?;

@@ -105,7 +105,11 @@ fn add_vertex(parts: &mut [Component], part: u32, vertex: u32) -> Result<u32, Al
     }
     let place = parts[part].vertices.len();
     parts[part].vertices.push(vertex)?;
-    if place < NONE as usize { Ok(place as u32) } else { Ok(NONE) }
+    if place < NONE as usize {
+        Ok(place as u32)
+    } else {
+        Ok(NONE)
+    }
 }
 
 /// Adds an edge to its component.
@@ -178,6 +182,12 @@ pub(crate) fn split_graph(alloc: Global, graph: &Graph) -> Result<Components, Al
         others: Vec::new(alloc),
     };
     let places = share_vertices(alloc, &mut found, &of_group, &mut groups)?;
-    share_edges(&mut found.parts, &of_group, &mut groups, &places, graph.edges())?;
+    share_edges(
+        &mut found.parts,
+        &of_group,
+        &mut groups,
+        &places,
+        graph.edges(),
+    )?;
     Ok(found)
 }

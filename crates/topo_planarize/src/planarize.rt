@@ -58,11 +58,7 @@ pub fn planarize_io<R: Clock, I: Read, O: Write>(
 }
 
 /// The line that answers the graph that bytes spell, or the first fault.
-pub fn planarize_bytes<R: Clock>(
-    rt: &R,
-    alloc: Global,
-    bytes: &[u8],
-) -> Result<String, RunFault>
+pub fn planarize_bytes<R: Clock>(rt: &R, alloc: Global, bytes: &[u8]) -> Result<String, RunFault>
     ensures line { IfOk result (λ line. IsPlanarizedBy bytes.now (string_bytes line)) }
     ensures fault { IfErr result (IsUnplanarized bytes.now) }
 {

@@ -189,7 +189,15 @@ pub(crate) fn search_all<R: Clock, F: PriceFn + Drop>(
         let Ok(tariff) = Arc::clone(&tariff) else {
             return Err(RunFault::Memory);
         };
-        let part = searched_part(rt, alloc, component, tariff, options, deadline, &mut found.tries)?;
+        let part = searched_part(
+            rt,
+            alloc,
+            component,
+            tariff,
+            options,
+            deadline,
+            &mut found.tries,
+        )?;
         if found.parts.push(part).is_err() {
             return Err(RunFault::Memory);
         }

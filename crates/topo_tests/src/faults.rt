@@ -9,6 +9,7 @@ use topo_core::calls::Refusal;
 use topo_core::limits::LimitsFault;
 use topo_forms::ScriptFault;
 use topo_forms::path::{Key, Path};
+use topo_graph::GraphFault;
 use topo_price::table::PriceFault;
 use topo_route::plan::PlanFault;
 use topo_rows::LoadFault;
@@ -116,6 +117,26 @@ const FAULTS: &[(Fault, &str)] = &[
     (
         Fault::Run(RunFault::Script(ScriptFault::Memory)),
         "8 Memory",
+    ),
+    (
+        Fault::Run(RunFault::Graph(GraphFault::Loop(3))),
+        "80 Loop 3",
+    ),
+    (
+        Fault::Run(RunFault::Graph(GraphFault::NoEnd(0))),
+        "81 NoEnd 0",
+    ),
+    (
+        Fault::Run(RunFault::Graph(GraphFault::TooLarge)),
+        "82 TooLarge",
+    ),
+    (
+        Fault::Run(RunFault::Graph(GraphFault::NotPlanarized(17))),
+        "83 NotPlanarized 17",
+    ),
+    (
+        Fault::Run(RunFault::Graph(GraphFault::NotShown)),
+        "85 NotShown",
     ),
     (Fault::Run(RunFault::ReadFault), "55 ReadFault"),
     (Fault::Run(RunFault::WriteFault), "56 WriteFault"),
