@@ -1,6 +1,6 @@
 //! What is answered of a graph.
 
-ghost use Rattle.std.specs.Prelude.{◌≡◌, ◌≤◌, IfOk, IfSome, OnOk, sum_by};
+ghost use Rattle.std.specs.Prelude.{◌≡◌, ◌≤◌, IfSome, option_copied};
 ghost use Rattle.topo_planarize.specs.Answers.{answer_data, cost_at, cost_of, price_of, total_cost};
 ghost use Rattle.topo_planarize.specs.Answers.{total_crossings};
 

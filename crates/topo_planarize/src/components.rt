@@ -133,10 +133,10 @@ fn share_vertices(
     found: &mut Components,
     of_group: &[u32],
     groups: &mut [u32],
+    count: u32,
 ) -> Result<Vec<u32>, AllocError> {
     let mut places = Vec::with_capacity(alloc, groups.len())?;
-    for vertex in 0..groups.len() {
-        let vertex = vertex as u32;
+    for vertex in 0..count {
         let part = entry(of_group, group_of(groups, vertex));
         if part == NONE {
             found.others.push(vertex)?;
@@ -181,7 +181,7 @@ pub(crate) fn split_graph(alloc: Global, graph: &Graph) -> Result<Components, Al
         parts: empty_parts(alloc, count)?,
         others: Vec::new(alloc),
     };
-    let places = share_vertices(alloc, &mut found, &of_group, &mut groups)?;
+    let places = share_vertices(alloc, &mut found, &of_group, &mut groups, graph.vertices())?;
     share_edges(
         &mut found.parts,
         &of_group,

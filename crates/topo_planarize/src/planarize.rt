@@ -149,7 +149,7 @@ fn told(
     prices: &PriceTable,
     tries: Vec<u64>,
 ) -> Result<Answer, RunFault>
-    requires { prices.now ≡ planarized.entry.prices }
+    requires { prices.now ≡ planarized.prices }
     ensures told { IfOk result (λ answer. (answer.parts ≡ planarized.entry.parts)
         × (answer.lonely ≡ planarized.entry.others)) }
     ensures cost { IfOk result (λ answer. answer.cost ≡ total_cost prices.now answer.parts) }

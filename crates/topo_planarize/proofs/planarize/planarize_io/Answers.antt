@@ -1,0 +1,31 @@
+use Rattle.std.proofs.Common.{List, rules, subst, ℕ, IfErr}
+use Rattle.std.proofs.KnownBytes.{Keeps-refl}
+use Rattle.topo_forms.specs.Reads.{Gives}
+use Rattle.topo_forms.specs.Graphs.{graph_of}
+use Rattle.topo_settings.proofs.Interface.{err_by, err_so, ok_by}
+use Rattle.topo_planarize.specs.Planarizing.{IsUnplanarized}
+use Rattle.topo_planarize.proofs.Telling.{planarize_fails, planarize_unwritten, planarized}
+use Rattle.topo_planarize.proofs.planarize.planarize_io.Goals as goal
+
+pub returns-in_err-line-clause-fault : goal.returns-in_err-line-clause-fault
+returns-in_err-line-clause-fault g c =
+    let gives = subst (λ (bs : List ℕ). Gives c.read_graph-read.result (graph_of bs)) c.as_slice.ensures.value c.read_graph-read.ensures in
+    let unlawful = c.in_err-line.ensures.fault c.in_ok-bytes.bytes.items gives in
+    let told : IfErr c.from_residual-in_err-line.result (IsUnplanarized c.in_ok-bytes.bytes.items) = search rules in
+    err_so c.from_residual-in_err-line.result _ _
+    (λ fault is. planarize_fails _ _ _ _ c.in_ok-bytes.bytes.items c.in_ok-bytes.ensures.read fault is (Keeps-refl _)) told
+
+pub returns-clause-done : goal.returns-clause-done
+returns-clause-done g c =
+    let gives = subst (λ (bs : List ℕ). Gives c.read_graph-read.result (graph_of bs)) c.as_slice.ensures.value c.read_graph-read.ensures in
+    let told = c.in_ok-line.ensures.line c.in_ok-bytes.bytes.items gives in
+    ok_by c.write_text.result _ _ (λ written. planarized _ _ _ _ c.in_ok-bytes.bytes.items c.in_ok-bytes.ensures.read _ _ told c.as_str.ensures.value written)
+    c.write_text.ensures.all
+
+pub returns-clause-fault : goal.returns-clause-fault
+returns-clause-fault g c =
+    let gives = subst (λ (bs : List ℕ). Gives c.read_graph-read.result (graph_of bs)) c.as_slice.ensures.value c.read_graph-read.ensures in
+    let told = c.in_ok-line.ensures.line c.in_ok-bytes.bytes.items gives in
+    err_by c.write_text.result _ _ _ (λ fault part is. planarize_unwritten _ _ _ _ c.in_ok-bytes.bytes.items c.in_ok-bytes.ensures.read fault _ _ told
+    c.as_str.ensures.value part is) c.write_text.ensures.part
+    c.write_text.ensures.err
