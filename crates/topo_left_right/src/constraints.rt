@@ -1,76 +1,12 @@
-//! Which back edges lie on which side: the conflict pairs of the left-right test.
+//! The stack of conflict pairs: which back edges lie on different sides.
 
+use crate::conflict_pairs::{ConflictPair, Interval, is_above};
 use crate::numbers::{NONE, Numbers};
 use crate::orientation::Orientation;
+use crate::sides::Sides;
 use std::alloc::{AllocError, Global};
 
-/// Back edges on one side, from the one that leads back farthest up to the one that leads back
-/// least far; each refers to the next below it. Both ends are `NONE` where there are none.
-#[derive(Clone, Copy, Drop)]
-struct Interval {
-    low: u32,
-    high: u32,
-}
-
-impl Interval {
-    /// No back edges.
-    const EMPTY: Interval = Interval {
-        low: NONE,
-        high: NONE,
-    };
-
-    /// Whether there are none.
-    fn is_empty(self) -> bool {
-        self.low == NONE
-    }
-}
-
-/// Back edges that must lie on different sides.
-#[derive(Clone, Copy, Drop)]
-struct ConflictPair {
-    left: Interval,
-    right: Interval,
-}
-
-impl ConflictPair {
-    /// No back edges.
-    const EMPTY: ConflictPair = ConflictPair {
-        left: Interval::EMPTY,
-        right: Interval::EMPTY,
-    };
-
-    /// The sides exchanged.
-    fn exchanged(self) -> Self {
-        ConflictPair {
-            left: self.right,
-            right: self.left,
-        }
-    }
-
-    /// Whether the interval on the right ends with an edge that leads back less far than this one.
-    fn conflicts_right(self, orientation: &Orientation, edge: u32) -> bool {
-        is_above(orientation, self.right.high, edge)
-    }
-
-    /// The same on either side.
-    fn conflicts(self, orientation: &Orientation, edge: u32) -> bool {
-        is_above(orientation, self.left.high, edge) || self.conflicts_right(orientation, edge)
-    }
-
-    /// The least height that one of its edges leads back to.
-    fn lowest(self, orientation: &Orientation) -> u32 {
-        let left = orientation.low_points.at(self.left.low);
-        let right = orientation.low_points.at(self.right.low);
-        left.min(right)
-    }
-}
-
-/// Whether a back edge, if it is one, leads back less far than another edge.
-fn is_above(orientation: &Orientation, back_edge: u32, edge: u32) -> bool {
-    back_edge != NONE && orientation.low_points.at(back_edge) > orientation.low_points.at(edge)
-}
-
-/// What is known of the sides of the edges.
+/// What the second search knows of the sides of the edges.
 #[derive(Drop)]
 pub(crate) struct Constraints {
     /// A stack; the first `depth` pairs count.
@@ -80,11 +16,7 @@ pub(crate) struct Constraints {
     bottoms: Numbers,
     /// For each edge the back edge behind it that leads back farthest.
     low_edges: Numbers,
-    /// For each edge another that its side depends on; none where it is known.
-    references: Numbers,
-    /// For each edge 1 where it lies on the other side than the edge that it refers to, and else 0;
-    /// where it refers to none, 1 for the left and 0 for the right side.
-    sides: Numbers,
+    pub(crate) sides: Sides,
     edges: u32,
 }
 
@@ -96,8 +28,7 @@ impl Constraints {
             depth: 0,
             bottoms: Numbers::new(alloc),
             low_edges: Numbers::new(alloc),
-            references: Numbers::new(alloc),
-            sides: Numbers::new(alloc),
+            sides: Sides::new(alloc),
             edges: 0,
         }
     }
@@ -111,8 +42,7 @@ impl Constraints {
         }
         self.bottoms.reset(edges, 0)?;
         self.low_edges.reset(edges, NONE)?;
-        self.references.reset(edges, NONE)?;
-        self.sides.reset(edges, 0)
+        self.sides.reset(edges)
     }
 
     /// The pair on top; an empty one where there is none.
@@ -170,9 +100,9 @@ impl Constraints {
         self.low_edges.set(parent, self.low_edges.at(edge));
     }
 
-    /// A later edge behind a tree edge that leads back behind its source: brings the back edges
-    /// behind it to one side, and those behind the earlier ones that are in its way to the other.
-    /// False where that cannot be.
+    /// A later edge behind a tree edge that leads back behind its source: puts the back edges behind
+    /// it on one side, and those behind earlier ones that conflict with it on the other. False
+    /// where that cannot be.
     pub(crate) fn constrain(&mut self, orientation: &Orientation, edge: u32, parent: u32) -> bool {
         let Some(own) = self.merge_own(orientation, edge, parent) else {
             return false;
@@ -227,12 +157,13 @@ impl Constraints {
         if orientation.low_points.at(below.low) > orientation.low_points.at(parent) {
             return self.chain(merged, below);
         }
-        self.references.set(below.low, self.low_edges.at(parent));
+        self.sides.refer(below.low, self.low_edges.at(parent));
         merged
     }
 
-    /// The back edges of the pairs on top that lead back less far than an edge, on the left of
-    /// those behind it; none where two that must lie on different sides are in its way.
+    /// The back edges of the pairs on top that conflict with an edge, since they lead back less far,
+    /// on the other side than those behind it; none where two of one pair conflict that lie on
+    /// different sides.
     fn merge_conflicting(
         &mut self,
         orientation: &Orientation,
@@ -265,7 +196,7 @@ impl Constraints {
         if above.is_empty() {
             return below;
         }
-        self.references.set(above.low, below.high);
+        self.sides.refer(above.low, below.high);
         if below.is_empty() {
             return above;
         }
@@ -284,7 +215,7 @@ impl Constraints {
         self.trim_top(orientation, source);
         if orientation.low_points.at(edge) < height {
             let highest = self.highest_on_top(orientation);
-            self.references.set(edge, highest);
+            self.sides.refer(edge, highest);
         }
     }
 
@@ -296,7 +227,7 @@ impl Constraints {
                 return;
             }
             self.depth = self.depth.saturating_sub(1);
-            self.sides.set(pair.left.low, 1);
+            self.sides.change(pair.left.low);
         }
     }
 
@@ -319,8 +250,8 @@ impl Constraints {
     ) -> Interval {
         let high = self.highest_not_to(orientation, interval, vertex);
         if high == NONE {
-            self.references.set(interval.low, other.low);
-            self.sides.set(interval.low, 1);
+            self.sides.refer(interval.low, other.low);
+            self.sides.change(interval.low);
             return Interval::EMPTY;
         }
         Interval {
@@ -339,7 +270,7 @@ impl Constraints {
             edge = if edge == interval.low {
                 NONE
             } else {
-                self.references.at(edge)
+                self.sides.reference(edge)
             };
         }
         NONE
@@ -355,49 +286,5 @@ impl Constraints {
         } else {
             right
         }
-    }
-
-    /// After the search: has no edge refer to another, so that the side of each is known.
-    pub(crate) fn resolve_sides(&mut self) {
-        for edge in 0..self.edges {
-            let side = self.side_of_chain(edge);
-            self.resolve_chain(edge, side);
-        }
-    }
-
-    /// The side of an edge by those that it refers to, one after the other.
-    fn side_of_chain(&self, edge: u32) -> u32 {
-        let mut at = edge;
-        let mut side = 0;
-        for _edge in 0..self.edges {
-            side ^= self.sides.at(at);
-            at = self.references.at(at);
-            if at == NONE {
-                return side;
-            }
-        }
-        side
-    }
-
-    /// Notes the sides of an edge and of those that it refers to, one after the other.
-    fn resolve_chain(&mut self, edge: u32, first_side: u32) {
-        let mut at = edge;
-        let mut side = first_side;
-        for _edge in 0..self.edges {
-            let next = self.references.at(at);
-            if next == NONE {
-                return;
-            }
-            let crossed = self.sides.at(at);
-            self.sides.set(at, side);
-            self.references.set(at, NONE);
-            side ^= crossed;
-            at = next;
-        }
-    }
-
-    /// Whether an edge lies on the left side, once no edge refers to another.
-    pub(crate) fn is_left(&self, edge: u32) -> bool {
-        self.sides.at(edge) == 1
     }
 }

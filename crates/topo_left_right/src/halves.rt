@@ -63,7 +63,7 @@ impl Halving {
         })
     }
 
-    /// Tries all that is to be tried.
+    /// Tries all parts.
     fn run(&mut self, edges: &[Ends], order: &[u32]) -> Result<(), AllocError> {
         // A part of k edges falls into less than 2 k parts.
         let bound = 2 * number_of(order.len()) as u64;

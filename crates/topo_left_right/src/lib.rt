@@ -18,6 +18,7 @@
 #![tactic(auto)]
 
 mod bridge_search;
+mod conflict_pairs;
 mod constraints;
 mod embedding;
 mod groups;
@@ -26,6 +27,7 @@ mod left_right;
 mod numbers;
 mod orientation;
 mod short_cycles;
+mod sides;
 #[cfg(test)]
 mod tests;
 mod walk;

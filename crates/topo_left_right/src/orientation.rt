@@ -89,7 +89,7 @@ impl Orientation {
         }
     }
 
-    /// Searches all that hangs together with a root.
+    /// Searches the component of a root.
     fn search_from(&mut self, root: u32, ends: &[Ends]) {
         self.heights.set(root, 0);
         self.walk.push(root, self.incidences.start(root));

@@ -3,8 +3,8 @@
 use crate::lists::{is_set, length_of};
 use std::alloc::{AllocError, Global};
 use topo_core::rows::KINDS;
-use topo_left_right::{Ends, bridges};
 use topo_graph::GraphEdge;
+use topo_left_right::{Ends, bridges};
 use topo_price::tariff::{PriceFn, Tariff};
 
 /// A connected graph. Edges are named by their places.

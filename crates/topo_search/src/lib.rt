@@ -9,15 +9,15 @@
 //! A caller:
 //!
 //! ```rust
-//! /// The fewest crossings that the search meets; none where it meets no picture.
-//! pub fn crossings_met<F: PriceFn>(alloc: Global, search: &mut Search<F>) -> Option<u64> {
+//! /// How many crossings the best picture has that a search meets; none where it meets none.
+//! pub fn fewest_crossings<F: PriceFn>(alloc: Global, search: &mut Search<F>) -> Option<usize> {
 //!     for _ in 0..u32::MAX {
-//!         match search.step(alloc) {
-//!             Ok(Progress::Going { .. }) => {}
-//!             _ => break,
-//!         }
+//!         let Ok(Progress::Going { .. }) = search.step(alloc) else {
+//!             break;
+//!         };
 //!     }
-//!     search.crossings()
+//!     let (rows, _edges) = search.best()?;
+//!     Some(rows.crossings.len())
 //! }
 //! ```
 #![tactic(auto)]

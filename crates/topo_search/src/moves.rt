@@ -1,7 +1,5 @@
 //! Edges put in and taken out.
 
-ghost use Rattle.std.specs.Prelude.{◌≡◌};
-
 use crate::board::Board;
 use crate::lists::length_of;
 use crate::search::SearchFault;
@@ -41,8 +39,9 @@ fn insert<F: PriceFn>(
     edge: NewEdge,
     work: &mut Workspace,
 ) -> Result<Made, Refusal> {
-    // For the proof: what the type keeps.
+    // For the proof: what the types keep.
     tariff.keeps_promise();
+    picture.kept_rows();
     let NewEdge { u, v, kind, .. } = edge;
     picture.admit(u, v, kind)?;
     let Ok(found) = first_route(alloc, &picture.embedded(), tariff, u, v, work) else {
@@ -142,6 +141,31 @@ pub(crate) fn crossings_of<F: PriceFn>(board: &Board<F>, edge: u32) -> u32 {
     }
 }
 
+/// The edge of the graph that an edge of the picture crosses there.
+fn other_edge<F: PriceFn>(board: &Board<F>, id: u32, crossing: u32) -> Option<u32> {
+    let crossing = board.picture.kept_rows().crossing(crossing)?;
+    if crossing.crossed == id {
+        board.ids.edge(crossing.newcomer)
+    } else {
+        board.ids.edge(crossing.crossed)
+    }
+}
+
+/// Adds to a list the edges that an edge of the picture crosses at these crossings.
+fn add_others<F: PriceFn>(
+    board: &Board<F>,
+    id: u32,
+    crossings: &[u32],
+    list: &mut Vec<u32>,
+) -> Result<(), AllocError> {
+    for crossing in crossings {
+        if let Some(edge) = other_edge(board, id, *crossing) {
+            list.push(edge)?;
+        }
+    }
+    Ok(())
+}
+
 /// Adds to a list the edges that an edge crosses, each as often as it crosses it.
 pub(crate) fn add_crossed<F: PriceFn>(
     board: &Board<F>,
@@ -151,23 +175,10 @@ pub(crate) fn add_crossed<F: PriceFn>(
     let Some(id) = board.ids.id(edge) else {
         return Ok(());
     };
-    let rows = board.picture.kept_rows();
-    let Some(row) = rows.edge(id) else {
-        return Ok(());
-    };
-    for crossing in row.crossings {
-        if let Some(crossing) = rows.crossing(*crossing) {
-            let other = if crossing.crossed == id {
-                crossing.newcomer
-            } else {
-                crossing.crossed
-            };
-            if let Some(edge) = board.ids.edge(other) {
-                list.push(edge)?;
-            }
-        }
+    match board.picture.kept_rows().edge(id) {
+        Some(row) => add_others(board, id, row.crossings, list),
+        None => Ok(()),
     }
-    Ok(())
 }
 
 /// What the crossings of an edge cost.

@@ -11,8 +11,8 @@ use crate::shakes::{Shaken, about_shaken, shake};
 use std::alloc::{AllocError, Global};
 use std::sync::Arc;
 use topo_core::rows::Rows;
-use topo_picture::LoadFault;
 use topo_graph::{Effort, GraphEdge};
+use topo_picture::LoadFault;
 use topo_price::tariff::{PriceFn, Tariff};
 
 /// What a search is told.

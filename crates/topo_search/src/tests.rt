@@ -1,36 +1,52 @@
 //! The search on small graphs.
 
-use crate::search::{Effort, Options, Progress, Search};
+ghost use Rattle.topo_price.specs.Prices.{IsPromise};
+
+use crate::search::{Options, Progress, Search, SearchFault};
 use std::alloc::Global;
 use std::process::Abort;
 use std::sync::Arc;
 use std::test::Fail;
 use topo_core::limits::Limits;
 use topo_core::rows::{KINDS, Rows};
+use topo_graph::{Effort, GraphEdge};
 use topo_picture::Picture;
-use topo_graph::GraphEdge;
 use topo_price::table::PriceTable;
 use topo_price::tariff::{PriceFn, Tariff};
 
+/// What a search has come to: crossings, or the fault.
+#[derive(Clone, Copy, Debug, PartialEq, Eq)]
+enum Met {
+    Crossings(usize),
+    Fault(SearchFault),
+}
+
 /// The complete graph.
-fn complete(alloc: Global, vertices: u32) -> Result<Vec<GraphEdge>, Fail> {
+fn complete(alloc: Global, vertices: u32, kind: u32) -> Result<Vec<GraphEdge>, Fail> {
     let mut edges = Vec::new(alloc);
     for a in 0..vertices {
         for b in 0..a {
-            edges.push(GraphEdge { a, b, kind: 0 })?;
+            edges.push(GraphEdge { a, b, kind })?;
         }
     }
     Ok(edges)
 }
 
+/// The next number round a circle.
+fn after(number: u32, count: u32) -> u32 {
+    let next = number.wrapping_add(1);
+    if next < count { next } else { 0 }
+}
+
 /// The product of two cycles of so many vertices.
-fn torus(alloc: Global, width: u32) -> Result<Vec<GraphEdge>, Fail> {
+fn torus(alloc: Global, width: u8) -> Result<Vec<GraphEdge>, Fail> {
+    let width = width as u32;
     let mut edges = Vec::new(alloc);
     for row in 0..width {
         for column in 0..width {
-            let a = row * width + column;
-            let right = row * width + (column + 1) % width;
-            let below = (row + 1) % width * width + column;
+            let a = row.wrapping_mul(width).wrapping_add(column);
+            let right = row.wrapping_mul(width).wrapping_add(after(column, width));
+            let below = after(row, width).wrapping_mul(width).wrapping_add(column);
             edges.push(GraphEdge {
                 a,
                 b: right,
@@ -46,7 +62,7 @@ fn torus(alloc: Global, width: u32) -> Result<Vec<GraphEdge>, Fail> {
     Ok(edges)
 }
 
-/// Whether these rows are a picture of these edges, and how many crossings it has.
+/// How many crossings rows have, which are a picture of these edges.
 fn crossings_of(
     rt: &impl Abort,
     alloc: Global,
@@ -65,14 +81,13 @@ fn crossings_of(
     for row in rows.edges.iter() {
         let place = *places.get(row.id as usize).expect(rt, "an edge");
         let edge = *edges.get(place as usize).expect(rt, "an edge of the graph");
-        assert_eq!(rt;
-            GraphEdge {
-                a: row.a,
-                b: row.b,
-                kind: row.kind
-            },
-            edge
-        );
+        let shown = GraphEdge {
+            a: row.a,
+            b: row.b,
+            kind: row.kind,
+        };
+        assert_eq!(rt; shown, edge);
+        assert!(rt; row.kind != 1 || row.crossings.len() == 0);
         seen.push(place)?;
     }
     seen.sort_unstable();
@@ -81,35 +96,55 @@ fn crossings_of(
     Ok(rows.crossings.len())
 }
 
-/// The fewest crossings that a search meets.
-fn fewest<F: PriceFn + Drop>(
+/// What a search comes to.
+fn met<F: PriceFn + Drop>(
     rt: &impl Abort,
     alloc: Global,
-    vertices: usize,
-    edges: Vec<GraphEdge>,
-    ask: F,
+    vertices: u32,
+    edges: &[GraphEdge],
     effort: Effort,
-) -> Result<usize, Fail> {
+    ask: F,
+) -> Result<Met, Fail>
+    requires callable { F.is_callable ask }
+    requires promise { IsPromise (F.may_return ask) }
+{
     let tariff = Arc::new(alloc, Tariff::new(ask))?;
     let options = Options { seed: 1, effort };
-    let copy = Vec::from_slice(alloc, &edges)?;
-    let mut search = Search::new(alloc, vertices, copy, tariff, options)?;
+    let copy = Vec::from_slice(alloc, edges)?;
+    let mut search = Search::new(alloc, vertices as usize, copy, tariff, options)?;
     for _ in 0..1000 {
-        if search.step(alloc)? == Progress::Done {
-            break;
+        match search.step(alloc) {
+            Ok(Progress::Going { .. }) => {}
+            Ok(Progress::Done) => break,
+            Err(why) => return Ok(Met::Fault(why)),
         }
     }
-    crossings_of(rt, alloc, &edges, search.best())
+    Ok(Met::Crossings(crossings_of(rt, alloc, edges, search.best())?))
+}
+
+/// The same, where kind 0 costs 1, kind 1 must not be crossed, and all others cost 10.
+fn met_at_prices(
+    rt: &impl Abort,
+    alloc: Global,
+    vertices: u32,
+    edges: &[GraphEdge],
+    effort: Effort,
+) -> Result<Met, Fail> {
+    let mut prices = [Some(10); KINDS];
+    prices[0] = Some(1);
+    prices[1] = None;
+    let table = PriceTable::new(prices)?;
+    table.laws();
+    met(rt, alloc, vertices, edges, effort, table)
 }
 
 #[test]
 fn complete_graphs(rt: HostRuntime) -> Result<(), Fail> {
     let alloc = rt.alloc();
     for (vertices, want) in [(2, 0), (4, 0), (5, 1), (6, 3), (8, 18)] {
-        let table = PriceTable::new([Some(1); KINDS])?;
-        let edges = complete(alloc, vertices)?;
-        let n = fewest(&rt, alloc, vertices as usize, edges, table, Effort::Default)?;
-        assert_eq!(rt; n, want);
+        let edges = complete(alloc, vertices, 0)?;
+        let found = met_at_prices(&rt, alloc, vertices, &edges, Effort::Default)?;
+        assert_eq!(rt; found, Met::Crossings(want));
     }
     Ok(())
 }
@@ -117,8 +152,39 @@ fn complete_graphs(rt: HostRuntime) -> Result<(), Fail> {
 #[test]
 fn a_torus(rt: HostRuntime) -> Result<(), Fail> {
     let alloc = rt.alloc();
-    let table = PriceTable::new([Some(1); KINDS])?;
-    let n = fewest(&rt, alloc, 36, torus(alloc, 6)?, table, Effort::Thorough)?;
-    assert_eq!(rt; n, 24);
+    let edges = torus(alloc, 6)?;
+    let found = met_at_prices(&rt, alloc, 36, &edges, Effort::Thorough)?;
+    assert_eq!(rt; found, Met::Crossings(24));
+    Ok(())
+}
+
+/// Parallel edges, and edges that must not be crossed: four of the five at vertex 0.
+#[test]
+fn forbidden_edges(rt: HostRuntime) -> Result<(), Fail> {
+    let alloc = rt.alloc();
+    let mut edges = complete(alloc, 6, 2)?;
+    for b in 1..5 {
+        edges.push(GraphEdge { a: 0, b, kind: 1 })?;
+    }
+    let found = met_at_prices(&rt, alloc, 6, &edges, Effort::Default)?;
+    assert_eq!(rt; found, Met::Crossings(3));
+    let found = met_at_prices(&rt, alloc, 5, &complete(alloc, 5, 1)?, Effort::Quick)?;
+    assert!(rt; matches!(found, Met::Fault(SearchFault::NotPlanarized(_))));
+    Ok(())
+}
+
+/// No picture has so many vertices, and one that is not connected is none.
+#[test]
+fn no_picture(rt: HostRuntime) -> Result<(), Fail> {
+    let alloc = rt.alloc();
+    let edge = GraphEdge {
+        a: 0,
+        b: 1,
+        kind: 0,
+    };
+    let found = met_at_prices(&rt, alloc, 65_537, &[edge], Effort::Quick)?;
+    assert_eq!(rt; found, Met::Fault(SearchFault::TooLarge));
+    let found = met_at_prices(&rt, alloc, 3, &[edge], Effort::Quick)?;
+    assert!(rt; matches!(found, Met::Fault(SearchFault::NotLoaded(_))));
     Ok(())
 }
