@@ -37,6 +37,13 @@ def has_library() -> bool:
     return has_program() and Program().library is not None
 
 
+def in_process() -> library.LibrarySession:
+    """A session of the library, which is to be asked by lines."""
+    found = Program().library
+    assert found is not None
+    return library.LibrarySession(found)
+
+
 needs_library = unittest.skipUnless(has_library(), "left out: there is no library libfezdrok.so beside the program")
 
 

@@ -448,8 +448,9 @@ class Reports(Sessions, unittest.TestCase):
                     told[vertex].append(None)
 
             def ask_on(vertex):
-                for _ in range(2000):
+                while told[vertex].count(due[vertex]) < 300:
                     ask(vertex)
+                    time.sleep(0 if told[vertex][-1] else 0.0001)
 
             asking = Thread(target=ask_on, args=[1])
             before = signal.signal(signal.SIGALRM, lambda number, frame: ask(2))
@@ -461,10 +462,9 @@ class Reports(Sessions, unittest.TestCase):
             finally:
                 signal.setitimer(signal.ITIMER_REAL, 0)
                 signal.signal(signal.SIGALRM, before)
-            self.assertEqual([len(it) for it in told[:2]], [2000, 2000])
+            self.assertIn(None, told[0] + told[1] + told[2])
             for answers, right in zip(told, due):
                 self.assertLessEqual(set(answers), {right, None})
-            self.assertLessEqual({*due[:2], None}, {it for answers in told for it in answers})
             self.assertEqual(session.vertex(0), due[0])
 
 
