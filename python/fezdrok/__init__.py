@@ -17,8 +17,8 @@ from .engine.faults import (
     Fault, FaultError, MemoryFault, MemoryFaultError, ModuleMissing, ModuleMissingError, NoReport, NoReportError,
     NotPlanarized, NotPlanarizedError, OtherReport, OtherReportError, PlanarError, PlanarWarning, ProgramFailed,
     ProgramFailedError, ProgramNotFound, ProgramNotFoundError, ProgramNotStarted, ProgramNotStartedError,
-    SessionClosed, SessionClosedError, Unfinished, UnfinishedError, UsageRefused, UsageRefusedError,
-    VerificationError,
+    SessionClosed, SessionClosedError, SessionInUse, SessionInUseError, Unfinished, UnfinishedError, UsageRefused,
+    UsageRefusedError, VerificationError,
 )
 from .engine.graph_pictures import Dummy, Segment
 from .engine.graph_session import GraphSession
@@ -97,6 +97,8 @@ __all__ = [
     "Session",
     "SessionClosed",
     "SessionClosedError",
+    "SessionInUse",
+    "SessionInUseError",
     "Undone",
     "Unfinished",
     "UnfinishedError",

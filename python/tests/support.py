@@ -9,8 +9,10 @@ import unittest
 from importlib.util import find_spec
 from pathlib import Path
 from typing import Any
+from unittest import mock
 
-from fezdrok import ProgramNotFound, find_program
+from fezdrok import Program, ProgramNotFound, Session, find_program
+from fezdrok.engine import library, line_process
 
 ROOT = Path(__file__).resolve().parent.parent.parent
 EXAMPLES = ROOT / "crates" / "topo_examples" / "data"
@@ -28,6 +30,44 @@ def has_program() -> bool:
 
 
 needs_program = unittest.skipUnless(has_program(), "left out: there is no program planar")
+
+
+def has_library() -> bool:
+    """Whether there is a library beside the program."""
+    return has_program() and Program().library is not None
+
+
+def in_process() -> library.LibrarySession:
+    """A session of the library, which is to be asked by lines."""
+    found = Program().library
+    assert found is not None
+    return library.LibrarySession(found)
+
+
+needs_library = unittest.skipUnless(has_library(), "left out: there is no library libfezdrok.so beside the program")
+
+
+class Sessions:
+    """Tests whose sessions are in this process where there is a library. A class below one of them has
+    `process = True`, and so runs them over a process of the program."""
+
+    process = False
+
+    def session(self, *words: Any, **named: Any) -> Session:
+        """A session with these words."""
+        return Session(*words, process=self.process, **named)
+
+    def interrupted(self, session: Session) -> Any:
+        """Has each call of a session interrupted, as by Ctrl-C, when its line was carried out or is on its way."""
+        if session.process_id:
+            return mock.patch.object(line_process.os, "read", side_effect=KeyboardInterrupt)
+        return mock.patch.object(library, "string_at", side_effect=KeyboardInterrupt)
+
+    def interrupted_before(self, session: Session) -> Any:
+        """The same before the line is sent or carried out."""
+        if session.process_id:
+            return mock.patch.object(line_process.os, "write", side_effect=KeyboardInterrupt)
+        return mock.patch.object(library.LibrarySession, "answer", side_effect=KeyboardInterrupt)
 
 
 def fake(test: unittest.TestCase, body: str) -> str:

@@ -1,7 +1,6 @@
 """Planarizations that go on: what the names come to, told from the graph and from networkx's embedding."""
 
 import unittest
-from unittest import mock
 
 import networkx as nx
 
@@ -9,9 +8,8 @@ from fezdrok import (
     Deleted, Fault, Grown, Inserted, NotPlanarized, Planarizer, SessionClosed, planarize, reinsert,
     to_networkx_embedding, to_svg,
 )
-from fezdrok.engine import line_process
 
-from .support import graph_pairs, needs_program, pairs_of, traced
+from .support import Sessions, graph_pairs, needs_program, pairs_of, traced
 
 
 def named(graph):
@@ -20,7 +18,7 @@ def named(graph):
 
 
 @needs_program
-class GraphSessions(unittest.TestCase):
+class GraphSessions(Sessions, unittest.TestCase):
     def setUp(self):
         self.graph = nx.Graph(["ab", "bc", "cd", "da", "ac"])
         self.result = planarize(self.graph, effort="quick")
@@ -37,7 +35,7 @@ class GraphSessions(unittest.TestCase):
             Planarizer().replay(report)
 
     def test_each_method(self):
-        with self.result.session() as session:
+        with self.result.session(process=self.process) as session:
             reply = session.insert_edge("d", "b")
             self.assertIsInstance(reply, Inserted)
             self.assertEqual(session.edge_of[reply.edge], ("b", "d"))
@@ -60,7 +58,7 @@ class GraphSessions(unittest.TestCase):
     def test_a_session_goes_on_from_the_result_of_another(self):
         result = planarize(nx.path_graph(7))
         for u in range(7):
-            with result.session() as session:
+            with result.session(process=self.process) as session:
                 for v in range(u - 1):
                     session.insert_edge(u, v)
                 result = session.result()
@@ -70,7 +68,7 @@ class GraphSessions(unittest.TestCase):
         self.assertEqual(len(result.reports), 8)
 
     def test_what_cannot_be_named(self):
-        with self.result.session() as session:
+        with self.result.session(process=self.process) as session:
             for call, kind, words in (
                 (lambda: session.insert_edge("a", "x"), nx.NodeNotFound, "'x' is no node"),
                 (lambda: session.insert_edge("b", "a"), ValueError, "already"),
@@ -97,7 +95,7 @@ class GraphSessions(unittest.TestCase):
         self.assertTrue(session.is_closed)
 
     def test_what_the_program_refuses(self):
-        with self.result.session() as session:
+        with self.result.session(process=self.process) as session:
             session.grow_edge("a", "e")
             for call, edge, number in (
                 (lambda: session.delete_edge("e", "a"), ("a", "e"), 6),
@@ -112,13 +110,13 @@ class GraphSessions(unittest.TestCase):
     def test_prices(self):
         result = planarize(self.graph, price={("a", "b"): 7, ("b", "c"): 3}, forbidden=["ac"])
         self.assertEqual(result.prices, (None, 7, 3, 1))
-        with result.session(prices=[20, 7]) as session:
+        with result.session(prices=[20, 7], process=self.process) as session:
             self.assertEqual(session.prices, (None, 7, 3, 1, 20))
             session.grow_edge("a", "e", price=20)
             self.assertEqual(session.result().prices, (None, 7, 3, 1, 20))
             self.judge(session.result())
         walls = planarize(nx.complete_graph(4), forbidden=nx.complete_graph(4).edges)
-        with walls.session() as session:
+        with walls.session(process=self.process) as session:
             session.grow_edge(0, 4)
             with self.assertRaisesRegex(NotPlanarized, "9 NoRoute"):
                 for node in (1, 2, 3):
@@ -127,7 +125,7 @@ class GraphSessions(unittest.TestCase):
             self.assertEqual((session.result().crossings, session.result().prices), (0, (None, 1)))
     def test_an_edge_that_must_not_be_crossed_crosses_none(self):
         result = planarize(nx.complete_graph(5).edge_subgraph(list(nx.complete_graph(5).edges)[:-1]))
-        with result.session(prices=[None]) as session:
+        with result.session(prices=[None], process=self.process) as session:
             with self.assertRaises(NotPlanarized) as caught:
                 session.insert_edge(3, 4, price=None)
             self.assertEqual((caught.exception.edge, caught.exception.reply), ((3, 4), None))
@@ -138,17 +136,17 @@ class GraphSessions(unittest.TestCase):
             self.judge(session.result())
 
     def test_prices_of_sessions(self):
-        with planarize(self.graph, price={edge: 5 for edge in self.graph.edges}).session() as session:
+        with planarize(self.graph, price={edge: 5 for edge in self.graph.edges}).session(process=self.process) as session:
             self.assertEqual((session.prices, session.result().prices), ((5, 1), (5,)))
             session.insert_edge("b", "d")
             self.assertEqual(session.result().prices, (5, 1))
             to_svg(session.result())
         with self.assertRaisesRegex(ValueError, "65 different prices"):
-            self.result.session(prices=range(1, 66))
+            self.result.session(prices=range(1, 66), process=self.process)
 
     def test_multigraphs_and_directed_graphs(self):
         for kind in (nx.MultiGraph, nx.DiGraph, nx.MultiDiGraph):
-            with planarize(kind(["ab", "bc", "ca"])).session() as session:
+            with planarize(kind(["ab", "bc", "ca"])).session(process=self.process) as session:
                 edges = [
                     session.edge_of[session.insert_edge("b", "a").edge],
                     session.edge_of[session.grow_edge("c", "d").edge],
@@ -165,16 +163,16 @@ class GraphSessions(unittest.TestCase):
     def test_graphs_of_parts_and_without_edges(self):
         apart = planarize(nx.Graph(["ab", "cd"]))
         with self.assertRaisesRegex(ValueError, "parts"):
-            apart.session()
-        with apart.parts[1].session() as session:
+            apart.session(process=self.process)
+        with apart.parts[1].session(process=self.process) as session:
             session.grow_edge("d", "e")
             session.insert_edge("e", "c")
             self.judge(session.result())
         with self.assertRaisesRegex(ValueError, "no edge"):
-            planarize(nx.Graph({"a": "b", "c": ""})).parts[1].session()
+            planarize(nx.Graph({"a": "b", "c": ""})).parts[1].session(process=self.process)
 
     def test_renumbering(self):
-        with planarize(nx.complete_graph(6), effort="quick").session() as session:
+        with planarize(nx.complete_graph(6), effort="quick").session(process=self.process) as session:
             for u, v in ((0, 1), (2, 3), (4, 5)):
                 session.delete_edge(u, v)
                 session.insert_edge(v, u)
@@ -196,7 +194,7 @@ class GraphSessions(unittest.TestCase):
     def test_calls_that_are_taken_back(self):
         self.graph.add_edge("c", "d", weight=7)
         for kind in (nx.Graph, nx.MultiGraph, nx.DiGraph, nx.MultiDiGraph):
-            with planarize(kind(self.graph), effort="quick").session(prices=[None]) as session:
+            with planarize(kind(self.graph), effort="quick").session(prices=[None], process=self.process) as session:
                 key = (0,) if session.graph.is_multigraph() else ()
                 results = [session.result()]
                 for call in (
@@ -230,20 +228,23 @@ class GraphSessions(unittest.TestCase):
                 self.assertEqual(session.result(), results[0])
 
     def test_calls_that_are_interrupted(self):
-        for name in ("read", "write"):
-            with self.result.session() as session:
+        for interrupted in (self.interrupted, self.interrupted_before):
+            with self.result.session(process=self.process) as session:
                 for call in (
                     lambda: session.insert_edge("b", "d"),
                     lambda: session.grow_edge("c", "e"),
                     lambda: session.delete_edge("a", "b"),
                     lambda: session.undo(2),
                 ):
-                    with mock.patch.object(line_process.os, name, side_effect=KeyboardInterrupt):
-                        with self.assertRaises(KeyboardInterrupt):
-                            call()
+                    with interrupted(session._session), self.assertRaises(KeyboardInterrupt):
+                        call()
                     edges = len(session.result().graph.edges)
                     self.judge(session.result())
-                self.assertEqual(edges, 6 if name == "read" else 5)
+                self.assertEqual(edges, 6 if interrupted == self.interrupted else 5)
+
+
+class GraphSessionsOverAProcess(GraphSessions):
+    process = True
 
 
 if __name__ == "__main__":

@@ -45,7 +45,7 @@ if __name__ == "__main__":
 SESSION = """
 from pathlib import Path
 from fezdrok import Session
-with Session(program=program) as session:
+with Session(program=program, process=True) as session:
     Path(sys.argv[2]).write_text(f"{session.process_id}\\n")
     while True:
         session.insert(0, 0)

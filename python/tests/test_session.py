@@ -10,16 +10,17 @@ import sys
 import time
 import unittest
 from dataclasses import replace
+from threading import Event, Thread
 from unittest import mock
 
 from fezdrok import (
     Counts, Dart, Deleted, EdgeAnswer, Fault, Grown, Inserted, Limits, Meeting, MemoryFault, Picture, PlanarError,
     Planarizer, ProgramFailed, ProgramNotFound, ProgramNotStarted, Refused, Renumbered, Route, Session, SessionClosed,
-    Undone, UsageRefused, VertexAnswer, __version__,
+    SessionInUse, Undone, UsageRefused, VertexAnswer, __version__,
 )
 from fezdrok.engine import line_process
 
-from .support import fake, needs_program
+from .support import Sessions, fake, needs_program
 
 COUNTS = '{"crossings":0,"edges":1,"faces":1,"segments":1,"vertices":2}'
 #: A shell program that begins as a session does.
@@ -56,9 +57,9 @@ def is_over(process_id: int) -> bool:
 
 
 @needs_program
-class Calls(unittest.TestCase):
+class Calls(Sessions, unittest.TestCase):
     def test_callers(self):
-        with Session() as session:
+        with self.session() as session:
             session.grow(0)
             session.caller = 15
             self.assertEqual(session.insert(1, 2), Inserted(2, (), 0, 0, 0))
@@ -71,7 +72,7 @@ class Calls(unittest.TestCase):
             self.assertEqual([entry.caller for entry in session.report().history], [0, 15, 15, 3])
 
     def test_each_is_answered_at_once(self):
-        with Session() as session:
+        with self.session() as session:
             self.assertEqual(session.grow(1), Grown(2, 1))
             self.assertEqual(session.insert(0, 2, kind=7), Inserted(2, (), 0, 0, 0))
             self.assertEqual(session.delete(0), Deleted(0))
@@ -83,7 +84,7 @@ class Calls(unittest.TestCase):
         prices, limits = [1, 5, None], Limits(10, 65536, 90)
         planarizer = Planarizer(prices=prices, limits=limits)
         replies = []
-        with Session(prices=prices, limits=limits) as session:
+        with self.session(prices=prices, limits=limits) as session:
             for name, *numbers in some_calls(150, 3):
                 replies.append(getattr(session, name)(*numbers))
                 getattr(planarizer, name)(*numbers)
@@ -96,35 +97,36 @@ class Calls(unittest.TestCase):
         self.assertEqual(planarizer.replay(report), 150)
 
     def test_a_thousand_insertions_are_one_process(self):
-        with Session() as session:
+        with self.session() as session:
             process = session.process_id
             for vertex in range(98):
                 session.grow(vertex)
             for place in range(1000):
                 self.assertEqual(session.insert(place % 99, place % 99 + 1).edge, 99 + place)
             self.assertEqual((session.process_id, session.counts().edges), (process, 1099))
+            self.assertEqual(repr(session), f"<Session: process {process}>" if process else "<Session: in this process>")
 
     def test_a_start(self):
-        with Session() as session:
+        with self.session() as session:
             for vertex in range(5):
                 session.grow(vertex)
             for u in range(7):
                 for v in range(u):
                     session.insert(u, v)
             picture, counts = session.picture(), session.counts()
-        with Session(start=picture) as session:
+        with self.session(start=picture) as session:
             self.assertEqual((session.picture(), session.counts()), (picture, counts))
             self.assertEqual(session.report().start, picture)
 
     def test_refused_calls_are_replies(self):
-        with Session() as session:
+        with self.session() as session:
             self.assertEqual(session.insert(0, 0), Refused(2, "SameEnds"))
             self.assertEqual(session.delete(0), Refused(6, "Cut", 0))
             self.assertEqual(session.grow(7), Refused(1, "NoVertex"))
             self.assertEqual(len(session.report().refused), 3)
 
     def test_a_line_that_is_refused_changes_nothing(self):
-        with Session() as session:
+        with self.session() as session:
             for number in (-1, 2**32):
                 with self.assertRaises(Fault) as caught:
                     session.insert(0, number)
@@ -137,7 +139,7 @@ class Calls(unittest.TestCase):
             self.assertEqual(session.grow(0), Grown(2, 1))
 
     def test_several_lines_at_once(self):
-        with Session() as session:
+        with self.session() as session:
             answers = session.answers(['["grow",1,0,0]', '["insert",0,2,0]', '["insert",0,0,0]', "[", '"counts"'])
             due = [
                 '{"edge":1,"vertex":2}',
@@ -156,10 +158,10 @@ class Calls(unittest.TestCase):
     def test_many_lines_ahead(self):
         """Lines and answers of many times what a pipe holds, through pipes of the usual size and of one page."""
         for room in (65536, 4096):
-            with Session() as session:
-                process = session._process
-                for end in (process._input, process._output):
-                    fcntl.fcntl(end.fileno(), fcntl.F_SETPIPE_SZ, room)
+            with self.session() as session:
+                if session.process_id:
+                    for end in (session._answerer._input, session._answerer._output):
+                        fcntl.fcntl(end.fileno(), fcntl.F_SETPIPE_SZ, room)
                 lines = ['["grow",0,0,0]', '["insert",0,0,0]', '"picture"', '["insert",0,0,0]'] * 100
                 answers = session.answers(lines + ['["delete",9999]'] * 19_600)
                 self.assertEqual(len(answers), 20_000)
@@ -176,11 +178,11 @@ class Calls(unittest.TestCase):
             ({"start": wrong}, "23 BadRotation"),
         ):
             with self.assertRaises(Fault) as caught:
-                Session(**words)
+                self.session(**words)
             self.assertEqual(str(caught.exception), due)
 
     def test_a_price_that_forbids(self):
-        with Session(prices=[None]) as session:
+        with self.session(prices=[None]) as session:
             for vertex in range(3):
                 session.grow(vertex)
             replies = [session.insert(u, v) for u in range(5) for v in range(u)]
@@ -189,7 +191,7 @@ class Calls(unittest.TestCase):
 
 
 @needs_program
-class Questions(unittest.TestCase):
+class Questions(Sessions, unittest.TestCase):
     def crossed(self, session):
         """A triangle with a vertex inside and one outside, and an edge between these, which crosses the edge 0."""
         session.grow(1)
@@ -198,7 +200,7 @@ class Questions(unittest.TestCase):
         session.grow(0, 1)
 
     def test_a_route_is_what_the_insertion_does(self):
-        with Session(prices=[3, 7]) as session:
+        with self.session(prices=[3, 7]) as session:
             self.crossed(session)
             before = session.picture()
             route = session.route(3, 4)
@@ -208,7 +210,7 @@ class Questions(unittest.TestCase):
             self.assertEqual(session.picture().edge(5).crossings, (before.next_crossing,))
 
     def test_edges_vertices_and_faces(self):
-        with Session(prices=[3, 7, None]) as session:
+        with self.session(prices=[3, 7, None]) as session:
             self.crossed(session)
             session.insert(3, 4, kind=2)
             picture = session.picture()
@@ -220,7 +222,7 @@ class Questions(unittest.TestCase):
             self.assertEqual(session.face(0), picture.face(Dart(0, 0)))
 
     def test_refusals_and_faults(self):
-        with Session(limits=Limits(9, 1, 0)) as session:
+        with self.session(limits=Limits(9, 1, 0)) as session:
             self.assertEqual(session.route(0, 2), Refused(1, "NoVertex"))
             self.assertEqual(session.route(0, 0), Refused(2, "SameEnds"))
             self.assertEqual(session.route(0, 1), Refused(7, "Full"))
@@ -240,13 +242,13 @@ class Questions(unittest.TestCase):
             self.assertEqual(session.report().history, ())
 
     def test_what_the_program_is(self):
-        with Session() as session:
+        with self.session() as session:
             about = session.about()
         self.assertEqual((about.program, about.version, about.limits), ("planar", __version__, Limits()))
         self.assertLessEqual({"about", "face", "grow", "open", "route"}, set(about.requests))
 
     def test_another_picture_in_the_same_process(self):
-        with Session(prices=[3]) as session:
+        with self.session(prices=[3]) as session:
             self.crossed(session)
             before, process = session.picture(), session.process_id
             wrong = Picture(((0,), ()), before.edges[:1], (), 1, 0)
@@ -267,14 +269,13 @@ class Questions(unittest.TestCase):
             self.assertEqual(session.report().start, before)
             session.renumber()
             self.assertEqual((session.counts().edges, session.prices, session.process_id), (5, (), process))
-            with mock.patch.object(line_process.os, "read", side_effect=KeyboardInterrupt):
-                with self.assertRaises(KeyboardInterrupt):
-                    session.open(prices=[1])
+            with self.interrupted(session), self.assertRaises(KeyboardInterrupt):
+                session.open(prices=[1])
             self.assertTrue(session.is_closed)
 
 
 @needs_program
-class Reports(unittest.TestCase):
+class Reports(Sessions, unittest.TestCase):
     """What takes calls back, begins the report anew or goes on from one."""
 
     def crossed(self, session):
@@ -286,7 +287,7 @@ class Reports(unittest.TestCase):
             session.delete(edge)
 
     def test_calls_are_taken_back(self):
-        with Session(prices=[2]) as session:
+        with self.session(prices=[2]) as session:
             told, counts = [], []
             for name, *numbers in some_calls(60, 4):
                 told.append((session.picture(), session.report()))
@@ -312,7 +313,7 @@ class Reports(unittest.TestCase):
             self.assertEqual(session.undo(59), Undone(59, 2, 1, 0))
 
     def test_what_is_forgotten(self):
-        with Session(prices=[2]) as session:
+        with self.session(prices=[2]) as session:
             self.crossed(session)
             before = session.picture()
             self.assertEqual(session.forget(), before.counts)
@@ -325,7 +326,7 @@ class Reports(unittest.TestCase):
             self.assertEqual(session.report(), report)
 
     def test_a_report_is_gone_on_from(self):
-        with Session(limits=Limits(9, 99, 999), prices=[2, None]) as session:
+        with self.session(limits=Limits(9, 99, 999), prices=[2, None]) as session:
             self.crossed(session)
             report, process = session.report(), session.process_id
             session.open()
@@ -338,15 +339,15 @@ class Reports(unittest.TestCase):
                     session.reopen(wrong)
                 self.assertEqual(str(caught.exception), due)
             self.assertEqual((session.report(), session.prices), (report, (2, None)))
-        with Session.from_report(report) as session:
+        with Session.from_report(report, process=self.process) as session:
             self.assertEqual((session.report(), session.prices, session.limits), (report, (2, None), report.limits))
             self.assertEqual(session.undo(len(report.history)), Undone(len(report.history), 2, 1, 0))
             self.assertEqual(session.report(), Planarizer(limits=report.limits, prices=[2, None]).run())
         with self.assertRaisesRegex(Fault, "60 WrongReply 0"):
-            Session.from_report(lie)
+            Session.from_report(lie, process=self.process)
 
     def test_ids_begin_at_0(self):
-        with Session(prices=[2]) as session:
+        with self.session(prices=[2]) as session:
             self.crossed(session)
             before, counts, process = session.picture(), session.counts(), session.process_id
             self.assertGreater(counts.crossings, 0)
@@ -370,7 +371,7 @@ class Reports(unittest.TestCase):
             )
 
     def test_it_makes_room_where_the_ids_have_run_out(self):
-        with Session(limits=Limits(2, 3, 0)) as session:
+        with self.session(limits=Limits(2, 3, 0)) as session:
             for edge in (1, 2):
                 self.assertEqual(session.insert(0, 1).edge, edge)
                 session.delete(edge)
@@ -380,24 +381,111 @@ class Reports(unittest.TestCase):
 
     def test_an_interrupt(self):
         """It ends the session where nothing tells later whether the request was carried out."""
-        with Session() as session:
+        with self.session() as session:
             report = session.report()
         for name, words, is_closed in (
             ("undo", (0,), False), ("forget", (), False), ("renumber", (), True), ("reopen", (report,), True),
         ):
-            with Session() as session:
-                with mock.patch.object(line_process.os, "read", side_effect=KeyboardInterrupt):
-                    with self.assertRaises(KeyboardInterrupt):
-                        getattr(session, name)(*words)
+            with self.session() as session:
+                with self.interrupted(session), self.assertRaises(KeyboardInterrupt):
+                    getattr(session, name)(*words)
                 self.assertEqual(session.is_closed, is_closed)
+
+    def test_calls_that_are_interrupted(self):
+        with self.session() as session:
+            with self.interrupted(session), self.assertRaises(KeyboardInterrupt):
+                session.grow(0)
+            self.assertEqual(session.grow(0), Grown(3, 2))
+            with self.interrupted_before(session), self.assertRaises(KeyboardInterrupt):
+                session.grow(0)
+            self.assertEqual(session.counts().vertices, 4)
+            self.assertEqual(session.report().replies, (Grown(2, 1), Grown(3, 2)))
+
+    def test_the_end(self):
+        with self.session() as session:
+            session.grow(0)
+        self.assertTrue(session.is_closed)
+        self.assertEqual((repr(session), session.process_id), ("<Session: closed>", None))
+        session.close()
+        for call in (session.counts, session.picture, session.undo, session.renumber, lambda: session.grow(0)):
+            with self.assertRaises(SessionClosed):
+                call()
+
+    def test_a_call_before_another_has_ended(self):
+        """It is not carried out, also where it would end the session, and the other one is answered."""
+        with self.session() as session:
+            begun, is_free, answered = Event(), Event(), []
+            asked = session._answerer.ask_all
+
+            def ask_all(lines):
+                begun.set()
+                is_free.wait()
+                return asked(lines)
+
+            with mock.patch.object(session._answerer, "ask_all", ask_all):
+                asking = Thread(target=lambda: answered.extend(session.answers(['["grow",0,0,0]'])))
+                asking.start()
+                self.assertTrue(begun.wait(60))
+                for call in (session.counts, session.renumber, session.open, session.close, lambda: session.grow(1)):
+                    with self.assertRaises(SessionInUse):
+                        call()
+                is_free.set()
+                asking.join()
+            self.assertEqual((answered, session.counts().vertices), (['{"edge":1,"vertex":2}'], 3))
+
+    def test_two_threads_and_a_signal(self):
+        """Each gets the answers to its own calls, or SessionInUse."""
+        with self.session() as session:
+            for vertex in range(3):
+                session.grow(vertex)
+            due = [session.vertex(vertex) for vertex in range(3)]
+            told = [[], [], []]
+
+            def ask(vertex):
+                try:
+                    told[vertex].append(session.vertex(vertex))
+                except SessionInUse:
+                    told[vertex].append(None)
+
+            def ask_on(vertex):
+                while told[vertex].count(due[vertex]) < 300:
+                    ask(vertex)
+                    time.sleep(0 if told[vertex][-1] else 0.0001)
+
+            asking = Thread(target=ask_on, args=[1])
+            before = signal.signal(signal.SIGALRM, lambda number, frame: ask(2))
+            signal.setitimer(signal.ITIMER_REAL, 0.0003, 0.0003)
+            try:
+                asking.start()
+                ask_on(0)
+                asking.join()
+            finally:
+                signal.setitimer(signal.ITIMER_REAL, 0)
+                signal.signal(signal.SIGALRM, before)
+            self.assertIn(None, told[0] + told[1] + told[2])
+            for answers, right in zip(told, due):
+                self.assertLessEqual(set(answers), {right, None})
+            self.assertEqual(session.vertex(0), due[0])
+
+
+class CallsOverAProcess(Calls):
+    process = True
+
+
+class QuestionsOverAProcess(Questions):
+    process = True
+
+
+class ReportsOverAProcess(Reports):
+    process = True
 
 
 class Ends(unittest.TestCase):
-    """What ends a session, by the program where it is there, and by shell scripts in its place."""
+    """What ends a session over a process, by the program where it is there, and by shell scripts in its place."""
 
     @needs_program
     def test_the_block_ends_the_process(self):
-        with Session() as session:
+        with Session(process=True) as session:
             process = session.process_id
         self.assertTrue(ended(process))
         self.assertTrue(session.is_closed)
@@ -409,7 +497,7 @@ class Ends(unittest.TestCase):
     @needs_program
     def test_an_exception_in_the_block_ends_the_process(self):
         with self.assertRaisesRegex(KeyError, "mine"):
-            with Session() as session:
+            with Session(process=True) as session:
                 process = session.process_id
                 raise KeyError("mine")
         self.assertTrue(ended(process))
@@ -417,7 +505,7 @@ class Ends(unittest.TestCase):
     @needs_program
     def test_a_process_that_is_killed(self):
         with self.assertRaises(ProgramFailed) as caught:
-            with Session() as session:
+            with Session(process=True) as session:
                 session.grow(0)
                 os.kill(session.process_id, signal.SIGKILL)
                 session.grow(0)
@@ -428,7 +516,7 @@ class Ends(unittest.TestCase):
 
     @needs_program
     def test_a_call_that_is_interrupted(self):
-        with Session() as session:
+        with Session(process=True) as session:
             with mock.patch.object(line_process.os, "read", side_effect=KeyboardInterrupt):
                 with self.assertRaises(KeyboardInterrupt):
                     session.grow(0)
@@ -442,7 +530,7 @@ class Ends(unittest.TestCase):
     @needs_program
     def test_calls_that_are_interrupted_again_and_again(self):
         """Before a line is written or an answer is read, or just after it."""
-        with Session() as session:
+        with Session(process=True) as session:
             for name in ("read", "write"):
                 done = getattr(os, name)
                 for is_done in (False, True):
@@ -470,7 +558,7 @@ class Ends(unittest.TestCase):
         next lines, whatever the lines were, also where they are answered as those with which a session finds its place
         again."""
         refused = ['["delete","x"]', '["grow","x",0,0]', '["insert","x",1,0]', '["delete",""]', "[]", ""]
-        with Session() as session:
+        with Session(process=True) as session:
             for name in ("write", "read"):
                 for is_done in (False, True):
                     for lines in (
@@ -508,7 +596,7 @@ class Ends(unittest.TestCase):
                 text += done(source, count - len(text))
             return text
 
-        with Session() as session:
+        with Session(process=True) as session:
             for count in range(1, sum(len(answer) + 1 for answer in session.answers(lines)) + 1):
                 for is_lost in (False, True):
                     counts = iter((count,))
@@ -548,7 +636,7 @@ class Ends(unittest.TestCase):
         lines = (
             "from fezdrok import Session",
             heeded,
-            "with Session() as session:",
+            "with Session(process=True) as session:",
             "  try:",
             "    print(session.process_id, flush=True)",
             f"    {body}",

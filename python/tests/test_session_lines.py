@@ -15,7 +15,7 @@ from typing import Any
 from fezdrok import Picture, find_program
 
 from .reference_sessions import ABOUT, NAMES, Lines, Standing, Told, opening
-from .support import ROOT, example_rows, needs_program
+from .support import ROOT, example_rows, in_process, needs_library, needs_program
 
 COUNT, SEED = int(os.environ.get("FEZDROK_LINES", "20000")), int(os.environ.get("FEZDROK_SEED", "1"))
 
@@ -191,6 +191,13 @@ def a_line(chance: random.Random, lines: Lines, kept: list[Any], is_long: bool =
 
 @needs_program
 class RandomLines(unittest.TestCase):
+    def answered(self, asked: list[bytes], is_ended: bool) -> tuple[list[str], str]:
+        """What lines are answered by a process, and the fault that ends it, if it is to end by one."""
+        lines = [*asked, b""] if not asked[-1] else asked  # a last line without a byte is none
+        done = subprocess.run([find_program(), "serve"], input=b"\n".join(lines), capture_output=True, timeout=60)
+        self.assertEqual(done.returncode, 1 if is_ended else 0)
+        return done.stdout.decode().splitlines(), done.stderr.decode()
+
     def session(self, seed: int, kept: list[Any]) -> tuple[int, set[str]]:
         """Compares a session with what was predicted; gives how many lines it had, and what was told or refused."""
         chance, lines, is_long = random.Random(seed), Lines(), seed % 50 == 0
@@ -202,14 +209,10 @@ class RandomLines(unittest.TestCase):
             except Told as fault:
                 end = f"planar: {fault}\n"
                 break
-        done = subprocess.run([find_program(), "serve"], input=b"\n".join(asked), capture_output=True, timeout=60)
-        told = done.stdout.decode().splitlines()
+        told, text = self.answered(asked, bool(end))
         for line, answer, right in zip(asked, told, due):
             self.assertEqual(answer, right, f"seed {seed}: {line[:2000]!r}")
-        counted = len(due) - (not asked[-1] and len(asked) > 1)  # a last line without a byte is none
-        self.assertEqual(
-            (len(told), done.returncode, done.stderr.decode()), (counted, 1 if end else 0, end), f"seed {seed}"
-        )
+        self.assertEqual((len(told), text), (len(due), end), f"seed {seed}")
         if lines.standing and len(lines.standing.picture.edges) < 60:
             kept.append(lines.standing.report())
             del kept[:-20]
@@ -226,6 +229,18 @@ class RandomLines(unittest.TestCase):
         due += " BadVersion BadNumber BadPrice BadLimits TooMany BadPath BadCrossing BadRotation NotPlanar"
         due += " NothingToUndo WrongReply WrongPicture"
         self.assertLessEqual(set(due.split()), names)
+
+
+@needs_library
+class RandomLinesInProcess(RandomLines):
+    def answered(self, asked: list[bytes], is_ended: bool) -> tuple[list[str], str]:
+        """What lines are answered by the library, and the fault of the first, if it is to have one."""
+        session = in_process()
+        told = [session.answer(line).decode() for line in asked]
+        session.end()
+        if not is_ended:
+            return told, ""
+        return told[:-1], f"planar: {' '.join(map(str, json.loads(told[-1])['fault']))}\n"
 
 
 def sessions_of_pages() -> list[list[str]]:

@@ -20,7 +20,8 @@ class PlanarError(Exception):
 
 
 class ProgramNotFound(PlanarError, FileNotFoundError):
-    """There is no program `planar` where it was looked for; the message says where, and how to get one."""
+    """There is no program `planar` where it was looked for, or no library where FEZDROK_LIBRARY says; the message says
+    where, and how to get one."""
 
 
 class UsageRefused(PlanarError, ValueError):
@@ -129,6 +130,10 @@ class SessionClosed(PlanarError, ValueError):
     """A session was called after its end: it was closed, or its program had ended."""
 
 
+class SessionInUse(PlanarError, RuntimeError):
+    """A session was called before another call of it had ended, as from two threads at once. Nothing was done."""
+
+
 class ModuleMissing(PlanarError, ImportError):
     """A package that is wanted for what was asked is not there; the message says which, and for what."""
 
@@ -137,7 +142,8 @@ class ModuleMissing(PlanarError, ImportError):
 FaultError, MemoryFaultError, ModuleMissingError, NoReportError = Fault, MemoryFault, ModuleMissing, NoReport
 NotPlanarizedError, OtherReportError, ProgramFailedError = NotPlanarized, OtherReport, ProgramFailed
 ProgramNotFoundError, ProgramNotStartedError = ProgramNotFound, ProgramNotStarted
-SessionClosedError, UnfinishedError, UsageRefusedError = SessionClosed, Unfinished, UsageRefused
+SessionClosedError, SessionInUseError = SessionClosed, SessionInUse
+UnfinishedError, UsageRefusedError = Unfinished, UsageRefused
 
 
 #: The extras of this package in which others are.

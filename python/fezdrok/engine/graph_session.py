@@ -8,7 +8,7 @@ from types import TracebackType
 from typing import Any, Generic, TypeVar
 
 from .answers import Renumbered, Route
-from .faults import NotPlanarized
+from .faults import MemoryFault, NotPlanarized
 from .graph_edges import KINDS, GraphEdge, Node, Price, judge_kinds, name_among
 from .graph_pictures import GraphPicture
 from .pictures import Counts, Picture
@@ -23,7 +23,7 @@ Result = TypeVar("Result", bound=GraphPicture)
 
 
 class GraphSession(Generic[Result]):
-    """A planarization that is changed edge by edge, in one process of the program. See `Planarization.session`.
+    """A planarization that is changed edge by edge. See `Planarization.session`.
 
     `graph` is the graph of now, a copy of the planarization's own. `edge_of[e]` is its edge that has the id e in the
     picture, as the graph's `edges` gives it, and `prices` are those that an edge may have. They are to be read only.
@@ -40,6 +40,8 @@ class GraphSession(Generic[Result]):
         Prices that new edges may have, beside those of the result and 1; ValueError for more than 64 in all.
     limits : Limits, optional
     program : str or os.PathLike, optional
+    process : bool, optional
+        Whether the session is a process of its own, as said of Session.
 
     Examples
     --------
@@ -59,6 +61,7 @@ class GraphSession(Generic[Result]):
         prices: Sequence[Price] = (),
         limits: Limits | None = None,
         program: PathLike | None = None,
+        process: bool = False,
     ):
         if result.parts:
             raise ValueError("the graph is not connected: begin a session for each of the planarization's parts")
@@ -76,7 +79,7 @@ class GraphSession(Generic[Result]):
         self._asked: _Asked = ((), {})
         self._entries: list[tuple[_Asked, Reply]] = []  # one for each call of the report
         self._is_settled = True
-        self._session = Session(result.picture, limits, self.prices, program)
+        self._session = Session(result.picture, limits, self.prices, program, process)
 
     def __repr__(self) -> str:
         words = "closed" if self.is_closed else f"{len(self._node_of)} nodes, {len(self.edge_of)} edges"
@@ -258,8 +261,8 @@ class GraphSession(Generic[Result]):
 
     def renumber(self) -> Renumbered:
         """Closes up the ids of edges and crossings, as `Session.renumber`, and gives the old ones. The names stay. In
-        the result the next report begins from the picture with the new ids. Where this is interrupted, the session is
-        over."""
+        the result the next report begins from the picture with the new ids. Where this is interrupted or out of memory,
+        the session is over."""
         self._settle()
         reports = (*self._reports, self._session.report())
         try:
@@ -267,7 +270,7 @@ class GraphSession(Generic[Result]):
             self.edge_of = {edge_id: self.edge_of[old_id] for edge_id, old_id in enumerate(old.edges)}
             self._id_of = {name: edge_id for edge_id, name in self.edge_of.items()}
             self._reports, self._entries = reports, []
-        except KeyboardInterrupt:
+        except (KeyboardInterrupt, MemoryFault):
             self.close()
             raise
         return old
@@ -288,7 +291,7 @@ class GraphSession(Generic[Result]):
         self.close()
 
     def close(self) -> None:
-        """Ends the process, as `Session.close`."""
+        """Ends the session, as `Session.close`."""
         self._session.close()
 
 

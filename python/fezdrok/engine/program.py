@@ -1,4 +1,4 @@
-"""The program `planar`: where it is found, and one call of it."""
+"""The program `planar`: where it is found, and one call of it, or of the library that was built with it."""
 
 from __future__ import annotations
 
@@ -13,6 +13,7 @@ from pathlib import Path
 from .faults import (
     Fault, MemoryFault, PlanarWarning, ProgramFailed, ProgramNotFound, ProgramNotStarted, UsageRefused, read_value,
 )
+from .library import VARIABLE as LIBRARY_VARIABLE, Library, library_of, named_library
 from .processes import run
 
 PathLike = str | os.PathLike[str]
@@ -128,8 +129,13 @@ def _sources_of(built: Path) -> str | None:
     return next((words[2] for words in map(str.split, lines) if len(words) == 3 and words[0] == "planar"), None)
 
 
+#: The libraries that were found, by what the program and they are looked for by.
+_libraries: dict[tuple[str | None, ...], Library] = {}
+
+
 class Program:
-    """One program `planar`; each call of a method is one process, which does not outlive this one.
+    """One program `planar`; a call of `run` is one process, which does not outlive this one. `replay` and `check` are
+    judged in this process where the library `libfezdrok.so` is there, and else by a process too.
 
     It is looked for at the first call, so scripts can be written where no program is.
     """
@@ -148,17 +154,39 @@ class Program:
             self._path = find_program(self._wanted)
         return self._path
 
+    @property
+    def library(self) -> Library | None:
+        """The library that the environment variable FEZDROK_LIBRARY names, or else the one that lies beside the
+        program, or in `../lib`; None where there is none that this system loads. One that was found is looked for
+        no more."""
+        wanted = None if self._wanted is None else os.fspath(self._wanted)
+        place = (wanted, *map(os.environ.get, (VARIABLE, LIBRARY_VARIABLE, "PATH")))
+        found = _libraries.get(place) or named_library() or library_of(self.path)
+        if found is not None:
+            _libraries[place] = found
+        return found
+
     def run(self, script: Text) -> str:
         """The report of a script, one line of JSON."""
         return self._call("run", script)
 
     def replay(self, report: str) -> str:
         """The line `replayed N calls`, or the fault that the report is not true."""
-        return self._call("replay", report)
+        return self._judged("replay", report)
 
     def check(self, picture: str) -> str:
         """The line `lawful vertices=.. ..`, or the fault that the picture is not lawful."""
-        return self._call("check", picture)
+        return self._judged("check", picture)
+
+    def _judged(self, verb: str, text: str) -> str:
+        """The same in this process where there is a library."""
+        library = self.library
+        if library is None:
+            return self._call(verb, text)
+        status, line = library.judge(verb, text.encode())
+        if status:
+            raise failure(status, line)
+        return line
 
     def _call(self, verb: str, text: Text) -> str:
         """What the program prints, or the exception that its status stands for."""

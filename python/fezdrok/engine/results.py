@@ -71,16 +71,20 @@ class Planarization(GraphPicture):
         return _offsets(self.parts)
 
     def session(
-        self, prices: Sequence[Price] = (), limits: Limits | None = None, program: PathLike | None = None
+        self,
+        prices: Sequence[Price] = (),
+        limits: Limits | None = None,
+        program: PathLike | None = None,
+        process: bool = False,
     ) -> GraphSession["Planarization"]:
         """A session that goes on from here, in which edges are inserted and taken out by the names of their nodes.
 
-        An edge that it inserts has one of the prices of this planarization, one of `prices`, or 1. `limits` and
-        `program` are those of Session; the limits that this planarization was made with count for nothing. ValueError
-        where the graph is not connected (then take one of `parts`) or has no edge, and where there are more than 64
+        An edge that it inserts has one of the prices of this planarization, one of `prices`, or 1. `limits`,
+        `program` and `process` are those of Session; the limits that this planarization was made with count for
+        nothing. ValueError where the graph is not connected (then take one of `parts`) or has no edge, and where there are more than 64
         prices in all. The program's exceptions are those of Session.
         """
-        return GraphSession(self, prices, limits, program)
+        return GraphSession(self, prices, limits, program, process)
 
     # ---- Kept, and judged
 

@@ -1,15 +1,17 @@
-"""Sessions: a picture in one process of the program, which is changed by one call after another."""
+"""Sessions: a picture that is changed by one call after another, in this process or in one of the program."""
 
 from __future__ import annotations
 
 import json
 from collections.abc import Callable, Sequence
 from operator import index
+from threading import Lock
 from types import TracebackType
 from typing import Any, ClassVar, TypeVar
 
 from .answers import About, EdgeAnswer, Renumbered, Route, Undone, VertexAnswer, face_from_json
-from .faults import Fault, ProgramFailed, SessionClosed
+from .faults import Fault, MemoryFault, ProgramFailed, SessionClosed, SessionInUse
+from .library import IN_USE, LibrarySession
 from .line_process import HASTE, LineProcess
 from .pictures import Counts, Dart, Picture, json_text
 from .planarizer import Planarizer
@@ -20,32 +22,44 @@ from .reports import (
 
 Value = TypeVar("Value")
 Own = TypeVar("Own", bound="Session")
+#: What answers the lines of a session.
+Answerer = LibrarySession | LineProcess
 
 
 class Session:
-    """A picture in one process of the program, changed by calls that are answered at once.
+    """A picture that is changed by calls, each of which is answered at once.
 
     `start` is the picture to begin with (without it two vertices and one edge), `limits` how large it may grow (see
     Limits), `prices` the price of crossing an edge of kind 0, 1, .. (1 to 1000, or None where such edges must not be
     crossed; kinds past the end cost 1), and `program` the path of `planar` (see `find_program`).
 
-    The process begins with the session, and ends with the `with` block or by `close`. A fault of the start, of the
-    limits or of the prices is a Fault here, as by `Planarizer.run`.
+    The session is in this process, by the library `libfezdrok.so` that lies beside the program, or that the environment
+    variable FEZDROK_LIBRARY names. Where there is none that this system loads, or where `process` is true, it is a
+    process of the program, which a crash or a limit of memory ends alone.
+
+    It begins here, and ends with the `with` block or by `close`. A fault of the start, of the limits or of the prices
+    is a Fault here, as by `Planarizer.run`.
 
     `route`, `edge`, `vertex`, `face`, `counts`, `picture` and `report` are questions, which change nothing. `undo`
     takes calls back, `forget` and `renumber` begin the report anew, and `open` and `reopen` put another picture in the
-    place of this one, in the same process. `from_report` begins a session where another one ended.
+    place of this one. `from_report` begins a session where another one ended.
 
     `caller` is the number, from 0 to 15, that calls have in the report as their caller; it may be set before each call.
 
     A call that the program refuses changes nothing, and its reply is a Refused. Numbers that are none of the form's, as
-    negative ones, are a Fault (54 BadNumber), which changes nothing either. Where the program ends before its time, the
-    exception of its status is raised, with what it wrote on standard error: ProgramFailed, as for a signal, or another
-    PlanarError. The session is then closed, and every further call is SessionClosed.
+    negative ones, are a Fault (54 BadNumber), which changes nothing either.
+
+    A session is for one thread at a time. A call that comes before another one has ended is SessionInUse, and is not
+    carried out. A call of a session that is over is SessionClosed.
+
+    Out of memory is a MemoryFault. In this process the session goes on: the call is not carried out, or it is and its
+    answer is lost; `report` says which. A process is over then, and so it is where it ends in another way: the
+    exception is that of its status, with what it wrote on standard error, as ProgramFailed for a signal.
 
     A call that was interrupted, as by Ctrl-C, may have been carried out; `report` says whether it was. The session goes
-    on, but where `open`, `reopen` or `renumber` is interrupted, or the next call while it waits for the end of that
-    one; and it may be over where `answers` to more than 512 bytes is interrupted. A session is for one thread.
+    on, but where `open`, `reopen` or `renumber` is interrupted. One over a process is over too where the next call is
+    interrupted as it waits for the end of that one, and may be over where `answers` to more than 512 bytes is
+    interrupted.
 
     Parameters
     ----------
@@ -53,6 +67,8 @@ class Session:
     limits : Limits, optional
     prices : sequence of int or None, optional
     program : str or os.PathLike, optional
+    process : bool, optional
+        Whether the session is a process of its own.
 
     Examples
     --------
@@ -75,12 +91,13 @@ class Session:
         limits: Limits | None = None,
         prices: Sequence[int | None] | None = None,
         program: PathLike | None = None,
+        process: bool = False,
     ):
         given = Planarizer(start, limits, prices)
-        self._begin(given, _opening(given), program)
+        self._begin(given, _opening(given), program, process)
 
     @classmethod
-    def from_report(cls: type[Own], report: Report, program: PathLike | None = None) -> Own:
+    def from_report(cls: type[Own], report: Report, program: PathLike | None = None, process: bool = False) -> Own:
         """A session that goes on from a report, with its limits, prices and calls, as by `reopen`.
 
         Examples
@@ -94,45 +111,55 @@ class Session:
         Undone(undone=1, vertices=2, next_edge=1, next_crossing=0)
         """
         session = cls.__new__(cls)
-        session._begin(_given_by(report), {"reopen": report.to_json()}, program)
+        session._begin(_given_by(report), {"reopen": report.to_json()}, program, process)
         return session
 
-    def _begin(self, given: Planarizer, first: dict[str, Any], program: PathLike | None) -> None:
-        """Begins the process with this line."""
+    def _begin(self, given: Planarizer, first: dict[str, Any], program: PathLike | None, process: bool) -> None:
+        """Begins with this line."""
         self._program = Program(program)
-        self._given = given
+        self._given: Planarizer | None = given
         self.caller = 0
-        self._process: LineProcess | None = None
-        process = LineProcess(self._program.path)
+        self._lock = Lock()
+        self._answerer: Answerer | None = None
+        library = None if process else self._program.library
+        answerer = LibrarySession(library) if library else LineProcess(self._program.path)
         try:
-            _understood(process, process.ask(json_text(first)), _counts)
+            _understood(answerer, answerer.ask(json_text(first)), _counts)
         except BaseException:
-            process.end()
+            answerer.end()
             raise
-        self._process = process
+        self._answerer = answerer
 
     def __repr__(self) -> str:
-        return "<Session: closed>" if self._process is None else f"<Session: process {self._process.process_id}>"
+        if self._answerer is None:
+            return "<Session: closed>"
+        return f"<Session: process {self.process_id}>" if self.process_id else "<Session: in this process>"
 
     @property
     def limits(self) -> Limits:
         """How large the picture may grow."""
-        return self._given.limits or Limits()
+        return self._opened_with().limits or Limits()
 
     @property
     def prices(self) -> Prices:
         """The prices of the kinds, as they were given."""
-        return self._given.prices or ()
+        return self._opened_with().prices or ()
+
+    def _opened_with(self) -> Planarizer:
+        """What the picture was opened with, which the report says where it is not known here."""
+        if self._given is None:
+            self._given = _given_by(self.report())
+        return self._given
 
     @property
     def is_closed(self) -> bool:
         """Whether the session is over."""
-        return self._process is None
+        return self._answerer is None
 
     @property
     def process_id(self) -> int | None:
-        """The number of the program's process, or None where the session is over."""
-        return None if self._process is None else self._process.process_id
+        """The number of the session's own process, or None where it has none or is over."""
+        return None if self._answerer is None else self._answerer.process_id
 
     # ---- Calls
 
@@ -161,7 +188,7 @@ class Session:
         limits: Limits | None = None,
         prices: Sequence[int | None] | None = None,
     ) -> Counts:
-        """Begins anew with another picture in the same process, and gives its counts: many small graphs in one session.
+        """Begins anew with another picture, and gives its counts: many small graphs in one session.
 
         The words are those of the class. The picture and the report of before are gone. Where the start, the limits or
         the prices are at fault, as by `Planarizer.run`, that is a Fault, and all is as it was.
@@ -172,7 +199,7 @@ class Session:
         return counts
 
     def reopen(self, report: Report) -> Counts:
-        """Goes on from a report in the same process, and gives the counts of its picture.
+        """Goes on from a report, and gives the counts of its picture.
 
         Start, limits, prices and calls are the report's, so `undo` takes its calls back. The picture and the report of
         before are gone. The program carries the calls out again: a report that is not true is the Fault of
@@ -201,8 +228,9 @@ class Session:
     def renumber(self) -> Renumbered:
         """Begins the report anew, as `forget`, and closes up the ids of edges and crossings from 0 in their order.
 
-        Ids are never given twice, and the limits bound them, so after 65,536 edges in all an insertion is refused as 7
-        Full; then this makes room. Vertices keep their numbers.
+        The id of an edge that was deleted is not given again, unless `undo` took back the call that gave it. The limits
+        bound the ids, so after 65,536 edges in all an insertion is refused as 7 Full; then this makes room. Vertices
+        keep their numbers.
         """
         return self._ask_once("renumber", Renumbered.from_json)
 
@@ -252,44 +280,55 @@ class Session:
 
     def picture_text(self) -> str:
         """The picture now, as the program writes it."""
-        return self._asked(['"picture"'], lambda process, answers: answers[0].decode())
+        return self._asked(['"picture"'], lambda answerer, answers: answers[0].decode())
 
     def answers(self, requests: Sequence[str]) -> list[str]:
         """The answers to several lines of docs/FORMATS.md in order, as the program writes them, also where they are
         faults.
 
-        No line waits for the answer before it, which saves turns through the pipes; there may be any number of lines. A
-        line that has a line feed in it is a ValueError: it would have more than one answer.
+        There may be any number of lines. Over a process none waits for the answer before it, which saves turns through
+        the pipes. A line that has a line feed in it is a ValueError: it would have more than one answer.
         """
         if any("\n" in request for request in requests):
             raise ValueError("a line has a line feed in it")
-        return self._asked(requests, lambda process, answers: [answer.decode() for answer in answers])
+        return self._asked(requests, lambda answerer, answers: [answer.decode() for answer in answers])
 
     def _ask(self, request: Any, read: Callable[[Any], Value]) -> Value:
         """The answer to a request, read by this function; Fault where the program refuses the line."""
-        return self._asked([json_text(request)], lambda process, answers: _understood(process, answers[0], read))
+        return self._asked([json_text(request)], lambda answerer, answers: _understood(answerer, answers[0], read))
 
     def _ask_once(self, request: Any, read: Callable[[Any], Value]) -> Value:
-        """The same for a request that nothing tells later whether it was carried out: where it is interrupted, the
-        session is over."""
+        """The same for a request after which limits, prices and ids may be others. Where it is interrupted, the session
+        is over; where memory is out, they are unknown here."""
         try:
             return self._ask(request, read)
-        except Fault:
+        except MemoryFault:
+            self._given = None
+            raise
+        except (Fault, SessionInUse):
             raise
         except BaseException:
             self.close()
             raise
 
-    def _asked(self, requests: Sequence[str], read: Callable[[LineProcess, list[bytes]], Value]) -> Value:
+    def _asked(self, requests: Sequence[str], read: Callable[[Answerer, list[bytes]], Value]) -> Value:
         """The answers to some lines, read by this function."""
-        process = self._process
-        if process is None:
-            raise SessionClosed("the session is closed")
-        try:
-            return read(process, process.ask_all(requests))
-        finally:
-            if process.is_over:
-                self._process = None
+        self._refuse_another()
+        with self._lock:
+            answerer = self._answerer
+            if answerer is None:
+                raise SessionClosed("the session is closed")
+            try:
+                return read(answerer, answerer.ask_all(requests))
+            finally:
+                if answerer.is_over:
+                    self._answerer = None
+
+    def _refuse_another(self) -> None:
+        """SessionInUse where a call has not ended. One that begins in this moment is waited for; its thread can be
+        interrupted at any place, and gives the lock back all the same, as it is taken by `with`."""
+        if self._lock.locked():
+            raise SessionInUse(IN_USE)
 
     # ---- Its end
 
@@ -302,11 +341,13 @@ class Session:
         self.close()
 
     def close(self) -> None:
-        """Ends the process: its input is closed, and if it has not ended half a second later, it is killed. What is
-        closed already stays so."""
-        process, self._process = self._process, None
-        if process is not None:
-            process.end(HASTE)
+        """Ends the session. A process has its input closed, and is killed if it has not ended half a second later. What
+        is closed already stays so; SessionInUse where another thread calls it."""
+        self._refuse_another()
+        with self._lock:
+            answerer, self._answerer = self._answerer, None
+            if answerer is not None:
+                answerer.end(HASTE)
 
 
 def _opening(given: Planarizer) -> dict[str, Any]:
@@ -321,8 +362,8 @@ def _given_by(report: Report) -> Planarizer:
     return Planarizer(report.start, report.limits, report.prices)
 
 
-def _understood(process: LineProcess, answer: bytes, read: Callable[[Any], Value]) -> Value:
-    """An answer, read by this function; Fault where it is one. Where it is in no form that is known, the process is
+def _understood(answerer: Answerer, answer: bytes, read: Callable[[Any], Value]) -> Value:
+    """An answer, read by this function; Fault where it is one. Where it is in no form that is known, the session is
     ended, and that is ProgramFailed."""
     try:
         value = json.loads(answer)
@@ -331,9 +372,9 @@ def _understood(process: LineProcess, answer: bytes, read: Callable[[Any], Value
         if fault is None:
             return read(value)
     except (KeyError, TypeError, ValueError, IndexError, AttributeError) as other:
-        status, told = process.end()
+        status, told = answerer.end()
         raise ProgramFailed(
-            status, f"{process.path} gave no answer in its form, but {answer[:200]!r} {told}"
+            status, f"{answerer.path} gave no answer in its form, but {answer[:200]!r} {told}"
         ) from other
     raise Fault(*fault)
 
