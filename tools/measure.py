@@ -2,8 +2,8 @@
 """Measures planarization on graphs of networkx: the crossings found, and the time taken.
 
 Prints a table in Markdown: `tools/measure.py numbers` beside known crossing numbers, `tools/measure.py ogdf` beside
-what OGDF found. Behind the crossings stand the time, and the time of a processor that Python and the program took,
-which depends less on other work. All numbers but the times are the same each time.
+what OGDF found, by `planar planarize` and from Python. Behind the crossings stand the time, and the time of a processor
+that Python and the program took, which depends less on other work. All numbers but the times are the same each time.
 
 `tools/measure.py files FOLDER` writes 500 GraphML files of sparse graphs of 10 to 100 nodes, of sizes as those of the
 Rome graphs have, and `tools/measure.py sizes FILE` makes a table by size of what `fezdrok stats --csv` said of them.
@@ -15,6 +15,7 @@ from __future__ import annotations
 
 import argparse
 import csv
+import json
 import random
 import resource
 import subprocess
@@ -164,17 +165,31 @@ def known_numbers() -> None:
         print(row([*sizes, *(cell(case, options) for options in columns.values())]), flush=True)
 
 
+def searched(graph: Any, effort: str) -> tuple[int, float, float]:
+    """The crossings that `planar planarize` finds, the seconds that it took, and those of a processor."""
+    plain = nx.convert_node_labels_to_integers(graph)
+    asked = {"edges": [[u, v, 0] for u, v in plain.edges], "effort": effort, "version": 1, "vertices": len(plain)}
+    begun, begun_processor = time.perf_counter(), processor_seconds()
+    ran = subprocess.run([Program().path, "planarize"], input=json_text(asked), capture_output=True, text=True, check=True)
+    spent = time.perf_counter() - begun, processor_seconds() - begun_processor
+    return json.loads(ran.stdout)["crossings"], *spent
+
+
 def beside_ogdf(seeds: int) -> None:
     """Print the table beside OGDF. Of random graphs the mean over the seeds 1, 2, .. is taken."""
-    columns: dict[str, dict[str, Any]] = {"default": {}, "`tries=1, shakes=20`": {"tries": 1, "shakes": 20}}
+    columns: dict[str, Callable[[Any], tuple[int, float, float]]] = {
+        "`planar planarize`, quick": lambda graph: searched(graph, "quick"),
+        "default": lambda graph: searched(graph, "default"),
+        "Python, default": lambda graph: measured(graph, {}),
+    }
     headings = ["graph", "OGDF", *columns]
     print(row(headings))
     print(row("---" for _ in headings))
     for case in OGDF:
         graphs = [case.make(seed) for seed in range(1, 1 + (seeds if case.is_random else 1))]
         cells = [worded(case.crossings, case.seconds)]
-        for options in columns.values():
-            found = [measured(graph, options) for graph in graphs]
+        for measure in columns.values():
+            found = [measure(graph) for graph in graphs]
             cells.append(worded(*(sum(numbers) / len(found) for numbers in zip(*found))))
         print(row([case.name + (f", mean of {seeds}" if case.is_random else ""), *cells]), flush=True)
 

@@ -70,7 +70,7 @@ class Forms(unittest.TestCase):
 
     def test_without_aiohttp(self):
         with mock.patch.dict(sys.modules, {"aiohttp": None, "aiohttp.web": None}):
-            with self.assertRaisesRegex(ModuleMissing, r"pip install 'fezdrok\[edit\]'"):
+            with self.assertRaisesRegex(ModuleMissing, "pip install aiohttp, the extra 'edit' of fezdrok"):
                 aiohttp_web()
 
 

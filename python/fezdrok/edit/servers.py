@@ -16,7 +16,7 @@ from hashlib import sha256
 from importlib.resources import files
 from typing import Any
 
-from ..engine.faults import ModuleMissing, wanted
+from ..engine.faults import wanted
 from .editors import Editor
 from .forms import LONGEST, BadMessageError, Pace, read_message
 from .tabs import Tab
@@ -29,13 +29,7 @@ PATIENCE = 2.0
 
 def aiohttp_web() -> Any:
     """The module `aiohttp.web`; ModuleMissing with the name of the extra where it is not there."""
-    try:
-        return wanted("aiohttp.web", "pages that edit")
-    except ModuleMissing as missing:
-        raise ModuleMissing(
-            "fezdrok edit wants the package aiohttp, which is not there: pip install 'fezdrok[edit]' "
-            "(Debian: python3-aiohttp)"
-        ) from missing
+    return wanted("aiohttp.web", "pages that edit")
 
 
 class Server:

@@ -147,7 +147,7 @@ UnfinishedError, UsageRefusedError = Unfinished, UsageRefused
 
 
 #: The extras of this package in which others are.
-EXTRAS = {"matplotlib": "drawing", "cairosvg": "pdf", "pydot": "dot"}
+EXTRAS = {"matplotlib": "drawing", "cairosvg": "pdf", "pydot": "dot", "aiohttp": "edit"}
 
 
 def wanted(module: str, purpose: str) -> Any:
