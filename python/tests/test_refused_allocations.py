@@ -42,6 +42,11 @@ class RefusedAllocations(RefusedAllocationTest):
     def test_check(self):
         self.assertGreater(self.refuse_each("check", (EXAMPLES / "bipyramid.json").read_bytes()), 20)
 
+    def test_planarize(self):
+        edges = ",".join(f"[{a},{b},0]" for a in range(5) for b in range(a))
+        graph = b'{"edges":[%s],"effort":"quick","version":1,"vertices":6}' % edges.encode()
+        self.assertGreater(self.refuse_each("planarize", graph), 100)
+
     def test_serve(self):
         """A session that is out of memory ends; what it answered before stays."""
         report = (EXAMPLES / "across_the_cheap_side.report.json").read_bytes().strip()
