@@ -14,7 +14,7 @@ ghost use Rattle.topo_settings.specs.Limiting.{AreLimits};
 ghost use Rattle.topo_settings.specs.Reading.{most_calls};
 
 use crate::answers::{Answer, total_cost, total_crossings};
-use crate::searches::{Deadline, Found, search_all};
+use crate::searches::{Deadline, Found, Terms, search_all};
 use std::alloc::{AllocError, Global};
 use std::io::{Read, Write};
 use std::rt::Clock;
@@ -181,16 +181,18 @@ fn answer_to<F: FromTable, R: Clock>(
     ensures answer { IfOk result (IsAnswerTo asked) }
     ensures fault { IfErr result (HasNoAnswer asked) }
 {
-    let deadline = Deadline::new(rt, asked.seconds);
-    let options = Options {
-        seed: asked.seed,
-        effort: asked.effort,
+    let terms = Terms {
+        options: Options {
+            seed: asked.seed,
+            effort: asked.effort,
+        },
+        deadline: Deadline::new(rt, asked.seconds),
     };
     let (ask, judge) = tables(asked.prices.as_slice())?;
     let graph = match Graph::new(asked.vertices, asked.edges.into_vec()) {
         Ok(graph) => graph,
         Err(fault) => return Err(RunFault::Graph(fault)),
     };
-    let found = search_all(rt, alloc, &graph, F::from_table(ask), options, &deadline)?;
+    let found = search_all(rt, alloc, &graph, F::from_table(ask), &terms)?;
     judged(alloc, &graph, &judge, found)
 }

@@ -57,6 +57,13 @@ impl Deadline {
     }
 }
 
+/// How it is searched: how long, from which seed, and until when.
+#[derive(Clone, Copy)]
+pub(crate) struct Terms {
+    pub options: Options,
+    pub deadline: Deadline,
+}
+
 /// The place in the graph of an edge of a component.
 fn place_of(edges: &[u32], edge: u32) -> u32 {
     match edges.get(edge as usize) {
@@ -138,8 +145,7 @@ fn searched_part<R: Clock, F: PriceFn + Drop>(
     alloc: Global,
     component: Component,
     tariff: Arc<Tariff<F>>,
-    options: Options,
-    deadline: &Deadline,
+    terms: &Terms,
     tries: &mut Vec<u64>,
 ) -> Result<Part, RunFault>
     ensures { IfErr result IsOfSearch }
@@ -149,10 +155,10 @@ fn searched_part<R: Clock, F: PriceFn + Drop>(
         edges,
         own_edges,
     } = component;
-    let Ok(mut search) = Search::new(alloc, vertices.len(), own_edges, tariff, options) else {
+    let Ok(mut search) = Search::new(alloc, vertices.len(), own_edges, tariff, terms.options) else {
         return Err(RunFault::Memory);
     };
-    if let Err(fault) = search_through(rt, alloc, &mut search, deadline) {
+    if let Err(fault) = search_through(rt, alloc, &mut search, &terms.deadline) {
         return Err(fault_of(fault, &edges));
     }
     if tries.extend_from_slice(search.tries()).is_err() {
@@ -167,8 +173,7 @@ pub(crate) fn search_all<R: Clock, F: PriceFn + Drop>(
     alloc: Global,
     graph: &Graph,
     ask: F,
-    options: Options,
-    deadline: &Deadline,
+    terms: &Terms,
 ) -> Result<Found, RunFault>
     requires callable { F.is_callable ask }
     requires promise { IsPromise (F.may_return ask) }
@@ -189,15 +194,7 @@ pub(crate) fn search_all<R: Clock, F: PriceFn + Drop>(
         let Ok(tariff) = Arc::clone(&tariff) else {
             return Err(RunFault::Memory);
         };
-        let part = searched_part(
-            rt,
-            alloc,
-            component,
-            tariff,
-            options,
-            deadline,
-            &mut found.tries,
-        )?;
+        let part = searched_part(rt, alloc, component, tariff, terms, &mut found.tries)?;
         if found.parts.push(part).is_err() {
             return Err(RunFault::Memory);
         }
