@@ -3,7 +3,7 @@
 use crate::best::{Best, keep};
 use crate::board::{Board, Score};
 use crate::graph::Graph;
-use crate::lists::first_numbers;
+use crate::lists::{append, first_numbers, length_of};
 use crate::moves::{add_crossed, put_in};
 use crate::orders::{begin_order, first_forbidden};
 use crate::repair::Repair;
@@ -73,7 +73,7 @@ enum Stage {
 }
 
 /// A step ends once it has done so much, in faces looked at.
-const STEP_COST: u64 = 400_000;
+const STEP_COST: u64 = 300_000;
 
 /// And after so many moves.
 const STEP_MOVES: u32 = 100_000;
@@ -187,7 +187,7 @@ impl<F: PriceFn> Search<F> {
                 break;
             }
             if let Err(why) = self.advance(alloc) {
-                self.note_fault(why)?;
+                self.note_fault(alloc, why)?;
             }
         }
         Ok(self.progress())
@@ -265,24 +265,34 @@ impl<F: PriceFn> Search<F> {
 
     /// How many orders have ended with a picture.
     fn orders(&self) -> u32 {
-        crate::lists::length_of(&self.tries)
+        length_of(&self.tries)
     }
 
-    /// Ends the search, or has it try another order where one has led nowhere.
-    fn note_fault(&mut self, why: SearchFault) -> Result<(), SearchFault> {
-        let may_retry = matches!(self.stage, Stage::Inserting)
+    /// Whether the edges of an order were put in, one has no route, and another order may be tried.
+    fn may_try_again(&self, why: SearchFault) -> bool {
+        matches!(self.stage, Stage::Inserting)
             && matches!(why, SearchFault::NotPlanarized(_))
-            && self.failed < FAILED_ORDERS;
-        if may_retry {
+            && self.failed < FAILED_ORDERS
+    }
+
+    /// Ends the search with a fault. But where an order has led nowhere, it goes on from the best
+    /// picture, or tries another order where there is none yet. Where a picture was found, only
+    /// want of memory is a fault.
+    fn note_fault(&mut self, alloc: Global, why: SearchFault) -> Result<(), SearchFault> {
+        let may_try_again = self.may_try_again(why);
+        self.stage = Stage::Done;
+        if self.best.is_none() && may_try_again {
             self.failed = self.failed.saturating_add(1);
             self.stage = Stage::Order;
             return Ok(());
         }
-        self.stage = Stage::Done;
-        if self.best.is_some() && why != SearchFault::Memory {
-            return Ok(());
+        if self.best.is_none() || why == SearchFault::Memory {
+            return Err(why);
         }
-        Err(why)
+        if may_try_again {
+            return self.end_orders(alloc);
+        }
+        Ok(())
     }
 
     /// Puts one edge in again, or begins what comes next.
@@ -329,7 +339,7 @@ impl<F: PriceFn> Search<F> {
     fn repair_about(&mut self, alloc: Global, edge: u32) -> Result<(), SearchFault> {
         let mut about = Vec::new(alloc);
         add_crossed(&self.board, edge, &mut about)?;
-        crate::lists::append(&mut about, edge)?;
+        append(&mut about, edge)?;
         self.repair.begin(alloc, &mut self.board, about, 1)?;
         Ok(())
     }
@@ -349,7 +359,7 @@ impl<F: PriceFn> Search<F> {
         if self.board.score() < before {
             return self.begin_round(alloc);
         }
-        self.note_try(alloc)?;
+        self.note_try()?;
         if self.wants_order() {
             self.stage = Stage::Order;
             return Ok(());
@@ -358,7 +368,7 @@ impl<F: PriceFn> Search<F> {
     }
 
     /// Notes the crossings at the end of an order.
-    fn note_try(&mut self, _alloc: Global) -> Result<(), AllocError> {
+    fn note_try(&mut self) -> Result<(), AllocError> {
         let crossings = self.board.crossings();
         self.tries.push(crossings)?;
         Ok(())
