@@ -9,6 +9,9 @@ that Python and the program took, which depends less on other work. All numbers 
 Rome graphs have, and `tools/measure.py sizes FILE` makes a table by size of what `fezdrok stats --csv` said of them.
 
 `tools/measure.py sessions` times calls of a session from C, from Python in process, and from Python over a process.
+
+`tools/measure.py search` prints the crossings that `planar planarize` finds on larger graphs, beside OGDF and a plain
+search.
 """
 
 from __future__ import annotations
@@ -165,21 +168,78 @@ def known_numbers() -> None:
         print(row([*sizes, *(cell(case, options) for options in columns.values())]), flush=True)
 
 
-def searched(graph: Any, effort: str) -> tuple[int, float, float]:
-    """The crossings that `planar planarize` finds, the seconds that it took, and those of a processor."""
+def asked_of(graph: Any) -> dict[str, Any]:
+    """A graph in the form that `planar planarize` reads."""
     plain = nx.convert_node_labels_to_integers(graph)
-    asked = {"edges": [[u, v, 0] for u, v in plain.edges], "effort": effort, "version": 1, "vertices": len(plain)}
+    return {"edges": [[u, v, 0] for u, v in plain.edges], "version": 1, "vertices": len(plain)}
+
+
+def searched(asked: dict[str, Any], effort: str) -> tuple[int, float, float]:
+    """The crossings that `planar planarize` finds, the seconds that it took, and those of a processor."""
+    text = json_text({**asked, "effort": effort})
     begun, begun_processor = time.perf_counter(), processor_seconds()
-    ran = subprocess.run([Program().path, "planarize"], input=json_text(asked), capture_output=True, text=True, check=True)
+    ran = subprocess.run([Program().path, "planarize"], input=text, capture_output=True, text=True, check=True)
     spent = time.perf_counter() - begun, processor_seconds() - begun_processor
     return json.loads(ran.stdout)["crossings"], *spent
+
+
+class Searched(NamedTuple):
+    """A graph, with what OGDF found with 1 and with 10 permutations, and a plain search quick and by default, each with
+    its seconds of a processor."""
+
+    name: str
+    graph: Any
+    one: str
+    ten: str
+    quick: str
+    default: str
+
+
+def kept(name: str) -> dict[str, Any]:
+    """A graph that lies in `graphs`."""
+    asked: dict[str, Any] = json.loads((Path(__file__).resolve().parent / "graphs" / f"{name}.json").read_text())
+    return asked
+
+
+def searches() -> Iterator[Searched]:
+    """The graphs of the table. OGDF is that of Debian's Tulip 5.4, the plain search a prototype in Rust of 950 lines
+    without proofs; both on a machine of four processors, in November 2026."""
+    torus_7, torus_20 = (asked_of(nx.grid_2d_graph(n, n, periodic=True)) for n in (7, 20))
+    cubes = [asked_of(nx.hypercube_graph(n)) for n in (5, 6, 7)]
+    bipartite_10 = asked_of(nx.complete_bipartite_graph(10, 10))
+    yield Searched("K12", asked_of(nx.complete_graph(12)), "151 (0.01)", "150 (0.07)", "150 (0.001)", "150 (0.02)")
+    yield Searched("K20", asked_of(nx.complete_graph(20)), "1625 (0.50)", "1622 (13)", "1624 (0.056)", "1620 (16)")
+    yield Searched("K10,10", bipartite_10, "401 (0.08)", "400 (0.57)", "401 (0.004)", "400 (0.11)")
+    yield Searched("torus 7 x 7", torus_7, "35 (0.003)", "35 (0.009)", "35 (0.001)", "35 (0.004)")
+    yield Searched("torus 20 x 20", torus_20, "395 (0.10)", "395 (0.50)", "360 (0.008)", "360 (0.04)")
+    yield Searched("hypercube of 5", cubes[0], "64 (0.01)", "58 (0.04)", "58 (0.001)", "56 (0.006)")
+    yield Searched("hypercube of 6", cubes[1], "469 (0.18)", "379 (1.7)", "353 (0.006)", "352 (0.05)")
+    yield Searched("hypercube of 7", cubes[2], "2159 (8.1)", "1985 (91)", "1788 (0.07)", "1765 (2.1)")
+    for name, *found in (
+        ("regular_3_100", "70 (0.02)", "60 (0.14)", "65 (0.001)", "53 (0.01)"),
+        ("grid_20_with_30_chords", "499 (0.47)", "414 (10)", "231 (0.006)", "231 (0.02)"),
+        ("barabasi_albert_200", "1168 (1.3)", "1119 (21)", "1079 (0.05)", "860 (1.5)"),
+        ("netlist_1000", "4892 (175)", "none in 300", "3407 (0.56)", "2823 (34)"),
+    ):
+        yield Searched(f"`graphs/{name}.json`", kept(name), *found)
+
+
+def time_searches() -> None:
+    """Print the table of `planar planarize` beside OGDF and the plain search, with seconds of a processor."""
+    print(row(["graph", "OGDF, 1 permutation", "10", "plain, quick", "default", "`planar planarize`, quick", "default"]))
+    print(row("---" for _ in range(7)))
+    for name, asked, *found in searches():
+        for effort in ("quick", "default"):
+            crossings, _, spent = searched(asked, effort)
+            found.append(f"{crossings} ({spent:.3f})" if spent < 0.1 else f"{crossings} ({spent:.2g})")
+        print(row([name, *found]), flush=True)
 
 
 def beside_ogdf(seeds: int) -> None:
     """Print the table beside OGDF. Of random graphs the mean over the seeds 1, 2, .. is taken."""
     columns: dict[str, Callable[[Any], tuple[int, float, float]]] = {
-        "`planar planarize`, quick": lambda graph: searched(graph, "quick"),
-        "default": lambda graph: searched(graph, "default"),
+        "`planar planarize`, quick": lambda graph: searched(asked_of(graph), "quick"),
+        "default": lambda graph: searched(asked_of(graph), "default"),
         "Python, default": lambda graph: measured(graph, {}),
     }
     headings = ["graph", "OGDF", *columns]
@@ -279,8 +339,9 @@ def main() -> None:
     parser = argparse.ArgumentParser(description=__doc__.splitlines()[0])
     parser.add_argument(
         "table",
-        choices=("numbers", "ogdf", "files", "sizes", "sessions"),
-        help="beside known crossing numbers, beside OGDF, of files that are written, by sizes of graphs, or of sessions",
+        choices=("numbers", "ogdf", "files", "sizes", "sessions", "search"),
+        help="beside known crossing numbers, beside OGDF, of files that are written, by sizes of graphs, of sessions, "
+        "or of the search on larger graphs",
     )
     parser.add_argument("place", type=Path, nargs="?", default=Path("graphs"), help="the folder, or the file of rows")
     parser.add_argument(
@@ -295,6 +356,8 @@ def main() -> None:
         by_size(words.place)
     elif words.table == "sessions":
         time_sessions()
+    elif words.table == "search":
+        time_searches()
     else:
         beside_ogdf(words.seeds)
 
