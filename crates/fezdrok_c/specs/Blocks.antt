@@ -18,7 +18,7 @@ use Rattle.fezdrok_c.specs.declared.handle.Handle.{Handle}
 use Rattle.fezdrok_c.specs.declared.handle.Text.{Text}
 use Rattle.fezdrok_c.specs.declared.typed.Typed.{Typed}
 use Rattle.fezdrok_c.specs.Sessions.{IsAnswered, IsBegun}
-use Rattle.fezdrok_c.specs.Typed.{IsTyped, asked_of}
+use Rattle.fezdrok_c.specs.Typed.{IsTypedCall}
 
 -- a table of prices, in the place of what is asked for them; a session has it behind a pointer, so the layout of a session is
 -- the same whatever its place
@@ -55,5 +55,4 @@ module _ {M : Type 1} {𝓤 : Ura M} (𝓛 : Logic 𝓤) where
   answered p old line status text = holds p (λ new. IsAnswered old line status new text)
 
   abbrev pub typed_called : Ptr → Held → ℕ → ℕ → ℕ → ℕ → ℕ → ℕ → Typed → SProp 𝓤
-  typed_called p old call caller a b c status typed =
-      holds p (λ new. IsTyped old (asked_of call caller a b c) caller status new typed)
+  typed_called p old call caller a b c status typed = holds p (λ new. IsTypedCall old call caller a b c status new typed)

@@ -1,5 +1,5 @@
 -- What a typed call tells: numbers, and a list of items.
-use Rattle.std.specs.Prelude.{◌×◌, ℕ, List, [], Option, None, Some, map, unwrap_or, zip}
+use Rattle.std.specs.Prelude.{ℕ, List, [], Option, None, Some, map, unwrap_or, zip}
 use Rattle.topo_core.specs.declared.calls.Refusal.{Refusal}
 use Rattle.topo_core.specs.declared.calls.Refusal.TheVariants.{Cut}
 use Rattle.topo_core.specs.declared.calls.Reply.{Reply}

@@ -1,5 +1,5 @@
 -- What a typed call of a session is answered from C: a status, numbers, and a list that lies in the session until its next call.
-use Rattle.std.specs.Prelude.{◌≡◌, ◌⊎◌, ◌×◌, ◌==◌, ℕ, [], Option, None, Some, if◌then◌else◌, length, nat_lt}
+use Rattle.std.specs.Prelude.{◌≡◌, ◌⊎◌, ◌==◌, ℕ, [], Option, None, Some, if◌then◌else◌, length, nat_lt}
 use Rattle.std.specs.Vec.{vec_ptr}
 use Rattle.std.specs.declared.alloc.Global.{Global}
 use Rattle.std.specs.declared.vec.Vec.{Vec}
@@ -120,3 +120,7 @@ pub record IsNotGiven (caller : ℕ) (asked : Asked) (status : ℕ) (old new : O
 abbrev pub IsTyped : {F : Type 0} → Handle F → Asked → ℕ → ℕ → Handle F → Typed → Type 0
 IsTyped old asked caller status new typed = IsGiven caller asked status old.session new.session new.list typed
     ⊎ IsNotGiven caller asked status old.session new.session new.list typed
+
+-- the same of the call with this number and these words
+abbrev pub IsTypedCall : {F : Type 0} → Handle F → ℕ → ℕ → ℕ → ℕ → ℕ → ℕ → Handle F → Typed → Type 0
+IsTypedCall old call caller a b c status new typed = IsTyped old (asked_of call caller a b c) caller status new typed

@@ -1,10 +1,10 @@
 //! What a typed call tells: numbers, and a list of items.
 
 ghost use Rattle.std.specs.Prelude.{◌≡◌, [], IfOk, map, zip};
+ghost use Rattle.topo_core.specs.Steps.{refusal_number};
 ghost use Rattle.fezdrok_c.specs.Given.{counts_given, cut_segment, dart_item, edge_given};
-ghost use Rattle.fezdrok_c.specs.Given.{end_item, end_side, gives, meeting_item, refuses};
-ghost use Rattle.fezdrok_c.specs.Given.{reply_given, sign_side, undone_given, vertex_given};
-ghost use Rattle.fezdrok_c.specs.Given.{way_side};
+ghost use Rattle.fezdrok_c.specs.Given.{end_item, gives, meeting_item, refuses, reply_given};
+ghost use Rattle.fezdrok_c.specs.Given.{undone_given, vertex_given};
 
 use std::alloc::{AllocError, Global};
 use topo_core::calls::{Refusal, Reply};

@@ -3,7 +3,7 @@
 ghost use Rattle.std.specs.Prelude.{◌≡◌, IfOk, OnErr};
 ghost use Rattle.topo_session.specs.Standings.{Enters};
 ghost use Rattle.fezdrok_c.specs.Typed.{Carries, Gives, GivesIn, GivesRoute, GivesUndone};
-ghost use Rattle.fezdrok_c.specs.Typed.{IsTyped, Loses, LosesCall, LosesIn, TellsGiven};
+ghost use Rattle.fezdrok_c.specs.Typed.{IsTypedCall, Loses, LosesCall, LosesIn, TellsGiven};
 ghost use Rattle.fezdrok_c.specs.Typed.{asked_of};
 
 use crate::given::{
@@ -204,7 +204,7 @@ pub fn call_typed<F: FromTable>(
     c: u32,
     typed: &mut Typed,
 ) -> u8
-    ensures { IsTyped handle.old (asked_of call caller a b c) caller result handle.new typed.new }
+    ensures { IsTypedCall handle.old call caller a b c result handle.new typed.new }
 {
     let heap = handle.heap;
     let asked = asked_of(call, caller, a, b, c);
