@@ -1,5 +1,6 @@
 -- What a typed call tells: numbers, and a list of items.
-use Rattle.std.specs.Prelude.{ℕ, List, [], Option, None, Some, map, unwrap_or, zip}
+use Rattle.std.specs.Prelude.{ℕ, List, [], Option, None, Some, length, map, slice_index_or, unwrap_or}
+use Rattle.std.specs.List.{range_with_len}
 use Rattle.topo_core.specs.declared.calls.Refusal.{Refusal}
 use Rattle.topo_core.specs.declared.calls.Refusal.TheVariants.{Cut}
 use Rattle.topo_core.specs.declared.calls.Reply.{Reply}
@@ -40,9 +41,13 @@ dart_item d = record { id = d.edge; at = d.seg; side = way_side d.way }
 abbrev pub meeting_item : Meeting → Item
 meeting_item m = record { id = m.crossing; at = m.other; side = sign_side m.sign }
 
--- an edge at a vertex, and which of its ends is there
-abbrev pub end_item : ℕ × End → Item
-end_item e = record { id = e.0; at = 0; side = end_side e.1 }
+-- the edge at a place at a vertex, and which of its ends stands there
+abbrev pub end_item : List ℕ → List End → ℕ → Item
+end_item edges ends k = record { id = slice_index_or edges k 0; at = 0; side = end_side (slice_index_or ends k B) }
+
+-- the edges at a vertex
+abbrev pub end_items : List ℕ → List End → List Item
+end_items edges ends = map (end_item edges ends) (range_with_len 0 (length edges))
 
 -- ---- What is told
 
@@ -80,4 +85,4 @@ edge_given (Some e) = gives e.a e.b e.kind 0 0 (unwrap_or e.price 0) (map meetin
 
 abbrev pub vertex_given : Option VertexAnswer → Given
 vertex_given None = refuses 1 0
-vertex_given (Some v) = gives 0 0 0 0 0 0 (map end_item (zip v.edges v.ends))
+vertex_given (Some v) = gives 0 0 0 0 0 0 (end_items v.edges v.ends)

@@ -1,10 +1,11 @@
 //! What a typed call tells: numbers, and a list of items.
 
-ghost use Rattle.std.specs.Prelude.{◌≡◌, [], IfOk, map, zip};
+ghost use Rattle.std.specs.Prelude.{◌≡◌, [], IfOk, map, slice_index_or};
 ghost use Rattle.topo_core.specs.Steps.{refusal_number};
 ghost use Rattle.fezdrok_c.specs.Given.{counts_given, cut_segment, dart_item, edge_given};
-ghost use Rattle.fezdrok_c.specs.Given.{end_item, gives, meeting_item, refuses, reply_given};
-ghost use Rattle.fezdrok_c.specs.Given.{undone_given, vertex_given};
+ghost use Rattle.topo_session.specs.declared.vertices.End.TheVariants.{B};
+ghost use Rattle.fezdrok_c.specs.Given.{end_item, end_items, end_side, gives, meeting_item};
+ghost use Rattle.fezdrok_c.specs.Given.{refuses, reply_given, undone_given, vertex_given};
 
 use std::alloc::{AllocError, Global};
 use topo_core::calls::{Refusal, Reply};
@@ -18,7 +19,9 @@ use topo_session::vertices::{End, VertexAnswer};
 
 /// The numbers of what is told where an edge, a vertex or so many entries are not there.
 const NO_VERTEX: u32 = 1;
+
 const NO_EDGE: u32 = 4;
+
 const NOTHING_TO_UNDO: u32 = 70;
 
 /// An item of a list: a dart, a crossing that is met along an edge, or an edge at a vertex.
@@ -113,17 +116,24 @@ fn meeting_item(meeting: Meeting) -> Item
     }
 }
 
-/// An edge at a vertex as an item.
-fn end_item(edge: u32, end: End) -> Item
-    ensures { result ≡ end_item (edge, end) }
+/// Which end stands at a place: 0 for an end `a`, else 1.
+fn side_at(ends: &[End], place: usize) -> u32
+    ensures { result ≡ end_side (slice_index_or ends.now place B) }
+{
+    match ends.get(place) {
+        Some(End::A) => 0,
+        _ => 1,
+    }
+}
+
+/// The edge at a place at a vertex as an item, with the end that stands there.
+fn end_item(edges: &[u32], ends: &[End], place: usize) -> Item
+    ensures { result ≡ end_item edges.now ends.now place }
 {
     Item {
-        id: edge,
+        id: edges.get(place).copied().unwrap_or(0),
         at: 0,
-        side: match end {
-            End::A => 0,
-            End::B => 1,
-        },
+        side: side_at(ends, place),
     }
 }
 
@@ -151,11 +161,11 @@ fn meeting_items(alloc: Global, meetings: &[Meeting]) -> Result<Listed<Item>, Al
 
 /// The edges at a vertex as items.
 fn end_items(alloc: Global, edges: &[u32], ends: &[End]) -> Result<Listed<Item>, AllocError>
-    ensures { IfOk result (λ items. items ≡ map end_item (zip edges.now ends.now)) }
+    ensures { IfOk result (λ items. items ≡ end_items edges.now ends.now) }
 {
     let mut items = Vec::with_capacity(alloc, edges.len())?;
-    for (edge, end) in edges.iter().zip(ends) {
-        items.push(end_item(*edge, *end))?;
+    for place in 0..edges.len() {
+        items.push(end_item(edges, ends, place))?;
     }
     Ok(Listed::from_vec(items))
 }
@@ -214,7 +224,10 @@ pub(crate) fn undone_given(alloc: Global, entries: u32, undone: Option<Undone>) 
     ensures { result ≡ undone_given entries undone }
 {
     match undone {
-        Some(told) => counted(alloc, (told.undone, told.vertices, told.edges, told.crossings, 0)),
+        Some(told) => counted(
+            alloc,
+            (told.undone, told.vertices, told.edges, told.crossings, 0),
+        ),
         None => refuses(alloc, NOTHING_TO_UNDO, entries),
     }
 }

@@ -19,6 +19,7 @@ use topo_settings::FromTable;
 
 /// The numbers of what is told where no session is open, and where a number is out of its bounds.
 const NOT_OPEN: u32 = 72;
+
 const BAD_NUMBER: u32 = 54;
 
 /// The greatest number of a caller.
@@ -60,8 +61,16 @@ pub(crate) fn asked_of(call: u32, caller: u32, a: u32, b: u32, c: u32) -> Asked
         return Asked::Nothing;
     }
     match call {
-        0 => Asked::Carry(Call::Grow { u: a, position: b, kind: c }),
-        1 => Asked::Carry(Call::Insert { u: a, v: b, kind: c }),
+        0 => Asked::Carry(Call::Grow {
+            u: a,
+            position: b,
+            kind: c,
+        }),
+        1 => Asked::Carry(Call::Insert {
+            u: a,
+            v: b,
+            kind: c,
+        }),
         2 => Asked::Carry(Call::Delete { edge: a }),
         3 => Asked::Route { u: a, v: b },
         4 => Asked::Undo(a),
