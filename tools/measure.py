@@ -7,6 +7,8 @@ which depends less on other work. All numbers but the times are the same each ti
 
 `tools/measure.py files FOLDER` writes 500 GraphML files of sparse graphs of 10 to 100 nodes, of sizes as those of the
 Rome graphs have, and `tools/measure.py sizes FILE` makes a table by size of what `fezdrok stats --csv` said of them.
+
+`tools/measure.py sessions` times calls of a session from C, from Python in process, and from Python over a process.
 """
 
 from __future__ import annotations
@@ -15,7 +17,9 @@ import argparse
 import csv
 import random
 import resource
+import subprocess
 import sys
+import tempfile
 import time
 from collections.abc import Callable, Iterable, Iterator
 from pathlib import Path
@@ -25,7 +29,8 @@ sys.path.insert(0, str(Path(__file__).resolve().parent.parent / "python"))
 
 import networkx as nx  # noqa: E402
 
-from fezdrok import planarize  # noqa: E402
+from fezdrok import Program, Session, planarize  # noqa: E402
+from fezdrok.engine.pictures import json_text  # noqa: E402
 
 
 class Case(NamedTuple):
@@ -209,13 +214,58 @@ def by_size(file: Path) -> None:
         print(row([f"{10 * tens} to {last}", len(rows), means[0], planar, *means[1:]]))
 
 
+def least_time(call: Callable[[], Any], count: int) -> float:
+    """The microseconds that a call takes, the least of a hundred runs of so many."""
+    times = []
+    for _ in range(100):
+        begun = time.perf_counter()
+        for _ in range(count):
+            call()
+        times.append((time.perf_counter() - begun) / count * 1e6)
+    return min(times)
+
+
+def times_from_c(lines: list[str], count: int) -> list[float]:
+    """The microseconds of opening a session by the first line and closing it, and of each further line."""
+    library = Program().library
+    assert library is not None, "there is no library beside the program"
+    here = Path(__file__).resolve().parent
+    with tempfile.TemporaryDirectory() as folder:
+        program = Path(folder) / "sessions"
+        source = here / "benchmarks" / "sessions.c"
+        subprocess.run(["cc", "-O2", f"-I{here.parent / 'c'}", source, library.path, "-o", program], check=True)
+        words = {"input": "".join(f"{line}\n" for line in lines), "env": {"LD_LIBRARY_PATH": folder}}
+        (Path(folder) / "libfezdrok.so.0").symlink_to(library.path)
+        told = subprocess.run([program, str(count)], stdout=subprocess.PIPE, text=True, check=True, **words)
+    return [float(line) for line in told.stdout.split()]
+
+
+def time_sessions() -> None:
+    """Print the table of calls of a session with a picture of 61 edges."""
+    with Session() as session:
+        for vertex in range(60):
+            session.grow(vertex)
+        start = session.picture()
+    lines = [json_text({"version": 1, "start": start.to_json()}), '["insert",0,0,0]', '"counts"']
+    columns = [times_from_c(lines, 1000)]
+    for process in (False, True):
+        with Session(start, process=process) as session:
+            opening = least_time(lambda: Session(start, process=process).close(), 1 if process else 5)
+            refused = least_time(lambda: session.insert(0, 0), 100)
+            columns.append([opening, refused, least_time(session.counts, 100)])
+    print("| microseconds | from C | from Python, in process | from Python, over a process |")
+    print("|---|---|---|---|")
+    for name, row in zip(("open and close 61 edges", "a refused insertion", "`counts`"), zip(*columns)):
+        print(f"| {name} | {' | '.join(f'{it:.1f}' if it < 100 else f'{it:,.0f}' for it in row)} |")
+
+
 def main() -> None:
     """Print the table that is asked for."""
     parser = argparse.ArgumentParser(description=__doc__.splitlines()[0])
     parser.add_argument(
         "table",
-        choices=("numbers", "ogdf", "files", "sizes"),
-        help="beside known crossing numbers, beside OGDF, of files that are written, or by the sizes of graphs",
+        choices=("numbers", "ogdf", "files", "sizes", "sessions"),
+        help="beside known crossing numbers, beside OGDF, of files that are written, by sizes of graphs, or of sessions",
     )
     parser.add_argument("place", type=Path, nargs="?", default=Path("graphs"), help="the folder, or the file of rows")
     parser.add_argument(
@@ -228,6 +278,8 @@ def main() -> None:
         write_files(words.place)
     elif words.table == "sizes":
         by_size(words.place)
+    elif words.table == "sessions":
+        time_sessions()
     else:
         beside_ogdf(words.seeds)
 

@@ -65,6 +65,7 @@ class Layout(unittest.TestCase):
         self.assertIn("fezdrok.engine.session", found["fezdrok"])
         self.assertIn("fezdrok.command.words", found["fezdrok.__main__"])
         self.assertIn("fezdrok.engine.line_process", found["fezdrok.engine.session"])
+        self.assertIn("fezdrok.engine.library", found["fezdrok.engine.program"])
         self.assertIn("fezdrok.engine.results", found["fezdrok.drawing.scenes"])
 
     def test_no_module_imports_one_that_imports_it(self):

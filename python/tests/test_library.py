@@ -13,7 +13,7 @@ from unittest import mock
 from fezdrok import (
     Fault, MemoryFault, PlanarError, Program, ProgramNotFound, Session, SessionClosed, SessionInUse, find_program,
 )
-from fezdrok.engine import library
+from fezdrok.engine import library, program as program_module
 from fezdrok.engine.library import VARIABLE
 from fezdrok.engine.pictures import json_text
 
@@ -65,6 +65,7 @@ class Finding(unittest.TestCase):
         return os.fspath(path)
 
     def found(self) -> str | None:
+        program_module._libraries.clear()
         library = Program(self.program).library
         return library and library.path
 

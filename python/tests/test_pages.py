@@ -1,4 +1,4 @@
-"""The examples of README.md, docs/USING.md and python/README.md, run as they are written there."""
+"""The examples of README.md, docs/USING.md, docs/C.md and python/README.md, run as they are written there."""
 
 import doctest
 import os
@@ -76,7 +76,7 @@ def commands(page: str) -> list[tuple[str, str]]:
     joined = [("\n".join(lines), "\n".join(printed)) for lines, printed in found]
     in_c = ("cc ", "./session ") if shutil.which("cc") is None else ()
     in_node = ("node ",) if shutil.which("node") is None else ()
-    over_library = ("cc -O2 -Ic ", "./editor") if in_c or not LIBRARY else ()
+    over_library = ("cc -O2 -Ic ", "./editor", "./judge") if in_c or not LIBRARY else ()
     return [it for it in joined if not it[0].startswith(("./test", *in_c, *in_node, *over_library))]
 
 
@@ -162,6 +162,9 @@ class Pages(unittest.TestCase):
 
     def test_using_commands(self):
         self.check_commands("docs/USING.md")
+
+    def test_c_commands(self):
+        self.check_commands("docs/C.md")
 
     def test_shown_code(self):
         """The code that is shown is that of the program or the tests it is from, which the gate proves and runs."""

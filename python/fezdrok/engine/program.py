@@ -13,7 +13,7 @@ from pathlib import Path
 from .faults import (
     Fault, MemoryFault, PlanarWarning, ProgramFailed, ProgramNotFound, ProgramNotStarted, UsageRefused, read_value,
 )
-from .library import Library, library_of, named_library
+from .library import VARIABLE as LIBRARY_VARIABLE, Library, library_of, named_library
 from .processes import run
 
 PathLike = str | os.PathLike[str]
@@ -129,6 +129,10 @@ def _sources_of(built: Path) -> str | None:
     return next((words[2] for words in map(str.split, lines) if len(words) == 3 and words[0] == "planar"), None)
 
 
+#: The libraries that were found, by what the program and they are looked for by.
+_libraries: dict[tuple[str | None, ...], Library] = {}
+
+
 class Program:
     """One program `planar`; a call of `run` is one process, which does not outlive this one. `replay` and `check` are
     judged in this process where the library `libfezdrok.so` is there, and else by a process too.
@@ -153,8 +157,14 @@ class Program:
     @property
     def library(self) -> Library | None:
         """The library that the environment variable FEZDROK_LIBRARY names, or else the one that lies beside the
-        program, or in `../lib`; None where there is none that this system loads."""
-        return named_library() or library_of(self.path)
+        program, or in `../lib`; None where there is none that this system loads. One that was found is looked for
+        no more."""
+        wanted = None if self._wanted is None else os.fspath(self._wanted)
+        place = (wanted, *map(os.environ.get, (VARIABLE, LIBRARY_VARIABLE, "PATH")))
+        found = _libraries.get(place) or named_library() or library_of(self.path)
+        if found is not None:
+            _libraries[place] = found
+        return found
 
     def run(self, script: Text) -> str:
         """The report of a script, one line of JSON."""
