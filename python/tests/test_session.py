@@ -423,15 +423,15 @@ class Reports(Sessions, unittest.TestCase):
                 return asked(lines)
 
             with mock.patch.object(session._answerer, "ask_all", ask_all):
-                asking = Thread(target=lambda: answered.append(session.grow(0)))
+                asking = Thread(target=lambda: answered.extend(session.answers(['["grow",0,0,0]'])))
                 asking.start()
-                begun.wait()
+                self.assertTrue(begun.wait(60))
                 for call in (session.counts, session.renumber, session.open, session.close, lambda: session.grow(1)):
                     with self.assertRaises(SessionInUse):
                         call()
                 is_free.set()
                 asking.join()
-            self.assertEqual((answered, session.counts().vertices), ([Grown(2, 1)], 3))
+            self.assertEqual((answered, session.counts().vertices), (['{"edge":1,"vertex":2}'], 3))
 
     def test_two_threads_and_a_signal(self):
         """Each gets the answers to its own calls, or SessionInUse."""
