@@ -20,11 +20,6 @@ PATIENCE, HASTE = 3.0, 0.5
 _ROOM = 65536
 _AT_ONCE = 512
 
-#: Two lines that are always refused and change nothing, and the answer to the second, which differs from that to the
-#: first.
-_FILLER, _MARK = "[]", '["delete",""]'
-_MARKED = b'{"fault":[52,"BadShape","$/1"]}'
-
 
 class LineProcess:
     """A process of `planar serve`, which answers each line by a line.
@@ -37,7 +32,7 @@ class LineProcess:
     def __init__(self, path: str):
         self.path = path
         self._ahead = bytearray()
-        self._owed = 0  # how many answers may still come to lines of a call that was interrupted, at most
+        self._is_behind = False  # whether answers may still come to a call that was interrupted
         self._ended: tuple[int, str] | None = None
         try:
             self._errors = tempfile.TemporaryFile()
@@ -101,29 +96,26 @@ class LineProcess:
         so there may be any number of them."""
         if not lines:
             return []
-        if self._owed:
+        if self._is_behind:
             self._catch_up()
-        self._owed = len(lines)
+        self._is_behind = True
         self._write("\n".join(lines))
         answers = [self._read() for _ in lines]
-        self._owed = 0
+        self._is_behind = False
         return answers
 
     def _catch_up(self) -> None:
         """Passes over the answers that may still come to a call that was interrupted.
 
         How many come is not known: its lines may have been sent or not, and some answers may have been read and lost.
-        They are no more than its lines, and any of them may read as the answer to the mark. So as many fillers are
-        sent, one by one, and an answer is read for each. Then all answers to the call are among those that were read,
-        and only those to fillers stand before that to the mark. Where this is interrupted too, the process is ended.
+        So a question is sent in an envelope with an id that no other line has, and all is passed over up to its answer.
+        Where this is interrupted too, the process is ended.
         """
         self._ahead.clear()
+        mark = os.urandom(16).hex()
         try:
-            for _ in range(self._owed):
-                self._write(_FILLER)
-                self._read()
-            self._write(_MARK)
-            while self._read() != _MARKED:
+            self._write(f'{{"call":"counts","id":"{mark}"}}')
+            while mark.encode() not in self._read():
                 pass
         except BaseException:
             self.end()
