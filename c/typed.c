@@ -47,6 +47,7 @@ static void write_route(char *at, const fezdrok_reply *reply, int is_made) {
     sprintf(at, "\"end\":%u,\"price\":%lu,\"start\":%u}", reply->is.inserted.end, (unsigned long)reply->price, reply->is.inserted.start);
 }
 
+/* Writes what is told of an edge. */
 static void write_edge(char *at, const fezdrok_reply *reply, uint32_t edge) {
     static const char *const signs[] = {"ltr", "rtl"};
     at += sprintf(at, "{\"a\":%u,\"b\":%u,\"crossings\":[", reply->is.edge.a, reply->is.edge.b);
@@ -55,6 +56,7 @@ static void write_edge(char *at, const fezdrok_reply *reply, uint32_t edge) {
     sprintf(at, reply->price ? "%lu}" : "null}", (unsigned long)reply->price);
 }
 
+/* Writes what is told of a vertex. */
 static void write_vertex(char *at, const fezdrok_reply *reply) {
     static const char *const ends[] = {"a", "b"};
     at += sprintf(at, "{\"edges\":[");
@@ -66,62 +68,85 @@ static void write_vertex(char *at, const fezdrok_reply *reply) {
     sprintf(at, "]}");
 }
 
-/* Makes a random call, and writes the line that asks for it and the line that tells its reply. */
-static uint8_t make(fezdrok_session *session, uint32_t i, char *line, char *told, fezdrok_reply *reply) {
-    uint32_t u = below(12), v = below(12), kind = below(4), edge = below(40 + i / 2);
-    uint32_t which = i < 9 ? 0 : below(10);
+/* A call with two words: its line, its reply and the line that tells it, and its status. */
+struct made {
+    char line[128], told[ROOM];
+    fezdrok_reply reply;
     uint8_t status;
-    switch (which) {
-    case 0:
-        sprintf(line, "[\"grow\",%u,%u,%u]", u % (i + 2), v % 3, kind);
-        if ((status = fezdrok_grow(session, 0, u % (i + 2), v % 3, kind, reply)) || reply->refusal)
-            break;
-        sprintf(told, "{\"edge\":%u,\"vertex\":%u}", reply->is.grown.edge, reply->is.grown.vertex);
-        return status;
-    case 1:
-        sprintf(line, "[\"delete\",%u]", edge);
-        if ((status = fezdrok_delete(session, 0, edge, reply)) || reply->refusal)
-            break;
-        sprintf(told, "{\"deleted\":%u}", reply->is.deleted.edge);
-        return status;
-    case 2:
-        sprintf(line, "[\"route\",%u,%u]", u, v);
-        if ((status = fezdrok_route(session, u, v, reply)) || reply->refusal)
-            break;
-        write_route(told, reply, 0);
-        return status;
-    case 3:
-        sprintf(line, "[\"undo\",%u]", u == 1 ? i + 1 : kind);
-        if ((status = fezdrok_undo(session, u == 1 ? i + 1 : kind, reply)) || reply->refusal)
-            break;
-        sprintf(told, "{\"crossings\":%u,\"edges\":%u,\"undone\":%u,\"vertices\":%u}", reply->is.undone.crossings, reply->is.undone.edges, reply->is.undone.entries, reply->is.undone.vertices);
-        return status;
-    case 4:
-        sprintf(line, "\"counts\"");
-        status = fezdrok_counts(session, reply);
-        sprintf(told, "{\"crossings\":%u,\"edges\":%u,\"faces\":%u,\"segments\":%u,\"vertices\":%u}", reply->is.counts.crossings, reply->is.counts.edges, reply->is.counts.faces, reply->is.counts.segments, reply->is.counts.vertices);
-        return status;
-    case 5:
-        sprintf(line, "[\"edge\",%u]", edge);
-        if ((status = fezdrok_edge(session, edge, reply)) || reply->refusal)
-            break;
-        write_edge(told, reply, edge);
-        return status;
-    case 6:
-        sprintf(line, "[\"vertex\",%u]", u);
-        if ((status = fezdrok_vertex(session, u, reply)) || reply->refusal)
-            break;
-        write_vertex(told, reply);
-        return status;
-    default:
-        sprintf(line, "[\"insert\",%u,%u,%u]", u, v, kind);
-        if ((status = fezdrok_insert(session, 0, u, v, kind, reply)) || reply->refusal)
-            break;
-        write_route(told, reply, 1);
-        return status;
+};
+
+/* Whether a call was carried out; where it was refused, its line is written. */
+static int is_done(struct made *made, uint32_t entries) {
+    if (!made->status && made->reply.refusal)
+        write_refusal(made->told, &made->reply, entries);
+    return !made->status && !made->reply.refusal;
+}
+
+/* The three commands, of which the last is an insertion. */
+static void command(fezdrok_session *session, uint32_t which, uint32_t a, uint32_t b, uint32_t kind, struct made *made) {
+    fezdrok_reply *reply = &made->reply;
+    if (which == 0) {
+        sprintf(made->line, "[\"grow\",%u,%u,%u]", a, b % 3, kind);
+        made->status = fezdrok_grow(session, 0, a, b % 3, kind, reply);
+        if (is_done(made, 0))
+            sprintf(made->told, "{\"edge\":%u,\"vertex\":%u}", reply->is.grown.edge, reply->is.grown.vertex);
+    } else if (which == 1) {
+        sprintf(made->line, "[\"delete\",%u]", a * 7 + b);
+        made->status = fezdrok_delete(session, 0, a * 7 + b, reply);
+        if (is_done(made, 0))
+            sprintf(made->told, "{\"deleted\":%u}", reply->is.deleted.edge);
+    } else {
+        sprintf(made->line, "[\"insert\",%u,%u,%u]", a, b, kind);
+        made->status = fezdrok_insert(session, 0, a, b, kind, reply);
+        if (is_done(made, 0))
+            write_route(made->told, reply, 1);
     }
-    write_refusal(told, reply, which == 3 ? i + 1 : 0);
-    return status;
+}
+
+/* Takes entries back, or asks how large the picture is. */
+static void undo_or_count(fezdrok_session *session, uint32_t entries, struct made *made) {
+    fezdrok_reply *reply = &made->reply;
+    if (entries) {
+        sprintf(made->line, "[\"undo\",%u]", entries);
+        made->status = fezdrok_undo(session, entries, reply);
+        if (is_done(made, entries))
+            sprintf(made->told, "{\"crossings\":%u,\"edges\":%u,\"undone\":%u,\"vertices\":%u}", reply->is.undone.crossings, reply->is.undone.edges, reply->is.undone.entries, reply->is.undone.vertices);
+    } else {
+        sprintf(made->line, "\"counts\"");
+        made->status = fezdrok_counts(session, reply);
+        sprintf(made->told, "{\"crossings\":%u,\"edges\":%u,\"faces\":%u,\"segments\":%u,\"vertices\":%u}", reply->is.counts.crossings, reply->is.counts.edges, reply->is.counts.faces, reply->is.counts.segments, reply->is.counts.vertices);
+    }
+}
+
+/* Asks for a route, an edge or a vertex. */
+static void ask(fezdrok_session *session, uint32_t which, uint32_t a, uint32_t b, struct made *made) {
+    if (which == 0) {
+        sprintf(made->line, "[\"route\",%u,%u]", a, b);
+        made->status = fezdrok_route(session, a, b, &made->reply);
+        if (is_done(made, 0))
+            write_route(made->told, &made->reply, 0);
+    } else if (which == 1) {
+        sprintf(made->line, "[\"edge\",%u]", a * 7 + b);
+        made->status = fezdrok_edge(session, a * 7 + b, &made->reply);
+        if (is_done(made, 0))
+            write_edge(made->told, &made->reply, a * 7 + b);
+    } else {
+        sprintf(made->line, "[\"vertex\",%u]", a);
+        made->status = fezdrok_vertex(session, a, &made->reply);
+        if (is_done(made, 0))
+            write_vertex(made->told, &made->reply);
+    }
+}
+
+/* Makes a random call. */
+static void make(fezdrok_session *session, uint32_t i, struct made *made) {
+    uint32_t which = i < 9 ? 0 : below(12), a = below(i < 9 ? i + 2 : 12), b = below(12), kind = below(4);
+    if (which < 7)
+        command(session, which, a, b, kind, made);
+    else if (which < 9)
+        undo_or_count(session, which == 7 ? a == 1 ? i + 1 : kind : 0, made);
+    else
+        ask(session, which - 9, a, b, made);
 }
 
 /* Compares what two sessions answer to a line. */
@@ -134,36 +159,38 @@ static int differ(fezdrok_session *session, const char *line, const char *told) 
     return 1;
 }
 
+/* Whether the reports of both are one, the first of which is copied, for it is compared in the time of a call. */
+static int have_one_report(fezdrok_session *one, fezdrok_session *other) {
+    fezdrok_text answer;
+    char *report;
+    int are_one;
+    if (fezdrok_call(one, "\"report\"", 8, &answer) || !(report = calloc(answer.length + 1, 1)))
+        return 0;
+    memcpy(report, answer.at, answer.length);
+    are_one = !differ(other, "\"report\"", report);
+    free(report);
+    return are_one;
+}
+
 int main(int argc, char **argv) {
     static const char settings[] = "{\"version\":2,\"prices\":[1,null,3]}";
-    static char line[ROOM], told[ROOM];
+    static struct made made;
     fezdrok_session *one, *other;
     fezdrok_text answer;
-    fezdrok_reply reply;
-    size_t refused = 0, items_told = 0;
+    size_t refused = 0, length = 0;
     uint32_t count = argc > 1 ? (uint32_t)atol(argv[1]) : 0;
     state = argc > 2 ? strtoul(argv[2], NULL, 10) : 1;
     if (fezdrok_open(settings, strlen(settings), &one, &answer) || fezdrok_open(settings, strlen(settings), &other, &answer))
         return 1;
     for (uint32_t i = 0; i < count; i++) {
-        if (make(one, i, line, told, &reply) || differ(other, line, told))
+        make(one, i, &made);
+        if (made.status || differ(other, made.line, made.told))
             return 1;
-        refused += reply.refusal != 0;
-        items_told += reply.length;
+        refused += made.reply.refusal != 0;
+        length += made.reply.length;
     }
-    if (fezdrok_grow(one, 16, 0, 0, 0, &reply) || reply.refusal != 54 || fezdrok_call(one, "\"report\"", 8, &answer))
+    if (fezdrok_grow(one, 16, 0, 0, 0, &made.reply) || made.reply.refusal != 54 || !have_one_report(one, other))
         return 1;
-    memcpy(told, "", 1);
-    {
-        char *report = malloc(answer.length + 1);
-        if (!report)
-            return 1;
-        memcpy(report, answer.at, answer.length);
-        report[answer.length] = 0;
-        if (differ(other, "\"report\"", report))
-            return 1;
-        free(report);
-    }
-    printf("%zu refused, %zu items\n", refused, items_told);
+    printf("%zu refused, %zu items\n", refused, length);
     return fezdrok_close(one) | fezdrok_close(other);
 }
