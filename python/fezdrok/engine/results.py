@@ -81,8 +81,8 @@ class Planarization(GraphPicture):
 
         An edge that it inserts has one of the prices of this planarization, one of `prices`, or 1. `limits`,
         `program` and `process` are those of Session; the limits that this planarization was made with count for
-        nothing. ValueError where the graph is not connected (then take one of `parts`) or has no edge, and where there are more than 64
-        prices in all. The program's exceptions are those of Session.
+        nothing. ValueError where the graph is not connected (then take one of `parts`) or has no edge, and where there
+        are more than 64 prices in all. The program's exceptions are those of Session.
         """
         return GraphSession(self, prices, limits, program, process)
 
