@@ -96,15 +96,18 @@ READERS: dict[str, Callable[[Told, int], Any]] = {
     "edge": _edge,
     "vertex": _vertex,
 }
-#: How many numbers each call takes, of which that of the first three is a caller.
+#: The calls whose first number is a caller.
+_COMMANDS = frozenset(("grow", "insert", "delete"))
+#: How many numbers each call takes.
 NUMBERS = {"grow": 4, "insert": 4, "delete": 2, "route": 2, "undo": 1, "counts": 0, "edge": 1, "vertex": 1}
 
 
 def fit(call: str, numbers: tuple[int, ...]) -> bool:
     """Whether these are numbers that a call takes; for others there are lines, whose answer tells the fault."""
-    if call in ("grow", "insert", "delete") and not 0 <= numbers[0] <= _LAST_CALLER:
-        return False
-    return all(0 <= number <= _GREATEST for number in numbers)
+    for number in numbers:  # which is faster than `all`
+        if not 0 <= number <= _GREATEST:
+            return False
+    return call not in _COMMANDS or numbers[0] <= _LAST_CALLER
 
 
 def read(call: str, told: Told, numbers: tuple[int, ...]) -> Any:
