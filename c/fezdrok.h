@@ -90,6 +90,66 @@ uint8_t fezdrok_open(const char *settings, size_t settings_length, fezdrok_sessi
  */
 uint8_t fezdrok_call(fezdrok_session *session, const char *line, size_t line_length, fezdrok_text *answer);
 
+/* ---- Calls of a session without a text: the same commands and questions as lines, some faster
+ *
+ * Numbers of vertices, edges, positions and kinds are those of docs/FORMATS.md. Each sets *reply, and has a status as
+ * fezdrok_call:
+ *
+ *     FEZDROK_DONE            refusal is 0 and the rest is the answer, or refusal says why nothing was done
+ *     FEZDROK_NO_MEMORY       all of *reply is 0. A question, an undo changes nothing then; one of the three commands is not carried
+ *                             out, or it is and only its answer is lost. The session goes on
+ *     FEZDROK_NULL_OR_CLOSED  or FEZDROK_IN_USE: nothing was done, and *reply is as it was
+ *
+ * Items lie in the session until its next typed call or its end.
+ */
+
+/* A dart that is crossed: its edge, its segment, and 1 where it goes back, from the end b to the end a. Or a crossing along an edge:
+ * its id, the other edge, and 1 where that passes from the right to the left. Or an edge at a vertex: its id, 0, and 1 where its
+ * end b is there. */
+typedef struct fezdrok_item {
+    uint32_t id, at, side;
+} fezdrok_item;
+
+typedef struct fezdrok_reply {
+    const fezdrok_item *items;
+    size_t length;    /* how many items there are */
+    uint64_t price;   /* of a route: the sum of the prices of what it crosses; of an edge: what it costs to cross it, 0 where nothing may */
+    uint32_t refusal; /* 0, or 1 to 9 as in docs/FORMATS.md; 54 a caller above 15, 70 not so many entries, 72 no picture is open */
+    union {
+        struct { uint32_t vertex, edge; } grown;           /* what is new */
+        struct { uint32_t edge, start, end; } inserted;    /* what is new, and the positions of the corners at its ends; items are darts */
+        struct { uint32_t edge; } deleted;
+        struct { uint32_t entries, vertices, edges, crossings; } undone; /* how many were taken back, and which ids come next */
+        struct { uint32_t vertices, crossings, edges, segments, faces; } counts;
+        struct { uint32_t a, b, kind; } edge;              /* its ends and its kind; items are crossings from a to b */
+        struct { uint32_t segment; } refused;              /* of 6: the first segment at which the picture would fall apart */
+    } is;
+} fezdrok_reply;
+
+/* A new vertex on a new edge, from the corner at this position of u. The caller, from 0 to 15, goes into the report. */
+uint8_t fezdrok_grow(fezdrok_session *session, uint32_t caller, uint32_t u, uint32_t position, uint32_t kind, fezdrok_reply *reply);
+
+/* A new edge from u to v along the first of the cheapest routes. */
+uint8_t fezdrok_insert(fezdrok_session *session, uint32_t caller, uint32_t u, uint32_t v, uint32_t kind, fezdrok_reply *reply);
+
+/* An edge taken out. */
+uint8_t fezdrok_delete(fezdrok_session *session, uint32_t caller, uint32_t edge, fezdrok_reply *reply);
+
+/* What an insertion of kind 0 would do now, in reply->is.inserted, whose edge is 0. */
+uint8_t fezdrok_route(fezdrok_session *session, uint32_t u, uint32_t v, fezdrok_reply *reply);
+
+/* Takes so many of the last entries of the report back, refused calls too. */
+uint8_t fezdrok_undo(fezdrok_session *session, uint32_t entries, fezdrok_reply *reply);
+
+/* How large the picture is. */
+uint8_t fezdrok_counts(fezdrok_session *session, fezdrok_reply *reply);
+
+/* What is to be known of an edge. */
+uint8_t fezdrok_edge(fezdrok_session *session, uint32_t edge, fezdrok_reply *reply);
+
+/* The edges round a vertex, clockwise from the least id, as items. */
+uint8_t fezdrok_vertex(fezdrok_session *session, uint32_t vertex, fezdrok_reply *reply);
+
 /* Closes a session, with its last answer. FEZDROK_DONE, or FEZDROK_NULL_OR_CLOSED or FEZDROK_IN_USE, where nothing was done. */
 uint8_t fezdrok_close(fezdrok_session *session);
 

@@ -52,6 +52,9 @@ public:
         return {told.at, told.length};
     }
 
+    /* For the calls without a text of fezdrok.h. It is not to be closed. */
+    fezdrok_session *handle() const noexcept { return it_.get(); }
+
 private:
     struct closes {
         void operator()(fezdrok_session *it) const noexcept { fezdrok_close(it); }

@@ -22,12 +22,13 @@ struct asked {
     size_t done, refused;
 };
 
-/* Lets a vertex grow a thousand times, and on until the session was in use. */
+/* Lets a vertex grow a thousand times, every other time without a text, and on until the session was in use. */
 static void *grow(void *it) {
     struct asked *asked = it;
+    fezdrok_reply reply;
     fezdrok_text told;
     while (asked->done < 1000 || (!asked->refused && asked->done < 20000)) {
-        uint8_t status = fezdrok_call(asked->session, "[\"grow\",0,0,0]", 14, &told);
+        uint8_t status = asked->done % 2 ? fezdrok_grow(asked->session, 0, 0, 0, 0, &reply) : fezdrok_call(asked->session, "[\"grow\",0,0,0]", 14, &told);
         if (status == FEZDROK_DONE)
             asked->done++;
         else if (status == FEZDROK_IN_USE)
@@ -66,6 +67,7 @@ int main(int count, char **words) {
     size_t long_length = 300000000;
     char *zeros = calloc(long_length, 1);
     fezdrok_session *session, *another = NULL;
+    fezdrok_reply reply;
     fezdrok_text told = none;
     expect("no settings", fezdrok_open(NULL, 1, &session, &told), FEZDROK_NULL_OR_CLOSED, told, none.at);
     expect("no place for the session", fezdrok_open(settings, 13, NULL, &told), FEZDROK_NULL_OR_CLOSED, told, none.at);
@@ -75,6 +77,8 @@ int main(int count, char **words) {
     if (zeros) {
         expect("long settings", fezdrok_open(zeros, long_length, &session, &told), FEZDROK_FAULT, told, "{\"fault\":[51,\"TooLong\"]}");
         expect("not open", fezdrok_call(session, "\"counts\"", 8, &told), FEZDROK_DONE, told, not_open);
+        expect("counts where nothing is open", fezdrok_counts(session, &reply), FEZDROK_DONE, none, NULL);
+        wrong |= reply.refusal != 72 || reply.length;
         expect("a long line", fezdrok_call(session, zeros, 65537, &told), FEZDROK_DONE, told, "{\"fault\":[51,\"TooLong\"]}");
         expect("an opening", fezdrok_call(session, "{\"open\":{\"version\":1}}", 22, &told), FEZDROK_DONE, told, seed);
         expect("close", fezdrok_close(session), FEZDROK_DONE, none, NULL);
@@ -84,6 +88,8 @@ int main(int count, char **words) {
     expect("close", fezdrok_close(another), FEZDROK_DONE, none, NULL);
     expect("open", fezdrok_open(settings, 13, &session, &told), FEZDROK_DONE, told, seed);
     told = none;
+    expect("no reply", fezdrok_counts(session, NULL), FEZDROK_NULL_OR_CLOSED, none, NULL);
+    expect("counts of no session", fezdrok_counts(NULL, &reply), FEZDROK_NULL_OR_CLOSED, none, NULL);
     expect("no line", fezdrok_call(session, NULL, 1, &told), FEZDROK_NULL_OR_CLOSED, told, none.at);
     expect("no answer", fezdrok_call(session, settings, 13, NULL), FEZDROK_NULL_OR_CLOSED, told, none.at);
     expect("an empty line", fezdrok_call(session, NULL, 0, &told), FEZDROK_DONE, told, "{\"fault\":[50,\"NotJson\"]}");
@@ -92,6 +98,7 @@ int main(int count, char **words) {
     if (count < 2) {
         told = none;
         expect("close again", fezdrok_close(session), FEZDROK_NULL_OR_CLOSED, none, NULL);
+        expect("counts of a closed one", fezdrok_counts(session, &reply), FEZDROK_NULL_OR_CLOSED, none, NULL);
         expect("closed", fezdrok_call(session, settings, 13, &told), FEZDROK_NULL_OR_CLOSED, told, none.at);
     }
     (void)words;

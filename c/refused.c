@@ -21,6 +21,36 @@ static fezdrok_text report(fezdrok_session *session) {
     return told;
 }
 
+/* Whether a call that had no memory was carried out all the same, as entry number COUNT of the report; -1 where neither is so. */
+static int was_done(fezdrok_session *session, size_t count) {
+    size_t done = times(report(session), "\"caller\"");
+    return done == count ? 1 : done + 1 == count ? 0 : -1;
+}
+
+/* Insertions and questions without a text, behind so many entries of the report. Nothing is told where there is no memory. */
+static int call_typed(fezdrok_session *session, size_t count) {
+    static const uint32_t ends[][2] = {{0, 4}, {1, 4}, {2, 3}, {0, 0}};
+    fezdrok_reply reply;
+    for (size_t i = 0; i < sizeof ends / sizeof *ends; i++) {
+        int done = 0;
+        while (!done && fezdrok_insert(session, 3, ends[i][0], ends[i][1], 2, &reply) == FEZDROK_NO_MEMORY) {
+            done = was_done(session, count + i + 1);
+            if (done < 0 || reply.length || reply.refusal || reply.price)
+                return 1;
+        }
+        while (fezdrok_route(session, ends[i][0], 3, &reply) == FEZDROK_NO_MEMORY)
+            ;
+        while (fezdrok_edge(session, 4, &reply) == FEZDROK_NO_MEMORY)
+            ;
+        while (fezdrok_vertex(session, ends[i][1], &reply) == FEZDROK_NO_MEMORY)
+            ;
+    }
+    while (fezdrok_undo(session, 1, &reply) == FEZDROK_NO_MEMORY)
+        if (was_done(session, count + 4) != 1)
+            return 1;
+    return reply.is.undone.entries != 1;
+}
+
 int main(void) {
     static const char *lines[] = {"[\"grow\",1,0,0]", "[\"grow\",2,0,1]", "[\"insert\",3,0,0]", "[\"insert\",0,2,1]", "[\"insert\",1,3,2]", "[\"planned\",0,1,0]", "{\"call\":[\"delete\",2],\"id\":7}", "[\"insert\",0,0,0]"};
     static const char settings[] = "{\"version\":2,\"prices\":[1,null,3]}";
@@ -32,17 +62,16 @@ int main(void) {
             return 1;
     for (size_t i = 0; !status && i < sizeof lines / sizeof *lines; i++)
         while ((status = fezdrok_call(session, lines[i], strlen(lines[i]), &told)) == FEZDROK_NO_MEMORY) {
-            size_t done;
-            if (told.length)
+            int done = told.length ? -1 : was_done(session, i + 1);
+            if (done < 0)
                 return 1;
-            done = times(report(session), "\"caller\"");
-            if (done == i + 1) {
+            if (done) {
                 status = FEZDROK_DONE; /* only its answer was lost */
                 break;
             }
-            if (done != i)
-                return 1;
         }
+    if (status || call_typed(session, sizeof lines / sizeof *lines))
+        return 1;
     told = report(session);
     printf("%.*s\n", (int)told.length, told.at);
     return fezdrok_close(session);

@@ -301,7 +301,8 @@ def least_time(call: Callable[[], Any], count: int) -> float:
 
 
 def times_from_c(lines: list[str], count: int) -> list[float]:
-    """The microseconds of opening a session by the first line and closing it, and of each further line."""
+    """The microseconds of opening a session by the first line and closing it, of each further line, and of a refused
+    insertion and the counts without a text."""
     library = Program().library
     assert library is not None, "there is no library beside the program"
     here = Path(__file__).resolve().parent
@@ -322,16 +323,17 @@ def time_sessions() -> None:
             session.grow(vertex)
         start = session.picture()
     lines = [json_text({"version": 1, "start": start.to_json()}), '["insert",0,0,0]', '"counts"']
-    columns = [times_from_c(lines, 1000)]
+    from_c = times_from_c(lines, 1000)
+    columns: list[list[float | None]] = [[*from_c[:3]], [None, *from_c[3:]]]
     for process in (False, True):
         with Session(start, process=process) as session:
             opening = least_time(lambda: Session(start, process=process).close(), 1 if process else 5)
             refused = least_time(lambda: session.insert(0, 0), 100)
             columns.append([opening, refused, least_time(session.counts, 100)])
-    print("| microseconds | from C | from Python, in process | from Python, over a process |")
-    print("|---|---|---|---|")
+    print("| microseconds | from C, as lines | from C, without a text | from Python, in process | from Python, over a process |")
+    print("|---|---|---|---|---|")
     for name, row in zip(("open and close 61 edges", "a refused insertion", "`counts`"), zip(*columns)):
-        print(f"| {name} | {' | '.join(f'{it:.1f}' if it < 100 else f'{it:,.0f}' for it in row)} |")
+        print(f"| {name} | {' | '.join('' if it is None else f'{it:.2f}' if it < 10 else f'{it:,.0f}' for it in row)} |")
 
 
 def main() -> None:

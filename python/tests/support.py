@@ -47,6 +47,11 @@ def in_process() -> library.LibrarySession:
 needs_library = unittest.skipUnless(has_library(), "left out: there is no library libfezdrok.so beside the program")
 
 
+def stopped(*words: Any) -> Any:
+    """Is interrupted."""
+    raise KeyboardInterrupt
+
+
 class Sessions:
     """Tests whose sessions are in this process where there is a library. A class below one of them has
     `process = True`, and so runs them over a process of the program."""
@@ -61,13 +66,13 @@ class Sessions:
         """Has each call of a session interrupted, as by Ctrl-C, when its line was carried out or is on its way."""
         if session.process_id:
             return mock.patch.object(line_process.os, "read", side_effect=KeyboardInterrupt)
-        return mock.patch.object(library, "string_at", side_effect=KeyboardInterrupt)
+        return mock.patch.object(library.LibrarySession, "_expect", side_effect=KeyboardInterrupt)
 
     def interrupted_before(self, session: Session) -> Any:
         """The same before the line is sent or carried out."""
         if session.process_id:
             return mock.patch.object(line_process.os, "write", side_effect=KeyboardInterrupt)
-        return mock.patch.object(library.LibrarySession, "answer", side_effect=KeyboardInterrupt)
+        return mock.patch.multiple(library.LibrarySession, answer=stopped, make=stopped)
 
 
 def fake(test: unittest.TestCase, body: str) -> str:

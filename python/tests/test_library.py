@@ -2,6 +2,7 @@
 program."""
 
 import os
+import random
 import shutil
 import subprocess
 import sys
@@ -42,6 +43,14 @@ with Session(prices=[3]) as session:
     resource.setrlimit(resource.RLIMIT_AS, (least, most))
     print(session.answers([line])[0][-16:], session.is_closed)
 """
+
+
+def answered(session: Session, call: str, words: list[int]) -> object:
+    """What a call of a session is answered, or the words of its fault."""
+    try:
+        return getattr(session, call)(*words)
+    except Fault as fault:
+        return fault.words
 
 
 class Finding(unittest.TestCase):
@@ -123,6 +132,20 @@ class SameAnswers(unittest.TestCase):
             self.assertEqual((here.process_id, len(lines)), (None, 2000))
             self.assertEqual(here.answers(lines), there.answers(lines))
             self.assertGreater(there.counts().crossings, 10)
+
+    def test_calls_by_methods(self):
+        """2,000 random calls and questions have the same answers, here without a text; and numbers of no form the same
+        faults."""
+        chance = random.Random(6)
+        with Session(prices=[2, None]) as here, Session(prices=[2, None], process=True) as there:
+            for place, (name, *numbers) in enumerate(some_calls(2000, 6)):
+                asked = chance.choice((("route", 12, 12), ("edge", 900), ("vertex", 13), ("counts",), ("undo", 3)))
+                some = asked[0], *(chance.randrange(bound) for bound in asked[1:])
+                for call, *words in ((name, *numbers), some, ("edge", -place), ("undo", 2**32 + place))[: 2 + place % 3]:
+                    here.caller = there.caller = place % 17
+                    self.assertEqual(answered(here, call, words), answered(there, call, words), (call, words))
+            self.assertEqual(here.report(), there.report())
+            self.assertGreater(here.counts().crossings, 0)
 
     def test_judgements(self):
         """Each example of a picture and of a report, and faults whose line is long."""

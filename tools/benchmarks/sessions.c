@@ -1,5 +1,6 @@
 /* Times a session from C: sessions COUNT < LINES. The first line opens the session, each further one is a call that is made COUNT
- * times. Prints the microseconds of opening and closing, and of each call, the least of a hundred runs. */
+ * times. Prints the microseconds of opening and closing, of each call, and of a refused insertion and the counts without a text, the
+ * least of a hundred runs. */
 #include "fezdrok.h"
 
 #include <stdio.h>
@@ -27,6 +28,16 @@ static double timed(fezdrok_session *session, const char *line, size_t length, l
     return (now() - begun) / count;
 }
 
+/* Makes a call without a text so often: an insertion that is refused, or the counts. */
+static double timed_typed(fezdrok_session *session, int is_insertion, long count) {
+    fezdrok_reply reply;
+    double begun = now();
+    for (long i = 0; i < count; i++)
+        if (is_insertion ? fezdrok_insert(session, 0, 0, 0, 0, &reply) : fezdrok_counts(session, &reply))
+            exit(1);
+    return (now() - begun) / count;
+}
+
 int main(int argc, char **argv) {
     static char line[1 << 20];
     long count = argc == 2 ? atol(argv[1]) : 0;
@@ -44,6 +55,14 @@ int main(int argc, char **argv) {
         printf("%.3f\n", least);
         if (!session && fezdrok_open(line, length, &session, &answer))
             return 1;
+    }
+    for (int is_insertion = 1; is_insertion >= 0; is_insertion--) {
+        double least = 1e9;
+        for (int run = 0; run < 100; run++) {
+            double time = timed_typed(session, is_insertion, count);
+            least = time < least ? time : least;
+        }
+        printf("%.3f\n", least);
     }
     return fezdrok_close(session);
 }

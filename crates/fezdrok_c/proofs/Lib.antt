@@ -1,2 +1,4 @@
+pub mod Losing
+pub mod Places
 pub mod Steps
 pub mod Tables

@@ -1,5 +1,5 @@
 -- What the walks of the exports that reach through a pointer share.
-pub use Rattle.std.proofs.Common.{List, [], ap, length, refl, w64, w8, ℕ, ◌++◌, ◌∷◌}
+pub use Rattle.std.proofs.Common.{List, [], ap, length, refl, w32, w64, w8, ℕ, ◌++◌, ◌∷◌}
 pub use Rattle.std.proofs.raw_atomic.Walks.{proved}
 pub use base.Fml.{Incl-refl, fat, flent, flft, ftrue}
 pub use base.Fraction.{full_share}
@@ -8,18 +8,18 @@ pub use borrow.Table.OneValue.{part_in, part_out}
 pub use contract.BorrowLft.{◌⊑◌}
 pub use contract.Monad.{fact, fact_i}
 pub use contract.Running.{tables}
-pub use denote.Builtin.{u8, unit}
+pub use denote.Builtin.{u32, u8, unit}
 pub use denote.Exit.{yes}
 pub use denote.Laws.{Is, shows}
 pub use denote.Lend.{LentAgain, comes_back, lends_again, lends_ref, ref_back}
 pub use denote.Memory.{lone, mem, part_at}
 pub use denote.Param.NoDrop.{glues}
-pub use denote.Plain.{uint_Lawful}
+pub use denote.Plain.{uint_Lawful, uint_Makes, uint_Tells, uint_vals}
 pub use denote.RawPtr.{Ptr, RawPtr, block_ptr, in_a_block, lies_at, rawptr_Tells, rawptr_vals, room_at}
 pub use denote.Ref.{MutRef, mut_Tells, mut_vals}
 pub use denote.Signature.{plain, shr_slice_of}
 pub use denote.Slice.{ShrSlice, shr_slice_Tells, shr_slice_vals}
-pub use denote.Steps.{heard, nothing, only, peeks}
+pub use denote.Steps.{heard, nothing, only, owned, peeks}
 pub use denote.Triple.Call.{calls_at}
 pub use denote.Triple.Clauses.{Lasts, lasts}
 pub use denote.Triple.Entry.{on_entry}

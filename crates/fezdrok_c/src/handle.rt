@@ -1,7 +1,8 @@
-//! A session with the text of its last answer.
+//! A session with the text and the list of its last answers.
 
 ghost use Rattle.fezdrok_c.specs.Sessions.{IsAnswered, IsBegun, LiesAt, TellsFault};
 
+use crate::given::Item;
 use std::alloc::Global;
 use topo_price::tariff::PriceFn;
 use topo_session::texts::fault_text;
@@ -9,13 +10,13 @@ use topo_session::{Session, answer, answer_first};
 use topo_settings::{FromTable, RunFault};
 
 /// The status of an answer, also of one that tells a fault of its line.
-const DONE: u8 = 0;
+pub(crate) const DONE: u8 = 0;
 
 /// The status of a first line that is at fault.
 const FAULT: u8 = 1;
 
 /// The status of out of memory.
-const NO_MEMORY: u8 = 3;
+pub(crate) const NO_MEMORY: u8 = 3;
 
 /// Where a text lies, and how many bytes it has.
 #[repr(C)]
@@ -25,11 +26,13 @@ pub struct Text {
     pub length: usize,
 }
 
-/// A session, where one is open, with the text of its last answer.
+/// A session, where one is open, with the text of its last answer to a line, and the list of its last
+/// typed call.
 pub struct Handle<F: PriceFn> {
-    heap: Global,
-    session: Option<Session<F>>,
+    pub(crate) heap: Global,
+    pub(crate) session: Option<Session<F>>,
     text: Vec<u8>,
+    pub(crate) list: Vec<Item>,
 }
 
 // Written out, so that it is proved once: a derived one is proved anew in each function that lets
@@ -40,9 +43,11 @@ impl<F: PriceFn + Drop> Drop for Handle<F> {
             heap: _,
             session,
             text,
+            list,
         } = self;
         drop(session);
         drop(text);
+        drop(list);
     }
 }
 
@@ -85,6 +90,7 @@ pub fn begin<F: FromTable>(
                 heap,
                 session,
                 text: told.into_bytes(),
+                list: Vec::new(heap),
             }
         }
         Err(fault) => {
@@ -95,6 +101,7 @@ pub fn begin<F: FromTable>(
                 heap,
                 session: None,
                 text: told,
+                list: Vec::new(heap),
             }
         }
     };

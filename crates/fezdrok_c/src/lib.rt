@@ -7,17 +7,21 @@
 //! this toolchain starts none.
 #![tactic(auto)]
 
+mod given;
 mod handing;
 mod handle;
+mod typed;
 
 ghost use Rattle.std.specs.Prelude.{◌≡◌};
 ghost use Rattle.fezdrok_c.specs.Blocks.{Held, answered, begun, block_size, is_held, is_room};
+ghost use Rattle.fezdrok_c.specs.Blocks.{typed_called};
 ghost use Rattle.fezdrok_c.specs.Handing.{Judges};
 ghost use Rattle.topo_check.specs.Checks.{IsSizeOfBytes, IsUnlawful};
 ghost use Rattle.topo_check.specs.Replays.{TellsCalls, TellsUntrue};
 
 use crate::handing::hand_out;
 use crate::handle::{Handle, Text, begin, respond, shut};
+use crate::typed::{Typed, call_typed};
 use std::alloc::Global;
 use std::mem::size_of;
 use std::ptr;
@@ -101,6 +105,34 @@ pub unsafe extern "C" fn fezdrok_answer(block: *mut u8, line: &[u8], text: &mut 
         unsafe { &mut *(block as *mut Handle<PriceTable>) },
         line,
         text,
+    )
+}
+
+/// Makes the call of this number: 0 grow, 1 insert, 2 delete, 3 route, 4 undo, 5 counts, 6 edge,
+/// 7 vertex, with the words that it takes, and for a caller. The result is 0, also where the call is
+/// refused, or 3 for out of memory. The list lies in the session until its next call.
+#[unsafe(no_mangle)]
+pub unsafe extern "C" fn fezdrok_typed(
+    block: *mut u8,
+    call: u32,
+    caller: u32,
+    a: u32,
+    b: u32,
+    c: u32,
+    typed: &mut Typed,
+) -> u8
+    ghost held: { Held }
+    requires* { is_held 𝓛 block held }
+    ensures* { typed_called 𝓛 block held call caller a b c result typed.new }
+{
+    call_typed(
+        unsafe { &mut *(block as *mut Handle<PriceTable>) },
+        call,
+        caller,
+        a,
+        b,
+        c,
+        typed,
     )
 }
 

@@ -5,11 +5,12 @@ from __future__ import annotations
 import os
 from collections.abc import Sequence
 from ctypes import (
-    CDLL, POINTER, Structure, byref, c_char_p, c_size_t, c_uint8, c_void_p, create_string_buffer, string_at,
+    CDLL, POINTER, Structure, byref, c_char_p, c_size_t, c_uint8, c_uint32, c_void_p, create_string_buffer, string_at,
 )
 from typing import Any
 
 from .faults import MemoryFault, ProgramNotFound, SessionClosed, SessionInUse
+from .typed_calls import NUMBERS, Told, read
 
 VARIABLE = "FEZDROK_LIBRARY"
 NAME = "libfezdrok.so"
@@ -41,7 +42,10 @@ class Library:
         self._judges = {"check": functions.fezdrok_check, "replay": functions.fezdrok_replay}
         for judge in self._judges.values():
             judge.argtypes = [c_char_p, c_size_t, c_char_p, c_size_t, POINTER(c_size_t)]
-        for function in (self.open, self.call, self.close, *self._judges.values()):
+        self.typed = {call: getattr(functions, f"fezdrok_{call}") for call in NUMBERS}
+        for call, count in NUMBERS.items():
+            self.typed[call].argtypes = [c_void_p, *[c_uint32] * count, POINTER(Told)]
+        for function in (self.open, self.call, self.close, *self._judges.values(), *self.typed.values()):
             function.restype = c_uint8
 
     def judge(self, verb: str, text: bytes) -> tuple[int, str]:
@@ -106,6 +110,8 @@ class LibrarySession:
         self._handle: int | None = None
         self._text = _Text()
         self._answer = byref(self._text)
+        self._told = Told()
+        self._reply = byref(self._told)
         self.is_over = False
 
     def answer(self, line: bytes) -> bytes:
@@ -116,10 +122,19 @@ class LibrarySession:
         """
         if self.is_over:
             raise SessionClosed("the session is closed")
-        status = self._begin(line) if self._handle is None else self._call(line)
+        self._expect(self._begin(line) if self._handle is None else self._call(line))
+        return string_at(self._text.at, self._text.length)
+
+    def make(self, call: str, numbers: tuple[int, ...]) -> Any:
+        """What a call with these numbers is answered, without a line. The exceptions are those of `answer`, and Fault
+        where so many entries are not there."""
+        self._expect(self._library.typed[call](self._handle, *numbers, self._reply))
+        return read(call, self._told, numbers)
+
+    def _expect(self, status: int) -> None:
+        """Raises what the status of a call stands for."""
         if status not in (_DONE, _FAULT):
             raise _failure(status)
-        return string_at(self._text.at, self._text.length)
 
     def _begin(self, line: bytes) -> int:
         handle = c_void_p()

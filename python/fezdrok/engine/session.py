@@ -19,6 +19,7 @@ from .program import PathLike, Program
 from .reports import (
     Call, Delete, Deleted, Grow, Grown, Insert, Inserted, Limits, Prices, Refused, Report, reply_from_json,
 )
+from .typed_calls import fit
 
 Value = TypeVar("Value")
 Own = TypeVar("Own", bound="Session")
@@ -165,17 +166,20 @@ class Session:
 
     def grow(self, u: int, position: int = 0, kind: int = 0) -> Grown | Refused:
         """A new vertex on a new edge, from the corner at this position of `u`."""
-        reply: Grown | Refused = self._call(Grow(index(u), index(position), index(kind)))
+        numbers = index(u), index(position), index(kind)
+        reply: Grown | Refused = self._made("grow", (self.caller, *numbers), lambda: self._call(Grow(*numbers)))
         return reply
 
     def insert(self, u: int, v: int, kind: int = 0) -> Inserted | Refused:
         """A new edge from `u` to `v` along the first of the cheapest routes."""
-        reply: Inserted | Refused = self._call(Insert(index(u), index(v), index(kind)))
+        numbers = index(u), index(v), index(kind)
+        reply: Inserted | Refused = self._made("insert", (self.caller, *numbers), lambda: self._call(Insert(*numbers)))
         return reply
 
     def delete(self, edge: int) -> Deleted | Refused:
         """An edge taken out."""
-        reply: Deleted | Refused = self._call(Delete(index(edge)))
+        asked = index(edge)
+        reply: Deleted | Refused = self._made("delete", (self.caller, asked), lambda: self._call(Delete(asked)))
         return reply
 
     def _call(self, call: Call) -> Any:
@@ -218,7 +222,9 @@ class Session:
         was. More than there are since the report began is the Fault 70 NothingToUndo, which changes nothing. The first
         `undo` of a session, and one that goes far back, may take as long as the calls of the report took.
         """
-        return self._ask(["undo", index(entries)], Undone.from_json)
+        count = index(entries)
+        undone: Undone = self._made("undo", (count,), lambda: self._ask(["undo", count], Undone.from_json))
+        return undone
 
     def forget(self) -> Counts:
         """Begins the report anew with the picture of now, and gives its counts: what came before takes no memory any
@@ -239,15 +245,25 @@ class Session:
     def route(self, u: int, v: int) -> Route | Refused:
         """What `insert(u, v)` would do now, without doing it, or the refusal that it would have: 1 NoVertex,
         2 SameEnds, 7 Full or 9 NoRoute. Nothing is entered in the report, and no id is taken."""
-        return self._ask(["route", index(u), index(v)], Route.from_json)
+        ends = index(u), index(v)
+        route: Route | Refused = self._made("route", ends, lambda: self._ask(["route", *ends], Route.from_json))
+        return route
 
     def edge(self, edge: int) -> EdgeAnswer | Refused:
         """The ends, the kind, the price and the crossings of an edge, or the refusal 4 NoEdge."""
-        return self._ask(["edge", index(edge)], EdgeAnswer.from_json)
+        asked = index(edge)
+        told: EdgeAnswer | Refused = self._made(
+            "edge", (asked,), lambda: self._ask(["edge", asked], EdgeAnswer.from_json)
+        )
+        return told
 
     def vertex(self, vertex: int) -> VertexAnswer | Refused:
         """The edges round a vertex, clockwise from the least id, or the refusal 1 NoVertex."""
-        return self._ask(["vertex", index(vertex)], VertexAnswer.from_json)
+        asked = index(vertex)
+        told: VertexAnswer | Refused = self._made(
+            "vertex", (asked,), lambda: self._ask(["vertex", asked], VertexAnswer.from_json)
+        )
+        return told
 
     def face(self, edge: int, segment: int = 0, way: str = "forward") -> tuple[Dart, ...] | Refused:
         """The darts once round the face on the left of this one, from it on: of a segment of an edge, counted from 0 at
@@ -261,7 +277,8 @@ class Session:
 
     def counts(self) -> Counts:
         """How many vertices, crossings, edges, segments and faces the picture has, as the program counts them."""
-        return self._ask("counts", _counts)
+        counts: Counts = self._made("counts", (), lambda: self._ask("counts", _counts))
+        return counts
 
     def picture(self) -> Picture:
         """The picture now."""
@@ -292,6 +309,18 @@ class Session:
         if any("\n" in request for request in requests):
             raise ValueError("a line has a line feed in it")
         return self._asked(requests, lambda answerer, answers: [answer.decode() for answer in answers])
+
+    def _made(self, call: str, numbers: tuple[int, ...], asked: Callable[[], Any]) -> Any:
+        """The answer to a call, without a line where the session is in this process and the numbers are of the form, or
+        else by the line that is asked so."""
+        if not isinstance(self._answerer, LibrarySession) or not fit(call, numbers):
+            return asked()
+        self._refuse_another()
+        with self._lock:
+            answerer = self._answerer
+            if not isinstance(answerer, LibrarySession):
+                raise SessionClosed("the session is closed")
+            return answerer.make(call, numbers)
 
     def _ask(self, request: Any, read: Callable[[Any], Value]) -> Value:
         """The answer to a request, read by this function; Fault where the program refuses the line."""
