@@ -117,6 +117,12 @@ impl<F: PriceFn> Board<F> {
         })
     }
 
+    /// Whether the graph has more vertices or edges than a picture may have.
+    pub(crate) fn is_too_large(&self) -> bool {
+        self.graph.vertices > LIMITS.vertices as usize
+            || self.graph.edges.len() > LIMITS.edges as usize
+    }
+
     /// How many crossings the picture has.
     pub(crate) fn crossings(&self) -> u64 {
         self.picture.kept_rows().crossing_count() as u64

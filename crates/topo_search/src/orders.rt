@@ -128,6 +128,9 @@ pub(crate) fn begin_order<F: PriceFn>(
     board: &mut Board<F>,
     is_random: bool,
 ) -> Result<Vec<u32>, SearchFault> {
+    if board.is_too_large() {
+        return Err(SearchFault::TooLarge);
+    }
     let order = order_of(alloc, board, is_random)?;
     let graph = &board.graph;
     let part = planar_part(alloc, graph.vertices, &graph.ends, &order)?;
