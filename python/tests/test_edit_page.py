@@ -23,19 +23,47 @@ class Pages(Served):
         """How many elements with each of these marks there are."""
         return [await self.browser.value(f"document.querySelectorAll('{mark}').length") for mark in marks]
 
-    async def shows(self, number, crossings, edges, nodes=6):
+    async def shows(self, number, crossings, edges, nodes=6, cost=None):
         """Waits until the page shows the picture after a change, and judges how large it is."""
         await self.browser.until(f"document.documentElement?.dataset.number === '{number}'")
         self.assertEqual(await self.counted(".crossing", ".edge", ".node"), [crossings, edges, nodes])
         words = await self.browser.value("document.getElementById('counts').textContent")
         self.assertEqual(words, f"{nodes} nodes, {edges} edges, {crossings} crossing{'' if crossings == 1 else 's'}, "
-                                f"cost {crossings}")
+                                f"cost {crossings if cost is None else cost}")
 
     async def take_out(self, edge):
         """Chooses an edge, and takes it out."""
         await self.browser.value(f"document.querySelector('[data-edge=\"{edge}\"] .wide')"
                                  ".dispatchEvent(new MouseEvent('click', {bubbles: true}))")
         await self.browser.press("Delete")
+
+    async def prices_are_set(self):
+        """Sets other prices in the table, takes them back, and sees what is refused."""
+        browser = self.browser
+        inputs = "[...document.querySelectorAll('#rows input')]"
+        values = f"JSON.stringify({inputs}.filter(it => it.type === 'number').map(it => it.value))"
+        await browser.press("k")
+        self.assertEqual(await browser.value("document.querySelector('#rows tr').cells[4].textContent"), "12")
+        await browser.value("document.getElementById('another').click()")
+        await browser.value(f"{inputs}[1].value = '7'")
+        button = await browser.middle("#table button:not([type])")
+        await browser.click(*button)
+        await self.shows(7, 1, 12, 7, 49)
+        self.assertEqual(await browser.value(values), '["7","1"]')
+        await browser.value(f"{inputs}[4].value = ''")
+        await browser.click(*button)
+        await browser.until("document.getElementById('beside').textContent"
+                            " === 'kind 1: a price is a whole number from 1 to 1000'")
+        await browser.value(f"{inputs}[5].click()")
+        await browser.click(*button)
+        await self.shows(8, 1, 12, 7, 49)
+        checked = await browser.value(f"{inputs}.map(it => it.checked)")
+        self.assertEqual(checked, [True, False, False, False, False, True])
+        for number, cost in ((9, 49), (10, 1)):
+            await browser.press("z", control=True)
+            await self.shows(number, 1, 12, 7, cost)
+        self.assertEqual(await browser.value(values), '["1"]')
+        await browser.press("k")
 
     async def test_in_a_browser(self):
         graph = nx.complete_graph(5)
@@ -81,11 +109,12 @@ class Pages(Served):
         names = await browser.value("[...document.querySelectorAll('.node title')].map(it => it.textContent)")
         self.assertEqual(set(names), {"0", "1", "2", "3", "4", NAME, "<b>new</b>"})
         other = await self.talk()
-        await other.ask("insert", u, v)
+        await other.ask("insert", u, v, 0)
         await self.shows(6, 1, 12, 7)
         await browser.send("Page.reload")
         await browser.until("document.title === 'fezdrok edit: tab 3' || document.title === 'fezdrok edit: tab 1'")
         await self.shows(6, 1, 12, 7)
+        await self.prices_are_set()
         seen = await browser.value("[faults, window.alerted === true, document.scripts.length]")
         self.assertEqual(seen, [[], False, 1])
         box = "document.getElementById('picture').getAttribute('viewBox')"

@@ -39,18 +39,20 @@ def k5_without_an_edge():
 
 
 BAD = (
-    "", "{", "1", "null", "{}", "[]", "[1,2]", '[1,2,"none"]', '[1,2,"undo",3]', '[1,2,"insert",0]',
-    '[1,2,"insert",0,-1]',
-    '[1,2,"insert",0,1.5]', '[1,2,"insert",0,true]', '[-1,2,"undo"]', '[1,"2","undo"]', '[1,2,"insert",0,4294967296]',
-    '[1,2,"grow",0,NaN,0,null]', '[1,2,"grow",0,1e99,0,null]', '[1,2,"grow",0,0,0,7]', '[1,2,["undo"]]',
-    f'[1,2,"grow",0,0,0,"{"x" * 201}"]', "[" * 60000, "9" * 5000,
+    "", "{", "1", "null", "{}", "[]", "[1,2]", '[1,2,"none"]', '[1,2,"undo",3]', '[1,2,"insert",0,1]',
+    '[1,2,"insert",0,-1,0]',
+    '[1,2,"insert",0,1.5,0]', '[1,2,"insert",0,true,0]', '[-1,2,"undo"]', '[1,"2","undo"]',
+    '[1,2,"insert",0,4294967296,0]',
+    '[1,2,"grow",0,NaN,0,null,0]', '[1,2,"grow",0,1e99,0,null,0]', '[1,2,"grow",0,0,0,7,0]', '[1,2,["undo"]]',
+    f'[1,2,"grow",0,0,0,"{"x" * 201}",0]', "[" * 60000, "9" * 5000, f'[1,2,"grow",0,0,{"9" * 400},null,0]',
+    '[1,2,"prices"]', '[1,2,"prices",5]', '[1,2,"prices",["5"]]', '[1,2,"prices",[true]]', '[1,2,"prices",[[5]]]',
 )
 
 
 class Forms(unittest.TestCase):
     def test_messages(self):
-        message = read_message('[7,2,"grow",0,-1.5,2,"a"]')
-        self.assertEqual((message.id, message.seen, message.word, message.values), (7, 2, "grow", (0, -1.5, 2, "a")))
+        message = read_message('[7,2,"grow",0,-1.5,2,"a",3]')
+        self.assertEqual((message.id, message.seen, message.word, message.values), (7, 2, "grow", (0, -1.5, 2, "a", 3)))
         self.assertEqual(read_message('[0,0,"undo"]').values, ())
         for text in BAD:
             with self.subTest(text[:40]), self.assertRaises(BadMessageError):
@@ -85,11 +87,11 @@ class Boards(unittest.TestCase):
         board = self.board()
         start = board.session.snapshot()
         vertex = start.vertex_of
-        change = board.call(1, "insert", (vertex[0], vertex[1]))
+        change = board.call(1, "insert", (vertex[0], vertex[1], 0))
         self.assertEqual((change.number, change.caller, change.words), (1, 1, "0 – 1 is new: 1 crossing, price 1"))
         with self.assertRaisesRegex(NotDoneError, "two different ends"):
-            board.call(2, "insert", (0, 0))
-        board.call(2, "grow", (vertex[0], 0, "new"))
+            board.call(2, "insert", (0, 0, 0))
+        board.call(2, "grow", (vertex[0], 0, "new", 0))
         with self.assertRaisesRegex(NotDoneError, "would part the picture"):
             board.call(3, "delete", (board.session.snapshot().edge_id(0, "new"),))
         end = board.session.snapshot()
@@ -117,7 +119,7 @@ class Boards(unittest.TestCase):
     def test_what_is_opened_is_taken_back(self):
         board = self.board()
         start, vertex = board.session.snapshot(), board.session.snapshot().vertex_of
-        board.call(1, "insert", (vertex[0], vertex[1]))
+        board.call(1, "insert", (vertex[0], vertex[1], 0))
         before = board.session.snapshot()
         board.call(1, "remove", (vertex[4],))
         after = board.session.snapshot()
@@ -180,7 +182,7 @@ class Views(unittest.TestCase):
             shown = view.route(u, v, route)
             self.assertEqual(len(shown["crossings"]), len(route.crossed))
             due = with_route(now.picture, u, v, route)
-            board.call(1, "insert", (u, v))
+            board.call(1, "insert", (u, v, 0))
             after = board.session.snapshot()
             self.assertEqual(after.picture, due)
             lengths.add(len(route.crossed))
@@ -270,7 +272,7 @@ class Servers(Served):
         while not talk.socket.closed:
             await asyncio.wait_for(talk.socket.receive(), PATIENCE)
         self.assertEqual(talk.socket.close_code, 1003)
-        self.assertEqual((await good.ask("insert", 0, 0))["refused"], "an edge has two different ends")
+        self.assertEqual((await good.ask("insert", 0, 0, 0))["refused"], "an edge has two different ends")
         self.assertEqual(good.changes, [])
 
     async def test_long_and_many_messages(self):
@@ -323,7 +325,7 @@ class Servers(Served):
             ids = [row["id"] for row in talk.drawing["edges"]]
             word = chance.choices(("insert", "delete", "grow"), (5, 5, 0.1))[0]
             u, v = chance.sample(range(5), 2)
-            values = {"insert": (u, v), "delete": (chance.choice(ids),), "grow": (u, 1, 1, None)}
+            values = {"insert": (u, v, 0), "delete": (chance.choice(ids),), "grow": (u, 1, 1, None, 0)}
             answer = await talk.ask(word, *values[word])
             if not answer.get("refused", "").endswith(("no such edge", "is no multigraph")):
                 made.append(word)
@@ -334,10 +336,10 @@ class Servers(Served):
         await self.serve(planarize(nx.MultiGraph(nx.complete_graph(4))))
         first, second = await self.talk(), await self.talk()
         for _ in range(3):
-            await first.ask("insert", 0, 1)
+            await first.ask("insert", 0, 1, 0)
         second.socket._response.close()  # as a cut line
         for _ in range(4):
-            await first.ask("insert", 0, 2)
+            await first.ask("insert", 0, 2, 0)
         await first.left_with([1])
         again = await self.talk("?tab=2&since=3")
         self.assertEqual((again.hello["tab"], again.hello["number"]), (2, 7))
@@ -364,7 +366,7 @@ class Servers(Served):
             for place in range(50):
                 self.editor.tabs.tell(json.dumps({"told": "x" * 300000}))
                 if place % 10 == 0:
-                    self.assertIn("number", await quick.ask("insert", 0, 1))
+                    self.assertIn("number", await quick.ask("insert", 0, 1, 0))
                 await asyncio.sleep(0)
             await quick.left_with([1])
 
@@ -457,7 +459,7 @@ class Ends(unittest.TestCase):
 
         async with aiohttp.ClientSession() as web:
             async with web.ws_connect(f"{address}live", origin=address.rsplit("/", 2)[0]) as socket:
-                await socket.send_str('[1,0,"insert",0,2]')
+                await socket.send_str('[1,0,"insert",0,2,0]')
                 while "answer" not in (message := json.loads(await socket.receive_str())):
                     pass
         return message["answer"]

@@ -146,12 +146,12 @@ class Editor:
         if message.word not in ("undo", "redo"):
             board.judge(message.seen)
         if message.word == "grow":
-            vertex, across, down, name = values
+            vertex, across, down, name, kind = values
             board.session.node(vertex)
-            values = (vertex, self._position(vertex, across, down), board.free_name(name))
+            values = (vertex, self._position(vertex, across, down), board.free_name(name), kind)
         before = board.session
         change = board.call(caller, message.word, values)
-        if message.word == "remove" and before in self._views:
+        if message.word in ("remove", "prices") and before in self._views:
             self._views[board.session] = self._views[before]
         return change
 
@@ -164,8 +164,9 @@ class Editor:
         return around.edges.index(edge_id) if edge_id in around.edges else 0
 
     def _route(self, message: Message) -> Any:
-        """What an edge would do: what it would cross, its price, and where the drawing is that of now its line."""
-        board, (u, v) = self._board, message.values
+        """What an edge of a kind would do: what it would cross, its price, and where the drawing is that of now its
+        line."""
+        board, (u, v, kind) = self._board, message.values
         board.judge(message.seen)
         session = board.session
         ends = session.node(u), session.node(v)
@@ -174,6 +175,8 @@ class Editor:
         route = session.route(u, v)
         if isinstance(route, Refused):
             raise NotDoneError(WORDS[route.number])
+        if session.price_of(kind) is None and route.crossed:
+            raise NotDoneError("nothing may cross an edge of this kind, and this one would cross others")
         told: dict[str, Any] = {"crossed": [dart.edge for dart in route.crossed], "price": route.price}
         view = self._views.get(session)
         if view is not None and view.number == board.number:
