@@ -62,8 +62,13 @@ class Talk:
 
     async def left_with(self, numbers):
         """Waits until it was told that these tabs are there."""
-        while [message["tabs"] for message in self.told if "tabs" in message][-1:] != [numbers]:
+        while [*self.names] != numbers:
             await self.read()
+
+    @property
+    def names(self):
+        """The names of the tabs that are there by their numbers, as it was told last."""
+        return dict(next((message["tabs"] for message in reversed(self.told) if "tabs" in message), []))
 
     async def drawn(self, number):
         """The drawing after this change, or a later one."""

@@ -37,6 +37,24 @@ class Pages(Served):
                                  ".dispatchEvent(new MouseEvent('click', {bubbles: true}))")
         await self.browser.press("Delete")
 
+    async def pointers_are_shown(self, other):
+        """Each tab sees the name of the other one where its pointer is, also after the picture was moved."""
+        browser, shown = self.browser, "document.querySelector('.pointer')"
+        place = await browser.middle(at(0))
+        await browser.value("document.getElementById('own').value = 'Ann'")
+        await browser.value("document.getElementById('own').dispatchEvent(new Event('change'))")
+        await browser.move(*place)
+        pointer = (await other.until(lambda message: "pointer" in message))["pointer"]
+        self.assertEqual(other.names[pointer["tab"]], "Ann")
+        await other.ask("name", "<i>Bob</i>")
+        await other.ask("point", pointer["x"], pointer["y"])
+        await browser.until(f"{shown}?.textContent === '<i>Bob</i>'")
+        for key in "+-0":
+            await browser.press(key)
+            x, y = await browser.middle(at(0))
+            left, top = await browser.value(f"[{shown}.getBoundingClientRect().x, {shown}.getBoundingClientRect().y]")
+            self.assertLess(abs(x - left) + abs(y - top), 1.5)
+
     async def prices_are_set(self):
         """Sets other prices in the table, takes them back, and sees what is refused."""
         browser = self.browser
@@ -111,6 +129,7 @@ class Pages(Served):
         other = await self.talk()
         await other.ask("insert", u, v, 0)
         await self.shows(6, 1, 12, 7)
+        await self.pointers_are_shown(other)
         await browser.send("Page.reload")
         await browser.until("document.title === 'fezdrok edit: tab 3' || document.title === 'fezdrok edit: tab 1'")
         await self.shows(6, 1, 12, 7)

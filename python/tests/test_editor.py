@@ -45,6 +45,7 @@ BAD = (
     '[1,2,"insert",0,4294967296,0]',
     '[1,2,"grow",0,NaN,0,null,0]', '[1,2,"grow",0,1e99,0,null,0]', '[1,2,"grow",0,0,0,7,0]', '[1,2,["undo"]]',
     f'[1,2,"grow",0,0,0,"{"x" * 201}",0]', "[" * 60000, "9" * 5000, f'[1,2,"grow",0,0,{"9" * 400},null,0]',
+    '[1,2,"point",1]', '[1,2,"point",1,Infinity]', '[1,2,"name",5]', '[1,2,"name"]',
     '[1,2,"prices"]', '[1,2,"prices",5]', '[1,2,"prices",["5"]]', '[1,2,"prices",[true]]', '[1,2,"prices",[[5]]]',
 )
 
@@ -356,6 +357,34 @@ class Servers(Served):
         socket = await self.web.ws_connect(f"{self.server.address}live", origin=self.origin)
         message = await asyncio.wait_for(socket.receive(), PATIENCE)
         self.assertEqual((message.data, message.extra), (1013, "there are too many tabs"))
+
+    async def test_names_and_pointers(self):
+        await self.serve(k5_without_an_edge())
+        first, second = await self.talk(), await self.talk()
+        self.assertEqual(await first.ask("name", " Ann <b> "), {})
+        self.assertEqual(await first.ask("point", -1.5, 2), {})
+        pointer = await second.until(lambda message: "pointer" in message)
+        self.assertEqual(pointer, {"pointer": {"tab": 1, "x": -1.5, "y": 2}})
+        self.assertEqual(second.names, {1: "Ann <b>", 2: "tab 2"})
+        for nothing in ("  ", None):
+            await second.ask("name", "Bob")
+            await second.ask("name", nothing)
+            self.assertEqual(second.names, {1: "Ann <b>", 2: "tab 2"})
+        self.assertFalse([message for message in first.told if "pointer" in message])
+        self.assertEqual(first.changes, [])
+
+    async def test_of_pointers_the_last_alone_waits(self):
+        tab, sent = tabs.Tab(1, lambda: None), []
+        for place in range(2 * tabs.MOST_WAITING):
+            tab.point(2 + place % 2, str(place))
+        tab.tell("told")
+
+        async def send(text):
+            sent.append(text)
+
+        with self.assertRaises(asyncio.TimeoutError):
+            await asyncio.wait_for(tab.send_all(send), 0.05)
+        self.assertEqual(sent, ["told", *(str(2 * tabs.MOST_WAITING - it) for it in (2, 1))])
 
     async def test_a_slow_tab(self):
         """One that does not read holds nobody up, and is cut where too much waits for it."""

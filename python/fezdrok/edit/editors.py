@@ -88,12 +88,12 @@ class Editor:
         self.tell_tabs()
 
     def tell_tabs(self) -> None:
-        """Tells all tabs which there are."""
-        self.tabs.tell(json_text({"tabs": sorted(tab.number for tab in self.tabs)}))
+        """Tells all tabs which there are, and their names."""
+        self.tabs.tell(json_text({"tabs": sorted([tab.number, tab.name] for tab in self.tabs)}))
 
     async def handle(self, tab: Tab, message: Message) -> None:
         """Carries a message out, and tells the tab its answer."""
-        work = self._begin(self._answer(tab.number, message))
+        work = self._begin(self._answer(tab, message))
         try:
             answer = await asyncio.shield(work)
         except NotDoneError as refused:
@@ -102,12 +102,20 @@ class Editor:
             answer = {"refused": f"the program failed: {failed}"}
         tab.tell(json_text({"answer": answer, "id": message.id}))
 
-    async def _answer(self, caller: int, message: Message) -> Any:
-        """The answer to a message."""
+    async def _answer(self, tab: Tab, message: Message) -> Any:
+        """The answer to a message of a tab."""
+        if message.word == "point":
+            x, y = message.values
+            self.tabs.point(tab, json_text({"pointer": {"tab": tab.number, "x": x, "y": y}}))
+            return {}
+        if message.word == "name":
+            tab.rename(message.values[0])
+            self.tell_tabs()
+            return {}
         if message.word == "route":
             return await self._by_hand(self._route, message)
         if message.word == "tidy":
-            return await self._tidy(caller)
+            return await self._tidy(tab.number)
         if message.word == "stop":
             if self._tidying is not None:
                 self._tidying.stop()
@@ -116,7 +124,7 @@ class Editor:
             self._views.pop(self._board.session, None)
             self._is_to_draw.set()
             return {}
-        return await self._change(lambda: self._called(caller, message))
+        return await self._change(lambda: self._called(tab.number, message))
 
     async def _change(self, make: Callable[[], Change]) -> Any:
         """Changes the picture, and tells all tabs, in the order in which the sessions do it."""

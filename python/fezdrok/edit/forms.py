@@ -9,7 +9,7 @@ from typing import Any
 
 #: How many bytes a message may have, and how many messages may come within a second.
 LONGEST, MOST = 65536, 200
-#: How many letters the name of a new node may have.
+#: How many letters the name of a new node or of a tab may have.
 LONGEST_NAME = 200
 #: How large a number is that names a vertex, an edge, a message or a change.
 GREATEST = 2**32 - 1
@@ -18,7 +18,7 @@ GREATEST = 2**32 - 1
 #: a number or null ("p"), of which the board says what is at fault.
 FORMS = {
     "route": "nnn", "insert": "nnn", "grow": "nwwtn", "delete": "n", "remove": "n", "prices": "p", "undo": "",
-    "redo": "", "tidy": "", "stop": "", "redraw": "",
+    "redo": "", "tidy": "", "stop": "", "redraw": "", "name": "t", "point": "ww",
 }
 
 
