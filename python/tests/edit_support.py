@@ -92,15 +92,15 @@ class Served(unittest.IsolatedAsyncioTestCase):
         warnings.simplefilter("ignore", PlanarWarning)  # of drawings that begin anew
         asyncio.get_running_loop().set_debug(False)  # which is slow
 
-    async def serve(self, result):
-        """Begins a server of this picture, which ends with the test."""
+    async def serve(self, result, folder=None):
+        """Begins a server of this picture, in which files of a folder can be opened, which ends with the test."""
         import aiohttp
 
         from fezdrok.edit.editors import Editor
         from fezdrok.edit.servers import Server
 
         self.talks = []
-        self.editor = Editor(result)
+        self.editor = Editor(result, folder=folder)
         self.server = Server(self.editor)
         await self.server.begin()
         self.origin = f"http://127.0.0.1:{self.server.port}"

@@ -1,10 +1,14 @@
 """The page of the editor, in a browser where there is one."""
 
+import tempfile
 import unittest
+from pathlib import Path
 
 import networkx as nx
 
 from fezdrok import planarize
+from fezdrok.command.editing import planarization_in
+from fezdrok.edit.folders import Folder
 
 from .edit_support import Browser, Served, needs_browser, needs_server
 
@@ -83,11 +87,30 @@ class Pages(Served):
         self.assertEqual(await browser.value(values), '["1"]')
         await browser.press("k")
 
+    async def files_are_opened(self):
+        """Opens one in the place of the picture, takes it back, and sees what is said of one at fault."""
+        browser, buttons = self.browser, "[...document.querySelectorAll('#files button')]"
+        for place, words in enumerate(("<b>.edges", "no.gml")):
+            await browser.press("o")
+            await browser.until(f"{buttons}[{place}]?.textContent === '{words}'")
+            await browser.value(f"{buttons}[{place}].click()")
+        await self.shows(11, 0, 3, 3)
+        await browser.until("document.getElementById('beside').textContent.startsWith('no.gml: it is no gml: ')")
+        self.assertTrue(await browser.value("document.getElementById('files').hidden"))
+        await browser.press("z", control=True)
+        await self.shows(12, 1, 12, 7)
+
     async def test_in_a_browser(self):
         graph = nx.complete_graph(5)
         graph.remove_edge(0, 1)
         graph.add_edge(2, NAME)
-        await self.serve(planarize(graph))
+        folder = tempfile.TemporaryDirectory()
+        self.addCleanup(folder.cleanup)
+        (Path(folder.name) / "<b>.edges").write_text("a b\nb c\nc a\n")
+        (Path(folder.name) / "no.gml").write_text("no")
+        await self.serve(
+            planarize(graph), Folder(Path(folder.name), lambda path: planarization_in(str(path), None, None))
+        )
         start = self.editor._last
         u, v = start.vertex_of[0], start.vertex_of[1]
         with start.session() as session:
@@ -134,6 +157,7 @@ class Pages(Served):
         await browser.until("document.title === 'fezdrok edit: tab 3' || document.title === 'fezdrok edit: tab 1'")
         await self.shows(6, 1, 12, 7)
         await self.prices_are_set()
+        await self.files_are_opened()
         seen = await browser.value("[faults, window.alerted === true, document.scripts.length]")
         self.assertEqual(seen, [[], False, 1])
         box = "document.getElementById('picture').getAttribute('viewBox')"

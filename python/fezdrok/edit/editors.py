@@ -22,6 +22,7 @@ from ..engine.reports import Refused
 from ..engine.results import Planarization
 from ..search.progress import Progress
 from .boards import WORDS, Board, Change, EditedSession, NotDoneError
+from .folders import Folder
 from .forms import Message
 from .tabs import Tab, Tabs
 from .threads import aside
@@ -41,10 +42,12 @@ Value = TypeVar("Value")
 
 
 class Editor:
-    """A picture that is edited by tabs. It is made and used within one event loop, but for `finish`."""
+    """A picture that is edited by tabs. It is made and used within one event loop, but for `finish`. Without a folder
+    no other file can be opened."""
 
-    def __init__(self, result: Planarization, program: PathLike | None = None):
+    def __init__(self, result: Planarization, program: PathLike | None = None, folder: Folder | None = None):
         self._program = program
+        self._folder = folder
         self._board = Board(result, program)
         self._last = result
         self.tabs = Tabs()
@@ -85,11 +88,7 @@ class Editor:
         tab.tell(json_text({"hello": {"tab": tab.number, "number": self.number, "missed": missed}}))
         if self._shown is not None:
             tab.show(self._shown)
-        self.tell_tabs()
-
-    def tell_tabs(self) -> None:
-        """Tells all tabs which there are, and their names."""
-        self.tabs.tell(json_text({"tabs": sorted([tab.number, tab.name] for tab in self.tabs)}))
+        self.tabs.tell_names()
 
     async def handle(self, tab: Tab, message: Message) -> None:
         """Carries a message out, and tells the tab its answer."""
@@ -105,13 +104,16 @@ class Editor:
     async def _answer(self, tab: Tab, message: Message) -> Any:
         """The answer to a message of a tab."""
         if message.word == "point":
-            x, y = message.values
-            self.tabs.point(tab, json_text({"pointer": {"tab": tab.number, "x": x, "y": y}}))
+            self.tabs.point(tab, *message.values)
             return {}
         if message.word == "name":
-            tab.rename(message.values[0])
-            self.tell_tabs()
+            tab.rename(*message.values)
+            self.tabs.tell_names()
             return {}
+        if message.word == "files":
+            return {"files": [] if self._folder is None else await aside(self._folder.names)}
+        if message.word == "open":
+            return await self._open(tab.number, *message.values)
         if message.word == "route":
             return await self._by_hand(self._route, message)
         if message.word == "tidy":
@@ -125,6 +127,13 @@ class Editor:
             self._is_to_draw.set()
             return {}
         return await self._change(lambda: self._called(tab.number, message))
+
+    async def _open(self, caller: int, name: str | None) -> Any:
+        """Puts the picture of a file in the place of that of now, which `undo` brings back."""
+        if (folder := self._folder) is None:
+            raise NotDoneError("no file can be opened here")
+        found = await aside(lambda: folder.opened(name))
+        return await self._change(lambda: self._board.open(caller, "open", found, f"{name} was opened"))
 
     async def _change(self, make: Callable[[], Change]) -> Any:
         """Changes the picture, and tells all tabs, in the order in which the sessions do it."""

@@ -18,7 +18,8 @@ GREATEST = 2**32 - 1
 #: a number or null ("p"), of which the board says what is at fault.
 FORMS = {
     "route": "nnn", "insert": "nnn", "grow": "nwwtn", "delete": "n", "remove": "n", "prices": "p", "undo": "",
-    "redo": "", "tidy": "", "stop": "", "redraw": "", "name": "t", "point": "ww",
+    "redo": "", "tidy": "", "stop": "", "redraw": "", "name": "t", "point": "ww", "files": "",
+    "open": "t",
 }
 
 

@@ -6,6 +6,8 @@ import asyncio
 from collections import deque
 from collections.abc import Awaitable, Callable, Iterator
 
+from ..engine.pictures import json_text
+
 #: How many tabs there may be: a report knows callers from 0 to 15, and the editor itself is 0.
 MOST_TABS = 15
 #: How many messages may wait for a tab that does not read, before its connection is cut.
@@ -102,8 +104,13 @@ class Tabs:
         for tab in self:
             tab.show(text)
 
-    def point(self, pointing: Tab, text: str) -> None:
-        """Tells all tabs but this one where its pointer is."""
+    def tell_names(self) -> None:
+        """Tells all tabs which there are, and their names."""
+        self.tell(json_text({"tabs": sorted([tab.number, tab.name] for tab in self)}))
+
+    def point(self, pointing: Tab, x: float, y: float) -> None:
+        """Tells all tabs but this one where its pointer is, across and down on the page."""
+        text = json_text({"pointer": {"tab": pointing.number, "x": x, "y": y}})
         for tab in self:
             if tab is not pointing:
                 tab.point(pointing.number, text)
