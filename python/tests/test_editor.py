@@ -295,7 +295,7 @@ class Servers(Served):
                 self.assertEqual(message.extra, reason)
 
     async def test_two_tabs(self):
-        """Both make 200 calls; the pictures are the same, and the report replays with each caller's calls in order."""
+        """Both make 500 calls; the pictures are the same, and the report replays with each caller's calls in order."""
         rest = mock.patch.object(editors, "REST", 0.2)
         rest.start()
         self.addCleanup(rest.stop)
@@ -307,7 +307,7 @@ class Servers(Served):
         self.assertEqual(talks[0].drawing, talks[1].drawing)
         async with self.web.get(f"{self.server.address}report.json") as response:
             report = Report.from_text(await response.text())
-        self.assertEqual(Planarizer().replay(report), 400)
+        self.assertEqual(Planarizer().replay(report), 1000)
         for caller, calls in enumerate(made, 1):
             self.assertEqual([entry.call.to_json()[0] for entry in report.history if entry.caller == caller], calls)
         changes = [talk.changes for talk in talks]
@@ -318,11 +318,11 @@ class Servers(Served):
         self.assertEqual({row["id"] for row in drawn["edges"]}, {row.id for row in report.picture.edges})
 
     async def calls(self, talk, seed):
-        """Makes 200 calls, and gives the words of those that came to the program."""
+        """Makes 500 calls, and gives the words of those that came to the program."""
         chance = random.Random(seed)
         made = []
         await talk.drawn(0)
-        while len(made) < 200:
+        while len(made) < 500:
             ids = [row["id"] for row in talk.drawing["edges"]]
             word = chance.choices(("insert", "delete", "grow"), (5, 5, 0.1))[0]
             u, v = chance.sample(range(5), 2)
