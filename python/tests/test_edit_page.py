@@ -1,18 +1,58 @@
 """The page of the editor, in a browser where there is one."""
 
+import asyncio
 import tempfile
 import unittest
 from pathlib import Path
+from unittest import mock
 
 import networkx as nx
 
-from fezdrok import planarize
+from fezdrok import Planarizer, Report, planarize
 from fezdrok.command.editing import planarization_in
+from fezdrok.edit import editors
 from fezdrok.edit.folders import Folder
 
 from .edit_support import Browser, Served, needs_browser, needs_server
 
 NAME = "<script>window.alerted = true</script>"
+
+
+#: How many calls each of two browsers makes, and how many seconds both may take.
+CALLS, SECONDS = 500, 180
+#: Notes in `answers` what the page asks and whether that was refused, and makes calls by clicks and keys.
+CALLER = """
+window.answers = [];
+const send = WebSocket.prototype.send;
+WebSocket.prototype.send = function (text) {
+  const [id, , ...call] = JSON.parse(text);
+  this.addEventListener("message", function heard(event) {
+    const message = JSON.parse(event.data);
+    if (message.id !== id) return;
+    this.removeEventListener("message", heard);
+    answers.push([call, message.answer.refused ?? ""]);
+  });
+  send.call(this, text);
+};
+const click = shown => shown.dispatchEvent(new MouseEvent("click", {bubbles: true}));
+const press = key => document.body.dispatchEvent(new KeyboardEvent("keydown", {key, bubbles: true}));
+const any = mark => { const all = document.querySelectorAll(mark); return all[Math.floor(Math.random() * all.length)]; };
+const answered = async before => {
+  while (answers.length === before) await new Promise(done => setTimeout(done, 6));
+};
+window.came = () => answers.filter(([, refused]) => !/no such edge$|is no multigraph$/.test(refused)).map(([call]) => call);
+window.makeCalls = async count => {
+  while (came().length < count) {
+    const before = answers.length, ends = [any(".node rect"), any(".node rect")];
+    press("Escape");
+    if (Math.random() < .5) { click(any(".edge .wide")); press("Delete"); }
+    else if (ends[0] !== ends[1]) { click(ends[0]); click(ends[1]); }
+    else continue;
+    await answered(before);
+  }
+  window.isDone = true;
+};
+"""
 
 
 def at(vertex):
@@ -170,6 +210,42 @@ class Pages(Served):
         await browser.press("d")
         shades.append(await browser.value("document.documentElement.dataset.shade"))
         self.assertEqual(sorted(shades), ["dark", "light"])
+
+    async def test_two_browsers(self):
+        """Each makes so many calls; both show the same picture then, and the report has each one's calls in order."""
+        rest = mock.patch.object(editors, "REST", 0.1)
+        rest.start()
+        self.addCleanup(rest.stop)
+        await self.serve(planarize(nx.complete_graph(5)))
+        browsers = [Browser(self, self.web) for _ in range(2)]
+        for browser in browsers:
+            await browser.begin()
+            await browser.send("Page.addScriptToEvaluateOnNewDocument", source=CALLER)
+            await browser.send("Page.navigate", url=self.server.address)
+            await browser.until("document.documentElement?.dataset.number === '0'")
+        for browser in browsers:
+            await browser.value(f"makeCalls({CALLS}); 0")
+        late = asyncio.get_running_loop().time() + SECONDS
+        for browser in browsers:
+            while not await browser.value("window.isDone === true"):
+                self.assertLess(asyncio.get_running_loop().time(), late)
+                await asyncio.sleep(0.2)
+        report = Report.from_text(await self.editor.report_text())
+        self.assertEqual(Planarizer().replay(report), len(report.history))
+        pictures = []
+        for browser in browsers:
+            caller = await browser.value("Number(document.title.split(' ').at(-1))")
+            made = [entry.call.to_json() for entry in report.history if entry.caller == caller]
+            self.assertEqual((made, len(made)), (await browser.value("came()"), CALLS))
+            await browser.until(f"document.documentElement.dataset.number === '{self.editor.number}'")
+            shown = "[...document.querySelectorAll('svg [d], svg rect')].map(it => it.outerHTML)"
+            pictures.append(await browser.value(shown))
+            self.assertEqual(await browser.value("faults"), [])
+        self.assertEqual(pictures[0], pictures[1])
+        counts = [await browser.value("document.getElementById('counts').textContent") for browser in browsers]
+        crossings = len(report.picture.crossings)
+        self.assertEqual(counts[0], counts[1])
+        self.assertIn(f"5 nodes, {len(report.picture.edges)} edges, {crossings} crossing", counts[0])
 
 
 if __name__ == "__main__":
