@@ -62,8 +62,13 @@ class Talk:
 
     async def left_with(self, numbers):
         """Waits until it was told that these tabs are there."""
-        while [message["tabs"] for message in self.told if "tabs" in message][-1:] != [numbers]:
+        while [*self.names] != numbers:
             await self.read()
+
+    @property
+    def names(self):
+        """The names of the tabs that are there by their numbers, as it was told last."""
+        return dict(next((message["tabs"] for message in reversed(self.told) if "tabs" in message), []))
 
     async def drawn(self, number):
         """The drawing after this change, or a later one."""
@@ -87,15 +92,15 @@ class Served(unittest.IsolatedAsyncioTestCase):
         warnings.simplefilter("ignore", PlanarWarning)  # of drawings that begin anew
         asyncio.get_running_loop().set_debug(False)  # which is slow
 
-    async def serve(self, result):
-        """Begins a server of this picture, which ends with the test."""
+    async def serve(self, result, folder=None):
+        """Begins a server of this picture, in which files of a folder can be opened, which ends with the test."""
         import aiohttp
 
         from fezdrok.edit.editors import Editor
         from fezdrok.edit.servers import Server
 
         self.talks = []
-        self.editor = Editor(result)
+        self.editor = Editor(result, folder=folder)
         self.server = Server(self.editor)
         await self.server.begin()
         self.origin = f"http://127.0.0.1:{self.server.port}"

@@ -1,14 +1,58 @@
 """The page of the editor, in a browser where there is one."""
 
+import asyncio
+import tempfile
 import unittest
+from pathlib import Path
+from unittest import mock
 
 import networkx as nx
 
-from fezdrok import planarize
+from fezdrok import Planarizer, Report, planarize
+from fezdrok.command.editing import planarization_in
+from fezdrok.edit import editors
+from fezdrok.edit.folders import Folder
 
 from .edit_support import Browser, Served, needs_browser, needs_server
 
 NAME = "<script>window.alerted = true</script>"
+
+
+#: How many calls each of two browsers makes, and how many seconds both may take.
+CALLS, SECONDS = 500, 180
+#: Notes in `answers` what the page asks and whether that was refused, and makes calls by clicks and keys.
+CALLER = """
+window.answers = [];
+const send = WebSocket.prototype.send;
+WebSocket.prototype.send = function (text) {
+  const [id, , ...call] = JSON.parse(text);
+  this.addEventListener("message", function heard(event) {
+    const message = JSON.parse(event.data);
+    if (message.id !== id) return;
+    this.removeEventListener("message", heard);
+    answers.push([call, message.answer.refused ?? ""]);
+  });
+  send.call(this, text);
+};
+const click = shown => shown.dispatchEvent(new MouseEvent("click", {bubbles: true}));
+const press = key => document.body.dispatchEvent(new KeyboardEvent("keydown", {key, bubbles: true}));
+const any = mark => { const all = document.querySelectorAll(mark); return all[Math.floor(Math.random() * all.length)]; };
+const answered = async before => {
+  while (answers.length === before) await new Promise(done => setTimeout(done, 6));
+};
+window.came = () => answers.filter(([, refused]) => !/no such edge$|is no multigraph$/.test(refused)).map(([call]) => call);
+window.makeCalls = async count => {
+  while (came().length < count) {
+    const before = answers.length, ends = [any(".node rect"), any(".node rect")];
+    press("Escape");
+    if (Math.random() < .5) { click(any(".edge .wide")); press("Delete"); }
+    else if (ends[0] !== ends[1]) { click(ends[0]); click(ends[1]); }
+    else continue;
+    await answered(before);
+  }
+  window.isDone = true;
+};
+"""
 
 
 def at(vertex):
@@ -23,13 +67,13 @@ class Pages(Served):
         """How many elements with each of these marks there are."""
         return [await self.browser.value(f"document.querySelectorAll('{mark}').length") for mark in marks]
 
-    async def shows(self, number, crossings, edges, nodes=6):
+    async def shows(self, number, crossings, edges, nodes=6, cost=None):
         """Waits until the page shows the picture after a change, and judges how large it is."""
         await self.browser.until(f"document.documentElement?.dataset.number === '{number}'")
         self.assertEqual(await self.counted(".crossing", ".edge", ".node"), [crossings, edges, nodes])
         words = await self.browser.value("document.getElementById('counts').textContent")
         self.assertEqual(words, f"{nodes} nodes, {edges} edges, {crossings} crossing{'' if crossings == 1 else 's'}, "
-                                f"cost {crossings}")
+                                f"cost {crossings if cost is None else cost}")
 
     async def take_out(self, edge):
         """Chooses an edge, and takes it out."""
@@ -37,11 +81,76 @@ class Pages(Served):
                                  ".dispatchEvent(new MouseEvent('click', {bubbles: true}))")
         await self.browser.press("Delete")
 
+    async def pointers_are_shown(self, other):
+        """Each tab sees the name of the other one where its pointer is, also after the picture was moved."""
+        browser, shown = self.browser, "document.querySelector('.pointer')"
+        place = await browser.middle(at(0))
+        await browser.value("document.getElementById('own').value = 'Ann'")
+        await browser.value("document.getElementById('own').dispatchEvent(new Event('change'))")
+        await browser.move(*place)
+        pointer = (await other.until(lambda message: "pointer" in message))["pointer"]
+        self.assertEqual(other.names[pointer["tab"]], "Ann")
+        await other.ask("name", "<i>Bob</i>")
+        await other.ask("point", pointer["x"], pointer["y"])
+        await browser.until(f"{shown}?.textContent === '<i>Bob</i>'")
+        for key in "+-0":
+            await browser.press(key)
+            x, y = await browser.middle(at(0))
+            left, top = await browser.value(f"[{shown}.getBoundingClientRect().x, {shown}.getBoundingClientRect().y]")
+            self.assertLess(abs(x - left) + abs(y - top), 1.5)
+
+    async def prices_are_set(self):
+        """Sets other prices in the table, takes them back, and sees what is refused."""
+        browser = self.browser
+        inputs = "[...document.querySelectorAll('#rows input')]"
+        values = f"JSON.stringify({inputs}.filter(it => it.type === 'number').map(it => it.value))"
+        await browser.press("k")
+        self.assertEqual(await browser.value("document.querySelector('#rows tr').cells[4].textContent"), "12")
+        await browser.value("document.getElementById('another').click()")
+        await browser.value(f"{inputs}[1].value = '7'")
+        button = await browser.middle("#table button:not([type])")
+        await browser.click(*button)
+        await self.shows(7, 1, 12, 7, 49)
+        self.assertEqual(await browser.value(values), '["7","1"]')
+        await browser.value(f"{inputs}[4].value = ''")
+        await browser.click(*button)
+        await browser.until("document.getElementById('beside').textContent"
+                            " === 'kind 1: a price is a whole number from 1 to 1000'")
+        await browser.value(f"{inputs}[5].click()")
+        await browser.click(*button)
+        await self.shows(8, 1, 12, 7, 49)
+        checked = await browser.value(f"{inputs}.map(it => it.checked)")
+        self.assertEqual(checked, [True, False, False, False, False, True])
+        for number, cost in ((9, 49), (10, 1)):
+            await browser.press("z", control=True)
+            await self.shows(number, 1, 12, 7, cost)
+        self.assertEqual(await browser.value(values), '["1"]')
+        await browser.press("k")
+
+    async def files_are_opened(self):
+        """Opens one in the place of the picture, takes it back, and sees what is said of one at fault."""
+        browser, buttons = self.browser, "[...document.querySelectorAll('#files button')]"
+        for place, words in enumerate(("<b>.edges", "no.gml")):
+            await browser.press("o")
+            await browser.until(f"{buttons}[{place}]?.textContent === '{words}'")
+            await browser.value(f"{buttons}[{place}].click()")
+        await self.shows(11, 0, 3, 3)
+        await browser.until("document.getElementById('beside').textContent.startsWith('no.gml: it is no gml: ')")
+        self.assertTrue(await browser.value("document.getElementById('files').hidden"))
+        await browser.press("z", control=True)
+        await self.shows(12, 1, 12, 7)
+
     async def test_in_a_browser(self):
         graph = nx.complete_graph(5)
         graph.remove_edge(0, 1)
         graph.add_edge(2, NAME)
-        await self.serve(planarize(graph))
+        folder = tempfile.TemporaryDirectory()
+        self.addCleanup(folder.cleanup)
+        (Path(folder.name) / "<b>.edges").write_text("a b\nb c\nc a\n")
+        (Path(folder.name) / "no.gml").write_text("no")
+        await self.serve(
+            planarize(graph), Folder(Path(folder.name), lambda path: planarization_in(str(path), None, None))
+        )
         start = self.editor._last
         u, v = start.vertex_of[0], start.vertex_of[1]
         with start.session() as session:
@@ -81,11 +190,14 @@ class Pages(Served):
         names = await browser.value("[...document.querySelectorAll('.node title')].map(it => it.textContent)")
         self.assertEqual(set(names), {"0", "1", "2", "3", "4", NAME, "<b>new</b>"})
         other = await self.talk()
-        await other.ask("insert", u, v)
+        await other.ask("insert", u, v, 0)
         await self.shows(6, 1, 12, 7)
+        await self.pointers_are_shown(other)
         await browser.send("Page.reload")
         await browser.until("document.title === 'fezdrok edit: tab 3' || document.title === 'fezdrok edit: tab 1'")
         await self.shows(6, 1, 12, 7)
+        await self.prices_are_set()
+        await self.files_are_opened()
         seen = await browser.value("[faults, window.alerted === true, document.scripts.length]")
         self.assertEqual(seen, [[], False, 1])
         box = "document.getElementById('picture').getAttribute('viewBox')"
@@ -98,6 +210,42 @@ class Pages(Served):
         await browser.press("d")
         shades.append(await browser.value("document.documentElement.dataset.shade"))
         self.assertEqual(sorted(shades), ["dark", "light"])
+
+    async def test_two_browsers(self):
+        """Each makes so many calls; both show the same picture then, and the report has each one's calls in order."""
+        rest = mock.patch.object(editors, "REST", 0.1)
+        rest.start()
+        self.addCleanup(rest.stop)
+        await self.serve(planarize(nx.complete_graph(5)))
+        browsers = [Browser(self, self.web) for _ in range(2)]
+        for browser in browsers:
+            await browser.begin()
+            await browser.send("Page.addScriptToEvaluateOnNewDocument", source=CALLER)
+            await browser.send("Page.navigate", url=self.server.address)
+            await browser.until("document.documentElement?.dataset.number === '0'")
+        for browser in browsers:
+            await browser.value(f"makeCalls({CALLS}); 0")
+        late = asyncio.get_running_loop().time() + SECONDS
+        for browser in browsers:
+            while not await browser.value("window.isDone === true"):
+                self.assertLess(asyncio.get_running_loop().time(), late)
+                await asyncio.sleep(0.2)
+        report = Report.from_text(await self.editor.report_text())
+        self.assertEqual(Planarizer().replay(report), len(report.history))
+        pictures = []
+        for browser in browsers:
+            caller = await browser.value("Number(document.title.split(' ').at(-1))")
+            made = [entry.call.to_json() for entry in report.history if entry.caller == caller]
+            self.assertEqual((made, len(made)), (await browser.value("came()"), CALLS))
+            await browser.until(f"document.documentElement.dataset.number === '{self.editor.number}'")
+            shown = "[...document.querySelectorAll('svg [d], svg rect')].map(it => it.outerHTML)"
+            pictures.append(await browser.value(shown))
+            self.assertEqual(await browser.value("faults"), [])
+        self.assertEqual(pictures[0], pictures[1])
+        counts = [await browser.value("document.getElementById('counts').textContent") for browser in browsers]
+        crossings = len(report.picture.crossings)
+        self.assertEqual(counts[0], counts[1])
+        self.assertIn(f"5 nodes, {len(report.picture.edges)} edges, {crossings} crossing", counts[0])
 
 
 if __name__ == "__main__":

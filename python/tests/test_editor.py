@@ -39,18 +39,21 @@ def k5_without_an_edge():
 
 
 BAD = (
-    "", "{", "1", "null", "{}", "[]", "[1,2]", '[1,2,"none"]', '[1,2,"undo",3]', '[1,2,"insert",0]',
-    '[1,2,"insert",0,-1]',
-    '[1,2,"insert",0,1.5]', '[1,2,"insert",0,true]', '[-1,2,"undo"]', '[1,"2","undo"]', '[1,2,"insert",0,4294967296]',
-    '[1,2,"grow",0,NaN,0,null]', '[1,2,"grow",0,1e99,0,null]', '[1,2,"grow",0,0,0,7]', '[1,2,["undo"]]',
-    f'[1,2,"grow",0,0,0,"{"x" * 201}"]', "[" * 60000, "9" * 5000,
+    "", "{", "1", "null", "{}", "[]", "[1,2]", '[1,2,"none"]', '[1,2,"undo",3]', '[1,2,"insert",0,1]',
+    '[1,2,"insert",0,-1,0]',
+    '[1,2,"insert",0,1.5,0]', '[1,2,"insert",0,true,0]', '[-1,2,"undo"]', '[1,"2","undo"]',
+    '[1,2,"insert",0,4294967296,0]',
+    '[1,2,"grow",0,NaN,0,null,0]', '[1,2,"grow",0,1e99,0,null,0]', '[1,2,"grow",0,0,0,7,0]', '[1,2,["undo"]]',
+    f'[1,2,"grow",0,0,0,"{"x" * 201}",0]', "[" * 60000, "9" * 5000, f'[1,2,"grow",0,0,{"9" * 400},null,0]',
+    '[1,2,"open"]', '[1,2,"open",5]', '[1,2,"files",5]', '[1,2,"point",1]', '[1,2,"point",1,Infinity]', '[1,2,"name",5]', '[1,2,"name"]',
+    '[1,2,"prices"]', '[1,2,"prices",5]', '[1,2,"prices",["5"]]', '[1,2,"prices",[true]]', '[1,2,"prices",[[5]]]',
 )
 
 
 class Forms(unittest.TestCase):
     def test_messages(self):
-        message = read_message('[7,2,"grow",0,-1.5,2,"a"]')
-        self.assertEqual((message.id, message.seen, message.word, message.values), (7, 2, "grow", (0, -1.5, 2, "a")))
+        message = read_message('[7,2,"grow",0,-1.5,2,"a",3]')
+        self.assertEqual((message.id, message.seen, message.word, message.values), (7, 2, "grow", (0, -1.5, 2, "a", 3)))
         self.assertEqual(read_message('[0,0,"undo"]').values, ())
         for text in BAD:
             with self.subTest(text[:40]), self.assertRaises(BadMessageError):
@@ -85,11 +88,11 @@ class Boards(unittest.TestCase):
         board = self.board()
         start = board.session.snapshot()
         vertex = start.vertex_of
-        change = board.call(1, "insert", (vertex[0], vertex[1]))
+        change = board.call(1, "insert", (vertex[0], vertex[1], 0))
         self.assertEqual((change.number, change.caller, change.words), (1, 1, "0 – 1 is new: 1 crossing, price 1"))
         with self.assertRaisesRegex(NotDoneError, "two different ends"):
-            board.call(2, "insert", (0, 0))
-        board.call(2, "grow", (vertex[0], 0, "new"))
+            board.call(2, "insert", (0, 0, 0))
+        board.call(2, "grow", (vertex[0], 0, "new", 0))
         with self.assertRaisesRegex(NotDoneError, "would part the picture"):
             board.call(3, "delete", (board.session.snapshot().edge_id(0, "new"),))
         end = board.session.snapshot()
@@ -117,7 +120,7 @@ class Boards(unittest.TestCase):
     def test_what_is_opened_is_taken_back(self):
         board = self.board()
         start, vertex = board.session.snapshot(), board.session.snapshot().vertex_of
-        board.call(1, "insert", (vertex[0], vertex[1]))
+        board.call(1, "insert", (vertex[0], vertex[1], 0))
         before = board.session.snapshot()
         board.call(1, "remove", (vertex[4],))
         after = board.session.snapshot()
@@ -180,7 +183,7 @@ class Views(unittest.TestCase):
             shown = view.route(u, v, route)
             self.assertEqual(len(shown["crossings"]), len(route.crossed))
             due = with_route(now.picture, u, v, route)
-            board.call(1, "insert", (u, v))
+            board.call(1, "insert", (u, v, 0))
             after = board.session.snapshot()
             self.assertEqual(after.picture, due)
             lengths.add(len(route.crossed))
@@ -270,7 +273,7 @@ class Servers(Served):
         while not talk.socket.closed:
             await asyncio.wait_for(talk.socket.receive(), PATIENCE)
         self.assertEqual(talk.socket.close_code, 1003)
-        self.assertEqual((await good.ask("insert", 0, 0))["refused"], "an edge has two different ends")
+        self.assertEqual((await good.ask("insert", 0, 0, 0))["refused"], "an edge has two different ends")
         self.assertEqual(good.changes, [])
 
     async def test_long_and_many_messages(self):
@@ -292,7 +295,7 @@ class Servers(Served):
                 self.assertEqual(message.extra, reason)
 
     async def test_two_tabs(self):
-        """Both make 200 calls; the pictures are the same, and the report replays with each caller's calls in order."""
+        """Both make 500 calls; the pictures are the same, and the report replays with each caller's calls in order."""
         rest = mock.patch.object(editors, "REST", 0.2)
         rest.start()
         self.addCleanup(rest.stop)
@@ -304,7 +307,7 @@ class Servers(Served):
         self.assertEqual(talks[0].drawing, talks[1].drawing)
         async with self.web.get(f"{self.server.address}report.json") as response:
             report = Report.from_text(await response.text())
-        self.assertEqual(Planarizer().replay(report), 400)
+        self.assertEqual(Planarizer().replay(report), 1000)
         for caller, calls in enumerate(made, 1):
             self.assertEqual([entry.call.to_json()[0] for entry in report.history if entry.caller == caller], calls)
         changes = [talk.changes for talk in talks]
@@ -315,15 +318,15 @@ class Servers(Served):
         self.assertEqual({row["id"] for row in drawn["edges"]}, {row.id for row in report.picture.edges})
 
     async def calls(self, talk, seed):
-        """Makes 200 calls, and gives the words of those that came to the program."""
+        """Makes 500 calls, and gives the words of those that came to the program."""
         chance = random.Random(seed)
         made = []
         await talk.drawn(0)
-        while len(made) < 200:
+        while len(made) < 500:
             ids = [row["id"] for row in talk.drawing["edges"]]
             word = chance.choices(("insert", "delete", "grow"), (5, 5, 0.1))[0]
             u, v = chance.sample(range(5), 2)
-            values = {"insert": (u, v), "delete": (chance.choice(ids),), "grow": (u, 1, 1, None)}
+            values = {"insert": (u, v, 0), "delete": (chance.choice(ids),), "grow": (u, 1, 1, None, 0)}
             answer = await talk.ask(word, *values[word])
             if not answer.get("refused", "").endswith(("no such edge", "is no multigraph")):
                 made.append(word)
@@ -334,10 +337,10 @@ class Servers(Served):
         await self.serve(planarize(nx.MultiGraph(nx.complete_graph(4))))
         first, second = await self.talk(), await self.talk()
         for _ in range(3):
-            await first.ask("insert", 0, 1)
+            await first.ask("insert", 0, 1, 0)
         second.socket._response.close()  # as a cut line
         for _ in range(4):
-            await first.ask("insert", 0, 2)
+            await first.ask("insert", 0, 2, 0)
         await first.left_with([1])
         again = await self.talk("?tab=2&since=3")
         self.assertEqual((again.hello["tab"], again.hello["number"]), (2, 7))
@@ -355,6 +358,34 @@ class Servers(Served):
         message = await asyncio.wait_for(socket.receive(), PATIENCE)
         self.assertEqual((message.data, message.extra), (1013, "there are too many tabs"))
 
+    async def test_names_and_pointers(self):
+        await self.serve(k5_without_an_edge())
+        first, second = await self.talk(), await self.talk()
+        self.assertEqual(await first.ask("name", " Ann <b> "), {})
+        self.assertEqual(await first.ask("point", -1.5, 2), {})
+        pointer = await second.until(lambda message: "pointer" in message)
+        self.assertEqual(pointer, {"pointer": {"tab": 1, "x": -1.5, "y": 2}})
+        self.assertEqual(second.names, {1: "Ann <b>", 2: "tab 2"})
+        for nothing in ("  ", None):
+            await second.ask("name", "Bob")
+            await second.ask("name", nothing)
+            self.assertEqual(second.names, {1: "Ann <b>", 2: "tab 2"})
+        self.assertFalse([message for message in first.told if "pointer" in message])
+        self.assertEqual(first.changes, [])
+
+    async def test_of_pointers_the_last_alone_waits(self):
+        tab, sent = tabs.Tab(1, lambda: None), []
+        for place in range(2 * tabs.MOST_WAITING):
+            tab.point(2 + place % 2, str(place))
+        tab.tell("told")
+
+        async def send(text):
+            sent.append(text)
+
+        with self.assertRaises(asyncio.TimeoutError):
+            await asyncio.wait_for(tab.send_all(send), 0.05)
+        self.assertEqual(sent, ["told", *(str(2 * tabs.MOST_WAITING - it) for it in (2, 1))])
+
     async def test_a_slow_tab(self):
         """One that does not read holds nobody up, and is cut where too much waits for it."""
         await self.serve(planarize(nx.MultiGraph(nx.complete_graph(4))))
@@ -364,7 +395,7 @@ class Servers(Served):
             for place in range(50):
                 self.editor.tabs.tell(json.dumps({"told": "x" * 300000}))
                 if place % 10 == 0:
-                    self.assertIn("number", await quick.ask("insert", 0, 1))
+                    self.assertIn("number", await quick.ask("insert", 0, 1, 0))
                 await asyncio.sleep(0)
             await quick.left_with([1])
 
@@ -457,7 +488,7 @@ class Ends(unittest.TestCase):
 
         async with aiohttp.ClientSession() as web:
             async with web.ws_connect(f"{address}live", origin=address.rsplit("/", 2)[0]) as socket:
-                await socket.send_str('[1,0,"insert",0,2]')
+                await socket.send_str('[1,0,"insert",0,2,0]')
                 while "answer" not in (message := json.loads(await socket.receive_str())):
                     pass
         return message["answer"]

@@ -1,6 +1,7 @@
 """Planarizations that go on: what the names come to, told from the graph and from networkx's embedding."""
 
 import unittest
+from dataclasses import replace
 
 import networkx as nx
 
@@ -141,6 +142,8 @@ class GraphSessions(Sessions, unittest.TestCase):
             session.insert_edge("b", "d")
             self.assertEqual(session.result().prices, (5, 1))
             to_svg(session.result())
+        with replace(self.result, prices=(5, 5, 9)).session(prices=[9, 7, 7], process=self.process) as session:
+            self.assertEqual(session.prices, (5, 5, 9, 7, 1))
         with self.assertRaisesRegex(ValueError, "65 different prices"):
             self.result.session(prices=range(1, 66), process=self.process)
 

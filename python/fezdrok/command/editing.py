@@ -14,8 +14,10 @@ from threading import Thread
 from typing import Any
 
 from ..edit.editors import Editor
+from ..edit.folders import Folder
 from ..edit.servers import Server, aiohttp_web
 from ..engine.faults import PlanarError, PlanarWarning
+from ..engine.program import PathLike
 from ..engine.results import SUFFIX, Planarization
 from ..engine.whole_files import write_whole
 from ..files.graph_files import GraphFileError
@@ -53,12 +55,17 @@ def _opened(words: argparse.Namespace) -> Planarization:
             raise ValueError("the report would be written over it")
     if words.file is None:
         return planarize([("0", "1")], program=words.program)
-    if is_saved(words.file, words.format):
-        result = read_saved(words.file)
-        result.verify(program=words.program)
+    return planarization_in(words.file, words.format, words.program)
+
+
+def planarization_in(path: str, form: str | None, program: PathLike | None) -> Planarization:
+    """The planarization of a file; ValueError where it is of no graph that can be edited."""
+    if is_saved(path, form):
+        result = read_saved(path)
+        result.verify(program=program)
     else:
-        graph = without_loops(read_graph(words.file, words.format))
-        result = planarize(graph, seconds=SECONDS, program=words.program)
+        graph = without_loops(read_graph(path, form))
+        result = planarize(graph, seconds=SECONDS, program=program)
     if result.parts or not result.picture.edges:
         raise ValueError("a graph that is edited is connected, and has an edge")
     return result
@@ -66,7 +73,8 @@ def _opened(words: argparse.Namespace) -> Planarization:
 
 async def _edit(words: argparse.Namespace, result: Planarization) -> int:
     """Edits a picture until a signal comes; then writes what is to be kept."""
-    editor, is_over, loop = Editor(result, words.program), asyncio.Event(), asyncio.get_running_loop()
+    folder = Folder(Path(), lambda path: planarization_in(str(path), None, words.program))
+    editor, is_over, loop = Editor(result, words.program, folder), asyncio.Event(), asyncio.get_running_loop()
     server = Server(editor)
     for number in (signal.SIGINT, signal.SIGTERM):
         loop.add_signal_handler(number, is_over.set)

@@ -8,12 +8,13 @@ from typing import Any, NamedTuple
 
 from ..engine.answers import Route, VertexAnswer
 from ..engine.faults import Fault, NotPlanarized, PlanarError
-from ..engine.graph_edges import Node
+from ..engine.graph_edges import Node, Price
 from ..engine.graph_session import GraphSession
 from ..engine.pictures import Counts
 from ..engine.program import PathLike
 from ..engine.reports import Inserted, Refused, Report
 from ..engine.results import Planarization
+from .kinds import BOUNDS, price_words, repriced
 from .pruning import without_node
 
 #: How many pictures that others took the place of can be taken back.
@@ -54,7 +55,19 @@ class Change(NamedTuple):
 
 
 class EditedSession(GraphSession[Planarization]):
-    """A session whose calls have callers, and which is asked by vertices and ids."""
+    """A session whose calls have callers, and which is asked by vertices and ids. `kind` is that of new edges, whatever
+    price they are given: two kinds may have the same."""
+
+    kind = 0
+
+    def _kind(self, price: Price) -> int:
+        return self.kind
+
+    def price_of(self, kind: int) -> Price:
+        """The price of a kind; NotDoneError where there is none."""
+        if kind >= len(self._source.prices):
+            raise NotDoneError(WORDS[5])
+        return self.prices[kind]
 
     def called_by(self, caller: int) -> None:
         """Sets the caller of the calls to come."""
@@ -141,8 +154,9 @@ class Board:
             raise NotDoneError("the picture has changed meanwhile: look again")
 
     def call(self, caller: int, word: str, values: Sequence[Any]) -> Change:
-        """Makes a call: `insert` from a vertex to a vertex, `grow` from a vertex at a position to a node of this name,
-        `delete` of an edge, `remove` of a vertex with its edges, `undo` or `redo`. NotDoneError where it is refused."""
+        """Makes a call: `insert` from a vertex to a vertex, of a kind; `grow` from a vertex at a position to a node of
+        this name, of a kind; `delete` of an edge, `remove` of a vertex with its edges, `prices` of all kinds, `undo` or
+        `redo`. NotDoneError where it is refused."""
         if word == "undo":
             return self._undo(caller)
         if word == "redo":
@@ -150,6 +164,8 @@ class Board:
         if word == "remove":
             node = self.session.node(values[0])
             return self.open(caller, word, without_node(self.session.snapshot(), node), f"{node} was taken out")
+        if word == "prices":
+            return self._priced(caller, values[0])
         words = self._made(caller, (word, tuple(values)))
         self._forget_undone()
         return self._changed(caller, word, words)
@@ -165,6 +181,21 @@ class Board:
         if len(self._layers) > MOST_LAYERS + 1:
             self._layers.pop(0).session.close()
         return self._changed(caller, word, words, False)
+
+    def _priced(self, caller: int, prices: Sequence[Price | float]) -> Change:
+        """Opens the picture anew at these prices of its kinds."""
+        try:
+            other = repriced(self.session.snapshot(), prices)
+            return self.open(caller, "prices", other, f"prices: {price_words(prices)}")
+        except Fault as fault:
+            if fault.number not in (10, 54):
+                raise
+            kind = str(fault.value).rpartition("/")[2]
+            raise NotDoneError(f"kind {kind}: {BOUNDS}") from None
+        except ValueError as refused:
+            if isinstance(refused, PlanarError):
+                raise
+            raise NotDoneError(str(refused)) from None
 
     def begin_again(self, result: Planarization) -> Change:
         """Puts a picture in the place of one whose program ended."""
@@ -197,18 +228,18 @@ class Board:
 
     def _carried_out(self, session: EditedSession, word: str, values: Sequence[Any]) -> str:
         """What was done, in words."""
-        price = 1 if 1 in session.prices else session.prices[0]
         if word == "delete":
             words = session.edge_words(values[0])
             session.delete_edge(*session.edge_of[values[0]])
             return f"{words} was taken out"
         if word == "grow":
-            start, position, name = values
-            node = session.node(start)
+            start, position, name, session.kind = values
+            node, price = session.node(start), session.price_of(session.kind)
             session.grow_edge(node, name, price, position)
             return f"{name} is new, on an edge from {node}"
-        u, v = map(session.node, values)
-        reply: Inserted = session.insert_edge(u, v, price)
+        start, end, session.kind = values
+        u, v = session.node(start), session.node(end)
+        reply: Inserted = session.insert_edge(u, v, session.price_of(session.kind))
         count = len(reply.crossed)
         return f"{u} – {v} is new: {count} crossing{'' if count == 1 else 's'}, price {reply.price}"
 

@@ -22,6 +22,7 @@ from ..engine.reports import Refused
 from ..engine.results import Planarization
 from ..search.progress import Progress
 from .boards import WORDS, Board, Change, EditedSession, NotDoneError
+from .folders import Folder
 from .forms import Message
 from .tabs import Tab, Tabs
 from .threads import aside
@@ -41,10 +42,12 @@ Value = TypeVar("Value")
 
 
 class Editor:
-    """A picture that is edited by tabs. It is made and used within one event loop, but for `finish`."""
+    """A picture that is edited by tabs. It is made and used within one event loop, but for `finish`. Without a folder
+    no other file can be opened."""
 
-    def __init__(self, result: Planarization, program: PathLike | None = None):
+    def __init__(self, result: Planarization, program: PathLike | None = None, folder: Folder | None = None):
         self._program = program
+        self._folder = folder
         self._board = Board(result, program)
         self._last = result
         self.tabs = Tabs()
@@ -85,15 +88,11 @@ class Editor:
         tab.tell(json_text({"hello": {"tab": tab.number, "number": self.number, "missed": missed}}))
         if self._shown is not None:
             tab.show(self._shown)
-        self.tell_tabs()
-
-    def tell_tabs(self) -> None:
-        """Tells all tabs which there are."""
-        self.tabs.tell(json_text({"tabs": sorted(tab.number for tab in self.tabs)}))
+        self.tabs.tell_names()
 
     async def handle(self, tab: Tab, message: Message) -> None:
         """Carries a message out, and tells the tab its answer."""
-        work = self._begin(self._answer(tab.number, message))
+        work = self._begin(self._answer(tab, message))
         try:
             answer = await asyncio.shield(work)
         except NotDoneError as refused:
@@ -102,12 +101,23 @@ class Editor:
             answer = {"refused": f"the program failed: {failed}"}
         tab.tell(json_text({"answer": answer, "id": message.id}))
 
-    async def _answer(self, caller: int, message: Message) -> Any:
-        """The answer to a message."""
+    async def _answer(self, tab: Tab, message: Message) -> Any:
+        """The answer to a message of a tab."""
+        if message.word == "point":
+            self.tabs.point(tab, *message.values)
+            return {}
+        if message.word == "name":
+            tab.rename(*message.values)
+            self.tabs.tell_names()
+            return {}
+        if message.word == "files":
+            return {"files": [] if self._folder is None else await aside(self._folder.names)}
+        if message.word == "open":
+            return await self._open(tab.number, *message.values)
         if message.word == "route":
             return await self._by_hand(self._route, message)
         if message.word == "tidy":
-            return await self._tidy(caller)
+            return await self._tidy(tab.number)
         if message.word == "stop":
             if self._tidying is not None:
                 self._tidying.stop()
@@ -116,7 +126,14 @@ class Editor:
             self._views.pop(self._board.session, None)
             self._is_to_draw.set()
             return {}
-        return await self._change(lambda: self._called(caller, message))
+        return await self._change(lambda: self._called(tab.number, message))
+
+    async def _open(self, caller: int, name: str | None) -> Any:
+        """Puts the picture of a file in the place of that of now, which `undo` brings back."""
+        if (folder := self._folder) is None:
+            raise NotDoneError("no file can be opened here")
+        found = await aside(lambda: folder.opened(name))
+        return await self._change(lambda: self._board.open(caller, "open", found, f"{name} was opened"))
 
     async def _change(self, make: Callable[[], Change]) -> Any:
         """Changes the picture, and tells all tabs, in the order in which the sessions do it."""
@@ -146,12 +163,12 @@ class Editor:
         if message.word not in ("undo", "redo"):
             board.judge(message.seen)
         if message.word == "grow":
-            vertex, across, down, name = values
+            vertex, across, down, name, kind = values
             board.session.node(vertex)
-            values = (vertex, self._position(vertex, across, down), board.free_name(name))
+            values = (vertex, self._position(vertex, across, down), board.free_name(name), kind)
         before = board.session
         change = board.call(caller, message.word, values)
-        if message.word == "remove" and before in self._views:
+        if message.word in ("remove", "prices") and before in self._views:
             self._views[board.session] = self._views[before]
         return change
 
@@ -164,8 +181,9 @@ class Editor:
         return around.edges.index(edge_id) if edge_id in around.edges else 0
 
     def _route(self, message: Message) -> Any:
-        """What an edge would do: what it would cross, its price, and where the drawing is that of now its line."""
-        board, (u, v) = self._board, message.values
+        """What an edge of a kind would do: what it would cross, its price, and where the drawing is that of now its
+        line."""
+        board, (u, v, kind) = self._board, message.values
         board.judge(message.seen)
         session = board.session
         ends = session.node(u), session.node(v)
@@ -174,6 +192,8 @@ class Editor:
         route = session.route(u, v)
         if isinstance(route, Refused):
             raise NotDoneError(WORDS[route.number])
+        if session.price_of(kind) is None and route.crossed:
+            raise NotDoneError("nothing may cross an edge of this kind, and this one would cross others")
         told: dict[str, Any] = {"crossed": [dart.edge for dart in route.crossed], "price": route.price}
         view = self._views.get(session)
         if view is not None and view.number == board.number:

@@ -3,22 +3,23 @@
 from __future__ import annotations
 
 import json
-import math
 from collections import deque
 from dataclasses import dataclass
 from typing import Any
 
 #: How many bytes a message may have, and how many messages may come within a second.
 LONGEST, MOST = 65536, 200
-#: How many letters the name of a new node may have.
+#: How many letters the name of a new node or of a tab may have.
 LONGEST_NAME = 200
 #: How large a number is that names a vertex, an edge, a message or a change.
 GREATEST = 2**32 - 1
 
-#: What is behind each word: numbers from 0 on ("n"), a way across or down ("w"), and a name or null ("t").
+#: What is behind each word: numbers from 0 on ("n"), a way across or down ("w"), a name or null ("t"), and prices, each
+#: a number or null ("p"), of which the board says what is at fault.
 FORMS = {
-    "route": "nn", "insert": "nn", "grow": "nwwt", "delete": "n", "remove": "n", "undo": "", "redo": "", "tidy": "",
-    "stop": "", "redraw": "",
+    "route": "nnn", "insert": "nnn", "grow": "nwwtn", "delete": "n", "remove": "n", "prices": "p", "undo": "",
+    "redo": "", "tidy": "", "stop": "", "redraw": "", "name": "t", "point": "ww", "files": "",
+    "open": "t",
 }
 
 
@@ -62,11 +63,17 @@ def _fits(kind: str, value: Any) -> bool:
     """Whether a value is of this kind."""
     if kind == "t":
         return value is None or (isinstance(value, str) and len(value) <= LONGEST_NAME)
-    if isinstance(value, bool) or not isinstance(value, (int, float)):
+    if kind == "p":
+        return isinstance(value, list) and all(it is None or _is_number(it) for it in value)
+    if not _is_number(value):
         return False
     if kind == "n":
         return isinstance(value, int) and 0 <= value <= GREATEST
-    return math.isfinite(value) and abs(value) <= GREATEST
+    return abs(value) <= GREATEST  # which is none that is not finite
+
+
+def _is_number(value: Any) -> bool:
+    return isinstance(value, (int, float)) and not isinstance(value, bool)
 
 
 class Pace:

@@ -175,7 +175,7 @@ class Server:
         finally:
             sender.cancel()
             self._editor.tabs.go(tab)
-            self._editor.tell_tabs()
+            self._editor.tabs.tell_names()
             with suppress(asyncio.CancelledError, ConnectionError):
                 await sender
         return socket

@@ -6,6 +6,8 @@ import asyncio
 from collections import deque
 from collections.abc import Awaitable, Callable, Iterator
 
+from ..engine.pictures import json_text
+
 #: How many tabs there may be: a report knows callers from 0 to 15, and the editor itself is 0.
 MOST_TABS = 15
 #: How many messages may wait for a tab that does not read, before its connection is cut.
@@ -13,15 +15,22 @@ MOST_WAITING = 1000
 
 
 class Tab:
-    """A tab. What is told to it waits here, so that a slow one holds nobody up; of drawings the last alone waits."""
+    """A tab. What is told to it waits here, so that a slow one holds nobody up; of drawings the last alone waits, and
+    so does of each tab's pointers. `name` is what the other tabs call it."""
 
     def __init__(self, number: int, cut: Callable[[], None]):
         self.number = number
         self.cut = cut
+        self.rename(None)
+        self._pointers: dict[int, str] = {}
         self._waiting: deque[str] = deque()
         self._drawing: str | None = None
         self._is_cut = False
         self._has_more = asyncio.Event()
+
+    def rename(self, name: str | None) -> None:
+        """Gives the tab this name, or where it says nothing one from its number."""
+        self.name = (name or "").strip() or f"tab {self.number}"
 
     def tell(self, text: str) -> None:
         """Has a message be sent. Where too many wait, the connection is cut: the tab comes again and asks for what it
@@ -37,6 +46,11 @@ class Tab:
         self._drawing = text
         self._has_more.set()
 
+    def point(self, number: int, text: str) -> None:
+        """Has a message be sent on where the pointer of another tab is, in the place of one that still waits."""
+        self._pointers[number] = text
+        self._has_more.set()
+
     async def send_all(self, send: Callable[[str], Awaitable[None]]) -> None:
         """Sends what is told, for ever."""
         while True:
@@ -46,6 +60,9 @@ class Tab:
                 await send(self._waiting.popleft())
             text, self._drawing = self._drawing, None
             if text is not None:
+                await send(text)
+            pointers, self._pointers = self._pointers, {}
+            for text in pointers.values():
                 await send(text)
 
 
@@ -86,3 +103,14 @@ class Tabs:
         """Shows all tabs this drawing."""
         for tab in self:
             tab.show(text)
+
+    def tell_names(self) -> None:
+        """Tells all tabs which there are, and their names."""
+        self.tell(json_text({"tabs": sorted([tab.number, tab.name] for tab in self)}))
+
+    def point(self, pointing: Tab, x: float, y: float) -> None:
+        """Tells all tabs but this one where its pointer is, across and down on the page."""
+        text = json_text({"pointer": {"tab": pointing.number, "x": x, "y": y}})
+        for tab in self:
+            if tab is not pointing:
+                tab.point(pointing.number, text)

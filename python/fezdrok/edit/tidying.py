@@ -8,6 +8,7 @@ from ..engine.program import PathLike
 from ..engine.results import Planarization
 from ..search.planarization import planarize
 from ..search.progress import Progress
+from .kinds import with_kinds_of
 
 #: How many seconds a search takes at most.
 SECONDS = 60.0
@@ -42,4 +43,5 @@ class Tidying:
         found = planarize(
             before.graph, price_of, start=before, seconds=SECONDS, progress=self._go_on, program=program
         )
-        return found if (found.cost, found.crossings) < (before.cost, before.crossings) else None
+        is_better = (found.cost, found.crossings) < (before.cost, before.crossings)
+        return with_kinds_of(found, before) if is_better else None

@@ -6,6 +6,7 @@ what is in two drawings lies where it lay.
 
 from __future__ import annotations
 
+from collections import Counter
 from collections.abc import Sequence
 from dataclasses import dataclass
 from functools import cached_property
@@ -15,7 +16,7 @@ from typing import Any
 from ..drawing.drawings import Drawing, drawing_of
 from ..drawing.labels import LETTER_HEIGHT, LINE, clean
 from ..drawing.pages import Page, PageLine, PagePoint
-from ..drawing.scenes import Position
+from ..drawing.scenes import Position, looks
 from ..drawing.step_lines import Line, StepLines, put_edge
 from ..drawing.svg import Paint, edge_words, number
 from ..engine.answers import Route
@@ -77,8 +78,17 @@ class View:
             "scale": self.unit / scene.unit, "origin": self.at((0.0, 0.0)),
             "size": [it / self.page.steps for it in self.page.size], "nodes": nodes, "edges": self._edges(paint),
             "crossings": [self.at(dot) for dot in scene.dots], "legend": legend, "vertices": len(result.node_of),
-            "count": result.crossings, "cost": result.cost,
+            "kinds": self._kinds(paint), "count": result.crossings, "cost": result.cost,
         }
+
+    def _kinds(self, paint: Paint) -> list[Json]:
+        """Each kind with its price, its look, and how many edges have it."""
+        result = self.drawing.result
+        counts = Counter(row.kind for row in result.picture.edges)
+        return [
+            {"price": price, "color": paint.ink(look.color), "width": look.width, "edges": counts[kind]}
+            for kind, (price, look) in enumerate(zip(result.prices, looks(result)[0]))
+        ]
 
     def _edges(self, paint: Paint) -> list[Json]:
         result = self.drawing.result

@@ -296,7 +296,8 @@ class GraphSession(Generic[Result]):
 
 
 def _session_prices(known: Sequence[Price], more: Sequence[Price]) -> tuple[Price, ...]:
-    """The prices that are known, those that come to them, and 1 if there is room; ValueError if they are too many."""
-    table = tuple(dict.fromkeys((*known, *more)))
+    """The prices that are known, each at its place, those that come to them, and 1 if there is room; ValueError if they
+    are too many."""
+    table = (*known, *(price for price in dict.fromkeys(more) if price not in known))
     judge_kinds(len(table))
     return table if 1 in table or len(table) == KINDS else (*table, 1)
