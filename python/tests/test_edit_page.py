@@ -36,11 +36,15 @@ WebSocket.prototype.send = function (text) {
 };
 const click = shown => shown.dispatchEvent(new MouseEvent("click", {bubbles: true}));
 const press = key => document.body.dispatchEvent(new KeyboardEvent("keydown", {key, bubbles: true}));
-const any = mark => { const all = document.querySelectorAll(mark); return all[Math.floor(Math.random() * all.length)]; };
+const any = mark => {
+  const all = document.querySelectorAll(mark);
+  return all[Math.floor(Math.random() * all.length)];
+};
 const answered = async before => {
   while (answers.length === before) await new Promise(done => setTimeout(done, 6));
 };
-window.came = () => answers.filter(([, refused]) => !/no such edge$|is no multigraph$/.test(refused)).map(([call]) => call);
+const isOfProgram = ([, refused]) => !/no such edge$|is no multigraph$/.test(refused);
+window.came = () => answers.filter(isOfProgram).map(([call]) => call);
 window.makeCalls = async count => {
   while (came().length < count) {
     const before = answers.length, ends = [any(".node rect"), any(".node rect")];

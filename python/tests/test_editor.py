@@ -45,7 +45,8 @@ BAD = (
     '[1,2,"insert",0,4294967296,0]',
     '[1,2,"grow",0,NaN,0,null,0]', '[1,2,"grow",0,1e99,0,null,0]', '[1,2,"grow",0,0,0,7,0]', '[1,2,["undo"]]',
     f'[1,2,"grow",0,0,0,"{"x" * 201}",0]', "[" * 60000, "9" * 5000, f'[1,2,"grow",0,0,{"9" * 400},null,0]',
-    '[1,2,"open"]', '[1,2,"open",5]', '[1,2,"files",5]', '[1,2,"point",1]', '[1,2,"point",1,Infinity]', '[1,2,"name",5]', '[1,2,"name"]',
+    '[1,2,"open"]', '[1,2,"open",5]', '[1,2,"files",5]',
+    '[1,2,"point",1]', '[1,2,"point",1,Infinity]', '[1,2,"name",5]', '[1,2,"name"]',
     '[1,2,"prices"]', '[1,2,"prices",5]', '[1,2,"prices",["5"]]', '[1,2,"prices",[true]]', '[1,2,"prices",[[5]]]',
 )
 
@@ -358,34 +359,6 @@ class Servers(Served):
         message = await asyncio.wait_for(socket.receive(), PATIENCE)
         self.assertEqual((message.data, message.extra), (1013, "there are too many tabs"))
 
-    async def test_names_and_pointers(self):
-        await self.serve(k5_without_an_edge())
-        first, second = await self.talk(), await self.talk()
-        self.assertEqual(await first.ask("name", " Ann <b> "), {})
-        self.assertEqual(await first.ask("point", -1.5, 2), {})
-        pointer = await second.until(lambda message: "pointer" in message)
-        self.assertEqual(pointer, {"pointer": {"tab": 1, "x": -1.5, "y": 2}})
-        self.assertEqual(second.names, {1: "Ann <b>", 2: "tab 2"})
-        for nothing in ("  ", None):
-            await second.ask("name", "Bob")
-            await second.ask("name", nothing)
-            self.assertEqual(second.names, {1: "Ann <b>", 2: "tab 2"})
-        self.assertFalse([message for message in first.told if "pointer" in message])
-        self.assertEqual(first.changes, [])
-
-    async def test_of_pointers_the_last_alone_waits(self):
-        tab, sent = tabs.Tab(1, lambda: None), []
-        for place in range(2 * tabs.MOST_WAITING):
-            tab.point(2 + place % 2, str(place))
-        tab.tell("told")
-
-        async def send(text):
-            sent.append(text)
-
-        with self.assertRaises(asyncio.TimeoutError):
-            await asyncio.wait_for(tab.send_all(send), 0.05)
-        self.assertEqual(sent, ["told", *(str(2 * tabs.MOST_WAITING - it) for it in (2, 1))])
-
     async def test_a_slow_tab(self):
         """One that does not read holds nobody up, and is cut where too much waits for it."""
         await self.serve(planarize(nx.MultiGraph(nx.complete_graph(4))))
@@ -482,13 +455,13 @@ class Ends(unittest.TestCase):
         self.addCleanup(process.kill)
         return process
 
-    async def insert(self, address):
-        """Inserts the edge that is missing, from another process."""
+    async def asked(self, address, text):
+        """The answer to a message of another process."""
         import aiohttp
 
         async with aiohttp.ClientSession() as web:
             async with web.ws_connect(f"{address}live", origin=address.rsplit("/", 2)[0]) as socket:
-                await socket.send_str('[1,0,"insert",0,2,0]')
+                await socket.send_str(text)
                 while "answer" not in (message := json.loads(await socket.receive_str())):
                     pass
         return message["answer"]
@@ -500,7 +473,7 @@ class Ends(unittest.TestCase):
         ends = zip(begun, (signal.SIGTERM, signal.SIGINT), ("g.edited", "g.edited-2"))
         for process, number, name in ends:
             address = process.stdout.readline().split()[0]
-            self.assertIn("a – c is new", asyncio.run(self.insert(address))["words"])
+            self.assertIn("a – c is new", asyncio.run(self.asked(address, '[1,0,"insert",0,2,0]'))["words"])
             process.send_signal(number)
             told, failed = process.communicate(timeout=PATIENCE)
             self.assertEqual((process.returncode, failed), (0, ""))
@@ -508,6 +481,19 @@ class Ends(unittest.TestCase):
             load(self.folder / "graphs" / f"{name}.planar.json").verify(nx.Graph(["ab", "bc", "cd", "ac"]))
         report = Report.from_text((self.folder / "1.json").read_text())
         self.assertEqual((Planarizer().replay(report), report.history[0].caller), (1, 1))
+
+    def test_files_where_it_was_started(self):
+        (self.folder / "graphs").mkdir()
+        for name in ("g.edges", "graphs/h.edges"):
+            (self.folder / name).write_text("a b\n")
+        process = self.begin("graphs/h.edges", "--no-browser")
+        address = process.stdout.readline().split()[0]
+        self.assertEqual(asyncio.run(self.asked(address, '[1,0,"files"]')), {"files": ["g.edges"]})
+        answer = asyncio.run(self.asked(address, '[1,0,"open","g.edges"]'))
+        self.assertEqual(answer, {"number": 1, "words": "g.edges was opened"})
+        process.send_signal(signal.SIGTERM)
+        told = "what was not saved is in graphs/h.edited.planar.json\n"
+        self.assertEqual(process.communicate(timeout=PATIENCE), (told, ""))
 
     def test_what_cannot_be_opened(self):
         (self.folder / "g.edges").write_text("a b\nc d\n")

@@ -61,6 +61,7 @@ class EditedSession(GraphSession[Planarization]):
     kind = 0
 
     def _kind(self, price: Price) -> int:
+        """The kind of a new edge of this price."""
         return self.kind
 
     def price_of(self, kind: int) -> Price:

@@ -130,9 +130,10 @@ class Editor:
 
     async def _open(self, caller: int, name: str | None) -> Any:
         """Puts the picture of a file in the place of that of now, which `undo` brings back."""
-        if (folder := self._folder) is None:
+        if self._folder is None:
             raise NotDoneError("no file can be opened here")
-        found = await aside(lambda: folder.opened(name))
+        opened = self._folder.opened
+        found = await aside(lambda: opened(name))
         return await self._change(lambda: self._board.open(caller, "open", found, f"{name} was opened"))
 
     async def _change(self, make: Callable[[], Change]) -> Any:

@@ -69,7 +69,7 @@ def _fits(kind: str, value: Any) -> bool:
         return False
     if kind == "n":
         return isinstance(value, int) and 0 <= value <= GREATEST
-    return abs(value) <= GREATEST  # which is none that is not finite
+    return bool(abs(value) <= GREATEST)  # which is none that is not finite
 
 
 def _is_number(value: Any) -> bool:

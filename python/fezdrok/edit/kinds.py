@@ -43,6 +43,6 @@ def price_words(prices: Sequence[Price | float]) -> str:
 def with_kinds_of(found: Planarization, before: Planarization) -> Planarization:
     """A planarization of the same graph at the same prices, with the table of prices and the kinds of the one before:
     kinds that no edge has are there too."""
-    kind_of = {before.edge_of[row.id]: row.kind for row in before.picture.edges}
-    edges = tuple(replace(row, kind=kind_of[found.edge_of[row.id]]) for row in found.picture.edges)
+    before_of = {edge_id: before.edge_id(*edge) for edge_id, edge in found.edge_of.items()}
+    edges = tuple(replace(row, kind=before.picture.edge(before_of[row.id]).kind) for row in found.picture.edges)
     return replace(found, picture=replace(found.picture, edges=edges), prices=before.prices, reports=())
