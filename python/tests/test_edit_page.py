@@ -19,7 +19,7 @@ NAME = "<script>window.alerted = true</script>"
 
 
 #: How many calls each of two browsers makes, and how many seconds both may take.
-CALLS, SECONDS = 500, 180
+CALLS, SECONDS = 500, 600
 #: Notes in `answers` what the page asks and whether that was refused, and makes calls by clicks and keys.
 CALLER = """
 window.answers = [];
