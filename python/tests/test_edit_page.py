@@ -19,7 +19,7 @@ NAME = "<script>window.alerted = true</script>"
 
 
 #: How many calls each of two browsers makes, and how many seconds both may take.
-CALLS, SECONDS = 500, 180
+CALLS, SECONDS = 500, 600
 #: Notes in `answers` what the page asks and whether that was refused, and makes calls by clicks and keys.
 CALLER = """
 window.answers = [];
@@ -138,8 +138,8 @@ class Pages(Served):
             await browser.press("o")
             await browser.until(f"{buttons}[{place}]?.textContent === '{words}'")
             await browser.value(f"{buttons}[{place}].click()")
-        await self.shows(11, 0, 3, 3)
-        await browser.until("document.getElementById('beside').textContent.startsWith('no.gml: it is no gml: ')")
+            await self.shows(11, 0, 3, 3)
+        await browser.until("document.getElementById('told').textContent.startsWith('no.gml: it is no gml: ')")
         self.assertTrue(await browser.value("document.getElementById('files').hidden"))
         await browser.press("z", control=True)
         await self.shows(12, 1, 12, 7)
