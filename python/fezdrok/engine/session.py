@@ -123,7 +123,7 @@ class Session:
         self._lock = Lock()
         self._answerer: Answerer | None = None
         library = None if process else self._program.library
-        answerer = LibrarySession(library) if library else LineProcess(self._program.path)
+        answerer: Answerer = LibrarySession(library) if library else LineProcess(self._program.path)
         try:
             _understood(answerer, answerer.ask(json_text(first)), _counts)
         except BaseException:
