@@ -135,7 +135,8 @@ class Board:
         self._layers = [_Layer(self._begun(result))]
 
     def _begun(self, result: Planarization) -> EditedSession:
-        return EditedSession(result, program=self._program)
+        """A session of a picture, in a process of its own: where that ends, the editor goes on."""
+        return EditedSession(result, program=self._program, process=True)
 
     @property
     def session(self) -> EditedSession:
