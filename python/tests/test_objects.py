@@ -99,10 +99,11 @@ class Objects(unittest.TestCase):
 class Lines(unittest.TestCase):
     def test_of_one_line(self):
         result = planarize(nx.complete_graph(5))
-        with Session() as session, result.session() as named:
-            lines = [repr(it) for it in (session, named)]
+        with Session(process=True) as session, Session() as other, result.session() as named:
+            lines = [repr(it) for it in (session, other, named)]
             self.assertRegex(lines[0], r"\A<Session: process \d+>\Z")
-            self.assertEqual(lines[1], "<GraphSession: 5 nodes, 10 edges>")
+            self.assertRegex(lines[1], r"\A<Session: (process \d+|in this process)>\Z")
+            self.assertEqual(lines[2], "<GraphSession: 5 nodes, 10 edges>")
         self.assertEqual((repr(session), repr(named)), ("<Session: closed>", "<GraphSession: closed>"))
         for thing, due in (
             (result.picture, "<Picture: 5 vertices, 10 edges, 1 crossings>"),
