@@ -385,6 +385,19 @@ class Servers(Served):
         answer = await talk.ask("delete", 1, seen=0)
         self.assertEqual(answer["refused"], "the picture has changed meanwhile: look again")
 
+    async def test_a_drawing_that_fails(self):
+        """It is made anew, without the one before."""
+
+        def failing(number, serial, result, before):
+            return next(iter(())) if before else view_of(number, serial, result, None)
+
+        await self.serve(k5_without_an_edge())
+        talk = await self.talk()
+        await talk.drawn(0)
+        with mock.patch.object(editors, "view_of", failing):
+            await talk.ask("delete", 0)
+            await talk.drawn(1)
+
     async def test_a_search_that_is_ended(self):
         """By a word, and by a change."""
 

@@ -39,6 +39,8 @@ APART = 0.1
 REST = 0.02
 
 Value = TypeVar("Value")
+#: What a drawing may fail by.
+FAILURES = (PlanarError, ArithmeticError, AssertionError, LookupError, RuntimeError, ValueError)
 
 
 class Editor:
@@ -214,7 +216,7 @@ class Editor:
             self._is_to_draw.clear()
             try:
                 await self._draw()
-            except (PlanarError, ArithmeticError, AssertionError, LookupError, ValueError) as failed:
+            except FAILURES as failed:
                 self.tabs.tell(json_text({"told": f"the picture cannot be drawn: {failed}"}))
             await asyncio.sleep(REST)
 
@@ -224,7 +226,10 @@ class Editor:
         before = self._views.get(session)
         self._drawings += 1
         serial = self._drawings
-        view = await aside(lambda: view_of(number, serial, result, before))
+        try:
+            view = await aside(lambda: view_of(number, serial, result, before))
+        except FAILURES:
+            view = await aside(lambda: view_of(number, serial, result, None))
         text = await aside(lambda: json_text({"drawing": view.to_json()}))
         self._views[session] = view
         self._shown = text

@@ -25,6 +25,10 @@ async def aside(work: Callable[[], Value]) -> Value:
         value: Any
         try:
             value = work()
+        except StopIteration as stopped:  # which no future takes
+            value = RuntimeError("an iterator had no more")
+            value.__cause__ = stopped
+            deliver = done.set_exception
         except Exception as failed:
             deliver, value = done.set_exception, failed
         with suppress(RuntimeError):  # the loop is closed
