@@ -1,9 +1,9 @@
 -- Places in a text, and the names of keys.
 use Rattle.std.specs.Prelude.{ℕ, List, [], ◌++◌, codes, decimal, Option, Some, None, is_none, if◌then◌else◌}
 use Rattle.topo_forms.specs.declared.path.Key.{Key}
-use Rattle.topo_forms.specs.declared.path.Key.TheVariants.{A, B, Call, Caller, Crossed, Crossings, Deleted, Edge, Edges, Effort, End, History}
-use Rattle.topo_forms.specs.declared.path.Key.TheVariants.{Id, Kind, Limits, Newcomer, NextCrossing, NextEdge, Open, Picture, Price, Prices}
-use Rattle.topo_forms.specs.declared.path.Key.TheVariants.{Refused, Reopen, Reply, Rotations, Seconds, Seed, Sign, Start, Version, Vertex, Vertices, Workers}
+use Rattle.topo_forms.specs.declared.path.Key.TheVariants.{A, B, Call, Caller, Cost, Crossed, Crossings, Deleted, Edge, Edges, Effort, End, History}
+use Rattle.topo_forms.specs.declared.path.Key.TheVariants.{Id, Kind, Limits, Lonely, Newcomer, NextCrossing, NextEdge, Open, Parts, Picture, Price, Prices}
+use Rattle.topo_forms.specs.declared.path.Key.TheVariants.{Progress, Refused, Reopen, Reply, Rotations, Seconds, Seed, Sign, Start, Threads, Tries, Version, Vertex, Vertices, Workers}
 use Rattle.topo_forms.specs.declared.path.Step.{Step}
 use Rattle.topo_forms.specs.declared.path.Step.TheVariants.{Member, Element}
 use Rattle.topo_forms.specs.declared.path.Path.{Path}
@@ -14,6 +14,7 @@ key_name A = codes "a"
 key_name B = codes "b"
 key_name Call = codes "call"
 key_name Caller = codes "caller"
+key_name Cost = codes "cost"
 key_name Crossed = codes "crossed"
 key_name Crossings = codes "crossings"
 key_name Deleted = codes "deleted"
@@ -25,13 +26,16 @@ key_name History = codes "history"
 key_name Id = codes "id"
 key_name Kind = codes "kind"
 key_name Limits = codes "limits"
+key_name Lonely = codes "lonely"
 key_name Newcomer = codes "newcomer"
 key_name NextCrossing = codes "next_crossing"
 key_name NextEdge = codes "next_edge"
 key_name Open = codes "open"
+key_name Parts = codes "parts"
 key_name Picture = codes "picture"
 key_name Price = codes "price"
 key_name Prices = codes "prices"
+key_name Progress = codes "progress"
 key_name Refused = codes "refused"
 key_name Reopen = codes "reopen"
 key_name Reply = codes "reply"
@@ -40,6 +44,8 @@ key_name Seconds = codes "seconds"
 key_name Seed = codes "seed"
 key_name Sign = codes "sign"
 key_name Start = codes "start"
+key_name Threads = codes "threads"
+key_name Tries = codes "tries"
 key_name Version = codes "version"
 key_name Vertex = codes "vertex"
 key_name Vertices = codes "vertices"

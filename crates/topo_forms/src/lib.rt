@@ -35,7 +35,7 @@ mod tokens;
 
 pub use fault::ScriptFault;
 pub use graph_forms::read_graph;
-pub use graphs::GraphAsked;
+pub use graphs::{GraphAsked, GraphStart};
 pub use lines::{Asked, Frame, IdText, Line, LineId, read_command, read_line};
 pub use reports::Report;
 pub use row_forms::read_rows;

@@ -2,7 +2,7 @@
 use Rattle.std.specs.Prelude.{◌≡◌, ◌==◌, ◌&&◌, not, ℕ, Bool, List, Option, position, nat_lt, slice_get, IsSomeAnd}
 use Rattle.topo_graph.specs.declared.GraphEdge.{GraphEdge}
 use Rattle.topo_graph.specs.declared.GraphFault.{GraphFault}
-use Rattle.topo_graph.specs.declared.GraphFault.TheVariants.{Loop, NoEnd, TooLarge, NotPlanarized, NotShown}
+use Rattle.topo_graph.specs.declared.GraphFault.TheVariants.{Loop, NoEnd, TooLarge, NotPlanarized, OtherGraph, NotShown}
 
 -- so many vertices, numbered from 0, and the edges
 pub record Drawn : Type 0 where
@@ -23,6 +23,7 @@ IsFaultAt edges place (Loop e) = (e ≡ place) × IsSomeAnd (slice_get edges pla
 IsFaultAt edges place (NoEnd e) = (e ≡ place) × IsSomeAnd (slice_get edges place) (λ edge. edge.a ≡ edge.b → ⊥)
 IsFaultAt edges place TooLarge = ⊥
 IsFaultAt edges place (NotPlanarized e) = ⊥
+IsFaultAt edges place OtherGraph = ⊥
 IsFaultAt edges place NotShown = ⊥
 
 -- it is wrong with the first edge that cannot be

@@ -13,9 +13,12 @@
 //! ```
 #![tactic(auto)]
 
+pub mod parts;
+
 ghost use Rattle.std.specs.Prelude.{◌≡◌, ◌<◌, length, None};
 ghost use Rattle.topo_graph.specs.Graphs.{IsFaultAt, first_fault, is_within};
 
+pub use parts::Part;
 use std::fmt;
 use std::marker::Model;
 use thiserror::Error;
@@ -52,6 +55,8 @@ pub enum GraphFault {
     /// No picture was found in which the edge at this place, which must not be crossed, has no
     /// crossing.
     NotPlanarized(usize),
+    /// The pictures that a search is to begin with show another graph.
+    OtherGraph,
     /// The pictures that were found do not show the graph. No run has this.
     NotShown,
 }
@@ -68,6 +73,7 @@ impl GraphFault {
             GraphFault::NoEnd(_) => 81,
             GraphFault::TooLarge => 82,
             GraphFault::NotPlanarized(_) => 83,
+            GraphFault::OtherGraph => 84,
             GraphFault::NotShown => 85,
         }
     }
@@ -81,6 +87,7 @@ impl GraphFault {
             GraphFault::NoEnd(_) => "NoEnd",
             GraphFault::TooLarge => "TooLarge",
             GraphFault::NotPlanarized(_) => "NotPlanarized",
+            GraphFault::OtherGraph => "OtherGraph",
             GraphFault::NotShown => "NotShown",
         }
     }
@@ -100,6 +107,7 @@ impl fmt::Display for GraphFault {
             GraphFault::NoEnd(edge) => write!(f, "{number} {name} {edge}"),
             GraphFault::TooLarge => write!(f, "{number} {name}"),
             GraphFault::NotPlanarized(edge) => write!(f, "{number} {name} {edge}"),
+            GraphFault::OtherGraph => write!(f, "{number} {name}"),
             GraphFault::NotShown => write!(f, "{number} {name}"),
         }
     }

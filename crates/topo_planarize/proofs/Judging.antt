@@ -6,7 +6,7 @@ use Rattle.topo_graph.specs.Graphs.{Drawn}
 use Rattle.topo_settings.specs.declared.fault.RunFault.{RunFault}
 use Rattle.topo_settings.specs.Limiting.{AreLimits}
 use Rattle.topo_shown.specs.Planarizations.{Shows}
-use Rattle.topo_shown.specs.declared.parts.Part.{Part}
+use Rattle.topo_graph.specs.declared.parts.Part.{Part}
 use Rattle.topo_planarize.specs.Answers.{IsAnswerOf, total_cost, total_crossings}
 use Rattle.topo_planarize.specs.declared.answers.Answer.{Answer}
 

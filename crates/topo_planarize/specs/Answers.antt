@@ -18,7 +18,7 @@ use Rattle.topo_settings.specs.declared.fault.RunFault.TheVariants.{Memory, Pric
 use Rattle.topo_settings.specs.Limiting.{AreLimits}
 use Rattle.topo_settings.specs.Settings.{IsBadPrice, price_table}
 use Rattle.topo_shown.specs.Planarizations.{Shows}
-use Rattle.topo_shown.specs.declared.parts.Part.{Part}
+use Rattle.topo_graph.specs.declared.parts.Part.{Part}
 use Rattle.topo_planarize.specs.declared.answers.Answer.{Answer}
 
 -- ---- Costs

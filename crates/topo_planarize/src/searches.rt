@@ -14,7 +14,7 @@ use topo_graph::{Graph, GraphFault};
 use topo_price::tariff::{PriceFn, Tariff};
 use topo_search::{Options, Progress, Search, SearchFault};
 use topo_settings::RunFault;
-use topo_shown::Part;
+use topo_graph::Part;
 
 /// What the searches found: a picture of each component, the vertices that have no edge, and the
 /// crossings at the end of each order.

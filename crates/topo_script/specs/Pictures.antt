@@ -8,7 +8,7 @@ use Rattle.topo_core.specs.declared.darts.Sign.TheVariants.{LeftToRight, RightTo
 use Rattle.topo_core.specs.declared.rows.Rows.{Rows}
 use Rattle.topo_core.specs.declared.rows.EdgeRow.{EdgeRow}
 use Rattle.topo_core.specs.declared.rows.CrossRow.{CrossRow}
-use Rattle.topo_shown.specs.declared.parts.Part.{Part}
+use Rattle.topo_graph.specs.declared.parts.Part.{Part}
 
 abbrev pub number_data : ℕ → Data
 number_data n = number (unsigned n)

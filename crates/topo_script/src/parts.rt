@@ -4,7 +4,7 @@ ghost use Rattle.topo_script.specs.Pictures.{part_data};
 
 use crate::written::{Written, write_after};
 use std::alloc::AllocError;
-use topo_shown::Part;
+use topo_graph::Part;
 
 impl Written for Part {
     ghost value = { part_data };

@@ -7,7 +7,7 @@ use Rattle.topo_core.specs.declared.rows.TheConstants.{KINDS}
 use Rattle.topo_rows.specs.Shown.{IsPicture}
 use Rattle.topo_graph.specs.Graphs.{Drawn}
 use Rattle.topo_graph.specs.declared.GraphEdge.{GraphEdge}
-use Rattle.topo_shown.specs.declared.parts.Part.{Part}
+use Rattle.topo_graph.specs.declared.parts.Part.{Part}
 
 -- there is a value, and it passes the test
 abbrev pub holds_of : {X : Type 0} → (X → Bool) → Option X → Bool

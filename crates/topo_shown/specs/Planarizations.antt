@@ -5,7 +5,7 @@ use Rattle.topo_core.specs.Cycles.{IsPermutationList}
 use Rattle.topo_core.specs.declared.limits.Limits.{Limits}
 use Rattle.topo_graph.specs.Graphs.{Drawn}
 use Rattle.topo_shown.specs.Parts.{IsPart}
-use Rattle.topo_shown.specs.declared.parts.Part.{Part}
+use Rattle.topo_graph.specs.declared.parts.Part.{Part}
 
 -- the list has each number below n once, and nothing else
 pub record IsNumbering (n : ℕ) (list : List ℕ) : Type 0 where

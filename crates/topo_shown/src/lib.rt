@@ -22,8 +22,7 @@
 #![tactic(auto)]
 
 pub mod numbering;
-pub mod parts;
+mod parts;
 pub mod planarized;
 
-pub use parts::Part;
 pub use planarized::{Planarized, ShowFault, shown};

@@ -6,20 +6,10 @@ ghost use Rattle.topo_shown.specs.Parts.{IsPart, agrees, has_all_numbers, may_ha
 
 use std::alloc::{AllocError, Global};
 use topo_core::limits::Limits;
-use topo_core::listed::Listed;
-use topo_core::rows::{EdgeRow, KINDS, Rows};
-use topo_graph::{Graph, GraphEdge};
+use topo_core::rows::{EdgeRow, KINDS};
+use topo_graph::{Graph, GraphEdge, Part};
 use topo_price::table::PriceTable;
 use topo_rows::load::judge;
-
-/// A picture of one component of a graph: its rows, and by the numbers of its vertices and edges
-/// the vertices of the graph, and the places of its edges, that they stand for.
-#[derive(Drop, Debug)]
-pub struct Part {
-    pub rows: Rows,
-    pub vertices: Listed<u32>,
-    pub edges: Listed<u32>,
-}
 
 /// Whether a row is this edge of the graph.
 fn agrees_with(part: &Part, row: &EdgeRow, edge: &GraphEdge) -> bool

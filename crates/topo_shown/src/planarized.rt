@@ -4,11 +4,11 @@ ghost use Rattle.std.specs.Prelude.{◌≡◌, ◌≢◌, ◌↔◌, ◌++◌, I
 ghost use Rattle.topo_shown.specs.Planarizations.{AreParts, IsNumbering, Shows, edges_of, vertices_of};
 
 use crate::numbering::has_each_once;
-use crate::parts::{Part, is_part};
+use crate::parts::is_part;
 use std::alloc::{AllocError, Global};
 use std::marker::Model;
 use topo_core::limits::Limits;
-use topo_graph::Graph;
+use topo_graph::{Graph, Part};
 use topo_price::table::PriceTable;
 
 /// Why parts do not show a graph.
@@ -197,12 +197,5 @@ impl<'a> Planarized<'a> {
             others,
         } = self;
         (parts, others)
-    }
-
-    /// The vertices that have no edge.
-    pub fn others(&self) -> &[u32]
-        ensures { result.now ≡ self.now.others }
-    {
-        self.others.as_slice()
     }
 }
