@@ -27,15 +27,15 @@ use topo_route::planned::region::Region;
 /// others see at once costs its change, and not a copy.
 pub struct Book<F: PriceFn> {
     tariff: Arc<Tariff<F>>,
-    start: Picture,
-    history: Vec<Entry>,
-    picture: Arc<Picture>,
-    replicas: Replicas,
+    pub(crate) start: Picture,
+    pub(crate) history: Vec<Entry>,
+    pub(crate) picture: Arc<Picture>,
+    pub(crate) replicas: Replicas,
     // A picture that stands some entries behind, from the first time on that entries are taken back.
-    follower: Option<Replica>,
+    pub(crate) follower: Option<Replica>,
     scratch: Scratch,
     // Whether the picture now is the second of the two that take turns.
-    search_on_replica: bool,
+    pub(crate) search_on_replica: bool,
 }
 
 // Written out, so that it is proved once: a derived one is proved anew in each function that lets
@@ -64,9 +64,6 @@ impl<F: PriceFn + Drop> Drop for Book<F> {
 
 /// So many entries are looked through at most for what they changed.
 const MAX_ENTRIES_BETWEEN: u32 = 256;
-
-/// So many entries are carried out again at most to take back the last ones, once some were.
-const FOLLOWER_DISTANCE: usize = 64;
 
 /// The rows of a picture. It ends before they are made, if nobody else has a share of it.
 fn last_rows(alloc: Global, picture: Arc<Picture>) -> Result<Rows, AllocError>
@@ -473,7 +470,12 @@ impl<F: PriceFn> Book<F> {
 
     /// Carries a replica on until it stands after the first `to` entries, if nobody else holds it.
     /// Out of memory, it stands after some that come before.
-    fn carry_on(&self, alloc: Global, replica: &mut Replica, to: usize) -> Result<(), AllocError>
+    pub(crate) fn carry_on(
+        &self,
+        alloc: Global,
+        replica: &mut Replica,
+        to: usize,
+    ) -> Result<(), AllocError>
         requires stands { IsReplica (prices_of (F.may_return self.now.tariff))
             self.now.start self.now.history replica.old.entries (arc_value replica.old.picture) }
         requires forward { replica.old.entries ≤ to }
@@ -675,137 +677,6 @@ impl<F: PriceFn> Book<F> {
             Reply::Refused(_) => Ok(Next::refused(entry)),
             _ => self.prepare_accepted(alloc, entry),
         }
-    }
-
-    /// Takes back all but the first `entries` of the history: picture, ids and counters are those
-    /// after these. The first time, and where more is taken back than a picture that is kept since
-    /// then is behind, the entries are carried out again from the start, each as its reply says.
-    /// Otherwise it takes a copy of that picture and 64 entries.
-    pub fn take_back(&mut self, alloc: Global, entries: usize) -> Result<(), AllocError>
-        requires { entries ≤ length self.old.history }
-        ensures history { OnOk result (self.new.history ≡ take entries self.old.history) }
-        ensures replay { OnOk result (Replays (prices_of (F.may_return self.new.tariff))
-            self.new.start.limits self.new.start.rows self.new.history self.new.picture.rows) }
-        ensures unchanged { OnErr result (IsUnchanged self.old self.new) }
-        ensures same_book { IsSameBook self.old self.new }
-    {
-        let mut follower = self.take_follower(alloc, entries)?;
-        match self.picture_after(alloc, &mut follower, entries) {
-            Ok(picture) => {
-                self.cut(entries, picture, follower);
-                Ok(())
-            }
-            Err(_) => {
-                self.follower = Some(follower);
-                Err(AllocError)
-            }
-        }
-    }
-
-    /// A replica that stands after at most so many entries: the one that follows, if it does, and
-    /// else the start. The book has none that follows then.
-    fn take_follower(&mut self, alloc: Global, entries: usize) -> Result<Replica, AllocError>
-        requires { entries ≤ length self.old.history }
-        ensures stands { IfOk result (λ r. IsReplica (prices_of (F.may_return self.new.tariff))
-            self.new.start self.new.history r.entries (arc_value r.picture)) }
-        ensures before { IfOk result (λ r. r.entries ≤ entries) }
-        ensures unchanged { IsUnchanged self.old self.new }
-        ensures same_book { IsSameBook self.old self.new }
-    {
-        if let Some(follower) = self.follower.take() {
-            if follower.entries <= entries {
-                return Ok(follower);
-            }
-        }
-        let picture = Arc::new(alloc, self.start.copy(alloc)?)?;
-        Ok(Replica {
-            picture,
-            entries: 0,
-        })
-    }
-
-    /// The picture after so many entries, by way of the one that follows, which is carried on as far
-    /// as it is to be behind.
-    fn picture_after(
-        &self,
-        alloc: Global,
-        follower: &mut Replica,
-        entries: usize,
-    ) -> Result<Arc<Picture>, AllocError>
-        requires stands { IsReplica (prices_of (F.may_return self.now.tariff))
-            self.now.start self.now.history follower.old.entries (arc_value follower.old.picture) }
-        requires forward { follower.old.entries ≤ entries }
-        requires there { entries ≤ length self.now.history }
-        ensures picture { IfOk result (λ picture. IsReplica (prices_of (F.may_return self.now.tariff))
-            self.now.start self.now.history entries (arc_value picture)) }
-        ensures stands { IsReplica (prices_of (F.may_return self.now.tariff))
-            self.now.start self.now.history follower.new.entries (arc_value follower.new.picture) }
-        ensures before { follower.new.entries ≤ entries }
-    {
-        self.follow(alloc, follower, entries)?;
-        let picture = Arc::new(alloc, follower.picture.copy(alloc)?)?;
-        let mut replica = Replica {
-            picture,
-            entries: follower.entries,
-        };
-        self.carry_on(alloc, &mut replica, entries)?;
-        Ok(replica.picture)
-    }
-
-    /// Carries a replica on until it is no further behind these entries than one that follows may be.
-    fn follow(
-        &self,
-        alloc: Global,
-        follower: &mut Replica,
-        entries: usize,
-    ) -> Result<(), AllocError>
-        requires stands { IsReplica (prices_of (F.may_return self.now.tariff))
-            self.now.start self.now.history follower.old.entries (arc_value follower.old.picture) }
-        requires forward { follower.old.entries ≤ entries }
-        requires there { entries ≤ length self.now.history }
-        ensures stands { IsReplica (prices_of (F.may_return self.now.tariff))
-            self.now.start self.now.history follower.new.entries (arc_value follower.new.picture) }
-        ensures before { follower.new.entries ≤ entries }
-    {
-        let least = entries.saturating_sub(FOLLOWER_DISTANCE);
-        if least <= follower.entries {
-            return Ok(());
-        }
-        self.carry_on(alloc, follower, least)
-    }
-
-    /// Ends the history after so many entries, after which this picture stands, and which the other
-    /// one follows.
-    fn cut(&mut self, entries: usize, picture: Arc<Picture>, follower: Replica)
-        requires stands { IsReplica (prices_of (F.may_return self.old.tariff))
-            self.old.start self.old.history entries (arc_value picture) }
-        requires follows { IsReplica (prices_of (F.may_return self.old.tariff))
-            self.old.start self.old.history follower.entries (arc_value follower.picture) }
-        requires before { follower.entries ≤ entries }
-        ensures history { self.new.history ≡ take entries self.old.history }
-        ensures picture { self.new.picture ≡ arc_value picture }
-        ensures same_book { IsSameBook self.old self.new }
-    {
-        self.replicas.clear();
-        self.history.truncate(entries);
-        let before = mem::replace(&mut self.picture, picture);
-        drop(before);
-        self.follower = Some(follower);
-        self.search_on_replica = false;
-    }
-
-    /// Lets the picture that follows, if there is one, come no further behind.
-    fn have_followed(&mut self, alloc: Global)
-        ensures unchanged { IsUnchanged self.old self.new }
-        ensures same_book { IsSameBook self.old self.new }
-        ensures same_room { self.new.spare ≡ self.old.spare }
-    {
-        let Some(mut follower) = self.follower.take() else {
-            return;
-        };
-        // Out of memory it comes further behind, and nothing else.
-        let _ = self.follow(alloc, &mut follower, self.history.len());
-        self.follower = Some(follower);
     }
 
     /// Carries the call out and enters it. Its reply stands in the history, and is not copied.

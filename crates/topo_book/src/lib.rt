@@ -26,6 +26,7 @@
 #![tactic(auto)]
 
 mod book;
+mod following;
 mod next;
 mod replaying;
 mod replicas;

@@ -85,6 +85,7 @@ impl Form for Option<u32> {
 impl Form for bool {
     ghost form = { truth_form };
 
+    #[tactic(auto, unfolding(crate::specs::Graphs::truth_form))]
     fn read(_alloc: Global, path: Path, value: &Value) -> Result<Self, ScriptFault> {
         match value.as_bool() {
             Some(truth) => Ok(truth),

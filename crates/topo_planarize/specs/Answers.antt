@@ -9,8 +9,9 @@ use Rattle.topo_core.specs.declared.rows.Rows.{Rows}
 use Rattle.topo_core.specs.declared.rows.TheConstants.{KINDS}
 use Rattle.topo_graph.specs.Graphs.{Drawn, IsFaultOf}
 use Rattle.topo_graph.specs.declared.GraphFault.{GraphFault}
-use Rattle.topo_graph.specs.declared.GraphFault.TheVariants.{Loop, NoEnd, TooLarge, NotPlanarized, NotShown}
+use Rattle.topo_graph.specs.declared.GraphFault.TheVariants.{Loop, NoEnd, TooLarge, NotPlanarized, OtherGraph, NotShown}
 use Rattle.topo_forms.specs.declared.graphs.GraphAsked.{GraphAsked}
+use Rattle.topo_forms.specs.declared.graphs.GraphStart.{GraphStart}
 use Rattle.topo_forms.specs.Scripts.{greatest_limits}
 use Rattle.topo_script.specs.Pictures.{list_data, number_data, part_data}
 use Rattle.topo_settings.specs.declared.fault.RunFault.{RunFault}
@@ -62,9 +63,33 @@ pub record IsAnswerOf (graph : Drawn) (prices : List (Option ℕ)) (answer : Ans
   pub cost : answer.cost ≡ total_cost prices answer.parts
   pub crossings : answer.crossings ≡ total_crossings answer.parts
 
--- an answer of the graph, and at the prices, that were asked for
-abbrev pub IsAnswerTo : GraphAsked → Answer → Type 0
-IsAnswerTo asked answer = IsAnswerOf (drawn asked) (price_table asked.prices) answer
+-- pictures that a search begins with show the graph, within the greatest limits
+pub record ShowsStart (graph : Drawn) (prices : List (Option ℕ)) (start : GraphStart) : Type 0 where
+  pub limits : Limits
+  pub greatest : AreLimits greatest_limits limits
+  pub shows : Shows limits graph prices start.parts start.lonely
+
+-- they show it, where there are some
+abbrev pub StartsWell : Drawn → List (Option ℕ) → Option GraphStart → Type 0
+StartsWell graph prices None = ⊤
+StartsWell graph prices (Some start) = ShowsStart graph prices start
+
+-- there are some, and they do not show it
+pub record StartsElsewhere (graph : Drawn) (prices : List (Option ℕ)) (begins : Option GraphStart) : Type 0 where
+  pub start : GraphStart
+  pub given : begins ≡ Some start
+  pub other : ShowsStart graph prices start → ⊥
+
+-- an answer of the graph, and at the prices, that were asked for, and what the search begins with shows the graph
+pub record IsAnswerTo (asked : GraphAsked) (answer : Answer) : Type 0 where
+  pub pictures : IsAnswerOf (drawn asked) (price_table asked.prices) answer
+  pub start : StartsWell (drawn asked) (price_table asked.prices) asked.start
+
+-- what keeps a search from its beginning: want of memory, or pictures that do not show the graph
+abbrev pub IsStartFault : Drawn → List (Option ℕ) → Option GraphStart → RunFault → Type 0
+IsStartFault graph prices start Memory = ⊤
+IsStartFault graph prices start (Graph OtherGraph) = StartsElsewhere graph prices start
+IsStartFault graph prices start _ = ⊥
 
 -- what a search may end by: it says nothing of the graph
 abbrev pub IsOfSearch : RunFault → Type 0
@@ -79,13 +104,14 @@ abbrev pub IsPriceFaultOf : List (Option ℕ) → RunFault → Type 0
 IsPriceFaultOf prices (Price fault) = IsBadPrice prices fault
 IsPriceFaultOf prices _ = ⊥
 
--- Why there is no answer: a price is none, or the graph is none, by its first edge that cannot be. That a graph is too large, or
--- that nothing was found, says nothing else.
+-- Why there is no answer: a price is none, or the graph is none, by its first edge that cannot be, or the pictures that the
+-- search is to begin with show another one. That a graph is too large, or that nothing was found, says nothing else.
 abbrev pub IsGraphFaultOf : GraphAsked → GraphFault → Type 0
 IsGraphFaultOf asked (Loop place) = IsFaultOf asked.vertices asked.edges (Loop place)
 IsGraphFaultOf asked (NoEnd place) = IsFaultOf asked.vertices asked.edges (NoEnd place)
 IsGraphFaultOf asked TooLarge = ⊤
 IsGraphFaultOf asked (NotPlanarized place) = ⊤
+IsGraphFaultOf asked OtherGraph = StartsElsewhere (drawn asked) (price_table asked.prices) asked.start
 IsGraphFaultOf asked NotShown = ⊤
 
 abbrev pub HasNoAnswer : GraphAsked → RunFault → Type 0

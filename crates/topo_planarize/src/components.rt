@@ -1,7 +1,7 @@
 //! The components of a graph.
 
 use std::alloc::{AllocError, Global};
-use topo_graph::{Graph, GraphEdge};
+use topo_graph::{Graph, GraphEdge, Part};
 
 /// Where a list has no entry.
 const NONE: u32 = u32::MAX;
@@ -36,6 +36,40 @@ fn put(list: &mut [u32], place: u32, value: u32) {
     if place < list.len() {
         list[place] = value;
     }
+}
+
+/// The component that a picture shows, with its edges in the order of the picture's rows.
+fn component_of(alloc: Global, part: &Part) -> Result<Component, AllocError> {
+    let rows = part.rows.edges.as_slice();
+    let mut own_edges = Vec::with_capacity(alloc, rows.len())?;
+    for row in rows {
+        own_edges.push(GraphEdge {
+            a: row.a,
+            b: row.b,
+            kind: row.kind,
+        })?;
+    }
+    Ok(Component {
+        vertices: Vec::from_slice(alloc, part.vertices.as_slice())?,
+        edges: Vec::from_slice(alloc, part.edges.as_slice())?,
+        own_edges,
+    })
+}
+
+/// The components that pictures show, and the vertices that have no edge.
+pub(crate) fn shown_components(
+    alloc: Global,
+    parts: &[Part],
+    others: &[u32],
+) -> Result<Components, AllocError> {
+    let mut components = Vec::with_capacity(alloc, parts.len())?;
+    for part in parts {
+        components.push(component_of(alloc, part)?)?;
+    }
+    Ok(Components {
+        parts: components,
+        others: Vec::from_slice(alloc, others)?,
+    })
 }
 
 /// The numbers below `count`.

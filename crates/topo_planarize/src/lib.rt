@@ -9,5 +9,6 @@ mod answers;
 mod components;
 pub mod planarize;
 mod searches;
+mod side_by_side;
 
-pub use planarize::{planarize_bytes, planarize_io};
+pub use planarize::planarize_io;

@@ -1,22 +1,16 @@
-//! The searches in the components of a graph, one after another, and the time that they may take.
+//! The searches in the components of a graph, one after another.
+//!
+//! Nobody has to trust them: what they find is judged.
 
-ghost use Rattle.std.specs.Prelude.{IfErr};
-ghost use Rattle.topo_planarize.specs.Answers.{IsOfSearch};
-ghost use Rattle.topo_price.specs.Prices.{IsPromise};
-
-use crate::components::{Component, Components, split_graph};
+use crate::components::{Component, Components, shown_components, split_graph};
 use std::alloc::{AllocError, Global};
-use std::rt::Clock;
 use std::sync::Arc;
-use std::time::Instant;
 use topo_core::listed::Listed;
-use topo_graph::{Graph, GraphFault};
+use topo_graph::{Graph, Part};
 use topo_price::tariff::{PriceFn, Tariff};
 use topo_search::{Options, Progress, Search, SearchFault};
-use topo_settings::RunFault;
-use topo_graph::Part;
 
-/// What the searches found: a picture of each component, the vertices that have no edge, and the
+/// What searches found: a picture of each component, the vertices that have no edge, and the
 /// crossings at the end of each order.
 #[derive(Drop)]
 pub(crate) struct Found {
@@ -25,43 +19,82 @@ pub(crate) struct Found {
     pub tries: Vec<u64>,
 }
 
-/// When the searches began, where the clock could be read, and after how many seconds they end.
-#[derive(Clone, Copy)]
-pub(crate) struct Deadline {
-    begun: Option<Instant>,
-    seconds: Option<u32>,
+/// Pictures that searches begin with, one for each component, and the vertices that have no edge.
+#[derive(Drop)]
+pub(crate) struct Beginning {
+    pub parts: Vec<Part>,
+    pub others: Vec<u32>,
 }
 
-impl Deadline {
-    /// So many seconds from now.
-    pub(crate) fn new<R: Clock>(rt: &R, seconds: Option<u32>) -> Self {
-        Deadline {
-            begun: Instant::now(rt).ok(),
-            seconds,
-        }
-    }
+/// The search in one component, and its vertices and edges by their numbers in the graph.
+struct Running<F: PriceFn> {
+    search: Search<F>,
+    vertices: Vec<u32>,
+    edges: Vec<u32>,
+}
 
-    /// Whether the time is over, and whether a third of it is. It never is where the clock cannot be
-    /// read, or no number of seconds was set.
-    fn is_over<R: Clock>(&self, rt: &R) -> (bool, bool) {
-        let (Some(begun), Some(seconds)) = (self.begun, self.seconds) else {
-            return (false, false);
-        };
-        match begun.elapsed(rt) {
-            Ok(spent) => {
-                let spent = spent.as_secs();
-                (spent >= u64::from(seconds), spent >= u64::from(seconds / 3))
-            }
-            Err(_) => (false, false),
-        }
+impl<F: PriceFn + Drop> Drop for Running<F> {
+    fn drop(self) {
+        let Running {
+            search,
+            vertices,
+            edges,
+        } = self;
+        drop(search);
+        drop(vertices);
+        drop(edges);
     }
 }
 
-/// How it is searched: how long, from which seed, and until when.
-#[derive(Clone, Copy)]
-pub(crate) struct Terms {
-    pub options: Options,
-    pub deadline: Deadline,
+/// How far searches have come: which component is searched, counted from 1, of how many, how many
+/// crossings its best picture has, where there is one, and how many orders have ended.
+#[derive(Clone, Copy, Debug, PartialEq, Eq)]
+pub(crate) struct Way {
+    pub component: usize,
+    pub components: usize,
+    pub crossings: Option<u64>,
+    pub orders: u32,
+}
+
+/// The searches in the components of a graph, one after another.
+pub(crate) struct Searches<F: PriceFn> {
+    tariff: Arc<Tariff<F>>,
+    options: Options,
+    beginning: Option<Arc<Beginning>>,
+    // The components that were not searched yet, the next one last.
+    waiting: Vec<Component>,
+    running: Option<Running<F>>,
+    found: Found,
+    way: Way,
+    has_ended: bool,
+    fault: Option<SearchFault>,
+    ends_soon: bool,
+    is_hurried: bool,
+}
+
+// Written out, so that it is proved once: a derived one is proved anew in each function that lets
+// such a value go.
+impl<F: PriceFn + Drop> Drop for Searches<F> {
+    fn drop(self) {
+        let Searches {
+            tariff,
+            options: _,
+            beginning,
+            waiting,
+            running,
+            found,
+            way: _,
+            has_ended: _,
+            fault: _,
+            ends_soon: _,
+            is_hurried: _,
+        } = self;
+        drop(tariff);
+        drop(beginning);
+        drop(waiting);
+        drop(running);
+        drop(found);
+    }
 }
 
 /// The place in the graph of an edge of a component.
@@ -73,39 +106,11 @@ fn place_of(edges: &[u32], edge: u32) -> u32 {
 }
 
 /// The fault of a search, with the place of its edge in the graph.
-fn fault_of(fault: SearchFault, edges: &[u32]) -> RunFault
-    ensures { IsOfSearch result }
-{
+fn fault_in_graph(fault: SearchFault, edges: &[u32]) -> SearchFault {
     match fault {
-        SearchFault::Memory => RunFault::Memory,
-        SearchFault::NotPlanarized(edge) => {
-            RunFault::Graph(GraphFault::NotPlanarized(place_of(edges, edge) as usize))
-        }
-        SearchFault::TooLarge => RunFault::Graph(GraphFault::TooLarge),
-        SearchFault::NotLoaded(_) => RunFault::Graph(GraphFault::NotShown),
+        SearchFault::NotPlanarized(edge) => SearchFault::NotPlanarized(place_of(edges, edge)),
+        _ => fault,
     }
-}
-
-/// Searches until the search has ended, or the time is over and there is a picture.
-fn search_through<R: Clock, F: PriceFn>(
-    rt: &R,
-    alloc: Global,
-    search: &mut Search<F>,
-    deadline: &Deadline,
-) -> Result<(), SearchFault> {
-    for _ in 0..u64::MAX {
-        let (is_over, is_late) = deadline.is_over(rt);
-        if is_late {
-            search.hurry();
-        }
-        match search.step(alloc)? {
-            Progress::Done => return Ok(()),
-            Progress::Going { crossings, .. } => if is_over && crossings.is_some() {
-                return Ok(());
-            },
-        }
-    }
-    Ok(())
 }
 
 /// The places in the graph of edges of a component.
@@ -117,87 +122,209 @@ fn places_of(alloc: Global, edges: &[u32], own: &[u32]) -> Result<Listed<u32>, A
     Ok(Listed::from_vec(places))
 }
 
-/// What a search found, as a part of the graph.
-fn part_of<F: PriceFn + Drop>(
+/// The components of a graph, or those that the pictures show that it begins with.
+fn components_of(
     alloc: Global,
-    search: Search<F>,
-    vertices: Vec<u32>,
-    edges: &[u32],
-) -> Result<Part, RunFault>
-    ensures { IfErr result IsOfSearch }
-{
-    let Some((rows, own)) = search.into_best() else {
-        return Err(RunFault::Graph(GraphFault::NotShown));
-    };
-    match places_of(alloc, edges, &own) {
-        Ok(edges) => Ok(Part {
+    graph: &Graph,
+    beginning: &Option<Arc<Beginning>>,
+) -> Result<Components, AllocError> {
+    match beginning {
+        Some(beginning) => shown_components(alloc, &beginning.parts, &beginning.others),
+        None => split_graph(alloc, graph),
+    }
+}
+
+impl<F: PriceFn> Searches<F> {
+    /// Searches for pictures of a graph at these prices, that begin with these pictures where there
+    /// are some.
+    pub(crate) fn new(
+        alloc: Global,
+        graph: &Graph,
+        beginning: Option<Arc<Beginning>>,
+        tariff: Arc<Tariff<F>>,
+        options: Options,
+    ) -> Result<Self, AllocError>
+    where
+        F: Drop,
+    {
+        let Components { mut parts, others } = components_of(alloc, graph, &beginning)?;
+        let components = parts.len();
+        // The first one is searched first.
+        parts.reverse();
+        Ok(Searches {
+            tariff,
+            options,
+            beginning,
+            waiting: parts,
+            running: None,
+            found: Found {
+                parts: Vec::new(alloc),
+                others,
+                tries: Vec::new(alloc),
+            },
+            way: Way {
+                component: 0,
+                components,
+                crossings: None,
+                orders: 0,
+            },
+            has_ended: false,
+            fault: None,
+            ends_soon: false,
+            is_hurried: false,
+        })
+    }
+
+    /// Leaves repair out in each component until there is a picture of it.
+    pub(crate) fn hurry(&mut self) {
+        self.is_hurried = true;
+    }
+
+    /// Ends the search in each component as soon as there is a picture of it.
+    pub(crate) fn end_soon(&mut self) {
+        self.ends_soon = true;
+    }
+
+    /// Whether all components were searched, or there is a fault.
+    pub(crate) fn have_ended(&self) -> bool {
+        self.has_ended
+    }
+
+    /// How far they have come.
+    pub(crate) fn way(&self) -> Way {
+        self.way
+    }
+
+    /// Searches for a while, some 50 milliseconds.
+    pub(crate) fn step(&mut self, alloc: Global)
+    where
+        F: Drop,
+    {
+        match self.go_on(alloc) {
+            Ok(has_ended) => self.has_ended = has_ended,
+            Err(fault) => {
+                self.has_ended = true;
+                self.fault = Some(fault);
+            }
+        }
+    }
+
+    /// What was found, or why nothing was.
+    pub(crate) fn into_found(self) -> Result<Found, SearchFault>
+    where
+        F: Drop,
+    {
+        let Searches {
+            tariff,
+            options: _,
+            beginning,
+            waiting,
+            running,
+            found,
+            way: _,
+            has_ended: _,
+            fault,
+            ends_soon: _,
+            is_hurried: _,
+        } = self;
+        drop(tariff);
+        drop(beginning);
+        drop(waiting);
+        drop(running);
+        match fault {
+            Some(fault) => Err(fault),
+            None => Ok(found),
+        }
+    }
+
+    /// Goes on with the search in a component, or begins with the next one. True where there is
+    /// none.
+    fn go_on(&mut self, alloc: Global) -> Result<bool, SearchFault>
+    where
+        F: Drop,
+    {
+        let mut running = match self.running.take() {
+            Some(running) => running,
+            None => match self.waiting.pop() {
+                Some(component) => self.begin(alloc, component)?,
+                None => return Ok(true),
+            },
+        };
+        if self.is_hurried {
+            running.search.hurry();
+        }
+        match running.search.step(alloc) {
+            Ok(progress) => {
+                if self.note_way(progress) {
+                    self.finish(alloc, running)?;
+                } else {
+                    self.running = Some(running);
+                }
+                Ok(false)
+            }
+            Err(fault) => Err(fault_in_graph(fault, &running.edges)),
+        }
+    }
+
+    /// Begins the search in a component.
+    fn begin(&mut self, alloc: Global, component: Component) -> Result<Running<F>, SearchFault>
+    where
+        F: Drop,
+    {
+        let Component {
+            vertices,
+            edges,
+            own_edges,
+        } = component;
+        let tariff = Arc::clone(&self.tariff)?;
+        let mut search = Search::new(alloc, vertices.len(), own_edges, tariff, self.options)?;
+        if let Some(beginning) = &self.beginning {
+            if let Some(part) = beginning.parts.get(self.way.component) {
+                search.begin_from(alloc, &part.rows)?;
+            }
+        }
+        self.way.component = self.way.component.saturating_add(1);
+        Ok(Running {
+            search,
+            vertices,
+            edges,
+        })
+    }
+
+    /// Notes how far the search in a component has come, and says whether it ends.
+    fn note_way(&mut self, progress: Progress) -> bool {
+        match progress {
+            Progress::Done => true,
+            Progress::Going { crossings, orders } => {
+                self.way.crossings = crossings;
+                self.way.orders = orders;
+                self.ends_soon && crossings.is_some()
+            }
+        }
+    }
+
+    /// Keeps what the search in a component found. Where it found nothing, nothing is kept.
+    fn finish(&mut self, alloc: Global, running: Running<F>) -> Result<(), SearchFault>
+    where
+        F: Drop,
+    {
+        let Running {
+            search,
+            vertices,
+            edges,
+        } = running;
+        self.found.tries.extend_from_slice(search.tries())?;
+        self.way.crossings = None;
+        self.way.orders = 0;
+        let Some((rows, own)) = search.into_best() else {
+            return Ok(());
+        };
+        let edges = places_of(alloc, &edges, &own)?;
+        self.found.parts.push(Part {
             rows,
             vertices: Listed::from_vec(vertices),
             edges,
-        }),
-        Err(_) => Err(RunFault::Memory),
+        })?;
+        Ok(())
     }
-}
-
-/// Searches in one component, and notes the crossings at the end of each order.
-fn searched_part<R: Clock, F: PriceFn + Drop>(
-    rt: &R,
-    alloc: Global,
-    component: Component,
-    tariff: Arc<Tariff<F>>,
-    terms: &Terms,
-    tries: &mut Vec<u64>,
-) -> Result<Part, RunFault>
-    ensures { IfErr result IsOfSearch }
-{
-    let Component {
-        vertices,
-        edges,
-        own_edges,
-    } = component;
-    let Ok(mut search) = Search::new(alloc, vertices.len(), own_edges, tariff, terms.options) else {
-        return Err(RunFault::Memory);
-    };
-    if let Err(fault) = search_through(rt, alloc, &mut search, &terms.deadline) {
-        return Err(fault_of(fault, &edges));
-    }
-    if tries.extend_from_slice(search.tries()).is_err() {
-        return Err(RunFault::Memory);
-    }
-    part_of(alloc, search, vertices, &edges)
-}
-
-/// Searches in each component of a graph, at the prices that a function answers.
-pub(crate) fn search_all<R: Clock, F: PriceFn + Drop>(
-    rt: &R,
-    alloc: Global,
-    graph: &Graph,
-    ask: F,
-    terms: &Terms,
-) -> Result<Found, RunFault>
-    requires callable { F.is_callable ask }
-    requires promise { IsPromise (F.may_return ask) }
-    ensures { IfErr result IsOfSearch }
-{
-    let Ok(tariff) = Arc::new(alloc, Tariff::new(ask)) else {
-        return Err(RunFault::Memory);
-    };
-    let Ok(Components { parts, others }) = split_graph(alloc, graph) else {
-        return Err(RunFault::Memory);
-    };
-    let mut found = Found {
-        parts: Vec::new(alloc),
-        others,
-        tries: Vec::new(alloc),
-    };
-    for component in parts {
-        let Ok(tariff) = Arc::clone(&tariff) else {
-            return Err(RunFault::Memory);
-        };
-        let part = searched_part(rt, alloc, component, tariff, terms, &mut found.tries)?;
-        if found.parts.push(part).is_err() {
-            return Err(RunFault::Memory);
-        }
-    }
-    Ok(found)
 }

@@ -2,7 +2,7 @@
 
 use crate::lists::{is_set, length_of};
 use std::alloc::{AllocError, Global};
-use topo_core::rows::KINDS;
+use topo_core::rows::{CrossRow, KINDS, Rows};
 use topo_graph::GraphEdge;
 use topo_left_right::{Ends, bridges};
 use topo_price::tariff::{PriceFn, Tariff};
@@ -58,6 +58,22 @@ fn prices_of<F: PriceFn>(
         prices.push(price_of(tariff, edge.kind))?;
     }
     Ok(prices)
+}
+
+/// What a crossing costs: the product of the prices of its edges.
+fn cost_at(graph: &Graph, crossing: &CrossRow) -> u64 {
+    let crossed = graph.price(crossing.crossed).unwrap_or(1) as u64;
+    let newcomer = graph.price(crossing.newcomer).unwrap_or(1) as u64;
+    crossed.saturating_mul(newcomer)
+}
+
+/// What the crossings of rows cost, whose edge ids are places in the graph.
+pub(crate) fn cost_of_rows(graph: &Graph, rows: &Rows) -> u64 {
+    let mut cost: u64 = 0;
+    for crossing in rows.crossings.as_slice() {
+        cost = cost.saturating_add(cost_at(graph, crossing));
+    }
+    cost
 }
 
 /// So many empty lists.

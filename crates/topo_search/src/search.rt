@@ -2,7 +2,7 @@
 
 use crate::best::{Best, keep};
 use crate::board::{Board, Score};
-use crate::graph::Graph;
+use crate::graph::{Graph, cost_of_rows};
 use crate::lists::{append, first_numbers, length_of};
 use crate::moves::{add_crossed, put_in};
 use crate::orders::{begin_order, first_forbidden};
@@ -176,6 +176,16 @@ impl<F: PriceFn> Search<F> {
             failed: 0,
             is_hurried: false,
         })
+    }
+
+    /// Begins with a picture in place of an order: its rows, whose edges are those of the graph, in
+    /// their order and with ids from 0 on. A picture that is none is a fault.
+    pub fn begin_from(&mut self, alloc: Global, rows: &Rows) -> Result<(), SearchFault> {
+        let edges = first_numbers(alloc, self.board.graph.edge_count())?;
+        let cost = cost_of_rows(&self.board.graph, rows);
+        self.board.load(alloc, rows, &edges, cost)?;
+        keep(alloc, &self.board, &mut self.best)?;
+        self.begin_round(alloc)
     }
 
     /// Searches for a while, some 50 milliseconds, and says how far it has come. An order begins in
