@@ -137,6 +137,28 @@ class KnownGraphs(Shows):
         self.assertEqual(planarized(0, []), empty)
         self.assertEqual(planarized(2, []), {**empty, "lonely": [0, 1]})
 
+    def test_going_on(self):
+        vertices, edges = 40, random.Random(3).sample([edge for edge in complete(40)], 160)
+        first = planarized(vertices, edges, effort="quick")
+        for options in ({}, {"effort": "quick"}, {"threads": 2}):
+            with self.subTest(**options):
+                answer = planarized(vertices, edges, start=first, **options)
+                self.judge(vertices, edges, answer)
+                self.assertLessEqual(answer["crossings"], first["crossings"])
+        bare = {key: first[key] for key in ("lonely", "parts")}
+        self.assertEqual(planarized(vertices, edges, start=bare), planarized(vertices, edges, start=first))
+
+    def test_side_by_side(self):
+        vertices, edges = 30, random.Random(4).sample([edge for edge in complete(30)], 110)
+        alone = [planarized(vertices, edges, effort="quick", seed=seed) for seed in (5, 6, 7)]
+        best = min(alone, key=lambda it: it["crossings"])
+        self.assertEqual(planarized(vertices, edges, effort="quick", seed=5, threads=3), best)
+
+    def test_parts_with_a_start(self):
+        edges = [*complete(5), *([5 + a, 5 + b, kind] for a, b, kind in complete(6))]
+        first = planarized(12, edges)
+        self.judge(12, edges, planarized(12, edges, start=first))
+
     def test_an_edge_that_must_not_be_crossed(self):
         edges = [[a, b, int(b == 0)] for a, b, _ in complete(6)]
         answer = planarized(6, edges, prices=[1, None])
@@ -157,6 +179,11 @@ class Faults(unittest.TestCase):
             ('{"edges":[],"effort":"much","version":1,"vertices":2}', "52 BadShape $/effort"),
             ('{"edges":[],"seconds":null,"version":1,"vertices":2}', "52 BadShape $/seconds"),
             ('{"edges":[],"prices":[null],"version":1,"vertices":2}', "52 BadShape $/prices/0"),
+            ('{"edges":[],"progress":1,"version":1,"vertices":2}', "52 BadShape $/progress"),
+            ('{"edges":[],"threads":0,"version":1,"vertices":2}', "54 BadNumber $/threads"),
+            ('{"edges":[],"threads":17,"version":1,"vertices":2}', "54 BadNumber $/threads"),
+            ('{"edges":[],"start":{"lonely":[]},"version":1,"vertices":2}', "52 BadShape $/start/parts"),
+            ('{"edges":[],"start":{"lonely":[0],"parts":[]},"version":1,"vertices":2}', "84 OtherGraph"),
             ('{"edges":[],"prices":[0],"version":1,"vertices":2}', "10 BadPrice 0"),
             ('{"edges":[[0,1,0],[1,1,0]],"version":1,"vertices":2}', "80 Loop 1"),
             ('{"edges":[[0,1,0],[1,2,0]],"version":1,"vertices":2}', "81 NoEnd 1"),
@@ -174,3 +201,32 @@ class Faults(unittest.TestCase):
         forbidden = [[a, b, 1] for a, b, _ in complete(5)]
         ran = answered(json.dumps({"edges": forbidden, "prices": [1, None], "version": 2, "vertices": 5}))
         self.assertRegex(ran.stderr, r"^planar: 83 NotPlanarized \d\n$")
+
+    def test_another_graph_to_begin_with(self):
+        first = planarized(5, complete(5))
+        for edges in (complete(5)[::-1], complete(5)[:-1], [[b, a, kind] for a, b, kind in complete(5)], [[0, 1, 1], *complete(5)[1:]]):
+            ran = answered(json.dumps({"edges": edges, "start": first, "version": 1, "vertices": 5}))
+            self.assertEqual((ran.stdout, ran.stderr, ran.returncode), ("", "planar: 84 OtherGraph\n", 1))
+
+    def test_deep_paths(self):
+        first = planarized(5, complete(5))
+        first["parts"][0]["picture"]["edges"][3]["crossings"] = [-1]
+        ran = answered(json.dumps({"edges": complete(5), "start": first, "version": 1, "vertices": 5}))
+        self.assertEqual(ran.stderr, "planar: 54 BadNumber $/start/parts/0/picture/edges/3/crossings/0\n")
+
+
+@needs_program
+class Progress(Shows):
+    def test_lines_on_the_way(self):
+        edges = complete(30)
+        text = {"edges": edges, "progress": True, "seconds": 3, "version": 1, "vertices": 30}
+        ran = answered(json.dumps(text))
+        self.judge(30, edges, json.loads(ran.stdout))
+        lines = ran.stderr.splitlines()
+        self.assertGreater(len(lines), 1)
+        for line in lines:
+            self.assertRegex(line, r"^planar: component 1 of 1, orders \d+: (crossings \d+|no picture yet)$")
+
+    def test_none_where_none_is_asked_for(self):
+        ran = answered(json.dumps({"edges": complete(30), "seconds": 2, "version": 1, "vertices": 30}))
+        self.assertEqual(ran.stderr, "")

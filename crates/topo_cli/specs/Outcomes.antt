@@ -97,18 +97,18 @@ TellsVersion outcome old_held new_held old_told new_told =
 
 -- ---- A command
 
--- the command is done: standard output has just its answer more, and standard error nothing
+-- the command is done: standard output has just its answer more, and standard error what is told on the way
 pub record IsCarriedOut (verb : Verb) (outcome : Outcome) (old new : ReaderState) (old_held new_held old_told new_told : Option (List ℕ)) : Type 0 where
   pub status : outcome.status ≡ 0
-  pub answered : IsAnswered verb old new old_held new_held
-  pub silent : Keeps old_told new_told
+  pub answered : IsAnswered verb old new old_held new_held old_told new_told
   pub told : outcome.is_told ≡ true
 
--- the command has no answer, by a fault that is told
+-- the command has no answer, by a fault that is told behind what was told on the way
 pub record IsGivenUp (verb : Verb) (outcome : Outcome) (old new : ReaderState) (old_held new_held old_told new_told : Option (List ℕ)) : Type 0 where
   pub fault : RunFault
-  pub fails : CommandFailsBy verb fault old new old_held new_held
-  pub ends : EndsBy fault outcome old_told new_told
+  pub way_told : Option (List ℕ)
+  pub fails : CommandFailsBy verb fault old new old_held new_held old_told way_told
+  pub ends : EndsBy fault outcome way_told new_told
 
 abbrev pub CarriesOut : Verb → Outcome → ReaderState → ReaderState → Option (List ℕ) → Option (List ℕ) → Option (List ℕ) → Option (List ℕ) → Type 0
 CarriesOut verb outcome old new old_held new_held old_told new_told =

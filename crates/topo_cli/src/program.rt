@@ -69,7 +69,7 @@ enum Unread {
 
 /// Reads the words, of which the first is the program's name, and carries out the command that they
 /// ask for, on the reader and `out`. Where they ask for the version, it goes to `out`. A fault is one
-/// line on `err`. Where `clap` refuses the words, or they ask for help, its text goes to `err`. Only
+/// line on `err`, behind the lines that a command was asked to tell on the way. Where `clap` refuses the words, or they ask for help, its text goes to `err`. Only
 /// a command reads. A write to `err` that fails changes no status.
 pub fn perform<'a, R: Threads + Wait + Clock + Sync, S: AsStr, I: Read, O: Write, E: Write>(
     rt: &R,
@@ -133,7 +133,7 @@ fn carry_out<R: Threads + Wait + Clock + Sync, I: Read, O: Write, E: Write>(
     ensures { CarriesOut verb result reader.old reader.new
         (O.contents out.old) (O.contents out.new) (E.contents err.old) (E.contents err.new) }
 {
-    match answer(rt, alloc, verb, reader, out) {
+    match answer(rt, alloc, verb, reader, out, err) {
         Ok(()) => Outcome {
             status: DONE,
             is_told: true,

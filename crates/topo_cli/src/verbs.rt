@@ -136,9 +136,12 @@ the kind, from 0 to 63, of each edge:
 
 It may also have \"effort\", which is \"quick\", \"default\" or \"thorough\";
 \"prices\" as in a script, where an edge of a kind without a price has no crossing
-at all; \"seconds\", after which the search ends with the best so far; and \"seed\",
-a number that its choices begin with. The same graph, effort and seed have the
-same answer, unless time ends the search.
+at all; \"progress\", true for a line on standard error about once a second;
+\"seconds\", after which the search ends with the best so far; \"seed\", a number
+that its choices begin with; \"start\", an answer of before, to go on from; and
+\"threads\", so many searches side by side, with seeds one after another. The same
+graph, effort, seed, start and threads have the same answer, unless time ends the
+search.
 
 The answer has the number of crossings and their cost, which is the sum of the
 products of the prices of both edges; \"parts\", each with a picture and the graph's
@@ -149,7 +152,8 @@ A fault is one line on standard error. planar: 80 Loop 3 says that both ends of
 edge 3, counted from 0, are one vertex, and planar: 81 NoEnd 3 that one of them is
 no vertex. planar: 82 TooLarge tells of a component with more than 65,536 vertices
 or edges, or whose picture needs too many crossings, and planar: 83 NotPlanarized 3
-that no picture was found in which edge 3 has no crossing.";
+that no picture was found in which edge 3 has no crossing. planar: 84 OtherGraph
+says that \"start\" shows another graph.";
 
 /// The program with one command more.
 fn with_command<'a>(

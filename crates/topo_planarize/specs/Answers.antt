@@ -120,6 +120,11 @@ HasNoAnswer asked (Price fault) = IsBadPrice asked.prices fault
 HasNoAnswer asked (Graph fault) = IsGraphFaultOf asked fault
 HasNoAnswer asked _ = ⊥
 
+-- what is searched: pictures of a graph, at prices
+pub record Sought : Type 0 where
+  pub graph : Drawn
+  pub prices : List (Option ℕ)
+
 -- ---- Its text
 
 abbrev pub answer_data : Answer → Data

@@ -7,9 +7,9 @@ ghost use Rattle.topo_planarize.specs.Answers.{total_crossings};
 use std::alloc::AllocError;
 use topo_core::listed::Listed;
 use topo_core::rows::{CrossRow, EdgeRow, KINDS, Rows};
+use topo_graph::Part;
 use topo_price::table::PriceTable;
 use topo_script::written::{Written, write_after};
-use topo_graph::Part;
 
 /// Pictures that show a graph, with what their crossings cost and how many they are, the vertices
 /// that have no edge, and the crossings at the end of each order that was tried.

@@ -8,7 +8,9 @@
 mod answers;
 mod components;
 pub mod planarize;
+mod planarizer;
 mod searches;
 mod side_by_side;
 
 pub use planarize::planarize_io;
+pub use planarizer::Planarizer;

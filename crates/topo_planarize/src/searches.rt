@@ -46,6 +46,18 @@ impl<F: PriceFn + Drop> Drop for Running<F> {
     }
 }
 
+impl<F: PriceFn> Running<F> {
+    /// The search, and the vertices and edges of its component.
+    fn into_parts(self) -> (Search<F>, Vec<u32>, Vec<u32>) {
+        let Running {
+            search,
+            vertices,
+            edges,
+        } = self;
+        (search, vertices, edges)
+    }
+}
+
 /// How far searches have come: which component is searched, counted from 1, of how many, how many
 /// crossings its best picture has, where there is one, and how many orders have ended.
 #[derive(Clone, Copy, Debug, PartialEq, Eq)]
@@ -308,11 +320,7 @@ impl<F: PriceFn> Searches<F> {
     where
         F: Drop,
     {
-        let Running {
-            search,
-            vertices,
-            edges,
-        } = running;
+        let (search, vertices, edges) = running.into_parts();
         self.found.tries.extend_from_slice(search.tries())?;
         self.way.crossings = None;
         self.way.orders = 0;
@@ -320,11 +328,14 @@ impl<F: PriceFn> Searches<F> {
             return Ok(());
         };
         let edges = places_of(alloc, &edges, &own)?;
-        self.found.parts.push(Part {
+        let part = Part {
             rows,
             vertices: Listed::from_vec(vertices),
             edges,
-        })?;
-        Ok(())
+        };
+        match self.found.parts.push(part) {
+            Ok(()) => Ok(()),
+            Err(_) => Err(SearchFault::Memory),
+        }
     }
 }
