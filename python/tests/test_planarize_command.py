@@ -91,7 +91,7 @@ class Shows(unittest.TestCase):
 class RandomGraphs(Shows):
     def test_of_all_kinds(self):
         choose = random.Random(7)
-        for _ in range(150):
+        for _ in range(2000):
             vertices, edges = random_graph(choose)
             prices = choose.choice([(), (1, 2, 3, 7), (4, None, 1)])
             options = {"effort": choose.choice(["quick", "default"]), "prices": prices, "seed": choose.randrange(9)}

@@ -7,21 +7,11 @@ use Rattle.topo_settings.specs.declared.fault.RunFault.TheVariants.{Memory, Scri
 use Rattle.topo_settings.specs.declared.fault.RunFault.TheVariants.{WrongReply, WrongPicture}
 use Rattle.topo_settings.specs.Reading.{IsRead, ReaderState}
 use Rattle.topo_settings.specs.Writing.{AppendsPart, IsOfWriting}
-use Rattle.topo_settings.proofs.Interface.{by_writing}
+use Rattle.topo_settings.proofs.Interface.{appends_so, by_writing, part_so}
 use Rattle.topo_check.specs.Checks.{CheckFailsBy, IsChecked, IsLawfulInput, IsSizeOfBytes, IsUnlawful}
 use Rattle.topo_check.specs.Replays.{IsUntrueReport, ReplayFailsBy, ReportsUntruly, TellsUntrue}
 
--- what was read without a fault is what is due
-pub read_so : {A : Type 0} {read due : Read A} {a : A} → read ≡ Ok a → Gives read due → due ≡ Ok a
-read_so {due} is gives = subst (λ r. Gives r due) is gives
-
 module _ (old_held new_held : Option (List ℕ)) where
-  appends_so : (text line : List ℕ) → text ≡ line → Appends old_held new_held text → Appends old_held new_held line
-  appends_so text line same h = subst (λ (bs : List ℕ). Appends old_held new_held bs) same h
-
-  part_so : (text line : List ℕ) → text ≡ line → AppendsPart old_held new_held text → AppendsPart old_held new_held line
-  part_so text line same h = subst (λ (bs : List ℕ). AppendsPart old_held new_held bs) same h
-
   module _ (old_left new_left : Option (List ℕ)) (bytes : List ℕ) (read : IsRead 268435456 old_left new_left bytes) where
     lawful : (line : List ℕ) (told : IsSizeOfBytes bytes line) → IsLawfulInput old_left new_left told.rows
     lawful line told = record {
@@ -37,7 +27,7 @@ module _ (old_held new_held : Option (List ℕ)) where
       input = lawful line told;
       counts = told.counts;
       counted = told.counted;
-      written = appends_so line _ told.told (appends_so text line same written);
+      written = appends_so old_held new_held line _ told.told (appends_so old_held new_held text line same written);
     }
 
   module _ (old new : ReaderState) (bytes : List ℕ) (read : IsRead 268435456 old.left new.left bytes) where
@@ -80,5 +70,5 @@ module _ (old_held new_held : Option (List ℕ)) where
       input = lawful old.left new.left bytes read line told;
       counts = told.counts;
       counted = told.counted;
-      written = part_so line _ told.told (part_so text line same written);
+      written = part_so old_held new_held line _ told.told (part_so old_held new_held text line same written);
     })

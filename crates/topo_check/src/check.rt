@@ -5,20 +5,17 @@ ghost use Rattle.topo_check.specs.Checks.{CheckFailsBy, IsChecked};
 ghost use Rattle.topo_check.specs.Checks.{IsSizeOfBytes, IsUnlawful, size_line};
 ghost use Rattle.topo_forms.specs.Reads.{Gives};
 ghost use Rattle.topo_forms.specs.RowForms.{rows_of};
-ghost use Rattle.topo_forms.specs.Scripts.{greatest_limits};
-ghost use Rattle.topo_settings.specs.Limiting.{AreLimits};
 ghost use Rattle.topo_settings.specs.Reading.{most_calls};
 
 use std::alloc::{AllocError, Global};
 use std::io::{Read, Write};
-use topo_core::limits::Limits;
 use topo_core::rows::Rows;
 use topo_forms::row_forms::MAX_PICTURE_BYTES;
 use topo_forms::{ScriptFault, read_rows};
 use topo_picture::{Counts, Picture};
-use topo_settings::RunFault;
 use topo_settings::reading::{CountedReader, read_bytes};
 use topo_settings::writing::write_text;
+use topo_settings::{RunFault, greatest_limits};
 
 /// Reads a picture, and writes how large it is where it is a lawful one under the greatest limits.
 /// The reader is read until its end, or until it has given one byte more than a picture may have:
@@ -73,17 +70,6 @@ fn line_of_read(alloc: Global, read: Result<Rows, ScriptFault>) -> Result<String
     match size_line(alloc, &counts) {
         Ok(line) => Ok(line),
         Err(_) => Err(RunFault::Memory),
-    }
-}
-
-/// The greatest limits.
-fn greatest_limits() -> Limits
-    ensures { AreLimits greatest_limits result }
-{
-    Limits {
-        vertices: 65_536,
-        edges: 65_536,
-        crossings: 1_048_576,
     }
 }
 

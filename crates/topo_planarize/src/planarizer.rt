@@ -1,13 +1,11 @@
 //! Searches for pictures of a graph, and the judge of what they find.
 
 ghost use Rattle.std.specs.Prelude.{◌≡◌, IfErr, IfOk};
-ghost use Rattle.topo_forms.specs.Scripts.{greatest_limits};
 ghost use Rattle.topo_planarize.specs.Answers.{HasNoAnswer, IsAnswerOf, IsAnswerTo, IsOfSearch};
 ghost use Rattle.topo_planarize.specs.Answers.{IsPriceFaultOf, IsStartFault, StartsWell, drawn};
 ghost use Rattle.topo_planarize.specs.Answers.{total_cost, total_crossings};
 ghost use Rattle.topo_planarize.specs.Ways.{TellsWay};
 ghost use Rattle.topo_price.specs.Prices.{IsPromise};
-ghost use Rattle.topo_settings.specs.Limiting.{AreLimits};
 ghost use Rattle.topo_settings.specs.Settings.{price_table};
 
 use crate::answers::{Answer, total_cost, total_crossings};
@@ -19,7 +17,6 @@ use std::marker::Model;
 use std::rt::Clock;
 use std::sync::Arc;
 use std::thread::Threads;
-use topo_core::limits::Limits;
 use topo_core::listed::Listed;
 use topo_forms::{GraphAsked, GraphStart};
 use topo_graph::{Graph, GraphFault};
@@ -27,7 +24,7 @@ use topo_price::table::PriceTable;
 use topo_price::tariff::{PriceFn, Tariff};
 use topo_search::{Options, SearchFault};
 use topo_settings::settings::table_of;
-use topo_settings::{FromTable, RunFault};
+use topo_settings::{FromTable, RunFault, greatest_limits};
 use topo_shown::{Planarized, ShowFault, shown};
 
 /// Searches for pictures of a graph, each from a seed of its own, at the prices of a table.
@@ -54,17 +51,6 @@ impl<F: PriceFn> Model for Planarizer<F> {
     ghost Value = { Sought };
 
     ghost view = { λ p. record { graph = p.graph; prices = p.prices } };
-}
-
-/// The greatest limits.
-fn greatest_limits() -> Limits
-    ensures { AreLimits greatest_limits result }
-{
-    Limits {
-        vertices: 65_536,
-        edges: 65_536,
-        crossings: 1_048_576,
-    }
 }
 
 /// The table of the prices of all kinds, twice: for the search, and for the judge.

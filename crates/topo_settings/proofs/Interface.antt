@@ -2,6 +2,8 @@
 
 -- What follows of results, and of the fault of writing.
 pub use Rattle.topo_settings.proofs.Faults.{by_writing, err_by, ok_by}
+-- What was read and what was written, in other words for the same.
+pub use Rattle.topo_settings.proofs.Telling.{appends_so, part_so, read_so}
 -- One list, whose commands one caller has entered, is a run of it.
 pub use Rattle.topo_settings.proofs.OneList.{run_of_one}
 -- Two prices that agree on every edge allow the same runs.

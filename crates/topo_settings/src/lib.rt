@@ -9,4 +9,5 @@ pub mod tables;
 pub mod writing;
 
 pub use fault::RunFault;
+pub use settings::greatest_limits;
 pub use tables::FromTable;

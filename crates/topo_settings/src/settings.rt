@@ -2,6 +2,8 @@
 //! with.
 
 ghost use Rattle.std.specs.Prelude.{◌≡◌, IfOk, IfErr, None, option_copied};
+ghost use Rattle.topo_forms.specs.Scripts.{greatest_limits};
+ghost use Rattle.topo_settings.specs.Limiting.{AreLimits};
 ghost use Rattle.topo_settings.specs.Settings.{IsBadPrice, IsSound, IsUnsound};
 ghost use Rattle.topo_settings.specs.Settings.{price_of_kind, price_table, start_of};
 ghost use Rattle.topo_price.specs.Prices.{first_bad};
@@ -47,6 +49,17 @@ pub fn validate(
             Ok(picture) => Ok((table, picture)),
             Err(_) => Err(RunFault::Memory),
         },
+    }
+}
+
+/// The greatest limits.
+pub fn greatest_limits() -> Limits
+    ensures { AreLimits greatest_limits result }
+{
+    Limits {
+        vertices: 65_536,
+        edges: 65_536,
+        crossings: 1_048_576,
     }
 }
 

@@ -1,5 +1,5 @@
 use Rattle.topo_planarize.proofs.Judging.{judged_so}
-use Rattle.topo_planarize.proofs.planarize.judged.Goals as goal
+use Rattle.topo_planarize.proofs.planarizer.judged.Goals as goal
 
 pub returns-in-Ok-clause-shows : goal.returns-in-Ok-clause-shows
 returns-in-Ok-clause-shows c =
