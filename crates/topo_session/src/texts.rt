@@ -1,6 +1,6 @@
 //! The texts of answers.
 
-ghost use Rattle.std.specs.Prelude.{◌≡◌, ◌++◌, IfOk, OnOk, codes, decimal, string_bytes};
+ghost use Rattle.std.specs.Prelude.{◌≡◌, ◌++◌, [], IfOk, OnOk, codes, decimal, string_bytes};
 ghost use Rattle.serde_json.specs.Data.{string};
 ghost use Rattle.serde_json.specs.Written.{compact_text};
 ghost use Rattle.topo_forms.specs.Paths.{path_text};
@@ -27,6 +27,17 @@ use topo_renumbering::Renumbered;
 use topo_script::written::{Written, write_after, write_next};
 use topo_settings::RunFault;
 
+/// How many bytes the text of an answer has room for at first. Most answers have no more, so that
+/// their texts are not moved while they grow.
+const ANSWER_BYTES: usize = 128;
+
+/// An empty text with room for most answers.
+fn empty_answer(alloc: Global) -> Result<String, AllocError>
+    ensures { IfOk result (λ text. string_bytes text ≡ []) }
+{
+    String::with_capacity(alloc, ANSWER_BYTES)
+}
+
 /// Writes counts at the end of a text.
 fn write_counts(out: &mut String, counts: &Counts) -> Result<(), AllocError>
     ensures { OnOk result (string_bytes out.new ≡ string_bytes out.old ++ counts_text counts.now) }
@@ -43,7 +54,7 @@ fn write_counts(out: &mut String, counts: &Counts) -> Result<(), AllocError>
 pub fn counts_text(alloc: Global, counts: &Counts) -> Result<String, AllocError>
     ensures { IfOk result (λ text. string_bytes text ≡ counts_text counts.now) }
 {
-    let mut text = String::new(alloc);
+    let mut text = empty_answer(alloc)?;
     write_counts(&mut text, counts)?;
     Ok(text)
 }
@@ -99,7 +110,7 @@ fn write_renumbered(out: &mut String, ids: &Renumbered) -> Result<(), AllocError
 pub fn renumbered_text(alloc: Global, ids: &Renumbered) -> Result<String, AllocError>
     ensures { IfOk result (λ text. string_bytes text ≡ compact_text (renumbered_data ids.now)) }
 {
-    let mut text = String::new(alloc);
+    let mut text = empty_answer(alloc)?;
     write_renumbered(&mut text, ids)?;
     Ok(text)
 }
@@ -152,7 +163,7 @@ fn write_route_reply(out: &mut String, reply: &Reply) -> Result<(), AllocError>
 pub fn route_text(alloc: Global, reply: &Reply) -> Result<String, AllocError>
     ensures { IfOk result (λ text. string_bytes text ≡ compact_text (route_reply_data reply.now)) }
 {
-    let mut text = String::new(alloc);
+    let mut text = empty_answer(alloc)?;
     write_route_reply(&mut text, reply)?;
     Ok(text)
 }
@@ -170,7 +181,7 @@ fn write_face(out: &mut String, darts: &Listed<Dart>) -> Result<(), AllocError>
 pub fn face_text(alloc: Global, darts: &Listed<Dart>) -> Result<String, AllocError>
     ensures { IfOk result (λ text. string_bytes text ≡ compact_text (face_data darts.now)) }
 {
-    let mut text = String::new(alloc);
+    let mut text = empty_answer(alloc)?;
     write_face(&mut text, darts)?;
     Ok(text)
 }
@@ -179,7 +190,7 @@ pub fn face_text(alloc: Global, darts: &Listed<Dart>) -> Result<String, AllocErr
 pub fn text_of<T: Written>(alloc: Global, value: &T) -> Result<String, AllocError>
     ensures { IfOk result (λ text. string_bytes text ≡ compact_text (T.value value.now)) }
 {
-    let mut text = String::new(alloc);
+    let mut text = empty_answer(alloc)?;
     value.write(&mut text)?;
     Ok(text)
 }
