@@ -60,6 +60,18 @@ static void use_at_once(fezdrok_session *session) {
     wrong = 1;
 }
 
+/* A judgement whose text has no room: it says how much it needs, and the output is as it was. */
+static void judge_without_room(void) {
+    const uint8_t *input = (const uint8_t *)"{}";
+    uint8_t output[128] = "unchanged";
+    size_t size = 0, again = 0;
+    fezdrok_text told = {(const char *)output, 9};
+    expect("no room", fezdrok_check(input, 2, output, 17, &size), FEZDROK_TOO_SMALL, told, "unchanged");
+    expect("a byte too few", fezdrok_check(input, 2, output, size - 1, &again), FEZDROK_TOO_SMALL, told, "unchanged");
+    expect("room", fezdrok_check(input, 2, output, size, &again), FEZDROK_FAULT, told, NULL);
+    wrong |= size < 18 || again != size || output[size - 1] != '\n' || memcmp(output, "planar: 52 ", 11);
+}
+
 int main(int count, char **words) {
     static const char not_open[] = "{\"fault\":[72,\"NotOpen\"]}", settings[] = "{\"version\":1}";
     static const char seed[] = "{\"crossings\":0,\"edges\":1,\"faces\":1,\"segments\":1,\"vertices\":2}";
@@ -69,6 +81,7 @@ int main(int count, char **words) {
     fezdrok_session *session, *another = NULL;
     fezdrok_reply reply;
     fezdrok_text told = none;
+    judge_without_room();
     expect("no settings", fezdrok_open(NULL, 1, &session, &told), FEZDROK_NULL_OR_CLOSED, told, none.at);
     expect("no place for the session", fezdrok_open(settings, 13, NULL, &told), FEZDROK_NULL_OR_CLOSED, told, none.at);
     expect("no place for the answer", fezdrok_open(settings, 13, &session, NULL), FEZDROK_NULL_OR_CLOSED, told, none.at);

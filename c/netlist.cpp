@@ -19,40 +19,35 @@ std::uint32_t below(std::uint32_t bound) {
     return static_cast<std::uint32_t>((state >> 33) % bound);
 }
 
-/* The reply of a call; an error where it had none, or was refused. */
-fezdrok_reply done(std::uint8_t status, const fezdrok_reply &reply) {
-    if (status != FEZDROK_DONE)
-        throw fezdrok::error(status);
-    if (reply.refusal != 0)
+/* A reply, or an error where the call was refused. */
+const fezdrok::reply &done(const fezdrok::reply &reply) {
+    if (!reply)
         throw std::runtime_error("refused: " + std::to_string(reply.refusal));
     return reply;
 }
 
 /* Puts each further cell on a wire from one that is there. */
-void place(const fezdrok::session &session) {
-    fezdrok_reply reply;
+void place(fezdrok::session &session) {
     for (std::uint32_t cell = 2; cell < cells; ++cell)
-        done(fezdrok_grow(session.handle(), 0, below(cell), 0, 0, &reply), reply);
+        done(session.grow(below(cell)));
 }
 
 /* Inserts the wires of a net, each along a cheapest route. */
-void route(const fezdrok::session &session, std::vector<std::uint32_t> &wires) {
-    fezdrok_reply reply;
+void route(fezdrok::session &session, std::vector<std::uint32_t> &wires) {
     std::uint32_t driver = below(cells), sinks = 1 + below(3);
     for (std::uint32_t sink = 0; sink < sinks; ++sink) {
         std::uint32_t cell = (driver + 1 + below(cells - 1)) % cells;
-        wires.push_back(done(fezdrok_insert(session.handle(), 0, driver, cell, 0, &reply), reply).is.inserted.edge);
+        wires.push_back(done(session.insert(driver, cell)).is.inserted.edge);
     }
 }
 
 /* Writes a wire from one cell to the other, by way of its crossings. */
-void write(const fezdrok::session &session, std::uint32_t wire) {
-    fezdrok_reply reply;
-    done(fezdrok_edge(session.handle(), wire, &reply), reply);
-    std::printf("  c%u", reply.is.edge.a);
-    for (std::size_t i = 0; i < reply.length; ++i)
-        std::printf(" -- x%u", reply.items[i].id);
-    std::printf(" -- c%u;\n", reply.is.edge.b);
+void write(fezdrok::session &session, std::uint32_t wire) {
+    fezdrok::reply edge = session.edge(wire);
+    std::printf("  c%u", done(edge).is.edge.a);
+    for (const fezdrok_item &crossing : edge.crossings())
+        std::printf(" -- x%u", crossing.id);
+    std::printf(" -- c%u;\n", edge.is.edge.b);
 }
 
 } // namespace
@@ -66,14 +61,13 @@ int main() {
             wires.push_back(edge);
         for (std::uint32_t net = 0; net < nets; ++net)
             route(session, wires);
-        fezdrok_reply counts;
-        done(fezdrok_counts(session.handle(), &counts), counts);
+        fezdrok::reply size = session.counts();
         std::printf("graph netlist {\n  node [shape=point];\n");
         for (std::uint32_t cell = 0; cell < cells; ++cell)
             std::printf("  c%u [shape=box];\n", cell);
         for (std::uint32_t wire : wires)
             write(session, wire);
-        std::printf("} // %u crossings, %u segments\n", counts.is.counts.crossings, counts.is.counts.segments);
+        std::printf("} // %u crossings, %u segments\n", size.is.counts.crossings, size.is.counts.segments);
     } catch (const std::exception &failed) {
         std::fprintf(stderr, "netlist: %s\n", failed.what());
         return EXIT_FAILURE;

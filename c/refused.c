@@ -27,26 +27,41 @@ static int was_done(fezdrok_session *session, size_t count) {
     return done == count ? 1 : done + 1 == count ? 0 : -1;
 }
 
-/* Insertions and questions without a text, behind so many entries of the report. Nothing is told where there is no memory. */
+/* A command without a text: 0 grow, 1 insert, 2 delete, with its words. */
+struct command {
+    uint32_t which, a, b, c;
+};
+
+static uint8_t carry(fezdrok_session *session, struct command it, fezdrok_reply *reply) {
+    if (it.which == 0)
+        return fezdrok_grow(session, 3, it.a, it.b, it.c, reply);
+    return it.which == 1 ? fezdrok_insert(session, 3, it.a, it.b, it.c, reply) : fezdrok_delete(session, 3, it.a, reply);
+}
+
+/* Questions, each of which is asked until there is memory for it. */
+static void ask_typed(fezdrok_session *session, uint32_t u, fezdrok_reply *reply) {
+    while (fezdrok_counts(session, reply) == FEZDROK_NO_MEMORY || fezdrok_route(session, u, 3, reply) == FEZDROK_NO_MEMORY)
+        ;
+    while (fezdrok_edge(session, 0, reply) == FEZDROK_NO_MEMORY || fezdrok_vertex(session, u, reply) == FEZDROK_NO_MEMORY)
+        ;
+}
+
+/* Commands and questions without a text, behind so many entries of the report. Nothing is told where there is no memory. */
 static int call_typed(fezdrok_session *session, size_t count) {
-    static const uint32_t ends[][2] = {{0, 4}, {1, 4}, {2, 3}, {0, 0}};
+    static const struct command commands[] = {{1, 0, 4, 2}, {0, 0, 0, 2}, {1, 1, 4, 2}, {1, 2, 4, 2}, {1, 3, 4, 0}, {1, 2, 3, 2}, {1, 0, 2, 2}, {1, 0, 0, 2}, {2, 7, 0, 0}, {0, 4, 1, 0}};
+    size_t length = sizeof commands / sizeof *commands;
     fezdrok_reply reply;
-    for (size_t i = 0; i < sizeof ends / sizeof *ends; i++) {
+    for (size_t i = 0; i < length; i++) {
         int done = 0;
-        while (!done && fezdrok_insert(session, 3, ends[i][0], ends[i][1], 2, &reply) == FEZDROK_NO_MEMORY) {
+        while (!done && carry(session, commands[i], &reply) == FEZDROK_NO_MEMORY) {
             done = was_done(session, count + i + 1);
-            if (done < 0 || reply.length || reply.refusal || reply.price)
+            if (done < 0 || reply.length || reply.refusal || reply.price || reply.is.grown.vertex || reply.is.grown.edge)
                 return 1;
         }
-        while (fezdrok_route(session, ends[i][0], 3, &reply) == FEZDROK_NO_MEMORY)
-            ;
-        while (fezdrok_edge(session, 4, &reply) == FEZDROK_NO_MEMORY)
-            ;
-        while (fezdrok_vertex(session, ends[i][1], &reply) == FEZDROK_NO_MEMORY)
-            ;
+        ask_typed(session, commands[i].a % 5, &reply);
     }
     while (fezdrok_undo(session, 1, &reply) == FEZDROK_NO_MEMORY)
-        if (was_done(session, count + 4) != 1)
+        if (was_done(session, count + length) != 1)
             return 1;
     return reply.is.undone.entries != 1;
 }

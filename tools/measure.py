@@ -26,6 +26,7 @@ import sys
 import tempfile
 import time
 from collections.abc import Callable, Iterable, Iterator
+from dataclasses import replace
 from pathlib import Path
 from typing import Any, NamedTuple
 
@@ -324,15 +325,18 @@ def time_sessions() -> None:
         start = session.picture()
     lines = [json_text({"version": 1, "start": start.to_json()}), '["insert",0,0,0]', '"counts"']
     from_c = times_from_c(lines, 1000)
-    columns: list[list[float | None]] = [[*from_c[:3]], [None, *from_c[3:]]]
+    columns: list[list[float | None]] = [[from_c[0], None, *from_c[1:3]], [None, None, *from_c[3:]]]
     for process in (False, True):
         with Session(start, process=process) as session:
-            opening = least_time(lambda: Session(start, process=process).close(), 1 if process else 5)
+            count = 1 if process else 5
+            opening = least_time(lambda: Session(replace(start), process=process).close(), count)
+            again = least_time(lambda: Session(start, process=process).close(), count)
             refused = least_time(lambda: session.insert(0, 0), 100)
-            columns.append([opening, refused, least_time(session.counts, 100)])
+            columns.append([opening, again, refused, least_time(session.counts, 100)])
     print("| microseconds | from C, as lines | from C, without a text | from Python, in process | from Python, over a process |")
     print("|---|---|---|---|---|")
-    for name, row in zip(("open and close 61 edges", "a refused insertion", "`counts`"), zip(*columns)):
+    names = "open and close 61 edges", "the same picture again", "a refused insertion", "`counts`"
+    for name, row in zip(names, zip(*columns)):
         print(f"| {name} | {' | '.join('' if it is None else f'{it:.2f}' if it < 10 else f'{it:,.0f}' for it in row)} |")
 
 

@@ -5,6 +5,7 @@ import unittest
 from dataclasses import replace
 
 from fezdrok import Crossing, Dart, Edge, Picture, Point, Report
+from fezdrok.engine.pictures import json_text
 
 from .support import EXAMPLES, example_reports
 
@@ -25,6 +26,20 @@ def joined_apexes(sign: str) -> Picture:
     edges = [replace(row, crossings=(0,)) if row.id == 2 else row for row in start.edges]
     rotations = ((0, 3, 2, 6), (0, 7, 1, 4), (1, 8, 2, 5), (3, 4, 5, 9), (6, 9, 8, 7))
     return Picture(rotations, (*edges, Edge(9, 3, 4, 0, (0,))), (Crossing(0, 2, 9, sign),), 10, 1)
+
+
+class Texts(unittest.TestCase):
+    def test_the_form(self):
+        """Also of rows that are of no picture, which the program is to judge."""
+        pictures = [Report.from_text(it.read_text()).picture for it in example_reports()] + [cross(), joined_apexes("rtl")]
+        for value in (1023, 1024, -1, 2**70, 1.5, None, "x\n", [1]):
+            for name in ("id", "a", "b", "kind"):
+                row = replace(Edge(0, 0, 1, 0, (0,)), **{name: value})
+                pictures.append(replace(cross(), edges=(row,)))
+            pictures += [replace(cross(), next_edge=value), replace(cross(), rotations=((value,),))]
+            pictures.append(replace(cross(), crossings=(Crossing(0, 0, 1, value),)))
+        for picture in pictures:
+            self.assertEqual(picture.to_text(), json_text(picture.to_json()))
 
 
 class Darts(unittest.TestCase):

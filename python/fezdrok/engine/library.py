@@ -4,19 +4,17 @@ from __future__ import annotations
 
 import os
 from collections.abc import Sequence
-from ctypes import (
-    CDLL, POINTER, Structure, byref, c_char_p, c_size_t, c_uint8, c_uint32, c_void_p, create_string_buffer, string_at,
-)
+from ctypes import CDLL, POINTER, Structure, byref, c_char_p, c_size_t, c_uint8, c_void_p, create_string_buffer, string_at
 from typing import Any
 
 from .faults import MemoryFault, ProgramNotFound, SessionClosed, SessionInUse
-from .typed_calls import NUMBERS, Told, read
+from .typed_calls import READERS, Told, read
 
 VARIABLE = "FEZDROK_LIBRARY"
 NAME = "libfezdrok.so"
 
-#: The statuses of docs/C.md: done, and what stands in the way.
-_DONE, _FAULT, _NO_MEMORY, _TOO_SMALL, _CLOSED, _IN_USE = 0, 1, 3, 4, 5, 6
+#: The statuses of docs/C.md behind 0, done, that are told apart here.
+_FAULT, _NO_MEMORY, _TOO_SMALL, _IN_USE = 1, 3, 4, 6
 #: How many bytes most judgements have room in.
 _ROOM = 128
 
@@ -42,9 +40,9 @@ class Library:
         self._judges = {"check": functions.fezdrok_check, "replay": functions.fezdrok_replay}
         for judge in self._judges.values():
             judge.argtypes = [c_char_p, c_size_t, c_char_p, c_size_t, POINTER(c_size_t)]
-        self.typed = {call: getattr(functions, f"fezdrok_{call}") for call in NUMBERS}
-        for call, count in NUMBERS.items():
-            self.typed[call].argtypes = [c_void_p, *[c_uint32] * count, POINTER(Told)]
+        #: The calls without a text, which have no `argtypes`: numbers below 2**32 are given as they are, and the two
+        #: pointers are made once for a session. To convert each would take longer than the call.
+        self.typed = {call: getattr(functions, f"fezdrok_{call}") for call in READERS}
         for function in (self.open, self.call, self.close, *self._judges.values(), *self.typed.values()):
             function.restype = c_uint8
 
@@ -107,7 +105,7 @@ class LibrarySession:
         self.path = library.path
         self._library = library
         self._close = library.close  # which is still there when the interpreter ends
-        self._handle: int | None = None
+        self._handle = c_void_p()
         self._text = _Text()
         self._answer = byref(self._text)
         self._told = Told()
@@ -122,7 +120,7 @@ class LibrarySession:
         """
         if self.is_over:
             raise SessionClosed("the session is closed")
-        self._expect(self._begin(line) if self._handle is None else self._call(line))
+        self._expect(self._call(line) if self._handle else self._begin(line))
         return string_at(self._text.at, self._text.length)
 
     def make(self, call: str, numbers: tuple[int, ...]) -> Any:
@@ -133,13 +131,11 @@ class LibrarySession:
 
     def _expect(self, status: int) -> None:
         """Raises what the status of a call stands for."""
-        if status not in (_DONE, _FAULT):
+        if status > _FAULT:
             raise _failure(status)
 
     def _begin(self, line: bytes) -> int:
-        handle = c_void_p()
-        status: int = self._library.open(line, len(line), byref(handle), self._answer)
-        self._handle = handle.value
+        status: int = self._library.open(line, len(line), byref(self._handle), self._answer)
         return status
 
     def _call(self, line: bytes) -> int:
@@ -157,7 +153,7 @@ class LibrarySession:
     def end(self, patience: float = 0.0) -> tuple[int, str]:
         """Gives the memory back. There is no status, and nothing is told."""
         self.is_over = True
-        handle, self._handle = self._handle, None
+        handle, self._handle.value = self._handle.value, None
         if handle is not None:
             self._close(handle)
         return 0, ""

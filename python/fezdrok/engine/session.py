@@ -16,10 +16,8 @@ from .line_process import HASTE, LineProcess
 from .pictures import Counts, Dart, Picture, json_text
 from .planarizer import Planarizer
 from .program import PathLike, Program
-from .reports import (
-    Call, Delete, Deleted, Grow, Grown, Insert, Inserted, Limits, Prices, Refused, Report, reply_from_json,
-)
-from .typed_calls import fit
+from .reports import Deleted, Grown, Inserted, Limits, Prices, Refused, Report, reply_from_json
+from .typed_calls import COMMANDS, fit
 
 Value = TypeVar("Value")
 Own = TypeVar("Own", bound="Session")
@@ -95,7 +93,7 @@ class Session:
         process: bool = False,
     ):
         given = Planarizer(start, limits, prices)
-        self._begin(given, _opening(given), program, process)
+        self._begin(given, given.opening_text(), program, process)
 
     @classmethod
     def from_report(cls: type[Own], report: Report, program: PathLike | None = None, process: bool = False) -> Own:
@@ -112,10 +110,10 @@ class Session:
         Undone(undone=1, vertices=2, next_edge=1, next_crossing=0)
         """
         session = cls.__new__(cls)
-        session._begin(_given_by(report), {"reopen": report.to_json()}, program, process)
+        session._begin(_given_by(report), _reopening(report), program, process)
         return session
 
-    def _begin(self, given: Planarizer, first: dict[str, Any], program: PathLike | None, process: bool) -> None:
+    def _begin(self, given: Planarizer, first: str, program: PathLike | None, process: bool) -> None:
         """Begins with this line."""
         self._program = Program(program)
         self._given: Planarizer | None = given
@@ -125,7 +123,7 @@ class Session:
         library = None if process else self._program.library
         answerer: Answerer = LibrarySession(library) if library else LineProcess(self._program.path)
         try:
-            _understood(answerer, answerer.ask(json_text(first)), _counts)
+            _understood(answerer, answerer.ask(first), _counts)
         except BaseException:
             answerer.end()
             raise
@@ -166,25 +164,18 @@ class Session:
 
     def grow(self, u: int, position: int = 0, kind: int = 0) -> Grown | Refused:
         """A new vertex on a new edge, from the corner at this position of `u`."""
-        numbers = index(u), index(position), index(kind)
-        reply: Grown | Refused = self._made("grow", (self.caller, *numbers), lambda: self._call(Grow(*numbers)))
+        reply: Grown | Refused = self._made("grow", (self.caller, index(u), index(position), index(kind)))
         return reply
 
     def insert(self, u: int, v: int, kind: int = 0) -> Inserted | Refused:
         """A new edge from `u` to `v` along the first of the cheapest routes."""
-        numbers = index(u), index(v), index(kind)
-        reply: Inserted | Refused = self._made("insert", (self.caller, *numbers), lambda: self._call(Insert(*numbers)))
+        reply: Inserted | Refused = self._made("insert", (self.caller, index(u), index(v), index(kind)))
         return reply
 
     def delete(self, edge: int) -> Deleted | Refused:
         """An edge taken out."""
-        asked = index(edge)
-        reply: Deleted | Refused = self._made("delete", (self.caller, asked), lambda: self._call(Delete(asked)))
+        reply: Deleted | Refused = self._made("delete", (self.caller, index(edge)))
         return reply
-
-    def _call(self, call: Call) -> Any:
-        request: Any = call.to_json()
-        return self._ask({"call": request, "caller": self.caller} if self.caller else request, reply_from_json)
 
     def open(
         self,
@@ -198,7 +189,7 @@ class Session:
         the prices are at fault, as by `Planarizer.run`, that is a Fault, and all is as it was.
         """
         given = Planarizer(start, limits, prices)
-        counts = self._ask_once({"open": _opening(given)}, _counts)
+        counts = self._ask_once(f'{{"open":{given.opening_text()}}}', _counts)
         self._given = given
         return counts
 
@@ -209,7 +200,7 @@ class Session:
         before are gone. The program carries the calls out again: a report that is not true is the Fault of
         `Planarizer.replay`, as 60 WrongReply, and all is as it was.
         """
-        counts = self._ask_once({"reopen": report.to_json()}, _counts)
+        counts = self._ask_once(_reopening(report), _counts)
         self._given = _given_by(report)
         return counts
 
@@ -222,8 +213,7 @@ class Session:
         was. More than there are since the report began is the Fault 70 NothingToUndo, which changes nothing. The first
         `undo` of a session, and one that goes far back, may take as long as the calls of the report took.
         """
-        count = index(entries)
-        undone: Undone = self._made("undo", (count,), lambda: self._ask(["undo", count], Undone.from_json))
+        undone: Undone = self._made("undo", (index(entries),))
         return undone
 
     def forget(self) -> Counts:
@@ -238,31 +228,24 @@ class Session:
         bound the ids, so after 65,536 edges in all an insertion is refused as 7 Full; then this makes room. Vertices
         keep their numbers.
         """
-        return self._ask_once("renumber", Renumbered.from_json)
+        return self._ask_once('"renumber"', Renumbered.from_json)
 
     # ---- What there is now
 
     def route(self, u: int, v: int) -> Route | Refused:
         """What `insert(u, v)` would do now, without doing it, or the refusal that it would have: 1 NoVertex,
         2 SameEnds, 7 Full or 9 NoRoute. Nothing is entered in the report, and no id is taken."""
-        ends = index(u), index(v)
-        route: Route | Refused = self._made("route", ends, lambda: self._ask(["route", *ends], Route.from_json))
+        route: Route | Refused = self._made("route", (index(u), index(v)))
         return route
 
     def edge(self, edge: int) -> EdgeAnswer | Refused:
         """The ends, the kind, the price and the crossings of an edge, or the refusal 4 NoEdge."""
-        asked = index(edge)
-        told: EdgeAnswer | Refused = self._made(
-            "edge", (asked,), lambda: self._ask(["edge", asked], EdgeAnswer.from_json)
-        )
+        told: EdgeAnswer | Refused = self._made("edge", (index(edge),))
         return told
 
     def vertex(self, vertex: int) -> VertexAnswer | Refused:
         """The edges round a vertex, clockwise from the least id, or the refusal 1 NoVertex."""
-        asked = index(vertex)
-        told: VertexAnswer | Refused = self._made(
-            "vertex", (asked,), lambda: self._ask(["vertex", asked], VertexAnswer.from_json)
-        )
+        told: VertexAnswer | Refused = self._made("vertex", (index(vertex),))
         return told
 
     def face(self, edge: int, segment: int = 0, way: str = "forward") -> tuple[Dart, ...] | Refused:
@@ -277,7 +260,7 @@ class Session:
 
     def counts(self) -> Counts:
         """How many vertices, crossings, edges, segments and faces the picture has, as the program counts them."""
-        counts: Counts = self._made("counts", (), lambda: self._ask("counts", _counts))
+        counts: Counts = self._made("counts", ())
         return counts
 
     def picture(self) -> Picture:
@@ -310,27 +293,30 @@ class Session:
             raise ValueError("a line has a line feed in it")
         return self._asked(requests, lambda answerer, answers: [answer.decode() for answer in answers])
 
-    def _made(self, call: str, numbers: tuple[int, ...], asked: Callable[[], Any]) -> Any:
+    def _made(self, call: str, numbers: tuple[int, ...]) -> Any:
         """The answer to a call, without a line where the session is in this process and the numbers are of the form, or
-        else by the line that is asked so."""
-        if not isinstance(self._answerer, LibrarySession) or not fit(call, numbers):
-            return asked()
-        self._refuse_another()
+        else by a line."""
+        if self._lock.locked():
+            raise SessionInUse(IN_USE)
         with self._lock:
             answerer = self._answerer
-            if not isinstance(answerer, LibrarySession):
-                raise SessionClosed("the session is closed")
-            return answerer.make(call, numbers)
+            if isinstance(answerer, LibrarySession) and fit(call, numbers):
+                return answerer.make(call, numbers)
+        return self._ask(_request(call, numbers), _READERS[call])
 
     def _ask(self, request: Any, read: Callable[[Any], Value]) -> Value:
         """The answer to a request, read by this function; Fault where the program refuses the line."""
-        return self._asked([json_text(request)], lambda answerer, answers: _understood(answerer, answers[0], read))
+        return self._ask_line(json_text(request), read)
 
-    def _ask_once(self, request: Any, read: Callable[[Any], Value]) -> Value:
-        """The same for a request after which limits, prices and ids may be others. Where it is interrupted, the session
+    def _ask_line(self, line: str, read: Callable[[Any], Value]) -> Value:
+        """The same of a line."""
+        return self._asked([line], lambda answerer, answers: _understood(answerer, answers[0], read))
+
+    def _ask_once(self, line: str, read: Callable[[Any], Value]) -> Value:
+        """The same for a line after which limits, prices and ids may be others. Where it is interrupted, the session
         is over; where memory is out, they are unknown here."""
         try:
-            return self._ask(request, read)
+            return self._ask_line(line, read)
         except MemoryFault:
             self._given = None
             raise
@@ -379,11 +365,9 @@ class Session:
                 answerer.end(HASTE)
 
 
-def _opening(given: Planarizer) -> dict[str, Any]:
-    """The opening of a session, which is a script without its lists."""
-    opening = given.script()
-    del opening["workers"]
-    return opening
+def _reopening(report: Report) -> str:
+    """The line that goes on from a report."""
+    return f'{{"reopen":{report.to_text()}}}'
 
 
 def _given_by(report: Report) -> Planarizer:
@@ -395,7 +379,7 @@ def _understood(answerer: Answerer, answer: bytes, read: Callable[[Any], Value])
     """An answer, read by this function; Fault where it is one. Where it is in no form that is known, the session is
     ended, and that is ProgramFailed."""
     try:
-        value = json.loads(answer)
+        value = json.loads(answer.decode())  # which is faster than to let it find the coding
         value = value.get("answer", value)  # that to an envelope
         fault = value.get("fault")
         if fault is None:
@@ -410,3 +394,22 @@ def _understood(answerer: Answerer, answer: bytes, read: Callable[[Any], Value])
 
 def _counts(value: dict[str, int]) -> Counts:
     return Counts(value["vertices"], value["crossings"], value["edges"], value["segments"], value["faces"])
+
+
+#: What reads the answer to the line of each call that has a form without a line.
+_READERS: dict[str, Callable[[Any], Any]] = {
+    **dict.fromkeys(COMMANDS, reply_from_json),
+    "route": Route.from_json,
+    "undo": Undone.from_json,
+    "counts": _counts,
+    "edge": EdgeAnswer.from_json,
+    "vertex": VertexAnswer.from_json,
+}
+
+
+def _request(call: str, numbers: tuple[int, ...]) -> Any:
+    """What stands in the line of such a call, whose first number is a caller where it is a command."""
+    if call not in COMMANDS:
+        return [call, *numbers] if numbers else call
+    caller, *words = numbers
+    return {"call": [call, *words], "caller": caller} if caller else [call, *words]
