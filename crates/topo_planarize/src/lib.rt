@@ -13,4 +13,6 @@ mod searches;
 mod side_by_side;
 
 pub use planarize::planarize_io;
+pub use answers::Answer;
 pub use planarizer::Planarizer;
+pub use searches::Way;
