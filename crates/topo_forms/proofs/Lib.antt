@@ -8,6 +8,7 @@ mod Lookups
 mod Objects
 mod PriceLists
 mod TokenCalls
+mod TokenGraphs
 mod TokenLines
 mod TokenReplies
 mod TokenReports
