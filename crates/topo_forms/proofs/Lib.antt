@@ -5,6 +5,7 @@ mod Items
 mod Letters
 mod LineLaws
 mod Lookups
+mod Members
 mod Objects
 mod PriceLists
 mod TokenCalls

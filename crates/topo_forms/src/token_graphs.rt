@@ -2,6 +2,7 @@
 
 ghost use Rattle.topo_forms.specs.Graphs.{edge_form, effort_form, graph_form};
 
+use crate::graph_forms::MAX_THREADS;
 use crate::graphs::GraphAsked;
 use crate::lexing::bytes_are;
 use crate::path::Key;
@@ -49,12 +50,16 @@ impl FromTokens for Effort {
     }
 }
 
-/// The slots of a graph, in the order of its keys.
+/// The slots of a graph, in the order of its keys. One that tells how far it is, or that begins with
+/// pictures, is read by way of its value.
 type GraphSlots = Slot<
     Listed<GraphEdge>,
     Slot<
         Effort,
-        Slot<Listed<Option<u32>>, Slot<u32, Slot<u32, Slot<u32, Slot<u32, NoSlot>>>>>,
+        Slot<
+            Listed<Option<u32>>,
+            Slot<u32, Slot<u32, Slot<u32, Slot<u32, Slot<u32, NoSlot>>>>>,
+        >,
     >,
 >;
 
@@ -70,6 +75,7 @@ impl FromTokens for GraphAsked {
             Key::Prices,
             Key::Seconds,
             Key::Seed,
+            Key::Threads,
             Key::Version,
             Key::Vertices,
         ];
@@ -88,16 +94,27 @@ impl FromTokens for GraphAsked {
             rest,
         } = rest;
         let Slot { found: seed, rest } = rest;
+        let Slot {
+            found: threads,
+            rest,
+        } = rest;
         let (version, rest) = rest.due()?;
         let (vertices, _rest) = rest.due()?;
         let prices = kept_prices(prices.unwrap_or(Listed::new(alloc)), version)?;
+        let threads = threads.unwrap_or(1);
+        if threads == 0 || threads > MAX_THREADS {
+            return None;
+        }
         Some(GraphAsked {
             vertices,
             edges,
             prices,
             effort: effort.unwrap_or(Effort::Default),
+            progress: false,
             seconds,
             seed: seed.unwrap_or(1),
+            start: None,
+            threads,
         })
     }
 }
