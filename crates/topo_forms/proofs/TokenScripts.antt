@@ -44,7 +44,7 @@ or_default form default None None held = refl
 or_default form default (Some a) (Some d) held = held
 or_default form default _ _ held = absurd held
 
-prices_or_none : (n : ℕ) (o : Option (List (Option ℕ))) (d : Option Data) (kept : List (Option ℕ)) → IsHeld (list_form (price_form true)) o d
+pub prices_or_none : (n : ℕ) (o : Option (List (Option ℕ))) (d : Option Data) (kept : List (Option ℕ)) → IsHeld (list_form (price_form true)) o d
     → (h : ArePricesOf n (unwrap_or o []) kept) → AreRead (prices_form h.0) [] d kept
 prices_or_none n None None kept held h = sym h.4
 prices_or_none n (Some ps) (Some d) kept held h = λ path. prices_read h.0 path d ps kept (held path) h.2 h.3 h.4
