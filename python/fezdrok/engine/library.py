@@ -4,7 +4,9 @@ from __future__ import annotations
 
 import os
 from collections.abc import Sequence
-from ctypes import CDLL, POINTER, Structure, byref, c_char_p, c_size_t, c_uint8, c_void_p, create_string_buffer, string_at
+from ctypes import (
+    CDLL, POINTER, Structure, byref, c_char_p, c_size_t, c_uint8, c_void_p, create_string_buffer, string_at,
+)
 from typing import Any
 
 from .faults import MemoryFault, ProgramNotFound, SessionClosed, SessionInUse
