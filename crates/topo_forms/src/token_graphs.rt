@@ -56,10 +56,7 @@ type GraphSlots = Slot<
     Listed<GraphEdge>,
     Slot<
         Effort,
-        Slot<
-            Listed<Option<u32>>,
-            Slot<u32, Slot<u32, Slot<u32, Slot<u32, Slot<u32, NoSlot>>>>>,
-        >,
+        Slot<Listed<Option<u32>>, Slot<u32, Slot<u32, Slot<u32, Slot<u32, Slot<u32, NoSlot>>>>>>,
     >,
 >;
 
