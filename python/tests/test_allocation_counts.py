@@ -119,6 +119,10 @@ class Allocations(RefusedAllocationTest):
             done = subprocess.run([find_program(), "run"], input=script, capture_output=True, timeout=60, check=True)
             self.check("replay", json.loads(done.stdout), for_each)
 
+    def test_a_graph(self):
+        edges = [[0, 1, 0]] * COUNT
+        self.check("planarize", {"edges": edges, "effort": "quick", "threads": 1, "version": 1, "vertices": 2}, 0)
+
 
 if __name__ == "__main__":
     unittest.main()

@@ -4,17 +4,19 @@ import os
 import random
 import time
 import unittest
+from math import dist
 from unittest import mock
 
 import networkx as nx
 
-from fezdrok import drawing_of, positions
+from fezdrok import drawing_of, planarize, positions
 from fezdrok.drawing.contraction import Triangulation, middle_of_sight
 from fezdrok.drawing.drawings import STYLES
 from fezdrok.drawing.flows import Arc, least_cost_flow
 from fezdrok.drawing.segment_grid import SegmentGrid
 
 from .drawing_support import planar_result
+from .support import has_program
 
 #: How large the graphs are, beside those that are to be drawn in five seconds each.
 PART = float(os.environ.get("FEZDROK_LARGE_DRAWINGS", "0.12"))
@@ -33,21 +35,36 @@ def grid_with_holes(count):
     return graph
 
 
+def short_edges(count):
+    """A graph of nodes at random places, most joined by short edges to a tree, and half as many edges more."""
+    graph = nx.random_geometric_graph(count, 1.8 / count**0.5, seed=1)
+    graph = graph.subgraph(max(nx.connected_components(graph), key=len))
+    length = {edge: dist(*(graph.nodes[node]["pos"] for node in edge)) for edge in graph.edges}
+    nx.set_edge_attributes(graph, length, "weight")
+    tree = nx.minimum_spanning_tree(graph)
+    left = [edge for edge in graph.edges if not tree.has_edge(*edge)]
+    tree.add_edges_from(random.Random(1).sample(left, len(tree) // 2))
+    return tree
+
+
 class Large(unittest.TestCase):
-    def graphs(self):
+    @classmethod
+    def setUpClass(cls):
         levels = 10 if PART >= 1 else 7
-        return [
+        graphs = [
             grid_with_holes(int(2000 * PART)),
             nx.path_graph(int(2000 * PART)),
             nx.star_graph(int(3000 * PART)),
             nx.balanced_tree(2, levels),
         ]
+        cls.results = [planar_result(graph) for graph in graphs]
+        if has_program():
+            cls.results.append(planarize(short_edges(max(500, int(2000 * PART))), effort="quick"))
 
     def test_drawn_in_time(self):
-        for graph in self.graphs():
-            result = planar_result(graph)
+        for result in self.results:
             for style in STYLES:
-                with self.subTest(nodes=len(graph), style=style):
+                with self.subTest(nodes=len(result.node_of), style=style):
                     began = time.process_time()
                     drawing = drawing_of(result, style=style)
                     self.assertLess(time.process_time() - began, SECONDS * max(PART, 0.3))
@@ -55,8 +72,7 @@ class Large(unittest.TestCase):
 
     def test_the_page_is_filled(self):
         """Few faces are very small, and the points lie as far apart across as they do up and down."""
-        for graph in self.graphs():
-            result = planar_result(graph)
+        for result in self.results:
             place = positions(result)
             faces = [
                 [place[result.name_of(result.picture.start(dart))] for dart in face]
@@ -67,13 +83,13 @@ class Large(unittest.TestCase):
                 abs(sum(x * v - u * y for (x, y), (u, v) in zip(face, face[1:] + face[:1]))) for face in faces
             ]
             small = sum(area * 1000 * len(areas) < sum(areas) for area in areas)
-            self.assertLessEqual(small, len(graph) / 10)
+            self.assertLessEqual(small, len(result.node_of) / 10)
             width, height = (max(along) - min(along) for along in zip(*place.values()))
             self.assertLess(max(width, height), 1.5 * min(width, height))
 
     def test_orthogonal_drawings_fill_the_page(self):
-        for graph in self.graphs()[1:]:
-            drawing = drawing_of(planar_result(graph), style="orthogonal", labels=False)
+        for result in self.results[1:]:
+            drawing = drawing_of(result, style="orthogonal", labels=False)
             left, bottom, right, top = drawing.scene.bounds
             self.assertLess(max(right - left, top - bottom), 3 * min(right - left, top - bottom))
 
@@ -95,8 +111,8 @@ class Parts(unittest.TestCase):
 
     def test_flows(self):
         arcs = [Arc(0, 1, 2, 1), Arc(0, 2, 2, 3), Arc(1, 2, 2, 1), Arc(1, 3, 1, 5), Arc(2, 3, 3, 1)]
-        self.assertEqual(least_cost_flow([-3, 0, 0, 3], arcs), [2, 1, 2, 0, 3])
-        self.assertEqual(least_cost_flow([0, 0, 0, 0], arcs), [0] * 5)
+        self.assertEqual(least_cost_flow([-3, 0, 0, 3], arcs)[0], [2, 1, 2, 0, 3])
+        self.assertEqual(least_cost_flow([0, 0, 0, 0], arcs)[0], [0] * 5)
         with self.assertRaisesRegex(ValueError, "takes no such flow"):
             least_cost_flow([-5, 0, 0, 5], arcs)
 
@@ -112,8 +128,11 @@ class Parts(unittest.TestCase):
                 cost = nx.network_simplex(network)[0]
             except nx.NetworkXUnfeasible:
                 continue
-            flow = least_cost_flow([-4, -3, 0, 0, 0, 0, 2, 5], arcs)
+            flow, potential = least_cost_flow([-4, -3, 0, 0, 0, 0, 2, 5], arcs)
             self.assertEqual(sum(arc.cost * amount for arc, amount in zip(arcs, flow)), cost)
+            for arc, amount in zip(arcs, flow):
+                more = arc.cost + potential[arc.start] - potential[arc.end]
+                self.assertTrue((more >= 0 or amount == arc.capacity) and (more <= 0 or amount == 0))
 
     def test_what_is_contracted_comes_out_as_it_was(self):
         ring, inner = [0, 1, 2, 3], [4, 5]

@@ -31,7 +31,8 @@ def joined_apexes(sign: str) -> Picture:
 class Texts(unittest.TestCase):
     def test_the_form(self):
         """Also of rows that are of no picture, which the program is to judge."""
-        pictures = [Report.from_text(it.read_text()).picture for it in example_reports()] + [cross(), joined_apexes("rtl")]
+        pictures = [Report.from_text(it.read_text()).picture for it in example_reports()]
+        pictures += [cross(), joined_apexes("rtl")]
         for value in (1023, 1024, -1, 2**70, 1.5, None, "x\n", [1]):
             for name in ("id", "a", "b", "kind"):
                 row = replace(Edge(0, 0, 1, 0, (0,)), **{name: value})

@@ -5,9 +5,11 @@ mod Items
 mod Letters
 mod LineLaws
 mod Lookups
+mod Members
 mod Objects
 mod PriceLists
 mod TokenCalls
+mod TokenGraphs
 mod TokenLines
 mod TokenReplies
 mod TokenReports

@@ -13,12 +13,13 @@ use Rattle.topo_forms.specs.declared.scripts.Script.{Script}
 use Rattle.topo_forms.specs.declared.slots.Slot.{Slot}
 use Rattle.topo_forms.specs.CallForms.{command_form}
 use Rattle.topo_forms.specs.Paths.{key_name, whole}
-use Rattle.topo_forms.specs.Reads.{Read, and_then, number_form, list_form, has_keys, member_or}
+use Rattle.topo_forms.specs.Reads.{Read, number_form, list_form, has_keys, member_or}
 use Rattle.topo_forms.specs.Scripts.{greatest_limits, limits_form, nulls_of, nulls_in, price_form, prices_form, start_form, workers_form, script_form}
 use Rattle.topo_forms.specs.Slots.{members_of, IsHeld, SpellsValue}
 use Rattle.topo_forms.specs.Tokens.{Spells}
 use Rattle.topo_forms.specs.TokenParts.{ArePricesOf, AreSettings}
 use Rattle.topo_forms.proofs.Lookups.{member_read}
+use Rattle.topo_forms.proofs.Members.{found_at, keys_there, none_behind, one_there}
 use Rattle.topo_forms.proofs.Objects.{IsDue, IsMaybe, due_held, held_by, maybe, maybe_held, object_tokens}
 use Rattle.topo_forms.proofs.Steps.{went}
 use Rattle.topo_forms.proofs.TokenReports.{prices_read}
@@ -44,7 +45,7 @@ or_default form default None None held = refl
 or_default form default (Some a) (Some d) held = held
 or_default form default _ _ held = absurd held
 
-prices_or_none : (n : ℕ) (o : Option (List (Option ℕ))) (d : Option Data) (kept : List (Option ℕ)) → IsHeld (list_form (price_form true)) o d
+pub prices_or_none : (n : ℕ) (o : Option (List (Option ℕ))) (d : Option Data) (kept : List (Option ℕ)) → IsHeld (list_form (price_form true)) o d
     → (h : ArePricesOf n (unwrap_or o []) kept) → AreRead (prices_form h.0) [] d kept
 prices_or_none n None None kept held h = sym h.4
 prices_or_none n (Some ps) (Some d) kept held h = λ path. prices_read h.0 path d ps kept (held path) h.2 h.3 h.4
@@ -123,18 +124,10 @@ script_members l p s v w = members_of script_order (l ∷ p ∷ s ∷ Some v ∷
 abbrev script_object : Option Data → Option Data → Option Data → Data → Data → Data
 script_object l p s v w = object (script_members l p s v w)
 
-script_keys : (l p s : Option Data) (v w : Data) → has_keys whole (Version ∷ Workers ∷ []) (Limits ∷ Prices ∷ Start ∷ []) (script_object l p s v w) ≡ Ok tt
-unfolding has_keys and_then
-script_keys None None None v w = refl
-script_keys None None (Some s) v w = refl
-script_keys None (Some p) None v w = refl
-script_keys None (Some p) (Some s) v w = refl
-script_keys (Some l) None None v w = refl
-script_keys (Some l) None (Some s) v w = refl
-script_keys (Some l) (Some p) None v w = refl
-script_keys (Some l) (Some p) (Some s) v w = refl
+abbrev script_values : Option Data → Option Data → Option Data → Data → Data → List (Option Data)
+script_values l p s v w = l ∷ p ∷ s ∷ Some v ∷ Some w ∷ []
 
-pub record Found (l p s : Option Data) (v w d : Data) : Type 0 where
+record Found (l p s : Option Data) (v w d : Data) : Type 0 where
   pub limits : get (key_name Limits) d ≡ l
   pub prices : get (key_name Prices) d ≡ p
   pub start : get (key_name Start) d ≡ s
@@ -142,14 +135,20 @@ pub record Found (l p s : Option Data) (v w d : Data) : Type 0 where
   pub workers : get (key_name Workers) d ≡ Some w
 
 all_found : (l p s : Option Data) (v w : Data) → Found l p s v w (script_object l p s v w)
-all_found None None None v w = record { limits = refl; prices = refl; start = refl; version = refl; workers = refl }
-all_found None None (Some s) v w = record { limits = refl; prices = refl; start = refl; version = refl; workers = refl }
-all_found None (Some p) None v w = record { limits = refl; prices = refl; start = refl; version = refl; workers = refl }
-all_found None (Some p) (Some s) v w = record { limits = refl; prices = refl; start = refl; version = refl; workers = refl }
-all_found (Some l) None None v w = record { limits = refl; prices = refl; start = refl; version = refl; workers = refl }
-all_found (Some l) None (Some s) v w = record { limits = refl; prices = refl; start = refl; version = refl; workers = refl }
-all_found (Some l) (Some p) None v w = record { limits = refl; prices = refl; start = refl; version = refl; workers = refl }
-all_found (Some l) (Some p) (Some s) v w = record { limits = refl; prices = refl; start = refl; version = refl; workers = refl }
+all_found l p s v w = let values = script_values l p s v w in record {
+  limits = found_at (key_name Limits) script_order values ∙ none_behind l;
+  prices = found_at (key_name Prices) script_order values ∙ none_behind p;
+  start = found_at (key_name Start) script_order values ∙ none_behind s;
+  version = found_at (key_name Version) script_order values;
+  workers = found_at (key_name Workers) script_order values;
+}
+
+script_keys : (l p s : Option Data) (v w : Data) → Found l p s v w (script_object l p s v w)
+    → has_keys whole (Version ∷ Workers ∷ []) (Limits ∷ Prices ∷ Start ∷ []) (script_object l p s v w) ≡ Ok tt
+script_keys l p s v w there =
+    keys_there whole (Version ∷ Workers ∷ []) (Limits ∷ Prices ∷ Start ∷ []) script_order (script_values l p s v w) refl
+    (one_there whole Version (Workers ∷ []) (script_object l p s v w) v there.version
+    (one_there whole Workers [] (script_object l p s v w) w there.workers refl))
 
 pub version_read : (path : Path) (n : ℕ) (nulls : Bool) (ms : Members) (v : Data) → get (key_name Version) (object ms) ≡ Some v → ((path : Path) → number_form path v ≡ Ok n)
     → nulls_of n ≡ Ok nulls → nulls_in path (object ms) ≡ Ok nulls
@@ -164,7 +163,7 @@ script_read {x} {n} {l} {p} {s} v w {nulls} of front version workers =
     let d = script_object l p s v w in
     let there = all_found l p s v w in
     went _ _ nulls (version_read whole n nulls (script_members l p s v w) v there.version version of)
-    ∙ went _ _ tt (script_keys l p s v w)
+    ∙ went _ _ tt (script_keys l p s v w there)
     ∙ went _ _ x.limits (optional_read limits_form greatest_limits whole Limits d l x.limits there.limits front.of_limits)
     ∙ went _ _ x.prices (optional_read (prices_form nulls) [] whole Prices d p x.prices there.prices front.of_prices)
     ∙ went _ _ x.start (optional_read start_form None whole Start d s x.start there.start front.of_start)

@@ -8,11 +8,12 @@ use Rattle.topo_forms.specs.declared.path.Key.TheVariants.{Limits, Prices, Start
 use Rattle.topo_forms.specs.declared.path.Path.{Path}
 use Rattle.topo_forms.specs.declared.sessions.Opening.{Opening}
 use Rattle.topo_forms.specs.Paths.{key_name}
-use Rattle.topo_forms.specs.Reads.{and_then, number_form, has_keys}
+use Rattle.topo_forms.specs.Reads.{number_form, has_keys}
 use Rattle.topo_forms.specs.Scripts.{greatest_limits, limits_form, nulls_of, prices_form, start_form}
 use Rattle.topo_forms.specs.Sessions.{opening_form}
 use Rattle.topo_forms.specs.Slots.{members_of, SpellsValue}
 use Rattle.topo_forms.specs.Tokens.{Spells}
+use Rattle.topo_forms.proofs.Members.{found_at, keys_there, none_behind, one_there}
 use Rattle.topo_forms.proofs.Objects.{object_tokens}
 use Rattle.topo_forms.proofs.TokenScripts.{AreFront, HasSettings, optional_read, version_read}
 use Rattle.topo_forms.proofs.Steps.{went}
@@ -26,16 +27,8 @@ opening_members l p s v = members_of opening_order (l ∷ p ∷ s ∷ Some v ∷
 abbrev opening_object : Option Data → Option Data → Option Data → Data → Data
 opening_object l p s v = object (opening_members l p s v)
 
-opening_keys : (path : Path) (l p s : Option Data) (v : Data) → has_keys path (Version ∷ []) (Limits ∷ Prices ∷ Start ∷ []) (opening_object l p s v) ≡ Ok tt
-unfolding has_keys and_then
-opening_keys path None None None v = refl
-opening_keys path None None (Some s) v = refl
-opening_keys path None (Some p) None v = refl
-opening_keys path None (Some p) (Some s) v = refl
-opening_keys path (Some l) None None v = refl
-opening_keys path (Some l) None (Some s) v = refl
-opening_keys path (Some l) (Some p) None v = refl
-opening_keys path (Some l) (Some p) (Some s) v = refl
+abbrev opening_values : Option Data → Option Data → Option Data → Data → List (Option Data)
+opening_values l p s v = l ∷ p ∷ s ∷ Some v ∷ []
 
 record Found (l p s : Option Data) (v d : Data) : Type 0 where
   pub limits : get (key_name Limits) d ≡ l
@@ -44,14 +37,18 @@ record Found (l p s : Option Data) (v d : Data) : Type 0 where
   pub version : get (key_name Version) d ≡ Some v
 
 all_found : (l p s : Option Data) (v : Data) → Found l p s v (opening_object l p s v)
-all_found None None None v = record { limits = refl; prices = refl; start = refl; version = refl }
-all_found None None (Some s) v = record { limits = refl; prices = refl; start = refl; version = refl }
-all_found None (Some p) None v = record { limits = refl; prices = refl; start = refl; version = refl }
-all_found None (Some p) (Some s) v = record { limits = refl; prices = refl; start = refl; version = refl }
-all_found (Some l) None None v = record { limits = refl; prices = refl; start = refl; version = refl }
-all_found (Some l) None (Some s) v = record { limits = refl; prices = refl; start = refl; version = refl }
-all_found (Some l) (Some p) None v = record { limits = refl; prices = refl; start = refl; version = refl }
-all_found (Some l) (Some p) (Some s) v = record { limits = refl; prices = refl; start = refl; version = refl }
+all_found l p s v = let values = opening_values l p s v in record {
+  limits = found_at (key_name Limits) opening_order values ∙ none_behind l;
+  prices = found_at (key_name Prices) opening_order values ∙ none_behind p;
+  start = found_at (key_name Start) opening_order values ∙ none_behind s;
+  version = found_at (key_name Version) opening_order values;
+}
+
+opening_keys : (path : Path) (l p s : Option Data) (v : Data) → Found l p s v (opening_object l p s v)
+    → has_keys path (Version ∷ []) (Limits ∷ Prices ∷ Start ∷ []) (opening_object l p s v) ≡ Ok tt
+opening_keys path l p s v there =
+    keys_there path (Version ∷ []) (Limits ∷ Prices ∷ Start ∷ []) opening_order (opening_values l p s v) refl
+    (one_there path Version [] (opening_object l p s v) v there.version refl)
 
 opening_read : (path : Path) {x : Opening} {n : ℕ} {l p s : Option Data} (v : Data) {nulls : Bool} → nulls_of n ≡ Ok nulls
     → AreFront l p s nulls x.limits x.prices x.start → ((p : Path) → number_form p v ≡ Ok n) → opening_form path (opening_object l p s v) ≡ Ok x
@@ -60,7 +57,7 @@ opening_read path {x} {n} {l} {p} {s} v {nulls} of front version =
     let d = opening_object l p s v in
     let there = all_found l p s v in
     went _ _ nulls (version_read path n nulls (opening_members l p s v) v there.version version of)
-    ∙ went _ _ tt (opening_keys path l p s v)
+    ∙ went _ _ tt (opening_keys path l p s v there)
     ∙ went _ _ x.limits (optional_read limits_form greatest_limits path Limits d l x.limits there.limits front.of_limits)
     ∙ went _ _ x.prices (optional_read (prices_form nulls) [] path Prices d p x.prices there.prices front.of_prices)
     ∙ went _ _ x.start (optional_read start_form None path Start d s x.start there.start front.of_start)

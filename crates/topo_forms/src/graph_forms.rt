@@ -26,6 +26,7 @@ use crate::path::{Key, Path};
 use crate::prices::read_some_price;
 use crate::row_forms::MAX_PICTURE_BYTES;
 use crate::script_forms::{read_nulls, read_prices_or_none};
+use crate::tokens::read_tokens;
 use serde_json::Value;
 use std::alloc::Global;
 use topo_core::listed::Listed;
@@ -258,5 +259,8 @@ impl Form for GraphAsked {
 pub fn read_graph(alloc: Global, bytes: &[u8]) -> Result<GraphAsked, ScriptFault>
     ensures { Gives result (graph_of bytes.now) }
 {
-    read_value(alloc, MAX_PICTURE_BYTES, bytes)
+    match read_tokens(alloc, MAX_PICTURE_BYTES, bytes) {
+        Some(graph) => Ok(graph),
+        None => read_value(alloc, MAX_PICTURE_BYTES, bytes),
+    }
 }

@@ -238,7 +238,7 @@ fn behind_spelled<'a>(inside: &'a [u8], text: &[u8]) -> Option<&'a [u8]>
 }
 
 /// The words of the forms that are texts.
-const WORDS: [&str; 29] = [
+const WORDS: [&str; 32] = [
     "BadKind",
     "Cut",
     "Full",
@@ -251,6 +251,7 @@ const WORDS: [&str; 29] = [
     "about",
     "back",
     "counts",
+    "default",
     "delete",
     "edge",
     "face",
@@ -261,11 +262,13 @@ const WORDS: [&str; 29] = [
     "ltr",
     "picture",
     "planned",
+    "quick",
     "renumber",
     "report",
     "route",
     "rtl",
     "seed",
+    "thorough",
     "undo",
     "vertex",
 ];

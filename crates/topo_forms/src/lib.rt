@@ -23,6 +23,7 @@ pub mod scripts;
 pub mod sessions;
 mod slots;
 mod token_calls;
+mod token_graphs;
 mod token_lines;
 mod token_replies;
 mod token_reports;

@@ -11,7 +11,7 @@ use Rattle.topo_planarize.specs.Answers.{IsAnswerOf, total_cost, total_crossings
 use Rattle.topo_planarize.specs.declared.answers.Answer.{Answer}
 
 module _ (graph : Drawn) (prices : List (Option ℕ)) (limits : Limits) where
-  same_shows : (parts told : List Part) (others kept : List ℕ) → told ≡ parts → kept ≡ others → Shows limits graph prices parts others
+  pub same_shows : (parts told : List Part) (others kept : List ℕ) → told ≡ parts → kept ≡ others → Shows limits graph prices parts others
       → Shows limits graph prices told kept
   same_shows parts told others kept same also shows =
       subst (λ (ps : List Part). Shows limits graph prices ps kept) (sym same) (subst (λ (os : List ℕ). Shows limits graph prices parts os) (sym also) shows)

@@ -1,6 +1,7 @@
 -- What is told on the way, put together.
-use Rattle.std.proofs.Common.{◌≡◌, ◌∙◌, ℕ, Bool, true, false, List, [], Option, None, Some, Result, Ok, Err, OnErr, OnOk, append-nil, false≢true, sym}
-use Rattle.std.proofs.KnownBytes.{Appends-nil, Appends-trans, Keeps-refl}
+use Rattle.std.proofs.Common.{◌≡◌, ◌∙◌, ℕ, Bool, true, false, List, [], Option, None, Some, Result, Ok, Err, OnErr, OnOk, append-nil, sym}
+use Rattle.std.proofs.lemmas.Bool.{false≢true}
+use Rattle.std.proofs.KnownBytes.{Appends-nil, Appends-trans, Keeps-refl, Keeps-trans}
 use Rattle.std.specs.Io.KnownBytes.{Appends, Keeps}
 use Rattle.topo_settings.specs.Writing.{AppendsPart}
 use Rattle.topo_planarize.specs.Ways.{Grows, TellsWay}
@@ -28,9 +29,13 @@ pub way_none : (told : Bool) (a : Option (List ℕ)) → TellsWay told a a
 way_none true a = grows_none a
 way_none false a = Keeps-refl a
 
-pub way_then : (told : Bool) (a b c : Option (List ℕ)) → told ≡ true → TellsWay told a b → Grows b c → TellsWay told a c
-way_then true a b c is first next = grows_then a b c first next
-way_then false a b c is first next = absurd (false≢true is)
+pub way_told : (told : Bool) (a b : Option (List ℕ)) → told ≡ true → Grows a b → TellsWay told a b
+way_told true a b is grows = grows
+way_told false a b is grows = absurd (false≢true is)
+
+pub way_then : (told : Bool) (a b c : Option (List ℕ)) → TellsWay told a b → TellsWay told b c → TellsWay told a c
+way_then true a b c first next = grows_then a b c first next
+way_then false a b c first next = Keeps-trans a b c first next
 
 pub way_grows : (told : Bool) (a b : Option (List ℕ)) → TellsWay told a b → Grows a b
 way_grows true a b way = way

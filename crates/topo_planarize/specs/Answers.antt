@@ -1,5 +1,5 @@
 -- What is answered of a graph.
-use Rattle.std.specs.Prelude.{◌≡◌, ◌*◌, ◌++◌, ◌∷◌, [], ℕ, List, Option, Some, None, Ok, codes, if◌then◌else◌, length, nat_lt, slice_get, sum_by, ⊤}
+use Rattle.std.specs.Prelude.{◌≡◌, ◌*◌, ◌++◌, ◌∷◌, [], ℕ, List, Option, Some, None, codes, if◌then◌else◌, length, nat_lt, slice_get, sum_by, ⊤}
 use Rattle.serde_json.specs.Data.{Data, object, member, no_members}
 use Rattle.serde_json.specs.Written.{compact_text}
 use Rattle.topo_core.specs.declared.limits.Limits.{Limits}

@@ -1,5 +1,5 @@
 -- What the command reads and writes.
-use Rattle.std.specs.Prelude.{◌≡◌, ℕ, List, Option, Ok, ⊤}
+use Rattle.std.specs.Prelude.{◌≡◌, ℕ, List, Option, Ok}
 use Rattle.std.specs.Io.KnownBytes.{Appends, Keeps}
 use Rattle.topo_forms.specs.Graphs.{graph_of}
 use Rattle.topo_forms.specs.Reads.{IsFirstFault}

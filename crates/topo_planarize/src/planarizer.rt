@@ -316,7 +316,7 @@ impl<F: PriceFn> Planarizer<F> {
     pub fn into_answer(self, alloc: Global) -> Result<Answer, RunFault>
     where
         F: Drop,
-        ensures answer { IfOk result (IsAnswerOf self.entry.graph self.entry.prices) }
+        ensures answer { IfOk result (IsAnswerOf self.graph self.prices) }
         ensures fault { IfErr result IsOfSearch }
     {
         let Planarizer { graph, prices, all } = self;

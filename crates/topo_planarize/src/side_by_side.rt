@@ -141,10 +141,13 @@ fn tell_way<E: Write>(way: Way, told: &mut E)
     }
 }
 
-/// Tells how far the first ones have come.
-fn tell_first<F: PriceFn, E: Write>(all: &[Searches<F>], told: &mut E)
-    ensures { Grows (E.contents told.old) (E.contents told.new) }
+/// Tells how far the first ones have come, where it is to be told.
+fn tell_first<F: PriceFn, E: Write>(all: &[Searches<F>], is_told: bool, told: &mut E)
+    ensures { TellsWay is_told (E.contents told.old) (E.contents told.new) }
 {
+    if !is_told {
+        return;
+    }
     if let Some(first) = all.first() {
         tell_way(first.way(), told);
     }
@@ -168,8 +171,6 @@ pub(crate) fn search_to_the_end<
         if have_all_ended(all) {
             return;
         }
-        if terms.is_told {
-            tell_first(all, told);
-        }
+        tell_first(all, terms.is_told, told);
     }
 }

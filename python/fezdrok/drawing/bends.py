@@ -74,7 +74,7 @@ def least_bends(picture: Picture, outer: int, are_small: bool = False, dear: Map
             demand["point", point] = -spare
     number_of = {node: number for number, node in enumerate(demand)}
     arcs = list(_arcs(picture, are_small, dear))
-    flow = least_cost_flow(
+    flow, _ = least_cost_flow(
         list(demand.values()),
         [Arc(number_of[start], number_of[end], capacity, cost) for start, end, _, capacity, cost in arcs],
     )

@@ -12,6 +12,7 @@ from __future__ import annotations
 
 from bisect import bisect_left, insort
 from collections.abc import Collection, Iterable, Iterator, Mapping, Sequence
+from heapq import heappop, heappush
 from typing import NamedTuple
 
 from .flows import Arc, least_cost_flow
@@ -249,24 +250,23 @@ def _least_length(place: Sequence[int], gaps: Gaps, pull: Sequence[int]) -> list
     """
     room = sum(abs(it) for it in pull)
     arcs = [Arc(start, end, room, place[end] - place[start] - gap) for (start, end), gap in gaps.items()]
-    flow = least_cost_flow(pull, arcs)
+    flow, potential = least_cost_flow(pull, arcs)
     tight = {(end, start): -gap for ((start, end), gap), amount in zip(gaps.items(), flow) if amount > 0}
-    return _settled(len(pull), {**gaps, **tight})
+    return _settled([it - less for it, less in zip(place, potential)], {**gaps, **tight})
 
 
-def _settled(count: int, gaps: Gaps) -> list[int]:
-    """The least coordinates from 0 on with these gaps, some of which are negative and lead back: Bellman and Ford's."""
-    following: list[list[tuple[int, int]]] = [[] for _ in range(count)]
+def _settled(place: Sequence[int], gaps: Gaps) -> list[int]:
+    """The least coordinates from 0 on with these gaps, some of which are negative and lead back. `place` are any
+    coordinates with these gaps, by which each gap has something to spare: Dijkstra's."""
+    following: list[list[tuple[int, int]]] = [[] for _ in place]
     for (start, end), gap in gaps.items():
-        following[start].append((end, gap))
-    place = [0] * count
-    waiting = list(range(count))
+        following[start].append((end, place[end] - place[start] - gap))
+    spare = list(place)
+    waiting = sorted((far, bar) for bar, far in enumerate(place))
     while waiting:
-        moved = set()
-        for start in waiting:
-            for end, gap in following[start]:
-                if place[end] < place[start] + gap:
-                    place[end] = place[start] + gap
-                    moved.add(end)
-        waiting = sorted(moved)
-    return place
+        far, bar = heappop(waiting)
+        for end, more in following[bar] if far == spare[bar] else ():
+            if far + more < spare[end]:
+                spare[end] = far + more
+                heappush(waiting, (far + more, end))
+    return [it - far for it, far in zip(place, spare)]

@@ -64,9 +64,9 @@ class Triangulation:
 
     def _target(self, node: int) -> int | None:
         """The neighbour that a node can go into: they have two others in common alone, so no two links fall together.
-        Of several, the one with the fewest neighbours."""
+        Of several, the one with the fewest neighbours, and one of the ring only where there is no other."""
         found = [other for other in self.around[node] if len(self.beside[node] & self.beside[other]) == 2]
-        return min(found, key=lambda it: len(self.around[it])) if found else None
+        return min(found, key=lambda it: (it in self.fixed, len(self.around[it]))) if found else None
 
     def _contract(self, node: int, into: int) -> Contraction:
         around, beside = self.around, self.beside

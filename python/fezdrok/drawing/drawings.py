@@ -8,7 +8,7 @@ planarization alone, as they stand in the file (see `verification`), but where `
 from __future__ import annotations
 
 import warnings
-from collections.abc import Mapping
+from collections.abc import Callable, Mapping
 from dataclasses import dataclass, replace
 from typing import TYPE_CHECKING, Any
 
@@ -17,19 +17,22 @@ from ..engine.results import Planarization
 from ..files.embeddings import to_networkx_embedding
 from .appearance import is_for_all, names_of, node_values, plain_color, with_edges, with_nodes
 from .labels import LETTER_HEIGHT
-from .near_lines import near_chains
+from .near_lines import near_chains, settled
 from .orthogonal_layout import orthogonal_drawing
 from .pages import Page
 from .scenes import PLAIN, Position, Scene, flat, grid_of, middle_of, orthogonal_scene
 from .straight_layout import chain, grid_positions, places_between, positions
-from .straight_scenes import Chains, true_scene
+from .straight_scenes import Chains, scene_beside, true_scene
 from .svg import NODE_COLOR, RIM_WIDTH, Paint, svg_of
 from .verification import Defect, defects
+from .wider_angles import Effort
 
 if TYPE_CHECKING:
     from matplotlib.axes import Axes
 
 STYLES = ("straight", "curved", "orthogonal")
+#: How much is done to widen the angles at a new edge, and then those of all the drawing.
+QUICK, SLOW = Effort(first=0.02, looks=600), Effort(first=0.01, looks=6000)
 
 
 class FalseDrawing(PlanarError, ValueError):
@@ -198,6 +201,35 @@ def _scene(
     if false:
         warnings.warn(str(FalseDrawing(false)), PlanarWarning)
     return scene
+
+
+def drawing_beside(result: Planarization, before: Drawing) -> Drawing | None:
+    """A drawing that goes on from a true one with straight lines, soon: what both have lies as there, and the new edges
+    lead through the faces between, where they are moved a little. None where that is not true."""
+    chains = near_chains(result, before.result, before.scene)
+    if chains is None:
+        return None
+    new = [edge_id for edge_id, name in result.edge_of.items() if name not in before.result.id_of]
+    inner = [node for edge_id in new for node in chains.nodes[edge_id][1:-1]]
+    names = names_of(result, True)
+    for its in (settled(chains, QUICK._replace(nodes=inner)), chains):
+        scene, false = scene_beside(its, before.scene, names)
+        if not false:
+            return Drawing(result, before.style, scene)
+    return None
+
+
+def drawing_settled(before: Drawing, is_over: Callable[[], bool]) -> Drawing | None:
+    """A drawing with straight lines whose points are moved a little so that fewer angles are small, and whose nodes are
+    as large as there is room. None where that is not true, or where it `is_over` before."""
+    chains = near_chains(before.result, before.result, before.scene)
+    if chains is None:
+        return None
+    chains = settled(chains, SLOW._replace(is_over=is_over))
+    if is_over():
+        return None
+    scene, false = true_scene(chains, False, names_of(before.result, True))
+    return None if false else Drawing(before.result, before.style, scene)
 
 
 def scene_of(result: Planarization, style: str = "curved", **words: Any) -> Scene:

@@ -17,20 +17,21 @@ class Arc(NamedTuple):
     cost: int
 
 
-def least_cost_flow(demand: Sequence[int], arcs: Sequence[Arc]) -> list[int]:
+def least_cost_flow(demand: Sequence[int], arcs: Sequence[Arc]) -> tuple[list[int], list[int]]:
     """What each arc carries in a flow of least cost by which each node takes as much more than it gives as its demand
-    says. ValueError where there is no such flow.
+    says; and a potential of each node: by no arc that could carry more does it grow more than the arc costs, and by
+    one that carries anything it does not grow less. ValueError where there is no such flow.
 
     While a node has something left, the nearest node that wants something is found (Dijkstra), with costs reduced by
-    potentials so that none is negative, and as much is sent there as can be (Edmonds and Karp, Theoretical Improvements
-    in Algorithmic Efficiency for Network Flow Problems, 1972). Each search ends where it finds one, so it looks at few
-    nodes where what is wanted is near.
+    the potentials so that none is negative, and as much is sent there as can be (Edmonds and Karp, Theoretical
+    Improvements in Algorithmic Efficiency for Network Flow Problems, 1972). Each search ends where it finds one, so it
+    looks at few nodes where what is wanted is near.
     """
     network = _Residual(demand, arcs)
     for source, number in enumerate(demand):
         while number < 0 and network.left[source] > 0:
             network.send(source)
-    return network.room[1::2]
+    return network.room[1::2], network.potential
 
 
 class _Residual:
@@ -54,12 +55,13 @@ class _Residual:
         far: dict[int, int] = {}
         reached = {source: 0}
         last: dict[int, int] = {}
-        waiting = [(0, source)]
+        count = len(left)
+        waiting = [source]  # a number for a way to a node, the shortest first
         end = None
         while end is None:
             if not waiting:
                 raise ValueError("the network takes no such flow")
-            way, node = heappop(waiting)
+            way, node = divmod(heappop(waiting), count)
             if node in far:
                 continue
             far[node] = way
@@ -74,7 +76,7 @@ class _Residual:
                         if there == way and left[other] < 0:
                             end = other
                             break
-                        heappush(waiting, (there, other))
+                        heappush(waiting, there * count + other)
         for it, there in far.items():
             potential[it] += there - way
         path, node = [], end

@@ -6,6 +6,8 @@ Edges that are new are put in one after another, each through the faces that its
 from __future__ import annotations
 
 from collections.abc import Container, Hashable, Mapping
+from dataclasses import replace
+from math import hypot
 from typing import Any
 
 from ..engine.graph_edges import GraphEdge
@@ -16,6 +18,7 @@ from .face_routes import Position
 from .scenes import Scene
 from .step_lines import Line, StepLines, put_edge
 from .straight_scenes import Chains
+from .wider_angles import Effort, widened
 
 #: Along an edge of a picture the edges that cross it, each with whether it passes from the left to the right.
 Passed = list[tuple[GraphEdge, bool]]
@@ -33,7 +36,9 @@ def near_chains(result: Planarization, before: Planarization, scene: Scene) -> C
     left = [row.id for row in result.picture.edges if row.id not in kept]
     placed = {end for edge_id in kept for end in _ends(result.picture.edge(edge_id))}
     while left:
-        edge_id = next(it for it in left if placed.intersection(_ends(result.picture.edge(it))))
+        edge_id = next((it for it in left if placed.intersection(_ends(result.picture.edge(it)))), None)
+        if edge_id is None:
+            return None
         left.remove(edge_id)
         picture = restricted(result.picture, {*drawn.lines, edge_id})
         _put(drawn, picture, picture.edge(edge_id), placed)
@@ -69,6 +74,37 @@ def _chains(result: Planarization, drawn: StepLines) -> Chains:
         places.update(zip(inner, line.points[1:-1]))
         nodes[edge_id] = [result.node_of[row.a], *inner, result.node_of[row.b]]
     return Chains(result, {row.id: nodes[row.id] for row in result.picture.edges}, places)
+
+
+# ---- Points that are moved
+
+
+def settled(chains: Chains, effort: Effort) -> Chains:
+    """The chains of a true drawing with points moved so that fewer angles are small. The first step of the effort is
+    beside the radius of the drawing."""
+    xs, ys = zip(*chains.places.values())
+    left, bottom, right, top = min(xs), min(ys), max(xs), max(ys)
+    x, y, radius = (left + right) / 2, (bottom + top) / 2, hypot(right - left, top - bottom) / 2
+    crossings = {chains.result.name_of(point) for point in chains.result.picture.points if point.is_crossing}
+    unit = {node: ((u - x) / radius, (v - y) / radius) for node, (u, v) in chains.places.items()}
+    found = widened(_around(chains), crossings, chains.nodes.values(), unit, effort)
+    moved = {node: (x + radius * u, y + radius * v) for node, (u, v) in found.items() if (u, v) != unit[node]}
+    return replace(chains, places={**chains.places, **moved})
+
+
+def _around(chains: Chains) -> dict[Any, list[Any]]:
+    """The neighbours of each node of the chains, clockwise."""
+    result = chains.result
+    found: dict[Any, list[Any]] = {}
+    for nodes in chains.nodes.values():
+        found.update((node, [before, after]) for before, node, after in zip(nodes, nodes[1:], nodes[2:]))
+    for point in result.picture.points:
+        name = result.name_of(point)
+        found[name] = []
+        for dart in result.picture.around(point):
+            nodes = chains.nodes[dart.edge]
+            found[name].append(nodes[nodes.index(name) + (-1 if dart.back else 1)])
+    return found
 
 
 # ---- Parts of pictures
@@ -172,10 +208,8 @@ def _kept_lines(result: Planarization, before: Planarization, scene: Scene, kept
     left = {row.id for row in restricted(before.picture, set(kept.values())).crossings}
     for row in restricted(result.picture, kept).edges:
         stroke = stroke_of[kept[row.id]]
-        crossings = iter(row.crossings)
-        marks = [
-            next(crossings) if mark is not None and mark.is_crossing and mark.id in left else None
-            for mark in stroke.marks
-        ]
-        drawn.lines[row.id] = Line(list(stroke.points[:: 3 if stroke.curved else 1]), [*marks])
+        ids = [mark.id if mark is not None and mark.is_crossing else None for mark in stroke.marks]
+        id_of: dict[int | None, int] = dict(zip([it for it in ids if it in left], row.crossings, strict=True))
+        points = list(stroke.points[:: 3 if stroke.curved else 1])
+        drawn.lines[row.id] = Line(points, [id_of.get(it) for it in ids])
     return drawn

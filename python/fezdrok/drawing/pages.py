@@ -87,8 +87,8 @@ def flattened(piece: tuple[PagePoint, ...], tolerance: int) -> list[PagePoint]:
     `tolerance`, which is in units of the page (Wang, The Subdivision Method for Finding the Intersection Between Two
     Bezier Curves, 1984, has the bound).
     """
-    if len(piece) == 2:
-        return [(x * FINE, y * FINE) for x, y in piece]
+    if len(piece) == 2 or piece[0] == piece[1] and piece[2] == piece[3]:  # a curve that does not reach aside
+        return [(x * FINE, y * FINE) for x, y in (piece[0], piece[-1])]
     (x0, y0), (x1, y1), (x2, y2), (x3, y3) = piece
     bend = max(abs(x0 - 2 * x1 + x2), abs(y0 - 2 * y1 + y2), abs(x1 - 2 * x2 + x3), abs(y1 - 2 * y2 + y3))
     steps = 1

@@ -24,12 +24,13 @@ from .filled_graphs import FilledGraph, fill
 Position = tuple[float, float]
 
 #: The greatest number of nodes that are few.
-#: How often all nodes are moved after each round in which some came, while they are few; else that is once.
+#: How often all nodes are moved at most whenever so many times more came; when there are many it is less often.
 #: How often, at most and at least, they are moved when all are there; how often each is put at the mean of its
 #: neighbours before that, where they are few; how many moves there may be, half as many where they are not few; and the
 #: way of a node below which it is enough.
 FEW = 1000
-ROUND_SWEEPS = 2
+ROUND_SWEEPS = 6
+GROWTH = 1.1
 SWEEPS = 250
 LEAST_SWEEPS = 5
 MEANS = 60
@@ -92,6 +93,7 @@ def _from_few_to_many(filled: FilledGraph) -> list[Position] | None:
     mesh = Triangulation(filled.around(), filled.ring)
     rounds = mesh.contracted()
     there: list[int] = []
+    moved = 0
     for steps in reversed(rounds or ()):
         for step in reversed(steps):
             place = middle_of_sight([points[it] for it in (step.into, *step.others)])
@@ -100,10 +102,12 @@ def _from_few_to_many(filled: FilledGraph) -> list[Position] | None:
                 return None
             points[step.node] = place
             there.append(step.node)
-        forces = _Forces.of_few(mesh, there)
-        for _ in range(ROUND_SWEEPS if len(there) < FEW else 1):
-            for node in there:
-                forces.move(node, points)
+        if len(there) >= GROWTH * moved:
+            moved = len(there)
+            forces = _Forces.of_few(mesh, there)
+            for _ in range(max(1, min(ROUND_SWEEPS, 2 * FEW // moved))):
+                for node in there:
+                    forces.move(node, points)
     return points if rounds is not None and _is_plane(filled, points) else None
 
 
@@ -143,15 +147,16 @@ class _Forces:
     @staticmethod
     def of_few(mesh: Triangulation, there: Sequence[int]) -> "_Forces":
         """What acts where only some nodes are there, each of which stands for several: a triangle pushes as much as
-        those that it will be."""
-        weight = mesh.weight
-        whole = sum(weight[node] * len(mesh.around[node]) for node in there) + 1
-        forces = _Forces(len(mesh.around), SHAPE / whole * sum(weight) / max(1, len(there)))
+        those that it will be. A node's weight is shared among the triangles at it."""
+        share = [weight / max(1, len(others)) for weight, others in zip(mesh.weight, mesh.around)]
+        count = 2 * len(there) + len(mesh.fixed) - 2
+        whole = sum(mesh.weight[node] for node in (*there, *mesh.fixed))
+        forces = _Forces(len(mesh.around), SHAPE / count)
         for node in there:
             others = mesh.around[node]
             forces.links[node] = [(other, 1.0) for other in others]
             forces.triangles[node] = [
-                (first, second, PUSH * ((weight[node] + weight[first] + weight[second]) / whole) ** 2)
+                (first, second, PUSH * ((share[node] + share[first] + share[second]) / whole) ** 2)
                 for first, second in zip(others, others[1:] + others[:1])
             ]
         return forces
@@ -216,35 +221,28 @@ class _Forces:
             up += SQUARE * y
         return across / total, up / total, total
 
-    def corners(self, node: int, points: Sequence[Position]) -> list[tuple[float, float, float, float, float]]:
-        """The places of the other two corners of each triangle at a node, and how much it pushes whatever the place of
-        the node is."""
-        found = []
-        shape = self.shape
-        for first, second, push in self.triangles[node]:
-            (u, v), (r, s) = points[first], points[second]
-            found.append((u, v, r, s, push + shape * ((u - r) * (u - r) + (v - s) * (v - s))))
-        return found
-
     def move(self, node: int, points: list[Position]) -> float:
         """Move a node to where its energy would be least, by its slope and an estimate of its curvature, or a part of
         that way, if that makes its energy less; how far it went."""
         x, y = points[node]
-        pull, corners = self.pull(node, points), self.corners(node, points)
-        middle_x, middle_y, total = pull
-        shape = self.shape
+        middle_x, middle_y, total = pull = self.pull(node, points)
         slope_x, slope_y, curvature = total * (x - middle_x), total * (y - middle_y), total
-        energy = total * ((x - middle_x) * (x - middle_x) + (y - middle_y) * (y - middle_y)) / 2
-        for u, v, r, s, push in corners:
+        energy = (slope_x * slope_x + slope_y * slope_y) / total / 2
+        shape = self.shape
+        corners = []
+        for first, second, push in self.triangles[node]:
+            u, v = points[first]
+            r, s = points[second]
+            across, up = v - s, r - u
+            push += shape * (across * across + up * up)  # whatever the place of the node is
+            corners.append((u, v, r, s, push))
             p, q, m, n = u - x, v - y, r - x, s - y
             area = p * n - q * m
-            push += shape * (p * p + q * q + m * m + n * n)
-            across, up = v - s, r - u
-            term = push / area
-            force = term / area
-            slope_x -= 2 * shape * (p + m) / area + force * across
-            slope_y -= 2 * shape * (q + n) / area + force * up
-            curvature += (force * (across * across + up * up) + 4 * shape) / area
+            term = (push + shape * (p * p + q * q + m * m + n * n)) / area
+            force, thin = term / area, 2 * shape / area
+            slope_x -= force * across + thin * (p + m)
+            slope_y -= force * up + thin * (q + n)
+            curvature += force * (across * across + up * up) / area + 2 * thin
             energy += term
         way_x, way_y = -slope_x / curvature, -slope_y / curvature
         for _ in range(5):
@@ -328,7 +326,7 @@ def _settle(filled: FilledGraph, points: list[Position], sweeps: int) -> None:
         weights = _weights(lines, points)
         if weights == plain:
             return
-        _move_all(_Forces.of_all(filled, weights), ring, points, sweeps // 4)
+        _move_all(_Forces.of_all(filled, weights), ring, points, most // 4)
 
 
 def _move_all(forces: _Forces, ring: Container[int], points: list[Position], sweeps: int) -> None:

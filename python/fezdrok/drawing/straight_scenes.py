@@ -8,7 +8,7 @@ is right; with every curve straight it is.
 
 from __future__ import annotations
 
-from collections.abc import Mapping, Sequence
+from collections.abc import Container, Mapping, Sequence
 from dataclasses import dataclass, replace
 from math import hypot, sqrt
 from typing import Any
@@ -79,6 +79,42 @@ def _finished(chains: Chains, scene: Scene) -> Scene:
 
 def straight_scene(chains: Chains, names: Mapping[Node, str], color: str = PLAIN) -> Scene:
     """The scene in which edges are straight from one node of their chains to the next."""
+    unit, nodes = sized_nodes(chains, [label_of(names[node]) for node in chains.result.node_of])
+    return _scene_of(chains, unit, nodes, color)
+
+
+def scene_beside(
+    chains: Chains, before: Scene, names: Mapping[Node, str], color: str = PLAIN
+) -> tuple[Scene, list[Defect]]:
+    """The scene that goes on from a true one with straight lines, in which all nodes lie that both have; and what is
+    false in it. Nodes are as large as there, or smaller where a line is new beside them. Lines that lie as there are
+    not judged again."""
+    scene = _scene_of(chains, before.unit, (), color)
+    lines_before = {(it.edge_id, it.points) for it in before.strokes}
+    fresh = {it.edge_id for it in scene.strokes if (it.edge_id, it.points) not in lines_before}
+    shapes = _shapes_beside(chains, before, names, fresh)
+    scene = replace(scene, nodes=shapes, decimals=before.decimals)
+    are_nodes_new = len(shapes) > len(before.nodes)
+    return _finished(chains, scene), Judge(chains.result, Page(scene)).beside(fresh, are_nodes_new)
+
+
+def _shapes_beside(
+    chains: Chains, before: Scene, names: Mapping[Node, str], fresh: Container[int]
+) -> tuple[NodeShape, ...]:
+    """The nodes, each as large as before, or smaller where one of the fresh edges comes near it."""
+    labels = [label_of(names[node]) for node in chains.result.node_of]
+    sizes = [label_size(label) for label in labels]
+    near = replace(chains, nodes={edge_id: its for edge_id, its in chains.nodes.items() if edge_id in fresh})
+    scales = _scales_beside_lines(near, sizes, before.unit)
+    scale_of = {shape.node: shape.scale for shape in before.nodes}
+    if len(scale_of) < len(labels):
+        scale_of = {**dict(zip(chains.result.node_of, _scales(chains, sizes, before.unit))), **scale_of}
+    scales = [min(scale, scale_of[node]) for node, scale in zip(chains.result.node_of, scales)]
+    return _shapes(chains, labels, scales, before.unit)
+
+
+def _scene_of(chains: Chains, unit: float, nodes: tuple[NodeShape, ...], color: str) -> Scene:
+    """The scene with these nodes."""
     result, places = chains.result, chains.places
     kinds, legend = looks(result, color)
     strokes = [
@@ -92,7 +128,6 @@ def straight_scene(chains: Chains, names: Mapping[Node, str], color: str = PLAIN
         for edge_id, chain in chains.nodes.items()
     ]
     dots = tuple(places[result.name_of(point)] for point in result.picture.points if point.is_crossing)
-    unit, nodes = sized_nodes(chains, [label_of(names[node]) for node in result.node_of])
     return Scene(unit, tuple(strokes), nodes, dots, legend)
 
 
@@ -117,33 +152,24 @@ def sized_nodes(chains: Chains, labels: Sequence[str]) -> tuple[float, tuple[Nod
     unit = least * min(2.0, max(1.0, 1.0 / max(min(scales), 0.1))) if len(scales) <= MANY else least
     if unit > least:
         scales = _scales(chains, sizes, unit)
-    return unit, tuple(
-        NodeShape(
-            node, label, chains.places[node], scale * width / unit, scale * height / unit, "\n" in label, scale
-        )
-        for node, label, (width, height), scale in zip(chains.result.node_of, labels, sizes, scales)
-    )
+    return unit, _shapes(chains, labels, scales, unit)
+
+
+def _shapes(
+    chains: Chains, labels: Sequence[str], scales: Sequence[float], unit: float
+) -> tuple[NodeShape, ...]:
+    """The nodes at their places, so many times as large as their labels want."""
+    found = []
+    for node, label, scale in zip(chains.result.node_of, labels, scales):
+        width, height = (scale * extent / unit for extent in label_size(label))
+        found.append(NodeShape(node, label, chains.places[node], width, height, "\n" in label, scale))
+    return tuple(found)
 
 
 def _scales(chains: Chains, sizes: Sequence[tuple[float, float]], unit: float) -> list[float]:
     """By how much each node has to be made smaller, at so many pixels a step, to lie on nothing; else 1."""
-    lines = [(*(unit * it for it in row[:4]), *row[4:]) for row in chains.segments]
-    grid = SegmentGrid(lines)
-    middles = [tuple(unit * it for it in chains.places[node]) for node in chains.result.node_of]
-    scales = []
-    for node, (x, y), (width, height) in zip(chains.result.node_of, middles, sizes):
-        right, up = width / 2 + GAP, height / 2 + GAP
-        scale = 1.0
-        for place in grid.near(x - right, y - up, x + right, y + up):
-            p, q, r, s, _, start, end = lines[place]
-            if max(p, r) < x - right or min(p, r) > x + right or max(q, s) < y - up or min(q, s) > y + up:
-                continue
-            if node not in (start, end):
-                scale = min(scale, _reach((p - x, q - y), (r - x, s - y), right, up))
-            else:
-                far = (r - x, s - y) if node == start else (p - x, q - y)
-                scale = min(scale, _reach(far, far, right, up))
-        scales.append(scale)
+    middles = [(unit * x, unit * y) for x, y in (chains.places[node] for node in chains.result.node_of)]
+    scales = _scales_beside_lines(chains, sizes, unit)
     boxes = [(x - w, y - h, x + w, y + h) for (x, y), (w, h) in zip(middles, sizes)]
     near = SegmentGrid.of_rectangles(boxes)
     for place, ((x, y), (width, height)) in enumerate(zip(middles, sizes)):
@@ -152,6 +178,31 @@ def _scales(chains: Chains, sizes: Sequence[tuple[float, float]], unit: float) -
                 (u, v), (w, h) = middles[other], sizes[other]
                 right, up, way = (width + w + GAP) / 2, (height + h + GAP) / 2, (u - x, v - y)
                 scales[place] = min(scales[place], _reach(way, way, right, up))
+    return scales
+
+
+def _scales_beside_lines(chains: Chains, sizes: Sequence[tuple[float, float]], unit: float) -> list[float]:
+    """By how much each node has to be made smaller to reach no other end of its own lines, and no other line."""
+    lines = [(*(unit * it for it in row[:4]), *row[4:]) for row in chains.segments]
+    far: dict[Any, list[Position]] = {}
+    for p, q, r, s, _, start, end in lines:
+        far.setdefault(start, []).append((r - p, s - q))
+        far.setdefault(end, []).append((p - r, q - s))
+    grid = SegmentGrid(lines)
+    scales = []
+    for node, (width, height) in zip(chains.result.node_of, sizes):
+        x, y = (unit * it for it in chains.places[node])
+        right, up = width / 2 + GAP, height / 2 + GAP
+        scale = min([1.0, *(_reach(way, way, right, up) for way in far.get(node, ()))])
+        wide, high = scale * right, scale * up
+        for place in grid.near(x - wide, y - high, x + wide, y + high):
+            p, q, r, s, _, start, end = lines[place]
+            wide, high = scale * right, scale * up
+            if max(p, r) < x - wide or min(p, r) > x + wide or max(q, s) < y - high or min(q, s) > y + high:
+                continue
+            if node not in (start, end):
+                scale = min(scale, _reach((p - x, q - y), (r - x, s - y), right, up))
+        scales.append(scale)
     return scales
 
 
@@ -180,31 +231,20 @@ def _reach(start: Position, end: Position, right: float, up: float) -> float:
 def _curved(chains: Chains, scene: Scene, false: list[Defect]) -> tuple[Scene, list[Defect]]:
     """The scene with its straight lines made curves, of which those that meet what they must not reach less far; and
     what stays false. What is false with straight lines, which may be as the points are the caller's, is let be."""
-    ways = crossing_ways(chains.result, chains.nodes, chains.places)
     allowed = {(it.words, it.pieces) for it in false}
-    bent = {
-        edge_id
-        for edge_id, chain in chains.nodes.items()
-        if not is_as_good_as_straight([chains.places[node] for node in chain])
-    }
-    passing = {
-        edge_id: passing_ways(
-            [chains.places[node] for node in chains.nodes[edge_id]],
-            [ways.get((edge_id, node)) for node in chains.nodes[edge_id]],
-            len(scene.nodes) <= MANY,
-        )
-        for edge_id in bent
-    }
+    passing = _passing(chains, len(scene.nodes) <= MANY)
     reaches: dict[Piece, float] = {}
     less_reach = LESS_REACH if len(scene.nodes) <= MANY else LESS_REACH_OF_MANY
     strokes = {it.edge_id: _curve(chains, it, passing, reaches) for it in scene.strokes}
     page = Page(replace(scene, strokes=tuple(strokes.values())))
     judge = Judge(chains.result, page)
+    if not false and len(scene.nodes) > MANY:
+        judge.yielding.update((edge_id, place) for edge_id, ways in passing.items() for place in range(len(ways) - 1))
     found, may_stay = judge.defects(), bool(false)
     while True:
         wrong = [it.pieces for it in found if (it.words, it.pieces) not in allowed]
         pieces = {piece for its in wrong for piece in its}
-        less = {piece: less_reach[now] for piece in pieces if (now := reaches.get(piece, 1.0)) and piece[0] in bent}
+        less = {piece: less_reach[now] for piece in pieces if (now := reaches.get(piece, 1.0)) and piece[0] in passing}
         may_stay = may_stay or any(less.keys().isdisjoint(its) for its in wrong)
         if may_stay and not false:
             return scene, found
@@ -212,9 +252,21 @@ def _curved(chains: Chains, scene: Scene, false: list[Defect]) -> tuple[Scene, l
             scene = replace(scene, strokes=tuple(strokes.values()))
             return scene, defects(chains.result, Page(scene)) if may_stay else []
         reaches.update(less)
+        judge.yielding.difference_update(piece for piece, reach in less.items() if not reach)
         changed = {edge_id: _curve(chains, strokes[edge_id], passing, reaches) for edge_id, _ in less}
         strokes.update(changed)
         found = judge.drawn_otherwise([page.line(stroke) for stroke in changed.values()], less)
+
+
+def _passing(chains: Chains, turns_least: bool) -> dict[int, list[Position]]:
+    """The directions in which each edge passes the nodes of its chain; none of edges that are as good as straight."""
+    ways = crossing_ways(chains.result, chains.nodes, chains.places)
+    passing = {}
+    for edge_id, chain in chains.nodes.items():
+        points = [chains.places[node] for node in chain]
+        if not is_as_good_as_straight(points):
+            passing[edge_id] = passing_ways(points, [ways.get((edge_id, node)) for node in chain], turns_least)
+    return passing
 
 
 def _curve(

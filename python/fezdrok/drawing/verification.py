@@ -7,7 +7,7 @@ numbers are whole, so nothing is rounded in any test. Lines that could meet are 
 from __future__ import annotations
 
 from collections import Counter
-from collections.abc import Container, Iterable, Iterator, Sequence
+from collections.abc import Collection, Container, Iterable, Iterator, Sequence
 from math import inf
 from typing import NamedTuple
 
@@ -58,7 +58,7 @@ def defects(result: Planarization, page: Page) -> list[Defect]:
 class Judge:
     """A page with all its straight lines, and how the darts of the picture leave their points. Edges can be drawn
     otherwise, and are then judged beside all that stays. `extents` are the least x and y of each line, and the
-    greatest."""
+    greatest. The pieces of `yielding` are drawn otherwise if anything is told of them: then no more is."""
 
     def __init__(self, result: Planarization, page: Page):
         self.result, self.page, self.picture = result, page, result.picture
@@ -66,6 +66,8 @@ class Judge:
         self.extents: list[tuple[float, float, float, float]] = []
         self.places_of: dict[int, range] = {}
         self.found: list[Defect] = []
+        self.yielding: set[Piece] = set()
+        self.wrong: set[Piece] = set()  # of those, what was told of
         self.place_of: dict[Point, PagePoint] = {}
         self.leaving: dict[Dart, tuple[PagePoint, PagePoint, Piece]] = {}
         self.tangents: dict[Dart, PagePoint] = {}
@@ -81,15 +83,12 @@ class Judge:
         """What is false."""
         hubs = [self._hub(line) for line in self.lines]
         for places in self.grid.squares.values():
+            if self.wrong:
+                places = [place for place in places if self.lines[place].piece not in self.wrong]
             for one, other in _pairs(places, hubs, self.extents):
                 self._judge_pair(one, other)
         self._judge_orders(self.picture.points)
-        own = self._judge_ends()
-        for point, shape in self.shapes.items():
-            for place in self.grid.near(*shape.bounds):
-                line = self.lines[place]
-                self._judge_shape(shape, line, (line.piece, point) in own)
-        self._judge_overlaps()
+        self._judge_shapes()
         return self._told()
 
     def drawn_otherwise(self, lines: Sequence[PageLine], pieces: Container[Piece]) -> list[Defect]:
@@ -107,26 +106,45 @@ class Judge:
             else:
                 self.grid.add(place, self.lines[place])
         for place in judged:
-            self._judge_line(place)
-        self._judge_orders({point for drawn in lines for point in self.picture.path(drawn.edge_id)})
+            squares = [self.grid.squares.setdefault(square, []) for square in self.grid.passed(self.lines[place])]
+            self._judge_line(place, squares)
+            for others in squares:
+                others.append(place)
+        self._judge_points(judged, {drawn.edge_id for drawn in lines})
+        return self._told()
+
+    def beside(self, edge_ids: Collection[int], are_nodes_new: bool) -> list[Defect]:
+        """What is false about these edges, and about all nodes where some are new, if all others are as on a page that
+        was true."""
+        judged = [place for edge_id in edge_ids for place in self.places_of[edge_id]]
+        for place in judged:
+            self._judge_line(place, [self.grid.squares[square] for square in self.grid.passed(self.lines[place])])
+        self._judge_points(judged, edge_ids)
+        if are_nodes_new:
+            self._judge_shapes()
+        return self._told()
+
+    def _judge_points(self, judged: Iterable[int], edge_ids: Iterable[int]) -> None:
+        """These lines beside all nodes, and how these edges pass their points."""
+        self._judge_orders({point for edge_id in edge_ids for point in self.picture.path(edge_id)})
         own, shapes = self._judge_ends(), list(self.shapes.items())
         for place in judged:
             line = self.lines[place]
-            for number in self.boxes.near(*self.extents[place]):
+            for number in self.boxes.near(*self.extents[place]) if line.piece not in self.wrong else ():
                 point, shape = shapes[number]
                 self._judge_shape(shape, line, (line.piece, point) in own)
-        return self._told()
 
     def _told(self) -> list[Defect]:
         """What was found, each defect once."""
         merged: dict[tuple[str, tuple[float, float]], dict[Piece, None]] = {}
         for words, place, pieces in self.found:
             merged.setdefault((words, place), {}).update(dict.fromkeys(pieces))
-        self.found = []
+        self.found, self.wrong = [], set()
         return [Defect(words, place, tuple(pieces)) for (words, place), pieces in merged.items()]
 
     def _tell(self, words: str, place: PagePoint, *pieces: Piece) -> None:
         unit = FINE * self.page.steps
+        self.wrong.update(self.yielding.intersection(pieces))
         self.found.append(Defect(words, (place[0] / unit, place[1] / unit), pieces))
 
     def _name(self, edge_id: int) -> str:
@@ -176,23 +194,22 @@ class Judge:
     def _judge_pair(self, one: int, other: int) -> None:
         """Two lines that have a point in common have to share an end, and nothing else."""
         first, second = self.lines[min(one, other)], self.lines[max(one, other)]
+        if self.wrong and (first.piece in self.wrong or second.piece in self.wrong):
+            return
         if _meet_falsely(first, second):
             its, others = self._name(first.piece[0]), self._name(second.piece[0])
             words = f"{its} meets {others}" if its != others else f"{its} meets itself"
             self._tell(words, _meeting(first, second), first.piece, second.piece)
 
-    def _judge_line(self, place: int) -> None:
-        """A line and all others that are in the grid, to which it is added."""
+    def _judge_line(self, place: int, squares: Iterable[Iterable[int]]) -> None:
+        """A line and all others that are in these squares."""
         left, top, right, bottom = self.extents[place]
         hub = self._hub(self.lines[place])
-        for square in self.grid.passed(self.lines[place]):
-            others = self.grid.squares.setdefault(square, [])
-            for other in others:
-                x, y, u, v = self.extents[other]
-                if x <= right and u >= left and y <= bottom and v >= top:
-                    if hub is None or self._hub(self.lines[other]) != hub:
-                        self._judge_pair(other, place)
-            others.append(place)
+        for other in set().union(*squares) if self.lines[place].piece not in self.wrong else ():
+            x, y, u, v = self.extents[other]
+            if x <= right and u >= left and y <= bottom and v >= top and other != place:
+                if hub is None or self._hub(self.lines[other]) != hub:
+                    self._judge_pair(other, place)
 
     # ---- The order round points
 
@@ -234,8 +251,14 @@ class Judge:
         if not is_own and shape.meets(line):
             self._tell(f"the node {shape.node!r} lies on {self._name(line.piece[0])}", shape.middle, line.piece)
 
-    def _judge_overlaps(self) -> None:
-        """No node lies on another."""
+    def _judge_shapes(self) -> None:
+        """No node lies on a line that is not its own, or on another node."""
+        own = self._judge_ends()
+        for point, shape in self.shapes.items():
+            for place in self.grid.near(*shape.bounds):
+                line = self.lines[place]
+                if line.piece not in self.wrong:
+                    self._judge_shape(shape, line, (line.piece, point) in own)
         shapes = list(self.shapes.values())
         for place, shape in enumerate(shapes):
             for other in self.boxes.near(*shape.bounds):

@@ -8,9 +8,9 @@ A point goes a step in the first of some directions in which its energy gets les
 from __future__ import annotations
 
 from cmath import phase, rect
-from collections.abc import Container, Iterable, Mapping, Sequence
+from collections.abc import Callable, Collection, Container, Iterable, Mapping, Sequence
 from math import inf, pi, radians, sqrt
-from typing import Any
+from typing import Any, NamedTuple
 
 from .relaxation import FAR, turn_along
 from .scenes import Position
@@ -35,11 +35,22 @@ LITTLE = 1e-9
 LOOKS = 40_000
 
 
+class Effort(NamedTuple):
+    """What is done to widen angles: which nodes are moved, where not all are; their step at first; how many lines may
+    be looked at in all moves; and what says that it is to end at once."""
+
+    nodes: Collection[Any] | None = None
+    first: float = FIRST
+    looks: int = LOOKS
+    is_over: Callable[[], bool] = lambda: False
+
+
 def widened(
     rotations: Mapping[Any, Sequence[Any]],
     crossings: Container[Any],
     chains: Iterable[Sequence[Any]],
     places: Mapping[Any, Position],
+    effort: Effort = Effort(),
 ) -> dict[Any, Position]:
     """Other places in the unit disk for the nodes of a connected plane graph, drawn with straight lines that do not
     cross, so that fewer angles are small. `rotations` has the neighbours of each node, clockwise; at those of
@@ -52,7 +63,8 @@ def widened(
         [node in crossings for node in rotations],
         [[number[node] for node in chain] for chain in chains],
     )
-    drawing.settle()
+    moved = rotations if effort.nodes is None else effort.nodes
+    drawing.settle([number[node] for node in moved], effort)
     return {node: (point.real, point.imag) for node, point in zip(rotations, drawing.points)}
 
 
@@ -69,14 +81,19 @@ class _Points:
         chains: Sequence[Sequence[int]],
     ):
         self.points, self.around, self.is_crossing, self.chains = points, around, is_crossing, chains
-        self.faces = [[self._face(node, first) for first in others] for node, others in enumerate(around)]
-        self.walls = [[pair for face in faces for pair in zip(face, face[1:])] for faces in self.faces]
+        self.faces: dict[int, list[list[int]]] = {}
+        self.walls: dict[int, list[tuple[int, int]]] = {}
         self.passing: list[list[int]] = [[] for _ in points]
         for number, chain in enumerate(chains):
             for node in chain if len(chain) > 2 else ():
                 self.passing[node].append(number)
         self.most = [max(FAR, turn) for turn in map(self._turn, range(len(chains)))]
         self.room = ROOM / sqrt(len(points))
+
+    def _look_round(self, node: int) -> None:
+        """Find the faces round a point, and their lines."""
+        self.faces[node] = faces = [self._face(node, first) for first in self.around[node]]
+        self.walls[node] = [pair for face in faces for pair in zip(face, face[1:])]
 
     def _face(self, node: int, first: int) -> list[int]:
         found, before, other = [], node, first
@@ -89,14 +106,15 @@ class _Points:
     def _turn(self, number: int) -> float:
         return turn_along([self.points[node] for node in self.chains[number]])
 
-    def settle(self) -> None:
-        """Move the points until no step is long enough, or enough was looked at."""
-        steps = [FIRST] * len(self.points)
-        looks, are_left = LOOKS, True
+    def settle(self, moved: Sequence[int], effort: Effort) -> None:
+        """Move these points until no step is long enough, or enough was looked at."""
+        for node in moved:
+            self._look_round(node)
+        steps, looks, are_left = dict.fromkeys(moved, effort.first), effort.looks, True
         while are_left:
             are_left = False
-            for node, step in enumerate(steps):
-                if step < LAST or looks < 0 or not any(map(self.strain, (node, *self.around[node]))):
+            for node, step in steps.items():
+                if step < LAST or looks < 0 or effort.is_over() or not any(map(self.strain, (node, *self.around[node]))):
                     continue
                 looks -= 1 + len(self.walls[node])
                 steps[node] *= LONGER if self.move(node, step) else SHORTER

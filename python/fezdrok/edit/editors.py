@@ -27,7 +27,7 @@ from .forms import Message
 from .tabs import Tab, Tabs
 from .threads import aside
 from .tidying import StoppedError, Tidying
-from .views import View, view_of
+from .views import View, settled_view, view_of
 
 #: How many changes are kept for tabs that were away.
 KEPT = 1000
@@ -37,6 +37,8 @@ PATIENCE = 5.0
 APART = 0.1
 #: How many seconds are between a drawing and the next one at least.
 REST = 0.02
+#: How many seconds the picture stays as it is before the rest of its drawing settles.
+SETTLE = 0.3
 
 Value = TypeVar("Value")
 #: What a drawing may fail by.
@@ -221,15 +223,35 @@ class Editor:
             await asyncio.sleep(REST)
 
     async def _draw(self) -> None:
+        """Draws the picture with what has changed, soon, and if nothing changes then has the rest settle."""
         session, number, result = await self._by_hand(self._snapshot)
         self._last = result
         before = self._views.get(session)
-        self._drawings += 1
-        serial = self._drawings
+        serial = self._next_serial()
         try:
             view = await aside(lambda: view_of(number, serial, result, before))
         except FAILURES:
             view = await aside(lambda: view_of(number, serial, result, None))
+        await self._show(session, view)
+        if view.chain != serial:
+            with suppress(*FAILURES):
+                await self._settle(session, view)
+
+    async def _settle(self, session: EditedSession, view: View) -> None:
+        """Has the rest of a drawing settle, unless the picture changes before that is done."""
+        with suppress(asyncio.TimeoutError):
+            await asyncio.wait_for(self._is_to_draw.wait(), SETTLE)
+        serial, is_over = self._next_serial(), self._is_to_draw.is_set
+        settled = None if is_over() else await aside(lambda: settled_view(serial, view, is_over))
+        if settled is not None and not is_over():
+            await self._show(session, settled)
+
+    def _next_serial(self) -> int:
+        self._drawings += 1
+        return self._drawings
+
+    async def _show(self, session: EditedSession, view: View) -> None:
+        """Shows all tabs a drawing of the picture of a session."""
         text = await aside(lambda: json_text({"drawing": view.to_json()}))
         self._views[session] = view
         self._shown = text

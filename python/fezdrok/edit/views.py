@@ -7,13 +7,13 @@ what is in two drawings lies where it lay.
 from __future__ import annotations
 
 from collections import Counter
-from collections.abc import Sequence
+from collections.abc import Callable, Sequence
 from dataclasses import dataclass
 from functools import cached_property
 from math import atan2, tau
 from typing import Any
 
-from ..drawing.drawings import Drawing, drawing_of
+from ..drawing.drawings import Drawing, drawing_beside, drawing_of, drawing_settled
 from ..drawing.labels import LETTER_HEIGHT, LINE, clean
 from ..drawing.pages import Page, PageLine, PagePoint
 from ..drawing.scenes import Position, looks
@@ -145,10 +145,18 @@ class View:
 def view_of(number: int, serial: int, result: Planarization, before: View | None) -> View:
     """A drawing of a planarization, with the number of the change and its own. It goes on from the one before, where
     there is one and the picture has enough in common with that."""
+    if before is not None and (beside := drawing_beside(result, before.drawing)) is not None:
+        return View(number, beside, before.unit, serial, before.chain)
     drawing = drawing_of(result, style=STYLE, near=None if before is None else before.drawing)
     if before is not None and _lies_as(drawing, before.drawing):
         return View(number, drawing, before.unit, serial, before.chain)
     return View(number, drawing, drawing.scene.unit, serial, serial)
+
+
+def settled_view(serial: int, before: View, is_over: Callable[[], bool]) -> View | None:
+    """The same picture drawn with wider angles, by moving all a little; None where it `is_over` before, or fails."""
+    drawing = drawing_settled(before.drawing, is_over)
+    return None if drawing is None else View(before.number, drawing, before.unit, serial, before.chain)
 
 
 def _lies_as(drawing: Drawing, before: Drawing) -> bool:

@@ -4,11 +4,13 @@ from __future__ import annotations
 
 import os
 from collections.abc import Sequence
-from ctypes import CDLL, POINTER, Structure, byref, c_char_p, c_size_t, c_uint8, c_void_p, create_string_buffer, string_at
+from ctypes import (
+    CDLL, POINTER, Structure, byref, c_char_p, c_size_t, c_uint8, c_void_p, create_string_buffer, string_at,
+)
 from typing import Any
 
 from .faults import MemoryFault, ProgramNotFound, SessionClosed, SessionInUse
-from .typed_calls import READERS, Told, read
+from .typed_calls import READERS, Reply, read
 
 VARIABLE = "FEZDROK_LIBRARY"
 NAME = "libfezdrok.so"
@@ -108,8 +110,9 @@ class LibrarySession:
         self._handle = c_void_p()
         self._text = _Text()
         self._answer = byref(self._text)
-        self._told = Told()
+        self._told = Reply()
         self._reply = byref(self._told)
+        self._typed = library.typed
         self.is_over = False
 
     def answer(self, line: bytes) -> bytes:
@@ -126,7 +129,7 @@ class LibrarySession:
     def make(self, call: str, numbers: tuple[int, ...]) -> Any:
         """What a call with these numbers is answered, without a line. The exceptions are those of `answer`, and Fault
         where so many entries are not there."""
-        self._expect(self._library.typed[call](self._handle, *numbers, self._reply))
+        self._expect(self._typed[call](self._handle, *numbers, self._reply))
         return read(call, self._told, numbers)
 
     def _expect(self, status: int) -> None:

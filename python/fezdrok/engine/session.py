@@ -265,7 +265,7 @@ class Session:
 
     def picture(self) -> Picture:
         """The picture now."""
-        return self._ask("picture", Picture.from_json)
+        return self._asked(['"picture"'], _picture)
 
     def report(self) -> Report:
         """The start, each call since then with its reply, and the picture now; `Planarizer.replay` accepts it."""
@@ -390,6 +390,13 @@ def _understood(answerer: Answerer, answer: bytes, read: Callable[[Any], Value])
             status, f"{answerer.path} gave no answer in its form, but {answer[:200]!r} {told}"
         ) from other
     raise Fault(*fault)
+
+
+def _picture(answerer: Answerer, answers: list[bytes]) -> Picture:
+    """The picture of an answer, which keeps its text: so it is opened anew without being written."""
+    picture = _understood(answerer, answers[0], Picture.from_json)
+    picture.__dict__["_text"] = answers[0].decode()
+    return picture
 
 
 def _counts(value: dict[str, int]) -> Counts:

@@ -19,10 +19,10 @@ _NOTHING_TO_UNDO, _CUT = 70, 6
 _NAMES = "", "NoVertex", "SameEnds", "NoPosition", "NoEdge", "BadKind", "Cut", "Full", "Memory", "NoRoute"
 _REFUSALS = [Refused(number, name) for number, name in enumerate(_NAMES)]
 #: What the side of an item is called.
-_SIGNS, _ENDS = ("ltr", "rtl"), ("a", "b")
+_sign, _end = ("ltr", "rtl").__getitem__, ("a", "b").__getitem__
 
 
-class Told(Structure):
+class Reply(Structure):
     """What a call tells, `fezdrok_reply` of c/fezdrok.h: items of three words each, which lie in the session, and
     numbers."""
 
@@ -35,8 +35,9 @@ class Told(Structure):
     ]
 
 
-#: Its refusal and its numbers, which are read at once.
-_NUMBERS, _AT = Struct("6I"), Told.refusal.offset
+#: All its numbers from the length on, which are read at once.
+_NUMBERS, _AT = Struct("NQ6I"), Reply.length.offset
+#: These: the length, the price, the refusal and five more.
 Numbers = tuple[int, ...]
 
 
@@ -46,51 +47,55 @@ def _refused(number: int, first: int) -> Refused:
     return Refused(number, _NAMES[number], first) if number == _CUT else _REFUSALS[number]
 
 
-def _grown(told: Told, numbers: Numbers, asked: Numbers) -> Grown:
-    return Grown(numbers[1], numbers[2])
+def _grown(reply: Reply, told: Numbers, asked: Numbers) -> Grown:
+    return Grown(told[3], told[4])
 
 
-def _crossed(told: Told) -> tuple[Dart, ...]:
-    length = told.length
+def _crossed(reply: Reply, length: int) -> tuple[Dart, ...]:
     if not length:
         return ()
-    words = told.items[: 3 * length]
+    words = reply.items[: 3 * length]
     return tuple(map(Dart, words[::3], words[1::3], map(bool, words[2::3])))
 
 
-def _inserted(told: Told, numbers: Numbers, asked: Numbers) -> Inserted:
-    return Inserted(numbers[1], _crossed(told), numbers[2], numbers[3], told.price)
+def _inserted(reply: Reply, told: Numbers, asked: Numbers) -> Inserted:
+    return Inserted(told[3], _crossed(reply, told[0]), told[4], told[5], told[1])
 
 
-def _deleted(told: Told, numbers: Numbers, asked: Numbers) -> Deleted:
-    return Deleted(numbers[1])
+def _deleted(reply: Reply, told: Numbers, asked: Numbers) -> Deleted:
+    return Deleted(told[3])
 
 
-def _route(told: Told, numbers: Numbers, asked: Numbers) -> Route:
-    return Route(_crossed(told), numbers[2], numbers[3], told.price)
+def _route(reply: Reply, told: Numbers, asked: Numbers) -> Route:
+    return Route(_crossed(reply, told[0]), told[4], told[5], told[1])
 
 
-def _undone(told: Told, numbers: Numbers, asked: Numbers) -> Undone:
-    return Undone(numbers[1], numbers[2], numbers[3], numbers[4])
+def _undone(reply: Reply, told: Numbers, asked: Numbers) -> Undone:
+    return Undone._make(told[3:7])
 
 
-def _counts(told: Told, numbers: Numbers, asked: Numbers) -> Counts:
-    return Counts(numbers[1], numbers[2], numbers[3], numbers[4], numbers[5])
+def _counts(reply: Reply, told: Numbers, asked: Numbers) -> Counts:
+    return Counts._make(told[3:])
 
 
-def _edge(told: Told, numbers: Numbers, asked: Numbers) -> EdgeAnswer:
-    words = told.items[: 3 * told.length] if told.length else ()
-    crossings = tuple(map(Meeting, words[::3], words[1::3], map(_SIGNS.__getitem__, words[2::3])))
-    return EdgeAnswer(asked[0], numbers[1], numbers[2], numbers[3], told.price or None, crossings)
+def _meetings(reply: Reply, length: int) -> tuple[Meeting, ...]:
+    if not length:
+        return ()
+    words = reply.items[: 3 * length]
+    return tuple(map(Meeting, words[::3], words[1::3], map(_sign, words[2::3])))
 
 
-def _vertex(told: Told, numbers: Numbers, asked: Numbers) -> VertexAnswer:
-    words = told.items[: 3 * told.length]
-    return VertexAnswer(tuple(words[::3]), tuple(map(_ENDS.__getitem__, words[2::3])))
+def _edge(reply: Reply, told: Numbers, asked: Numbers) -> EdgeAnswer:
+    return EdgeAnswer(asked[0], told[3], told[4], told[5], told[1] or None, _meetings(reply, told[0]))
+
+
+def _vertex(reply: Reply, told: Numbers, asked: Numbers) -> VertexAnswer:
+    words = reply.items[: 3 * told[0]]
+    return VertexAnswer(tuple(words[::3]), tuple(map(_end, words[2::3])))
 
 
 #: What each call's answer is made of, from what is told and what was asked.
-READERS: dict[str, Callable[[Told, Numbers, Numbers], Any]] = {
+READERS: dict[str, Callable[[Reply, Numbers, Numbers], Any]] = {
     "grow": _grown,
     "insert": _inserted,
     "delete": _deleted,
@@ -112,7 +117,7 @@ def fit(call: str, numbers: Numbers) -> bool:
     return call not in COMMANDS or numbers[0] <= _LAST_CALLER
 
 
-def read(call: str, told: Told, asked: Numbers) -> Any:
+def read(call: str, reply: Reply, asked: Numbers) -> Any:
     """The answer to a call, or its refusal; Fault where so many entries are not there."""
-    numbers = _NUMBERS.unpack_from(told, _AT)
-    return _refused(numbers[0], numbers[1]) if numbers[0] else READERS[call](told, numbers, asked)
+    told = _NUMBERS.unpack_from(reply, _AT)
+    return _refused(told[2], told[3]) if told[2] else READERS[call](reply, told, asked)

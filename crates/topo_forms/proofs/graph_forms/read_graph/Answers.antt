@@ -1,6 +1,12 @@
+use Rattle.std.proofs.Common.{arith}
 use Rattle.topo_forms.specs.Graphs.{graph_of}
+use Rattle.topo_forms.specs.Paths.{whole}
 use Rattle.topo_forms.proofs.graph_forms.read_graph.Goals as goal
 
-pub returns : goal.returns
+pub returns-in-Some : goal.returns-in-Some
 unfolding graph_of
-returns c = c.read_value.ensures
+returns-in-Some c = c.in-Some.ensures (omega arith) whole
+
+pub returns-in-None : goal.returns-in-None
+unfolding graph_of
+returns-in-None c = c.read_value.ensures

@@ -11,21 +11,21 @@ pub returns-in_err-line-clause-fault : goal.returns-in_err-line-clause-fault
 returns-in_err-line-clause-fault g c =
     let gives = subst (λ (bs : List ℕ). Gives c.read_graph-read.result (graph_of bs)) c.as_slice.ensures.value c.read_graph-read.ensures in
     let unlawful = c.in_err-line.ensures.fault c.in_ok-bytes.bytes.items gives in
-    let told : IfErr c.from_residual-in_err-line.result (IsUnplanarized c.in_ok-bytes.bytes.items) = search rules in
+    let old = g.E.Write.contents c.args.told.now in let new = g.E.Write.contents c.line_of_read.new.told in
+    let told : IfErr c.from_residual-in_err-line.result (λ fault. IsUnplanarized c.in_ok-bytes.bytes.items fault old new) = search rules in
     err_so c.from_residual-in_err-line.result _ _
-    (λ fault is. planarize_fails _ _ _ _ c.in_ok-bytes.bytes.items c.in_ok-bytes.ensures.read fault is (Keeps-refl _)) told
+    (λ fault is. planarize_fails old new _ _ _ _ c.in_ok-bytes.bytes.items c.in_ok-bytes.ensures.read fault is (Keeps-refl _)) told
 
 pub returns-clause-done : goal.returns-clause-done
 returns-clause-done g c =
     let gives = subst (λ (bs : List ℕ). Gives c.read_graph-read.result (graph_of bs)) c.as_slice.ensures.value c.read_graph-read.ensures in
     let told = c.in_ok-line.ensures.line c.in_ok-bytes.bytes.items gives in
-    ok_by c.write_text.result _ _ (λ written. planarized _ _ _ _ c.in_ok-bytes.bytes.items c.in_ok-bytes.ensures.read _ _ told c.as_str.ensures.value written)
-    c.write_text.ensures.all
+    ok_by c.write_text.result _ _ (λ written. planarized _ _ _ _ _ _ c.in_ok-bytes.bytes.items c.in_ok-bytes.ensures.read _ _ told
+    c.as_str.ensures.value written) c.write_text.ensures.all
 
 pub returns-clause-fault : goal.returns-clause-fault
 returns-clause-fault g c =
     let gives = subst (λ (bs : List ℕ). Gives c.read_graph-read.result (graph_of bs)) c.as_slice.ensures.value c.read_graph-read.ensures in
     let told = c.in_ok-line.ensures.line c.in_ok-bytes.bytes.items gives in
-    err_by c.write_text.result _ _ _ (λ fault part is. planarize_unwritten _ _ _ _ c.in_ok-bytes.bytes.items c.in_ok-bytes.ensures.read fault _ _ told
-    c.as_str.ensures.value part is) c.write_text.ensures.part
-    c.write_text.ensures.err
+    err_by c.write_text.result _ _ _ (λ fault part is. planarize_unwritten _ _ _ _ _ _ c.in_ok-bytes.bytes.items c.in_ok-bytes.ensures.read fault _ _
+    told c.as_str.ensures.value part is) c.write_text.ensures.part c.write_text.ensures.err

@@ -2,7 +2,7 @@ use Rattle.std.proofs.Common.{take}
 use Rattle.std.specs.Arc.{arc_value}
 use Rattle.topo_price.specs.Prices.{prices_of}
 use Rattle.topo_book.proofs.Histories.{book_replays}
-use Rattle.topo_book.proofs.following.Book.take_back.Goals as goal
+use Rattle.topo_book.proofs.book.Book.take_back.Goals as goal
 
 pub returns-in-Ok-clause-replay : goal.returns-in-Ok-clause-replay
 returns-in-Ok-clause-replay g c =
