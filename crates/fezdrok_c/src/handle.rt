@@ -52,7 +52,7 @@ impl<F: PriceFn + Drop> Drop for Handle<F> {
 }
 
 /// Says where a text lies.
-fn place(told: &Vec<u8>, text: &mut Text)
+pub(crate) fn place(told: &Vec<u8>, text: &mut Text)
     ensures { LiesAt told.now text.new }
 {
     text.at = told.as_ptr();
@@ -60,7 +60,7 @@ fn place(told: &Vec<u8>, text: &mut Text)
 }
 
 /// The status and the text of a fault, where there is memory for it.
-fn tell(heap: Global, fault: RunFault) -> (u8, Vec<u8>)
+pub(crate) fn tell(heap: Global, fault: RunFault) -> (u8, Vec<u8>)
     ensures { TellsFault fault result.0 result.1.items }
 {
     if let RunFault::Memory = fault {
