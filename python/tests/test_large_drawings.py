@@ -93,6 +93,12 @@ class Large(unittest.TestCase):
             left, bottom, right, top = drawing.scene.bounds
             self.assertLess(max(right - left, top - bottom), 3 * min(right - left, top - bottom))
 
+    def test_curves_that_are_false_are_told_of_once(self):
+        """As in drawings of many nodes; they are true all the same."""
+        with mock.patch("fezdrok.drawing.straight_scenes.MANY", 5):
+            for result in self.results:
+                self.assertEqual(drawing_of(result, style="curved").verify(), [])
+
     def test_where_points_come_too_near_the_drawing_is_on_a_grid(self):
         result = planar_result(nx.wheel_graph(9))
         with mock.patch("fezdrok.drawing.straight_layout.spread", return_value=None):

@@ -198,10 +198,10 @@ def _passed(result: Planarization, kept: Container[int]) -> dict[int, Passed]:
 
 def _are_alike(result: Planarization, before: Planarization, kept: Mapping[int, int]) -> bool:
     """Whether the edges that are kept leave each node in the same order."""
+    olds = set(kept.values())
     for node, vertex in result.vertex_of.items():
         now = [kept[it] for it in result.picture.rotations[vertex] if it in kept]
         if now:
-            olds = set(kept.values())
             then = [it for it in before.picture.rotations[before.vertex_of[node]] if it in olds]
             place = then.index(now[0])
             if then[place:] + then[:place] != now:
