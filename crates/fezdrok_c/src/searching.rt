@@ -115,7 +115,7 @@ fn pictures_text<F: PriceFn + Drop>(
     heap: Global,
     planarizer: Planarizer<F>,
 ) -> Result<String, AllocError>
-    ensures { IfOk result (λ text. HasPictures planarizer.entry (string_bytes text)) }
+    ensures { IfOk result (λ text. HasPictures planarizer (string_bytes text)) }
 {
     match planarizer.into_answer(heap) {
         Ok(answer) => text_of(heap, &answer),
