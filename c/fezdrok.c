@@ -7,11 +7,16 @@
 void *malloc(size_t size);
 void free(void *block);
 
+/* The number of a call without a text, its caller, and the words that it takes. */
+struct words {
+    uint32_t call, caller, a, b, c;
+};
+
 /* The proved functions. None may be given NULL, and a session goes from begin over calls, one at a time, to end. */
 size_t fezdrok_size(void);
 void fezdrok_begin(void *block, const char *settings, size_t settings_length, fezdrok_text *text, uint8_t *status);
 uint8_t fezdrok_answer(void *block, const char *line, size_t line_length, fezdrok_text *text);
-uint8_t fezdrok_typed(void *block, uint32_t call, uint32_t caller, uint32_t a, uint32_t b, uint32_t c, fezdrok_reply *reply);
+uint8_t fezdrok_typed(void *block, const struct words *words, fezdrok_reply *reply);
 void fezdrok_end(void *block);
 
 /* A search takes the same way. */
@@ -20,7 +25,7 @@ void fezdrok_search_begin(void *block, const char *graph, size_t graph_length, f
 uint8_t fezdrok_search_answer(void *block, const char *request, size_t request_length, fezdrok_text *text);
 void fezdrok_search_end(void *block);
 
-/* The numbers of the typed calls. Their five numbers stand in `is`, in the order of its members. */
+/* The numbers of these calls. The five numbers of a reply stand in `is`, in the order of its members. */
 enum { GROW, INSERT, DELETE, ROUTE, UNDO, COUNTS, EDGE, VERTEX };
 
 enum { CLOSED = 0, OPEN = 0x6e65706f, IN_USE = 0x65737575 };
@@ -125,49 +130,49 @@ uint8_t fezdrok_search_close(fezdrok_search *search) {
     return end_in(&SEARCH, (fezdrok_session *)search);
 }
 
-/* Makes a typed call. */
-static uint8_t make(fezdrok_session *session, uint32_t call, uint32_t caller, uint32_t a, uint32_t b, uint32_t c, fezdrok_reply *reply) {
+/* Makes a call without a text. */
+static uint8_t make(fezdrok_session *session, struct words words, fezdrok_reply *reply) {
     uint8_t status;
     if (!reply)
         return FEZDROK_NULL_OR_CLOSED;
     status = take(session);
     if (status)
         return status;
-    status = fezdrok_typed(session->block, call, caller, a, b, c, reply);
+    status = fezdrok_typed(session->block, &words, reply);
     leave(session, OPEN);
     return status;
 }
 
 uint8_t fezdrok_grow(fezdrok_session *session, uint32_t caller, uint32_t u, uint32_t position, uint32_t kind, fezdrok_reply *reply) {
-    return make(session, GROW, caller, u, position, kind, reply);
+    return make(session, (struct words){GROW, caller, u, position, kind}, reply);
 }
 
 uint8_t fezdrok_insert(fezdrok_session *session, uint32_t caller, uint32_t u, uint32_t v, uint32_t kind, fezdrok_reply *reply) {
-    return make(session, INSERT, caller, u, v, kind, reply);
+    return make(session, (struct words){INSERT, caller, u, v, kind}, reply);
 }
 
 uint8_t fezdrok_delete(fezdrok_session *session, uint32_t caller, uint32_t edge, fezdrok_reply *reply) {
-    return make(session, DELETE, caller, edge, 0, 0, reply);
+    return make(session, (struct words){DELETE, caller, edge, 0, 0}, reply);
 }
 
 uint8_t fezdrok_route(fezdrok_session *session, uint32_t u, uint32_t v, fezdrok_reply *reply) {
-    return make(session, ROUTE, 0, u, v, 0, reply);
+    return make(session, (struct words){ROUTE, 0, u, v, 0}, reply);
 }
 
 uint8_t fezdrok_undo(fezdrok_session *session, uint32_t entries, fezdrok_reply *reply) {
-    return make(session, UNDO, 0, entries, 0, 0, reply);
+    return make(session, (struct words){UNDO, 0, entries, 0, 0}, reply);
 }
 
 uint8_t fezdrok_counts(fezdrok_session *session, fezdrok_reply *reply) {
-    return make(session, COUNTS, 0, 0, 0, 0, reply);
+    return make(session, (struct words){COUNTS, 0, 0, 0, 0}, reply);
 }
 
 uint8_t fezdrok_edge(fezdrok_session *session, uint32_t edge, fezdrok_reply *reply) {
-    return make(session, EDGE, 0, edge, 0, 0, reply);
+    return make(session, (struct words){EDGE, 0, edge, 0, 0}, reply);
 }
 
 uint8_t fezdrok_vertex(fezdrok_session *session, uint32_t vertex, fezdrok_reply *reply) {
-    return make(session, VERTEX, 0, vertex, 0, 0, reply);
+    return make(session, (struct words){VERTEX, 0, vertex, 0, 0}, reply);
 }
 
 uint8_t fezdrok_close(fezdrok_session *session) {

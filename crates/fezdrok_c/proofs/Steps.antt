@@ -16,8 +16,8 @@ pub use denote.Memory.{lone, mem, part_at}
 pub use denote.Param.NoDrop.{glues}
 pub use denote.Plain.{uint_Lawful, uint_Makes, uint_Tells, uint_vals}
 pub use denote.RawPtr.{Ptr, RawPtr, block_ptr, in_a_block, lies_at, rawptr_Tells, rawptr_vals, room_at}
-pub use denote.Ref.{MutRef, mut_Tells, mut_vals}
-pub use denote.Signature.{plain, shr_slice_of}
+pub use denote.Ref.{MutRef, ShrRef, mut_Tells, mut_vals, shr_Tells, shr_vals}
+pub use denote.Signature.{plain, shr_ref_to, shr_slice_of}
 pub use denote.Slice.{ShrSlice, shr_slice_Tells, shr_slice_vals}
 pub use denote.Steps.{heard, nothing, only, owned, peeks}
 pub use denote.Triple.Call.{calls_at}

@@ -19,6 +19,7 @@ use Rattle.fezdrok_c.specs.declared.handle.Handle.{Handle}
 use Rattle.fezdrok_c.specs.declared.handle.Text.{Text}
 use Rattle.fezdrok_c.specs.declared.searching.Searching.{Searching}
 use Rattle.fezdrok_c.specs.declared.typed.Typed.{Typed}
+use Rattle.fezdrok_c.specs.declared.typed.Words.{Words}
 use Rattle.fezdrok_c.specs.Searches.{IsSearchAnswered, IsSearchBegun}
 use Rattle.fezdrok_c.specs.Sessions.{IsAnswered, IsBegun}
 use Rattle.fezdrok_c.specs.Typed.{IsTypedCall}
@@ -67,8 +68,8 @@ module _ {M : Type 1} {𝓤 : Ura M} (𝓛 : Logic 𝓤) where
   abbrev pub answered : Ptr → Held → List ℕ → ℕ → Text → SProp 𝓤
   answered p old line status text = holds p (λ new. IsAnswered old line status new text)
 
-  abbrev pub typed_called : Ptr → Held → ℕ → ℕ → ℕ → ℕ → ℕ → ℕ → Typed → SProp 𝓤
-  typed_called p old call caller a b c status typed = holds p (λ new. IsTypedCall old call caller a b c status new typed)
+  abbrev pub typed_called : Ptr → Held → Words → ℕ → Typed → SProp 𝓤
+  typed_called p old words status typed = holds p (λ new. IsTypedCall old words status new typed)
 
   -- room for a search, and a search that lies there
   abbrev pub is_search_room : Ptr → SProp 𝓤

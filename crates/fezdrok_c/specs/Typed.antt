@@ -18,21 +18,22 @@ use Rattle.fezdrok_c.specs.declared.handle.Handle.{Handle}
 use Rattle.fezdrok_c.specs.declared.typed.Asked.{Asked}
 use Rattle.fezdrok_c.specs.declared.typed.Asked.TheVariants.{Carry, Counts as AskCounts, Edge, Nothing, Route, Undo, Vertex}
 use Rattle.fezdrok_c.specs.declared.typed.Typed.{Typed}
+use Rattle.fezdrok_c.specs.declared.typed.Words.{Words}
 
 -- ---- What is asked
 
 -- the call with this number and these words; a caller is at most 15
-abbrev pub asked_of : ℕ → ℕ → ℕ → ℕ → ℕ → Asked
-asked_of call caller a b c =
-    if nat_lt 15 caller then Nothing else
-    if call == 0 then Carry (Grow a b c) else
-    if call == 1 then Carry (Insert a b c) else
-    if call == 2 then Carry (Delete a) else
-    if call == 3 then Route a b else
-    if call == 4 then Undo a else
-    if call == 5 then AskCounts else
-    if call == 6 then Edge a else
-    if call == 7 then Vertex a else Nothing
+abbrev pub asked_of : Words → Asked
+asked_of words =
+    if nat_lt 15 words.caller then Nothing else
+    if words.call == 0 then Carry (Grow words.a words.b words.c) else
+    if words.call == 1 then Carry (Insert words.a words.b words.c) else
+    if words.call == 2 then Carry (Delete words.a) else
+    if words.call == 3 then Route words.a words.b else
+    if words.call == 4 then Undo words.a else
+    if words.call == 5 then AskCounts else
+    if words.call == 6 then Edge words.a else
+    if words.call == 7 then Vertex words.a else Nothing
 
 -- ---- What is due
 
@@ -122,5 +123,5 @@ IsTyped old asked caller status new typed = IsGiven caller asked status old.sess
     ⊎ IsNotGiven caller asked status old.session new.session new.list typed
 
 -- the same of the call with this number and these words
-abbrev pub IsTypedCall : {F : Type 0} → Handle F → ℕ → ℕ → ℕ → ℕ → ℕ → ℕ → Handle F → Typed → Type 0
-IsTypedCall old call caller a b c status new typed = IsTyped old (asked_of call caller a b c) caller status new typed
+abbrev pub IsTypedCall : {F : Type 0} → Handle F → Words → ℕ → Handle F → Typed → Type 0
+IsTypedCall old words status new typed = IsTyped old (asked_of words) words.caller status new typed

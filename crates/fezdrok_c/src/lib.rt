@@ -24,7 +24,7 @@ ghost use Rattle.topo_check.specs.Replays.{TellsCalls, TellsUntrue};
 use crate::handing::hand_out;
 use crate::handle::{Handle, Text, begin, respond, shut};
 use crate::searching::{Searching, answer_search, begin_search, shut_search};
-use crate::typed::{Typed, call_typed};
+use crate::typed::{Typed, Words, call_typed};
 use std::alloc::Global;
 use std::mem::size_of;
 use std::ptr;
@@ -111,30 +111,18 @@ pub unsafe extern "C" fn fezdrok_answer(block: *mut u8, line: &[u8], text: &mut 
     )
 }
 
-/// Makes the call of this number: 0 grow, 1 insert, 2 delete, 3 route, 4 undo, 5 counts, 6 edge,
-/// 7 vertex, with the words that it takes, and for a caller. The result is 0, also where the call is
+/// Makes the call of the number that the words have: 0 grow, 1 insert, 2 delete, 3 route, 4 undo,
+/// 5 counts, 6 edge, 7 vertex, for their caller. The result is 0, also where the call is
 /// refused, or 3 for out of memory. The list lies in the session until its next call.
 #[unsafe(no_mangle)]
-pub unsafe extern "C" fn fezdrok_typed(
-    block: *mut u8,
-    call: u32,
-    caller: u32,
-    a: u32,
-    b: u32,
-    c: u32,
-    typed: &mut Typed,
-) -> u8
+pub unsafe extern "C" fn fezdrok_typed(block: *mut u8, words: &Words, typed: &mut Typed) -> u8
     ghost held: { Held }
     requires* { is_held 𝓛 block held }
-    ensures* { typed_called 𝓛 block held call caller a b c result typed.new }
+    ensures* { typed_called 𝓛 block held words.now result typed.new }
 {
     call_typed(
         unsafe { &mut *(block as *mut Handle<PriceTable>) },
-        call,
-        caller,
-        a,
-        b,
-        c,
+        words,
         typed,
     )
 }

@@ -25,6 +25,17 @@ const BAD_NUMBER: u32 = 54;
 /// The greatest number of a caller.
 const LAST_CALLER: u32 = 15;
 
+/// The number of a call, its caller, and the words that it takes.
+#[repr(C)]
+#[derive(Clone, Copy, Debug, PartialEq, Eq)]
+pub struct Words {
+    pub call: u32,
+    pub caller: u32,
+    pub a: u32,
+    pub b: u32,
+    pub c: u32,
+}
+
 /// What is told, and where the list lies.
 #[repr(C)]
 #[derive(Drop)]
@@ -54,9 +65,16 @@ pub enum Asked {
 }
 
 /// The call with this number and these words.
-pub(crate) fn asked_of(call: u32, caller: u32, a: u32, b: u32, c: u32) -> Asked
-    ensures { result ≡ asked_of call caller a b c }
+pub(crate) fn asked_of(words: Words) -> Asked
+    ensures { result ≡ asked_of words }
 {
+    let Words {
+        call,
+        caller,
+        a,
+        b,
+        c,
+    } = words;
     if caller > LAST_CALLER {
         return Asked::Nothing;
     }
@@ -204,20 +222,12 @@ fn put(given: Given, list: &mut Vec<Item>, typed: &mut Typed)
 }
 
 /// Does what is asked by numbers. Out of memory nothing is told.
-pub fn call_typed<F: FromTable>(
-    handle: &mut Handle<F>,
-    call: u32,
-    caller: u32,
-    a: u32,
-    b: u32,
-    c: u32,
-    typed: &mut Typed,
-) -> u8
-    ensures { IsTypedCall handle.old call caller a b c result handle.new typed.new }
+pub fn call_typed<F: FromTable>(handle: &mut Handle<F>, words: &Words, typed: &mut Typed) -> u8
+    ensures { IsTypedCall handle.old words.now result handle.new typed.new }
 {
     let heap = handle.heap;
-    let asked = asked_of(call, caller, a, b, c);
-    let (status, given) = match perform_in(&mut handle.session, heap, caller, asked) {
+    let asked = asked_of(*words);
+    let (status, given) = match perform_in(&mut handle.session, heap, words.caller, asked) {
         Ok(given) => (DONE, given),
         Err(_) => (NO_MEMORY, counted(heap, (0, 0, 0, 0, 0))),
     };
