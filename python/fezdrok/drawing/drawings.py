@@ -32,7 +32,7 @@ if TYPE_CHECKING:
 
 STYLES = ("straight", "curved", "orthogonal")
 #: How much is done to widen the angles at a new edge, and then those of all the drawing.
-QUICK, SLOW = Effort(first=0.02, looks=600), Effort(first=0.01, looks=6000)
+QUICK, SLOW = Effort(first=0.02, looks=250), Effort(first=0.01, looks=6000)
 
 
 class FalseDrawing(PlanarError, ValueError):

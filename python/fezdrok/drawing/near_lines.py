@@ -30,9 +30,10 @@ def near_chains(result: Planarization, before: Planarization, scene: Scene) -> C
     if result.parts or before.parts or not result.picture.edges:
         return None
     kept = _common(result, before)
-    if not kept or not hangs_together(restricted(result.picture, kept)):
+    rest = restricted(result.picture, kept)
+    if not kept or not hangs_together(rest):
         return None
-    drawn = _kept_lines(result, before, scene, kept)
+    drawn = _kept_lines(result, before, scene, kept, rest)
     left = [row.id for row in result.picture.edges if row.id not in kept]
     placed = {end for edge_id in kept for end in _ends(result.picture.edge(edge_id))}
     while left:
@@ -112,6 +113,8 @@ def _around(chains: Chains) -> dict[Any, list[Any]]:
 
 def restricted(picture: Picture, kept: Container[int]) -> Picture:
     """The picture without the edges that are not kept; all ids stay."""
+    if all(row.id in kept for row in picture.edges):
+        return picture
     crossings = tuple(row for row in picture.crossings if row.crossed in kept and row.newcomer in kept)
     left = {row.id for row in crossings}
     edges = tuple(
@@ -139,12 +142,18 @@ def turned(picture: Picture, edge_id: int) -> Picture:
 
 def hangs_together(picture: Picture) -> bool:
     """Whether all edges of a picture hang together, by vertices and crossings."""
-    import networkx
-
-    graph = networkx.Graph()
-    for row in picture.edges:
-        networkx.add_path(graph, picture.path(row.id))
-    return bool(networkx.is_connected(graph))
+    beside: dict[Point, list[int]] = {}
+    paths = {row.id: picture.path(row.id) for row in picture.edges}
+    for edge_id, path in paths.items():
+        for point in path:
+            beside.setdefault(point, []).append(edge_id)
+    waiting = [next(iter(paths))]
+    seen = set(waiting)
+    for edge_id in waiting:
+        fresh = {other for point in paths[edge_id] for other in beside.pop(point, ())} - seen
+        seen |= fresh
+        waiting.extend(fresh)
+    return len(seen) == len(paths)
 
 
 # ---- What two planarizations have in common
@@ -200,13 +209,16 @@ def _are_alike(result: Planarization, before: Planarization, kept: Mapping[int, 
     return True
 
 
-def _kept_lines(result: Planarization, before: Planarization, scene: Scene, kept: Mapping[int, int]) -> StepLines:
-    """The lines of the edges that are kept, as in the scene, with the crossings that are left."""
+def _kept_lines(
+    result: Planarization, before: Planarization, scene: Scene, kept: Mapping[int, int], rest: Picture
+) -> StepLines:
+    """The lines of the edges that are kept, as in the scene, with the crossings that are left, as in the rest of the
+    picture."""
     place_of = {shape.node: shape.middle for shape in scene.nodes}
     drawn = StepLines([place_of.get(node, (0.0, 0.0)) for node in result.node_of])
     stroke_of = {stroke.edge_id: stroke for stroke in scene.strokes}
     left = {row.id for row in restricted(before.picture, set(kept.values())).crossings}
-    for row in restricted(result.picture, kept).edges:
+    for row in rest.edges:
         stroke = stroke_of[kept[row.id]]
         ids = [mark.id if mark is not None and mark.is_crossing else None for mark in stroke.marks]
         id_of: dict[int | None, int] = dict(zip([it for it in ids if it in left], row.crossings, strict=True))

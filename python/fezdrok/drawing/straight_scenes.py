@@ -8,7 +8,7 @@ is right; with every curve straight it is.
 
 from __future__ import annotations
 
-from collections.abc import Container, Mapping, Sequence
+from collections.abc import Container, Iterator, Mapping, Sequence
 from dataclasses import dataclass, replace
 from math import hypot, sqrt
 from typing import Any
@@ -95,7 +95,21 @@ def scene_beside(
     shapes = _shapes_beside(chains, before, names, fresh)
     scene = replace(scene, nodes=shapes, decimals=before.decimals)
     are_nodes_new = len(shapes) > len(before.nodes)
-    return _finished(chains, scene), Judge(chains.result, Page(scene)).beside(fresh, are_nodes_new)
+    near = scene.strokes if are_nodes_new else tuple(_strokes_beside(scene, fresh))
+    judge = Judge(chains.result, Page(replace(scene, strokes=near)))
+    return _finished(chains, scene), judge.beside(fresh, are_nodes_new)
+
+
+def _strokes_beside(scene: Scene, fresh: Container[int]) -> Iterator[Stroke]:
+    """The strokes of these edges, and all whose extents meet the extent of one of their lines."""
+    lines = [pair for it in scene.strokes if it.edge_id in fresh for pair in zip(it.points, it.points[1:])]
+    extents = [(min(x, u), min(y, v), max(x, u), max(y, v)) for (x, y), (u, v) in lines]
+    spare = 10**-scene.decimals / scene.unit
+    for stroke in scene.strokes:
+        xs, ys = zip(*stroke.points)
+        left, bottom, right, top = min(xs) - spare, min(ys) - spare, max(xs) + spare, max(ys) + spare
+        if any(x <= right and u >= left and y <= top and v >= bottom for x, y, u, v in extents):
+            yield stroke
 
 
 def _shapes_beside(

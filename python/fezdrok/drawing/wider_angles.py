@@ -87,13 +87,14 @@ class _Points:
         for number, chain in enumerate(chains):
             for node in chain if len(chain) > 2 else ():
                 self.passing[node].append(number)
-        self.most = [max(FAR, turn) for turn in map(self._turn, range(len(chains)))]
+        self.most: dict[int, float] = {}
         self.room = ROOM / sqrt(len(points))
 
     def _look_round(self, node: int) -> None:
-        """Find the faces round a point, and their lines."""
+        """Find the faces round a point, their lines, and how far its edges may turn."""
         self.faces[node] = faces = [self._face(node, first) for first in self.around[node]]
         self.walls[node] = [pair for face in faces for pair in zip(face, face[1:])]
+        self.most.update((it, max(FAR, self._turn(it))) for it in self.passing[node])
 
     def _face(self, node: int, first: int) -> list[int]:
         found, before, other = [], node, first
