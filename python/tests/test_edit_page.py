@@ -144,7 +144,8 @@ class Pages(Served):
         await browser.press("z", control=True)
         await self.shows(12, 1, 12, 7)
 
-    async def test_in_a_browser(self):
+    async def opened(self):
+        """Opens K5 without an edge, with a leaf, and gives it as it was planarized."""
         graph = nx.complete_graph(5)
         graph.remove_edge(0, 1)
         graph.add_edge(2, NAME)
@@ -155,15 +156,17 @@ class Pages(Served):
         await self.serve(
             planarize(graph), Folder(Path(folder.name), lambda path: planarization_in(str(path), None, None))
         )
-        start = self.editor._last
-        u, v = start.vertex_of[0], start.vertex_of[1]
+        self.browser = Browser(self, self.web)
+        await self.browser.begin()
+        await self.browser.send("Page.navigate", url=self.server.address)
+        await self.shows(0, 0, 10)
+        return self.editor._last
+
+    async def an_edge_is_inserted(self, start, u, v):
+        """Its route is shown before, as the model has it; it is taken back and done again, and settles."""
+        browser = self.browser
         with start.session() as session:
             due = session._session.route(u, v)
-        browser = self.browser = Browser(self, self.web)
-        await browser.begin()
-        await browser.send("Page.navigate", url=self.server.address)
-        await self.shows(0, 0, 10)
-
         await browser.click(*await browser.middle(at(u)))
         await browser.move(*await browser.middle(at(v)))
         await browser.until("document.documentElement?.dataset.route")
@@ -178,33 +181,31 @@ class Pages(Served):
         await browser.press("y", control=True)
         await self.shows(3, 1, 11)
 
+    async def refusals_are_told(self, start, u, v):
+        """Each in words at the pointer."""
+        browser, beside = self.browser, "document.getElementById('beside').textContent"
         await browser.click(*await browser.middle(at(u)))
         await browser.move(*await browser.middle(at(v)))
-        await browser.until("document.getElementById('beside').textContent === 'these nodes are joined already'")
+        await browser.until(f"{beside} === 'these nodes are joined already'")
         await browser.press("Escape")
         await self.take_out(start.edge_id(2, NAME))
-        await browser.until("document.getElementById('beside').textContent === 'this would part the picture'")
-        await self.take_out(start.picture.next_edge)
-        await self.shows(4, 0, 10)
+        await browser.until(f"{beside} === 'this would part the picture'")
 
+    async def a_node_is_new(self, u):
+        """A click beside the nodes makes one, with the name that was typed, whatever that is."""
+        browser = self.browser
         await browser.value("document.getElementById('name').value = '<b>new</b>'")
         await browser.click(*await browser.middle(at(u)))
         await browser.click(5, 300)
         await self.shows(5, 0, 11, 7)
         names = await browser.value("[...document.querySelectorAll('.node title')].map(it => it.textContent)")
         self.assertEqual(set(names), {"0", "1", "2", "3", "4", NAME, "<b>new</b>"})
-        other = await self.talk()
-        await other.ask("insert", u, v, 0)
-        await self.shows(6, 1, 12, 7)
-        await self.pointers_are_shown(other)
-        await browser.send("Page.reload")
-        await browser.until("document.title === 'fezdrok edit: tab 3' || document.title === 'fezdrok edit: tab 1'")
-        await self.shows(6, 1, 12, 7)
-        await self.prices_are_set()
-        await self.files_are_opened()
+
+    async def the_page_has_keys(self):
+        """For zoom and for dark and light; nothing of it failed."""
+        browser, box = self.browser, "document.getElementById('picture').getAttribute('viewBox')"
         seen = await browser.value("[faults, window.alerted === true, document.scripts.length]")
         self.assertEqual(seen, [[], False, 1])
-        box = "document.getElementById('picture').getAttribute('viewBox')"
         views = [await browser.value(box)]
         for key in "+0":
             await browser.press(key)
@@ -215,11 +216,54 @@ class Pages(Served):
         shades.append(await browser.value("document.documentElement.dataset.shade"))
         self.assertEqual(sorted(shades), ["dark", "light"])
 
+    async def test_in_a_browser(self):
+        start = await self.opened()
+        u, v = start.vertex_of[0], start.vertex_of[1]
+        await self.an_edge_is_inserted(start, u, v)
+        await self.refusals_are_told(start, u, v)
+        await self.take_out(start.picture.next_edge)
+        await self.shows(4, 0, 10)
+        await self.a_node_is_new(u)
+        other = await self.talk()
+        await other.ask("insert", u, v, 0)
+        await self.shows(6, 1, 12, 7)
+        await self.pointers_are_shown(other)
+        await self.browser.send("Page.reload")
+        await self.browser.until("document.title === 'fezdrok edit: tab 3' || document.title === 'fezdrok edit: tab 1'")
+        await self.shows(6, 1, 12, 7)
+        await self.prices_are_set()
+        await self.files_are_opened()
+        await self.the_page_has_keys()
+
+    async def test_what_settles(self):
+        """What is chosen stays chosen when the drawing settles, and what moves takes its time."""
+        with mock.patch.object(editors, "SETTLE", 0.6):
+            start = await self.opened()
+            browser, chosen = self.browser, start.picture.edges[0].id
+            await browser.value("new MutationObserver(() => { window.moved = document.documentElement.dataset.moving })"
+                                ".observe(document.documentElement, {attributes: true}); 0")
+            talk = await self.talk()
+            await talk.ask("insert", start.vertex_of[0], start.vertex_of[1], 0)
+            await self.shows(1, 1, 11)
+            await browser.value(f"document.querySelector('[data-edge=\"{chosen}\"] .wide')"
+                                ".dispatchEvent(new MouseEvent('click', {bubbles: true}))")
+            first = await talk.drawn(1)
+            settled = (await talk.until(lambda message: "drawing" in message))["drawing"]
+            self.assertEqual((settled["number"], settled["chain"]), (1, first["chain"]))
+            self.assertGreater(settled["serial"], first["serial"])
+            await asyncio.sleep(0.5)
+            self.assertEqual(await self.counted(".edge.picked", ".edge"), [1, 11])
+            self.assertEqual(await browser.value("[faults, document.documentElement.dataset.moving, window.moved]"),
+                             [[], "", ""])
+            paths = await browser.value("[...document.querySelectorAll('.thin')].map(it => it.getAttribute('d'))")
+            self.assertEqual(sorted(paths), sorted(row["d"] for row in settled["edges"]))
+
     async def test_two_browsers(self):
         """Each makes so many calls; both show the same picture then, and the report has each one's calls in order."""
-        rest = mock.patch.object(editors, "REST", 0.1)
-        rest.start()
-        self.addCleanup(rest.stop)
+        for name, seconds in (("REST", 0.1), ("SETTLE", 1000)):
+            patch = mock.patch.object(editors, name, seconds)
+            patch.start()
+            self.addCleanup(patch.stop)
         await self.serve(planarize(nx.complete_graph(5)))
         browsers = [Browser(self, self.web) for _ in range(2)]
         for browser in browsers:

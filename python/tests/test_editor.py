@@ -23,7 +23,7 @@ from fezdrok.edit import editors, tabs
 from fezdrok.edit.boards import Board, NotDoneError
 from fezdrok.edit.forms import LONGEST, MOST, BadMessageError, Pace, read_message
 from fezdrok.edit.servers import aiohttp_web
-from fezdrok.edit.views import view_of, with_route
+from fezdrok.edit.views import settled_view, view_of, with_route
 from fezdrok.engine.answers import Route
 from fezdrok.engine.faults import ModuleMissing
 
@@ -190,6 +190,9 @@ class Views(unittest.TestCase):
             lengths.add(len(route.crossed))
             view = view_of(number + 1, number + 2, after, view)
             self.assertEqual(view.drawing.verify(), [])
+            self.assertIsNone(settled_view(number + 2, view, lambda: True))
+            view = settled_view(number + 2, view, lambda: False)
+            self.assertEqual((view.drawing.verify(), view.chain), ([], 1))
         self.assertGreater(len(lengths), 2)
         self.assertIsInstance(board.session.route(0, 0), Refused)
 
@@ -297,9 +300,10 @@ class Servers(Served):
 
     async def test_two_tabs(self):
         """Both make 500 calls; the pictures are the same, and the report replays with each caller's calls in order."""
-        rest = mock.patch.object(editors, "REST", 0.2)
-        rest.start()
-        self.addCleanup(rest.stop)
+        for name, seconds in (("REST", 0.2), ("SETTLE", 1000)):
+            patch = mock.patch.object(editors, name, seconds)
+            patch.start()
+            self.addCleanup(patch.stop)
         await self.serve(planarize(nx.complete_graph(5)))
         talks = [await self.talk(), await self.talk()]
         made = await asyncio.gather(*(self.calls(talk, seed) for seed, talk in enumerate(talks)))

@@ -54,7 +54,7 @@ class Editors(unittest.IsolatedAsyncioTestCase):
                 await socket.close()
 
     def test_it_is_short(self):
-        self.assertLessEqual(len([line for line in program().splitlines() if line]), 62)
+        self.assertLessEqual(len([line for line in program().splitlines() if line]), 60)
 
 
 if __name__ == "__main__":

@@ -114,7 +114,9 @@ class Pages(unittest.TestCase):
         self.assertEqual(
             sorted(all_shown), sorted(f"pictures/{file.name}" for file in (ROOT / "docs" / "pictures").iterdir())
         )
-        self.assertEqual((len(shown), len(all_shown)), (12, 14))
+        self.assertEqual((len(shown), len(all_shown)), (12, 19))
+        for name in all_shown:
+            self.assertLess((ROOT / "docs" / name).stat().st_size, 60000)
         for name in shown:
             kept, written = ROOT / "docs" / name, folder / Path(name).name
             self.assertLess(kept.stat().st_size, 40000)
