@@ -14,6 +14,12 @@ uint8_t fezdrok_answer(void *block, const char *line, size_t line_length, fezdro
 uint8_t fezdrok_typed(void *block, uint32_t call, uint32_t caller, uint32_t a, uint32_t b, uint32_t c, fezdrok_reply *reply);
 void fezdrok_end(void *block);
 
+/* A search takes the same way. */
+size_t fezdrok_search_size(void);
+void fezdrok_search_begin(void *block, const char *graph, size_t graph_length, fezdrok_text *text, uint8_t *status);
+uint8_t fezdrok_search_answer(void *block, const char *request, size_t request_length, fezdrok_text *text);
+void fezdrok_search_end(void *block);
+
 /* The numbers of the typed calls. Their five numbers stand in `is`, in the order of its members. */
 enum { GROW, INSERT, DELETE, ROUTE, UNDO, COUNTS, EDGE, VERTEX };
 
@@ -40,21 +46,33 @@ static void leave(fezdrok_session *session, uint32_t state) {
     __atomic_store_n(&session->state, state, __ATOMIC_SEQ_CST);
 }
 
-uint8_t fezdrok_open(const char *settings, size_t settings_length, fezdrok_session **session, fezdrok_text *answer) {
+/* What is begun, called and ended in a block. */
+struct kind {
+    size_t (*size)(void);
+    void (*begin)(void *, const char *, size_t, fezdrok_text *, uint8_t *);
+    uint8_t (*answer)(void *, const char *, size_t, fezdrok_text *);
+    void (*end)(void *);
+};
+
+static const struct kind SESSION = {fezdrok_size, fezdrok_begin, fezdrok_answer, fezdrok_end};
+static const struct kind SEARCH = {fezdrok_search_size, fezdrok_search_begin, fezdrok_search_answer, fezdrok_search_end};
+
+/* Makes a block and begins in it. */
+static uint8_t begin_in(const struct kind *kind, const char *first, size_t length, fezdrok_session **session, fezdrok_text *answer) {
     uint8_t status;
     fezdrok_session *made;
-    if ((!settings && settings_length) || !session || !answer)
+    if ((!first && length) || !session || !answer)
         return FEZDROK_NULL_OR_CLOSED;
     *session = NULL;
-    made = malloc(sizeof *made + fezdrok_size());
+    made = malloc(sizeof *made + kind->size());
     if (!made) {
         *answer = (fezdrok_text){"", 0};
         return FEZDROK_NO_MEMORY;
     }
-    fezdrok_begin(made->block, settings ? settings : "", settings_length, answer, &status);
+    kind->begin(made->block, first ? first : "", length, answer, &status);
     if (status == FEZDROK_NO_MEMORY) {
         *answer = (fezdrok_text){"", 0};
-        fezdrok_end(made->block);
+        kind->end(made->block);
         free(made);
         return status;
     }
@@ -63,16 +81,48 @@ uint8_t fezdrok_open(const char *settings, size_t settings_length, fezdrok_sessi
     return status;
 }
 
-uint8_t fezdrok_call(fezdrok_session *session, const char *line, size_t line_length, fezdrok_text *answer) {
+/* Asks what lies in a block. */
+static uint8_t ask(const struct kind *kind, fezdrok_session *session, const char *line, size_t length, fezdrok_text *answer) {
     uint8_t status;
-    if ((!line && line_length) || !answer)
+    if ((!line && length) || !answer)
         return FEZDROK_NULL_OR_CLOSED;
     status = take(session);
     if (status)
         return status;
-    status = fezdrok_answer(session->block, line ? line : "", line_length, answer);
+    status = kind->answer(session->block, line ? line : "", length, answer);
     leave(session, OPEN);
     return status;
+}
+
+/* Ends what lies in a block, and gives that back. */
+static uint8_t end_in(const struct kind *kind, fezdrok_session *session) {
+    uint8_t status = take(session);
+    if (status)
+        return status;
+    kind->end(session->block);
+    leave(session, CLOSED);
+    free(session);
+    return FEZDROK_DONE;
+}
+
+uint8_t fezdrok_open(const char *settings, size_t settings_length, fezdrok_session **session, fezdrok_text *answer) {
+    return begin_in(&SESSION, settings, settings_length, session, answer);
+}
+
+uint8_t fezdrok_call(fezdrok_session *session, const char *line, size_t line_length, fezdrok_text *answer) {
+    return ask(&SESSION, session, line, line_length, answer);
+}
+
+uint8_t fezdrok_search_open(const char *graph, size_t graph_length, fezdrok_search **search, fezdrok_text *answer) {
+    return begin_in(&SEARCH, graph, graph_length, (fezdrok_session **)search, answer);
+}
+
+uint8_t fezdrok_search_call(fezdrok_search *search, const char *request, size_t request_length, fezdrok_text *answer) {
+    return ask(&SEARCH, (fezdrok_session *)search, request, request_length, answer);
+}
+
+uint8_t fezdrok_search_close(fezdrok_search *search) {
+    return end_in(&SEARCH, (fezdrok_session *)search);
 }
 
 /* Makes a typed call. */
@@ -121,13 +171,7 @@ uint8_t fezdrok_vertex(fezdrok_session *session, uint32_t vertex, fezdrok_reply 
 }
 
 uint8_t fezdrok_close(fezdrok_session *session) {
-    uint8_t status = take(session);
-    if (status)
-        return status;
-    fezdrok_end(session->block);
-    leave(session, CLOSED);
-    free(session);
-    return FEZDROK_DONE;
+    return end_in(&SESSION, session);
 }
 
 const char *fezdrok_version(void) {

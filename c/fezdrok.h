@@ -153,6 +153,38 @@ uint8_t fezdrok_vertex(fezdrok_session *session, uint32_t vertex, fezdrok_reply 
 /* Closes a session, with its last answer. FEZDROK_DONE, or FEZDROK_NULL_OR_CLOSED or FEZDROK_IN_USE, where nothing was done. */
 uint8_t fezdrok_close(fezdrok_session *session);
 
+/* ---- Searches: pictures of a graph with few crossings, step by step
+ *
+ * A search is the caller's from fezdrok_search_open to fezdrok_search_close, as a session is.
+ */
+
+typedef struct fezdrok_search fezdrok_search;
+
+/* Opens a search by what `planar planarize` reads: a graph, and how it is searched. `seconds` and `progress` count for nothing.
+ *
+ *     FEZDROK_DONE            the search has not begun, and *answer is empty
+ *     FEZDROK_FAULT           *answer tells the fault, as {"fault":[80,"Loop",3]}, and the search is there, but has no graph
+ *     FEZDROK_NO_MEMORY       *search is NULL
+ *     FEZDROK_NULL_OR_CLOSED  an argument is NULL; nothing was done
+ */
+uint8_t fezdrok_search_open(const char *graph, size_t graph_length, fezdrok_search **search, fezdrok_text *answer);
+
+/* Asks a search:
+ *
+ *     "step"      to search for a while, some 50 milliseconds for each of its threads' seeds, one after the other
+ *     "hurry"     to leave repair out in each component until there is a picture of it
+ *     "end"       to end in each component as soon as there is a picture of it: some steps more
+ *     "pictures"  for the pictures once it has ended, as `planar planarize` prints them, or for a fault. After it there is no graph
+ *
+ * The quotation marks belong to the request. The first three are answered by how far the search is:
+ * {"component":1,"components":3,"crossings":1140,"ended":false,"orders":2}, with null for the crossings where there is no picture
+ * yet. The statuses are those of fezdrok_call. Out of memory a step ends the search, and "pictures" tells 8.
+ */
+uint8_t fezdrok_search_call(fezdrok_search *search, const char *request, size_t request_length, fezdrok_text *answer);
+
+/* Closes a search, with its last answer. */
+uint8_t fezdrok_search_close(fezdrok_search *search);
+
 #ifdef __cplusplus
 }
 #endif

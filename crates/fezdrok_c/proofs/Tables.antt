@@ -9,7 +9,8 @@ use Rattle.topo_price.specs.contracts.table.PriceTable.{the_row as table}
 use Rattle.topo_price.proofs.table.PriceTable.TheLaws.{the_row_laws}
 use Rattle.topo_price.specs.contracts.tariff.PriceTablePriceFn.TheImpl.{ghosts}
 use Rattle.fezdrok_c.proofs.handle.Handle.TheLaws as handle
-use Rattle.fezdrok_c.specs.Blocks.{S, T}
+use Rattle.fezdrok_c.proofs.searching.Searching.TheLaws as searching
+use Rattle.fezdrok_c.specs.Blocks.{P, S, T}
 
 -- it has nothing to drop
 abbrev pub drops : Dict
@@ -20,3 +21,6 @@ laws_of_T = arg_laws (raw (layout table)) no table the_row_laws refl
 
 abbrev pub laws_of_S : Laws S
 laws_of_S = handle.the_row_laws (param 0 T) ghosts (param_laws 0 T laws_of_T)
+
+abbrev pub laws_of_P : Laws P
+laws_of_P = searching.the_row_laws (param 0 T) ghosts (param_laws 0 T laws_of_T)

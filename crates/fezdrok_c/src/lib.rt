@@ -10,17 +10,20 @@
 mod given;
 mod handing;
 mod handle;
+mod searching;
 mod typed;
 
 ghost use Rattle.std.specs.Prelude.{◌≡◌};
 ghost use Rattle.fezdrok_c.specs.Blocks.{Held, answered, begun, block_size, is_held, is_room};
-ghost use Rattle.fezdrok_c.specs.Blocks.{typed_called};
+ghost use Rattle.fezdrok_c.specs.Blocks.{Sought, is_search, is_search_room, search_answered, search_begun};
+ghost use Rattle.fezdrok_c.specs.Blocks.{search_size, typed_called};
 ghost use Rattle.fezdrok_c.specs.Handing.{Judges};
 ghost use Rattle.topo_check.specs.Checks.{IsSizeOfBytes, IsUnlawful};
 ghost use Rattle.topo_check.specs.Replays.{TellsCalls, TellsUntrue};
 
 use crate::handing::hand_out;
 use crate::handle::{Handle, Text, begin, respond, shut};
+use crate::searching::{Searching, answer_search, begin_search, shut_search};
 use crate::typed::{Typed, call_typed};
 use std::alloc::Global;
 use std::mem::size_of;
@@ -144,4 +147,62 @@ pub unsafe extern "C" fn fezdrok_end(block: *mut u8)
     ensures* { is_room 𝓛 block }
 {
     shut(ptr::read(block as *mut Handle<PriceTable>));
+}
+
+/// How many bytes a search takes. A block for one is aligned to 16.
+#[unsafe(no_mangle)]
+pub extern "C" fn fezdrok_search_size() -> usize
+    ensures { result ≡ search_size }
+{
+    size_of::<Searching<PriceTable>>()
+}
+
+/// Begins a search in a block, by the text of a graph. It is to be ended, also where that text is at
+/// fault: then there is none. The status is 0, 1 where the text is at fault, and then the text is that
+/// of the fault, and 3 for out of memory. The text lies in the search until its next call.
+#[unsafe(no_mangle)]
+pub unsafe extern "C" fn fezdrok_search_begin(
+    heap: Global,
+    block: *mut u8,
+    graph: &[u8],
+    text: &mut Text,
+    status: &mut u8,
+)
+    requires* { is_search_room 𝓛 block }
+    ensures* { search_begun 𝓛 block graph.now text.new status.new }
+{
+    ptr::write(
+        block as *mut Searching<PriceTable>,
+        begin_search(heap, graph, text, status),
+    );
+}
+
+/// Answers `"step"`, `"hurry"` or `"end"` by how far the search is, and `"pictures"` by what it
+/// found, after which there is none. The result is 0, or 3 for out of memory. The text lies in the
+/// search until its next call.
+#[unsafe(no_mangle)]
+pub unsafe extern "C" fn fezdrok_search_answer(
+    block: *mut u8,
+    request: &[u8],
+    text: &mut Text,
+) -> u8
+    ghost held: { Sought }
+    requires* { is_search 𝓛 block held }
+    ensures* { search_answered 𝓛 block held request.now result text.new }
+{
+    answer_search(
+        unsafe { &mut *(block as *mut Searching<PriceTable>) },
+        request,
+        text,
+    )
+}
+
+/// Ends a search. The block is the caller's again.
+#[unsafe(no_mangle)]
+pub unsafe extern "C" fn fezdrok_search_end(block: *mut u8)
+    ghost held: { Sought }
+    requires* { is_search 𝓛 block held }
+    ensures* { is_search_room 𝓛 block }
+{
+    shut_search(ptr::read(block as *mut Searching<PriceTable>));
 }

@@ -62,7 +62,7 @@ pub(crate) trait TestRuntime: Threads + Wait + Clock + Abort + AllocGlobal + Syn
 
 impl<R: Threads + Wait + Clock + Abort + AllocGlobal + Sync> TestRuntime for R {}
 
-/// The command ends so on this reader and this writer.
+/// The command ends so on this reader and this writer, and tells nothing on the way.
 pub(crate) fn ends<R: TestRuntime, I: Read, O: Write>(
     rt: &R,
     verb: Verb,
@@ -71,8 +71,11 @@ pub(crate) fn ends<R: TestRuntime, I: Read, O: Write>(
     due: Result<(), RunFault>,
 ) {
     let mut counted = CountedReader::new(LentReader { reader });
-    let told = answer(rt, rt.alloc(), verb, &mut counted, writer);
+    let mut way: Vec<u8> = Vec::new(rt.alloc());
+    let told = answer(rt, rt.alloc(), verb, &mut counted, writer, &mut way);
     assert!(rt; told == due, "{verb:?}: {told:?}");
+    // Nothing is told on the way, since nobody asks for it.
+    assert!(rt; way.is_empty());
 }
 
 /// The bytes are those of a text.

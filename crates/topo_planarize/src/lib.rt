@@ -12,5 +12,7 @@ mod planarizer;
 mod searches;
 mod side_by_side;
 
+pub use answers::Answer;
 pub use planarize::planarize_io;
 pub use planarizer::Planarizer;
+pub use searches::Way;

@@ -9,8 +9,8 @@ ghost use Rattle.topo_price.specs.Prices.{IsPromise};
 ghost use Rattle.topo_settings.specs.Settings.{price_table};
 
 use crate::answers::{Answer, total_cost, total_crossings};
-use crate::searches::{Beginning, Found, Searches};
-use crate::side_by_side::{Terms, search_to_the_end};
+use crate::searches::{Beginning, Found, Searches, Way};
+use crate::side_by_side::{Terms, have_all_ended, search_to_the_end};
 use std::alloc::{AllocError, Global};
 use std::io::Write;
 use std::marker::Model;
@@ -251,6 +251,48 @@ impl<F: PriceFn> Planarizer<F> {
         match begin_all(alloc, &graph, beginning, ask, options, asked.threads) {
             Ok(all) => Ok(Planarizer { graph, prices, all }),
             Err(_) => Err(RunFault::Memory),
+        }
+    }
+
+    /// How far the first of the searches has come.
+    pub fn way(&self) -> Way {
+        match self.all.first() {
+            Some(first) => first.way(),
+            None => Way::NONE,
+        }
+    }
+
+    /// Whether all searches have ended.
+    pub fn have_ended(&self) -> bool {
+        have_all_ended(&self.all)
+    }
+
+    /// Searches for a while, some 50 milliseconds for each of the searches.
+    pub fn step(&mut self, alloc: Global)
+    where
+        F: Drop,
+        ensures { self.new ≡ self.old }
+    {
+        for searches in self.all.iter_mut() {
+            searches.step(alloc);
+        }
+    }
+
+    /// Leaves repair out in each component until there is a picture of it.
+    pub fn hurry(&mut self)
+        ensures { self.new ≡ self.old }
+    {
+        for searches in self.all.iter_mut() {
+            searches.hurry();
+        }
+    }
+
+    /// Ends the search in each component as soon as there is a picture of it.
+    pub fn end_soon(&mut self)
+        ensures { self.new ≡ self.old }
+    {
+        for searches in self.all.iter_mut() {
+            searches.end_soon();
         }
     }
 

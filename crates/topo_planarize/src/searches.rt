@@ -61,11 +61,21 @@ impl<F: PriceFn> Running<F> {
 /// How far searches have come: which component is searched, counted from 1, of how many, how many
 /// crossings its best picture has, where there is one, and how many orders have ended.
 #[derive(Clone, Copy, Debug, PartialEq, Eq)]
-pub(crate) struct Way {
+pub struct Way {
     pub component: usize,
     pub components: usize,
     pub crossings: Option<u64>,
     pub orders: u32,
+}
+
+impl Way {
+    /// Where nothing is searched.
+    pub(crate) const NONE: Way = Way {
+        component: 0,
+        components: 0,
+        crossings: None,
+        orders: 0,
+    };
 }
 
 /// The searches in the components of a graph, one after another.

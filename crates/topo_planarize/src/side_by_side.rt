@@ -153,6 +153,11 @@ fn tell_first<F: PriceFn, E: Write>(all: &[Searches<F>], is_told: bool, told: &m
     }
 }
 
+/// Whether all searches have ended.
+pub(crate) fn have_all_ended<F: PriceFn>(all: &[Searches<F>]) -> bool {
+    all.iter().all(|searches| searches.have_ended())
+}
+
 /// Searches until all searches have ended.
 pub(crate) fn search_to_the_end<
     R: Threads + Clock + Sync,
@@ -163,7 +168,7 @@ pub(crate) fn search_to_the_end<
 {
     for _ in 0..u64::MAX {
         search_together(rt, alloc, all, terms);
-        if all.iter().all(|searches| searches.have_ended()) {
+        if have_all_ended(all) {
             return;
         }
         tell_first(all, terms.is_told, told);
