@@ -1,4 +1,5 @@
-"""The examples of README.md, docs/USING.md, docs/C.md and python/README.md, run as they are written there."""
+"""The examples of README.md, docs/PYTHON.md, docs/CLUSTER.md, docs/RATTLE.md, docs/C.md, python/README.md and
+clients/node/README.md, run as they are written there."""
 
 import doctest
 import os
@@ -16,7 +17,8 @@ from fezdrok import find_program
 
 from .support import ROOT, needs_program
 
-PAGES = ("README.md", "docs/USING.md")
+PYTHON_PAGES = ("README.md", "docs/PYTHON.md", "docs/CLUSTER.md", "python/README.md")
+RATTLE_PAGES = ("README.md", "docs/RATTLE.md")
 #: The C library of these sources, where the gate has built it.
 LIBRARY = os.environ.get("FEZDROK_C_LIBRARY", "")
 MARK = "-- the next command --"
@@ -96,7 +98,7 @@ class Pages(unittest.TestCase):
         os.environ.setdefault("MPLBACKEND", "Agg")
         self.addCleanup(os.chdir, os.getcwd())
         os.chdir(self.folder)
-        for page in (*PAGES, "python/README.md"):
+        for page in PYTHON_PAGES:
             told = []
             examples = python_examples(page)
             self.assertTrue(examples.examples, page)
@@ -107,7 +109,7 @@ class Pages(unittest.TestCase):
     def check_pictures(self, folder: Path):
         """The pictures that are shown are small, and are those that the examples wrote: with as many lines, nodes and
         marks, and the same names. Points may differ a little from machine to machine."""
-        all_shown = re.findall(r"!\[[^]]+\]\((pictures/\S+)\)", (ROOT / "docs" / "USING.md").read_text())
+        all_shown = re.findall(r"!\[[^]]+\]\((pictures/\S+)\)", (ROOT / "docs" / "PYTHON.md").read_text())
         shown = [name for name in all_shown if name.endswith(".svg")]
         self.assertEqual(
             sorted(all_shown), sorted(f"pictures/{file.name}" for file in (ROOT / "docs" / "pictures").iterdir())
@@ -162,8 +164,16 @@ class Pages(unittest.TestCase):
     def test_readme_commands(self):
         self.check_commands("README.md")
 
-    def test_using_commands(self):
-        self.check_commands("docs/USING.md")
+    def test_python_commands(self):
+        self.check_commands("docs/PYTHON.md")
+
+    def test_cluster_commands(self):
+        self.check_commands("docs/CLUSTER.md")
+
+    def test_node_commands(self):
+        if not commands("clients/node/README.md"):
+            self.skipTest("left out: there is no node")
+        self.check_commands("clients/node/README.md")
 
     def test_c_commands(self):
         if not commands("docs/C.md"):
@@ -177,7 +187,7 @@ class Pages(unittest.TestCase):
             for name in ("planar_book", "planar_editors", "topo_test_support", "topo_tests")
         ]
         sources = "".join(file.read_text() for folder in folders for file in sorted(folder.glob("*.rt")))
-        for page in PAGES:
+        for page in RATTLE_PAGES:
             shown = re.findall(r"```rust\n(.*?)```", (ROOT / page).read_text(), re.DOTALL)
             self.assertTrue(shown, page)
             for text in shown:
@@ -185,7 +195,7 @@ class Pages(unittest.TestCase):
         for name in ("planar_book", "planar_editors"):
             stdout = (ROOT / "crates" / name / "stdout").read_text()
             self.assertIn(
-                "".join(f"    {line}\n" for line in stdout.splitlines()), (ROOT / "docs" / "USING.md").read_text()
+                "".join(f"    {line}\n" for line in stdout.splitlines()), (ROOT / "docs" / "RATTLE.md").read_text()
             )
 
     def test_readme_script(self):
