@@ -163,7 +163,8 @@ typedef struct fezdrok_search fezdrok_search;
 /* Opens a search by what `planar planarize` reads: a graph, and how it is searched. `seconds` and `progress` count for nothing.
  *
  *     FEZDROK_DONE            the search has not begun, and *answer is empty
- *     FEZDROK_FAULT           *answer tells the fault, as {"fault":[80,"Loop",3]}, and the search is there, but has no graph
+ *     FEZDROK_FAULT           *answer tells the fault, as {"fault":[80,"Loop"]}, without the place of an edge, and the search is
+ *                             there, but has no graph
  *     FEZDROK_NO_MEMORY       *search is NULL
  *     FEZDROK_NULL_OR_CLOSED  an argument is NULL; nothing was done
  */
