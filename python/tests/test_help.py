@@ -13,7 +13,7 @@ SENTENCES = {
     "replay": ("Reads a report and carries out its history again", "Who made a call is not judged"),
     "check": ("Reads a picture and prints how large it is", "Where it is a lawful one, a connected"),
     "serve": ("Answers line by line, with one picture", "Each further line is a command as in a script"),
-    "planarize": ("Reads a graph and prints pictures of it with few crossings", "The same graph, effort and seed have the"),
+    "planarize": ("Reads a graph and prints pictures of it with few crossings", "graph, effort, seed, start and threads have the same answer, unless time ends the"),
 }
 
 
