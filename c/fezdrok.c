@@ -19,6 +19,10 @@ uint8_t fezdrok_answer(void *block, const char *line, size_t line_length, fezdro
 uint8_t fezdrok_typed(void *block, const struct words *words, fezdrok_reply *reply);
 void fezdrok_end(void *block);
 
+/* The proved judgements, by names of their own: what fezdrok.h declares tests for NULL before. c/build_library names them so. */
+uint8_t fezdrok_check_proved(const uint8_t *input, size_t input_length, uint8_t *output, size_t output_length, size_t *size);
+uint8_t fezdrok_replay_proved(const uint8_t *input, size_t input_length, uint8_t *output, size_t output_length, size_t *size);
+
 /* A search takes the same way. */
 size_t fezdrok_search_size(void);
 void fezdrok_search_begin(void *block, const char *graph, size_t graph_length, fezdrok_text *text, uint8_t *status);
@@ -33,6 +37,8 @@ enum { CLOSED = 0, OPEN = 0x6e65706f, IN_USE = 0x65737575 };
 struct fezdrok_session {
     char spare[16]; /* glibc writes here when the block is freed, so `state` says for a while that it is closed */
     uint32_t state;
+    uint8_t begun;     /* the status of its beginning */
+    fezdrok_text told; /* what its beginning told: where that was at fault, each call tells it again */
     _Alignas(16) char block[];
 };
 
@@ -81,6 +87,8 @@ static uint8_t begin_in(const struct kind *kind, const char *first, size_t lengt
         free(made);
         return status;
     }
+    made->begun = status;
+    made->told = *answer;
     leave(made, OPEN);
     *session = made;
     return status;
@@ -94,7 +102,11 @@ static uint8_t ask(const struct kind *kind, fezdrok_session *session, const char
     status = take(session);
     if (status)
         return status;
-    status = kind->answer(session->block, line ? line : "", length, answer);
+    status = session->begun;
+    if (status == FEZDROK_FAULT)
+        *answer = session->told;
+    else
+        status = kind->answer(session->block, line ? line : "", length, answer);
     leave(session, OPEN);
     return status;
 }
@@ -138,7 +150,11 @@ static uint8_t make(fezdrok_session *session, struct words words, fezdrok_reply 
     status = take(session);
     if (status)
         return status;
-    status = fezdrok_typed(session->block, &words, reply);
+    status = session->begun;
+    if (status == FEZDROK_FAULT)
+        *reply = (fezdrok_reply){0};
+    else
+        status = fezdrok_typed(session->block, &words, reply);
     leave(session, OPEN);
     return status;
 }
@@ -177,6 +193,22 @@ uint8_t fezdrok_vertex(fezdrok_session *session, uint32_t vertex, fezdrok_reply 
 
 uint8_t fezdrok_close(fezdrok_session *session) {
     return end_in(&SESSION, session);
+}
+
+/* Judges an input. What is NULL and has the length 0 stands for an empty place. */
+static uint8_t judge(uint8_t (*proved)(const uint8_t *, size_t, uint8_t *, size_t, size_t *), const uint8_t *input, size_t input_length, uint8_t *output, size_t output_length, size_t *size) {
+    uint8_t none = 0;
+    if ((!input && input_length) || (!output && output_length) || !size)
+        return FEZDROK_NULL_OR_CLOSED;
+    return proved(input ? input : (const uint8_t *)"", input_length, output ? output : &none, output_length, size);
+}
+
+uint8_t fezdrok_check(const uint8_t *input, size_t input_length, uint8_t *output, size_t output_length, size_t *size) {
+    return judge(fezdrok_check_proved, input, input_length, output, output_length, size);
+}
+
+uint8_t fezdrok_replay(const uint8_t *input, size_t input_length, uint8_t *output, size_t output_length, size_t *size) {
+    return judge(fezdrok_replay_proved, input, input_length, output, output_length, size);
 }
 
 const char *fezdrok_version(void) {

@@ -45,7 +45,8 @@ const char *fezdrok_status_text(uint8_t status);
  * the next call may have a longer text. 128 bytes are enough for any text that is not a fault at a deep path of a large
  * input.
  *
- * Input, output and size do not overlap, and none is NULL, even where a length is 0.
+ * Input, output and size do not overlap. Where one is NULL, nothing is done, and the status is FEZDROK_NULL_OR_CLOSED; input and
+ * output may be NULL where their length is 0.
  */
 
 /* Says how large the picture is that the input spells. */
@@ -73,7 +74,7 @@ typedef struct fezdrok_text {
  *
  *     FEZDROK_DONE            *answer is what the line is answered; a line that is no opening leaves the picture to a later one
  *     FEZDROK_FAULT           it is an opening that is at fault: *answer tells the fault, as {"fault":[50,"NotJson"]}, and the
- *                             session is there, but has no picture
+ *                             session is there, but each call of it has this status and tells this again
  *     FEZDROK_NO_MEMORY       *session is NULL
  *     FEZDROK_NULL_OR_CLOSED  an argument is NULL; nothing was done. SETTINGS may be NULL where its length is 0
  */
@@ -82,6 +83,7 @@ uint8_t fezdrok_open(const char *settings, size_t settings_length, fezdrok_sessi
 /* Answers a line, which stands here without its line feed: a command, a question, an opening or an envelope of these.
  *
  *     FEZDROK_DONE            *answer is what `planar serve` answers, also where it refuses the command or tells a fault of the line
+ *     FEZDROK_FAULT           the session was opened by settings at fault, and *answer tells their fault
  *     FEZDROK_NO_MEMORY       *answer is empty; all is as it was, or what the line asks for is done and only its answer is lost.
  *                             The session goes on
  *     FEZDROK_NULL_OR_CLOSED  or FEZDROK_IN_USE: nothing was done, and *answer is as it was
@@ -163,8 +165,8 @@ typedef struct fezdrok_search fezdrok_search;
 /* Opens a search by what `planar planarize` reads: a graph, and how it is searched. `seconds` and `progress` count for nothing.
  *
  *     FEZDROK_DONE            the search has not begun, and *answer is empty
- *     FEZDROK_FAULT           *answer tells the fault, as {"fault":[80,"Loop"]}, without the place of an edge, and the search is
- *                             there, but has no graph
+ *     FEZDROK_FAULT           *answer tells the fault, as {"fault":[80,"Loop",3]}, where the edge at place 3 is one, and the search is
+ *                             there, but each call of it has this status and tells this again
  *     FEZDROK_NO_MEMORY       *search is NULL
  *     FEZDROK_NULL_OR_CLOSED  an argument is NULL; nothing was done
  */

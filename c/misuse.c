@@ -72,8 +72,22 @@ static void judge_without_room(void) {
     wrong |= size < 18 || again != size || output[size - 1] != '\n' || memcmp(output, "planar: 52 ", 11);
 }
 
+/* Judgements that are given NULL: nothing is done, but where the length of what is NULL is 0. */
+static void judge_nothing(uint8_t (*judge)(const uint8_t *, size_t, uint8_t *, size_t, size_t *)) {
+    uint8_t output[128] = "unchanged";
+    size_t size = 9, length = 0;
+    fezdrok_text told = {(const char *)output, 9};
+    expect("no input", judge(NULL, 1, output, sizeof output, &size), FEZDROK_NULL_OR_CLOSED, told, "unchanged");
+    expect("no output", judge((const uint8_t *)"{}", 2, NULL, 1, &size), FEZDROK_NULL_OR_CLOSED, told, "unchanged");
+    expect("no size", judge((const uint8_t *)"{}", 2, output, sizeof output, NULL), FEZDROK_NULL_OR_CLOSED, told, "unchanged");
+    wrong |= size != 9;
+    expect("an empty output", judge((const uint8_t *)"{}", 2, NULL, 0, &length), FEZDROK_TOO_SMALL, told, "unchanged");
+    expect("an empty input", judge(NULL, 0, output, sizeof output, &size), FEZDROK_FAULT, told, NULL);
+    wrong |= length < 18 || size < 18 || memcmp(output, "planar: 50 NotJson\n", size);
+}
+
 int main(int count, char **words) {
-    static const char not_open[] = "{\"fault\":[72,\"NotOpen\"]}", settings[] = "{\"version\":1}";
+    static const char not_open[] = "{\"fault\":[72,\"NotOpen\"]}", too_long[] = "{\"fault\":[51,\"TooLong\"]}", settings[] = "{\"version\":1}";
     static const char seed[] = "{\"crossings\":0,\"edges\":1,\"faces\":1,\"segments\":1,\"vertices\":2}";
     const fezdrok_text none = {"unchanged", 9};
     size_t long_length = 300000000;
@@ -82,17 +96,24 @@ int main(int count, char **words) {
     fezdrok_reply reply;
     fezdrok_text told = none;
     judge_without_room();
+    judge_nothing(fezdrok_check);
+    judge_nothing(fezdrok_replay);
     expect("no settings", fezdrok_open(NULL, 1, &session, &told), FEZDROK_NULL_OR_CLOSED, told, none.at);
     expect("no place for the session", fezdrok_open(settings, 13, NULL, &told), FEZDROK_NULL_OR_CLOSED, told, none.at);
     expect("no place for the answer", fezdrok_open(settings, 13, &session, NULL), FEZDROK_NULL_OR_CLOSED, told, none.at);
     expect("no session", fezdrok_call(NULL, settings, 13, &told), FEZDROK_NULL_OR_CLOSED, told, none.at);
     expect("no session to close", fezdrok_close(NULL), FEZDROK_NULL_OR_CLOSED, told, none.at);
     if (zeros) {
-        expect("long settings", fezdrok_open(zeros, long_length, &session, &told), FEZDROK_FAULT, told, "{\"fault\":[51,\"TooLong\"]}");
+        expect("long settings", fezdrok_open(zeros, long_length, &session, &told), FEZDROK_FAULT, told, too_long);
+        expect("a call behind a fault", fezdrok_call(session, "\"counts\"", 8, &told), FEZDROK_FAULT, told, too_long);
+        expect("counts behind a fault", fezdrok_counts(session, &reply), FEZDROK_FAULT, none, NULL);
+        expect("an opening behind a fault", fezdrok_call(session, "{\"open\":{\"version\":1}}", 22, &told), FEZDROK_FAULT, told, too_long);
+        expect("close", fezdrok_close(session), FEZDROK_DONE, none, NULL);
+        expect("no opening", fezdrok_open("\"about\"", 7, &session, &told), FEZDROK_DONE, told, NULL);
         expect("not open", fezdrok_call(session, "\"counts\"", 8, &told), FEZDROK_DONE, told, not_open);
         expect("counts where nothing is open", fezdrok_counts(session, &reply), FEZDROK_DONE, none, NULL);
         wrong |= reply.refusal != 72 || reply.length;
-        expect("a long line", fezdrok_call(session, zeros, 65537, &told), FEZDROK_DONE, told, "{\"fault\":[51,\"TooLong\"]}");
+        expect("a long line", fezdrok_call(session, zeros, 65537, &told), FEZDROK_DONE, told, too_long);
         expect("an opening", fezdrok_call(session, "{\"open\":{\"version\":1}}", 22, &told), FEZDROK_DONE, told, seed);
         expect("close", fezdrok_close(session), FEZDROK_DONE, none, NULL);
     }

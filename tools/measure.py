@@ -1,8 +1,8 @@
 #!/usr/bin/env python3
 """Measures planarization on graphs of networkx: the crossings found, and the time taken.
 
-Prints a table in Markdown: `tools/measure.py numbers` beside known crossing numbers, `tools/measure.py ogdf` beside
-what OGDF found, by `planar planarize` and from Python. Behind the crossings stand the time, and the time of a processor
+Prints a table in Markdown: `tools/measure.py numbers` beside known crossing numbers, from Python, `tools/measure.py
+ogdf` beside what OGDF found, by `planar planarize`. Behind the crossings stand the time, and the time of a processor
 that Python and the program took, which depends less on other work. All numbers but the times are the same each time.
 
 `tools/measure.py files FOLDER` writes 500 GraphML files of sparse graphs of 10 to 100 nodes, of sizes as those of the
@@ -157,7 +157,7 @@ def known_numbers() -> None:
     """Print the table beside known crossing numbers."""
     columns: dict[str, dict[str, Any]] = {
         "quick": {"effort": "quick"},
-        "quick, 20 orders, 5 rounds": {"effort": "quick", "tries": 20, "rounds": 5},
+        "quick, 5 seeds": {"effort": "quick", "tries": 5},
         "default": {},
     }
     headings = ["graph", "nodes", "edges", "crossing number", *columns]
@@ -241,7 +241,6 @@ def beside_ogdf(seeds: int) -> None:
     columns: dict[str, Callable[[Any], tuple[int, float, float]]] = {
         "`planar planarize`, quick": lambda graph: searched(asked_of(graph), "quick"),
         "default": lambda graph: searched(asked_of(graph), "default"),
-        "Python, default": lambda graph: measured(graph, {}),
     }
     headings = ["graph", "OGDF", *columns]
     print(row(headings))

@@ -81,6 +81,27 @@ export interface Report {
   version: 1 | 2;
 }
 
+export interface Graph {
+  vertices: number;
+  edges: [a: number, b: number, kind: number][];
+  prices?: Prices;
+  effort?: "quick" | "default" | "thorough";
+  seed?: number;
+  /** Pictures that the search begins with. */
+  start?: Pictures;
+  threads?: number;
+}
+
+export interface Pictures {
+  cost: number;
+  crossings: number;
+  /** The vertices without an edge. */
+  lonely: number[];
+  /** A picture of each component, and which vertices and edges of the graph its own are. */
+  parts: { edges: number[]; picture: Picture; vertices: number[] }[];
+  tries: number[];
+}
+
 export interface Counts {
   crossings: number;
   edges: number;
@@ -148,8 +169,8 @@ export class Ended extends Error {
  * Fault where it is at fault, and with an Ended where the program has ended.
  */
 export class Session {
-  /** A process without a picture: before other calls comes `open`, `reopen` or `about`. Without a path the program is
-   * that of the variable FEZDROK_PLANAR, or else `planar` in PATH. */
+  /** A process without a picture: before other calls comes `open`, `reopen`, `planarize` or `about`. Without a path
+   * the program is that of the variable FEZDROK_PLANAR, or else `planar` in PATH. */
   constructor(program?: string);
   /** A process that has begun with this picture, or with this report. */
   static begin(options?: Opening & { program?: string; report?: Report }): Promise<Session>;
@@ -158,6 +179,8 @@ export class Session {
   open(opening?: Opening): Promise<Counts>;
   /** Goes on from a report that is true, with its limits, prices and history. */
   reopen(report: Report): Promise<Counts>;
+  /** Pictures of a graph with few crossings. The picture of the session stays; no other call is answered meanwhile. */
+  planarize(graph: Graph): Promise<Pictures>;
 
   /** A new vertex on a new edge from the corner at this position of u; 0 is the end of its list of edges. */
   grow(u: number, position?: number, kind?: number): Promise<Grown | Refusal>;

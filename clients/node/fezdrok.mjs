@@ -44,7 +44,7 @@ export class Session {
   #end = null; // why no more requests are taken
   #gone; // a promise of the end of the process
 
-  /** A process without a picture: before other calls comes `open`, `reopen` or `about`. */
+  /** A process without a picture: before other calls comes `open`, `reopen`, `planarize` or `about`. */
   constructor(program = process.env.FEZDROK_PLANAR ?? "planar") {
     this.#process = spawn(program, ["serve"]);
     const { stdin, stdout, stderr } = this.#process;
@@ -78,6 +78,10 @@ export class Session {
 
   reopen(report) {
     return this.ask({ reopen: report });
+  }
+
+  planarize(graph) {
+    return this.ask({ planarize: { version: 2, ...graph } });
   }
 
   grow(u, position = 0, kind = 0) {

@@ -108,6 +108,11 @@ async function faultsAndEnds() {
   await rejects(session.open({ prices: [0] }), Fault, /^10 BadPrice 0$/);
   await rejects(session.ask(undefined), Fault, /^52 BadShape \$\/call$/);
   await rejects(session.reopen({ ...(await session.report()), history: 1 }), Fault, /^52 BadShape .*\/history$/);
+  await rejects(session.planarize({ vertices: 2, edges: [[0, 1, 0], [1, 1, 0]] }), Fault, /^80 Loop 1$/);
+  const graph = { vertices: 5, edges: [0, 1, 2, 3, 4].flatMap((a) => [1, 2].map((way) => [a, (a + way) % 5, 0])) };
+  const pictures = await session.planarize(graph);
+  assert.equal(pictures.crossings, 1);
+  assert.deepEqual(await session.planarize({ ...graph, start: pictures }), pictures);
   const fault = await session.undo(7).catch((error) => error);
   assert.deepEqual([fault.number, fault.fault, fault.value], [70, "NothingToUndo", 7]);
   const { version } = await session.about();

@@ -24,7 +24,16 @@ needs_server = unittest.skipUnless(
 )
 needs_browser = unittest.skipUnless(CHROMIUM, "left out: chromium is not there")
 #: How many seconds anything may take.
-PATIENCE = 10
+PATIENCE = 30
+
+
+def shown(drawing, before=None):
+    """A drawing as a message has it with all its rows, those that it has not from the one before."""
+    for word, key in (("edges", "id"), ("nodes", "vertex")):
+        rows = {} if drawing["isWhole"] else {row[key]: row for row in before[word] if row[key] not in drawing["gone"][word]}
+        rows.update((row[key], row) for row in drawing[word])
+        drawing[word] = [rows[it] for it in sorted(rows)]
+    return {name: it for name, it in drawing.items() if name not in ("isWhole", "gone")}
 
 
 class Talk:
@@ -41,7 +50,7 @@ class Talk:
         """The next message, which is noted."""
         message = json.loads(await asyncio.wait_for(self.socket.receive_str(), PATIENCE))
         if "drawing" in message:
-            self.drawing = message["drawing"]
+            self.drawing = message["drawing"] = shown(message["drawing"], self.drawing)
         else:
             self.told.append(message)
         if "change" in message:

@@ -16,7 +16,7 @@ import networkx as nx
 from fezdrok import planarize_many
 
 #: The options of each search.
-OPTIONS: dict[str, Any] = {"tries": 1, "shakes": 5}
+OPTIONS: dict[str, Any] = {"effort": "quick", "tries": 2}
 
 
 def sparse_graphs(count: int, nodes: int = 14, edges: int = 24) -> list[nx.Graph]:

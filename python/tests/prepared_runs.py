@@ -1,11 +1,12 @@
 """`python3 -m tests.prepared_runs FOLDER`: prints what one process makes of some graphs whose nodes are words.
 
-For each it prints the script, and what the report in the folder means for the graph. A report that is not there is
+For each it prints the text, and what the answer in the folder means for the graph. An answer that is not there is
 made first, so that a second process reads those of the first.
 """
 
 from __future__ import annotations
 
+import subprocess
 import sys
 from collections.abc import Iterator
 from pathlib import Path
@@ -13,7 +14,7 @@ from typing import Any
 
 import networkx as nx
 
-from fezdrok import Report, prepare
+from fezdrok import find_program, prepare
 
 
 def worded(graph: Any) -> Any:
@@ -36,11 +37,12 @@ def cases() -> Iterator[tuple[str, Any, dict[str, Any]]]:
         forbidden = {edges[0], edges[3], edges[-1]}
         ways = {
             "plain": {},
-            "random": {"order": "random", "seed": 3},
-            "planar": {"begin": "planar"},
-            "planar-random": {"begin": "planar", "order": "random", "seed": 3},
+            "seed": {"seed": 3},
+            "quick": {"effort": "quick"},
             "forbidden": {"forbidden": forbidden},
-            "priced": {"price": {edges[1]: 5, edges[2]: None, edges[4]: 7}, "begin": "planar"},
+            "priced": {"price": {edges[1]: 5, edges[2]: None, edges[4]: 7}},
+            "few": {"price": {edges[1]: 5}, "objective": "crossings"},
+            "start": {"start": prepare(graph, seed=2, effort="quick").run()},
         }
         for way, options in ways.items():
             yield f"{name}-{way}", graph, options
@@ -50,13 +52,14 @@ def main(folder: Path) -> None:
     """Print two lines for each case."""
     for name, graph, options in cases():
         prepared = prepare(graph, **options)
-        file = folder / f"{name}.report.json"
+        file = folder / f"{name}.json"
         if not file.exists():
-            file.write_text(prepared.planarizer.program.run(prepared.script_text()))
-        result = prepared.result(Report.from_text(file.read_text()))
+            command, text = [find_program(), "planarize"], prepared.graph_text().encode()
+            file.write_bytes(subprocess.run(command, input=text, stdout=subprocess.PIPE, check=True).stdout)
+        result = prepared.result(file.read_bytes())
         rows = [(result.node_of[row.a], result.node_of[row.b], result.edge_of[row.id]) for row in result.picture.edges]
         is_right = all({a, b} == set(edge[:2]) for a, b, edge in rows)
-        print(name, prepared.script_text())
+        print(name, prepared.graph_text())
         print(name, "every edge has its ends:", is_right, rows, result.crossing_pairs)
 
 

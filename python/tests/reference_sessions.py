@@ -31,8 +31,8 @@ ABOUT = {
     "limits": GREATEST.to_json(),
     "program": "planar",
     "requests": [
-        "about", "counts", "delete", "edge", "face", "forget", "grow", "insert", "open", "picture", "planned",
-        "renumber", "reopen", "report", "route", "undo", "vertex",
+        "about", "counts", "delete", "edge", "face", "forget", "grow", "insert", "open", "picture", "planarize",
+        "planned", "renumber", "reopen", "report", "route", "undo", "vertex",
     ],
     "version": (ROOT / "VERSION").read_text().strip(),
 }
@@ -448,7 +448,7 @@ class Lines:
             return json_text({"fault": fault.words})
         if isinstance(value, dict) and "call" in value:
             return self.enveloped(value)
-        if first and value != "about" and not (isinstance(value, dict) and ("open" in value or "reopen" in value)):
+        if first and value != "about" and not (isinstance(value, dict) and {"open", "reopen", "planarize"} & value.keys()):
             return json_text(self.opened("$", value))
         return json_text(self.answer_to(lambda: self.asked("$", value, 0)))
 

@@ -1,6 +1,7 @@
 """Colours, widths and labels by mappings and attributes, and drawings as PDF and PNG."""
 
 import unittest
+from math import cos, radians, sin
 from unittest import mock
 from xml.etree import ElementTree
 
@@ -8,6 +9,7 @@ import networkx as nx
 
 from fezdrok import ModuleMissing, draw, drawing_of, planarize, to_svg
 from fezdrok.drawing.drawings import STYLES
+from fezdrok.drawing.labels import LETTER_HEIGHT, text_width
 
 from .drawing_support import planar_result
 from .drawn_lines import SVG
@@ -96,6 +98,20 @@ class Edges(unittest.TestCase):
             for style in STYLES:
                 root = root_of(square(), edge_labels=labels, style=style)
                 self.assertEqual(sorted(it.text for it in root.findall(f".//*[@class='edge-label']")), shown)
+
+    def test_labels_without_a_background(self):
+        """Nothing can be cut out below the letters, so they stand close beside the line, whichever way it runs."""
+        result = planar_result(nx.Graph([("a", "b", {"word": "a word"})]))
+        right, down = text_width("a word") / 2, LETTER_HEIGHT / 2
+        for turn in range(0, 360, 15):
+            x, y = cos(radians(turn)), sin(radians(turn))
+            drawing = drawing_of(result, style="straight", pos={"a": (0, 0), "b": (9 * x, 9 * y)}, edge_labels="word")
+            roots = (ElementTree.fromstring(drawing.to_svg(background=it)) for it in ("#fff", None))
+            on, beside = (root.find(".//*[@class='edge-label']") for root in roots)
+            u, v = (float(beside.get(it)) - float(on.get(it)) for it in "xy")
+            apart = [i * y + j * x for i in (u - right, u + right) for j in (v - down, v + down)]
+            self.assertEqual(len({it > 0 for it in apart}), 1, turn)
+            self.assertTrue(2 < min(map(abs, apart)) < 3, turn)
 
     def test_of_multigraphs(self):
         graph = nx.MultiDiGraph()

@@ -20,12 +20,13 @@ PARENT = os.getpid()
 
 
 class KillingGraph(nx.Graph):
-    """A graph without nodes: whoever copies it in a worker is killed."""
+    """A graph without nodes: whoever reads it in a worker is killed."""
 
-    def copy(self, as_view=False):
+    @property
+    def nodes(self):
         if os.getpid() != PARENT:
             os.kill(os.getpid(), signal.SIGKILL)
-        return super().copy(as_view)
+        return super().nodes
 
 
 class UnpicklableGraph:
@@ -108,7 +109,7 @@ class Batches(unittest.TestCase):
         self.assertEqual((planarize_many([]), list(iter_planarize([], processes=1))), ([], []))
 
     def test_executors(self):
-        """The outcomes are those of one process, whoever does the work; they carry no reports."""
+        """The outcomes are those of one process, whoever does the work."""
         graphs = [nx.complete_graph(3 + place % 5) for place in range(20)] + [nx.Graph(), UnpicklableGraph()]
         due = planarize_many(graphs, processes=1)
         with ThreadPoolExecutor(3) as threads, ProcessPoolExecutor(2) as processes:
@@ -116,11 +117,8 @@ class Batches(unittest.TestCase):
                 outcomes = planarize_many(graphs, executor=executor)
                 self.assertEqual(outcomes[:20], due[:20])
                 self.assertEqual([type(outcome) for outcome in outcomes[20:]][0], ValueError)
-                self.assertEqual([len(outcome.reports) for outcome in outcomes[:20]], [0] * 20)
             shown = dict(iter_planarize(iter(graphs), executor=threads, effort="quick"))
             self.assertEqual((sorted(shown), shown[19].crossings), (list(range(22)), 9))
-        whole = planarize_many([nx.disjoint_union(nx.complete_graph(5), nx.path_graph(2))], processes=1)[0]
-        self.assertEqual([len(part.reports) for part in (whole, *whole.parts)], [0, 0, 0])
 
     def test_outcomes_as_they_come(self):
         found = []

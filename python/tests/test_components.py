@@ -6,7 +6,7 @@ import networkx as nx
 
 from fezdrok import (
     Dummy, NoReport, Picture, PlanarError, Planarizer, ProgramFailed, ProgramNotStarted, Report,
-    from_networkx_embedding, orthogonal_drawing, planarize, reinsert, to_networkx_embedding, to_svg,
+    from_networkx_embedding, from_positions, orthogonal_drawing, planarize, reinsert, to_networkx_embedding, to_svg,
 )
 from fezdrok.drawing.drawings import positions
 
@@ -22,9 +22,9 @@ class Components(unittest.TestCase):
 
     def test_one_result(self):
         graph = self.graph()
-        result = planarize(graph, tries=2, seed=1, rounds=2)
+        result = planarize(graph, tries=2, seed=1)
         self.assertEqual([part.crossings for part in result.parts], [2, 3, 0, 0, 0, 0])
-        self.assertEqual((result.crossings, result.cost, len(result.tries)), (5, 5, 2))
+        self.assertEqual((result.crossings, result.cost, sum(result.tries) >= 5), (5, 5, True))
         self.assertEqual(set(result.vertex_of), set(graph))
         self.assertEqual(set(result.id_of), set(graph.edges))
         for u, v in graph.edges:
@@ -52,22 +52,22 @@ class Components(unittest.TestCase):
 
     def test_words_for_the_whole(self):
         graph = nx.disjoint_union(nx.complete_graph(5), nx.complete_graph(5))
-        result = planarize(graph, price=lambda u, v, data: 1 + u, forbidden=[(0, 1), (5, 6)], order=[(8, 9), (2, 3)])
+        result = planarize(graph, price=lambda u, v, data: 1 + u, forbidden=[(0, 1), (5, 6)])
         self.assertEqual((result.prices[0], sorted(result.prices[1:], reverse=True)), (None, list(result.prices[1:])))
         for edge in ((0, 1), (5, 6)):
             self.assertEqual(len(result.segments(*edge)), 1)
         with self.assertRaisesRegex(ValueError, "no edge of the graph"):
-            planarize(graph, order=[(0, 9)])
+            planarize(graph, forbidden=[(0, 9)])
 
     def test_reinsert(self):
         graph = nx.disjoint_union(nx.petersen_graph(), nx.empty_graph(1))
-        result = planarize(graph, effort="quick")
-        better = reinsert(result, rounds=3)
+        result = from_positions(graph, nx.spiral_layout(graph))
+        better = reinsert(result)
         self.assertLess(better.crossings, result.crossings)
         self.assertEqual(set(better.id_of), set(graph.edges))
         self.assertEqual(better.crossings, sum(part.crossings for part in better.parts))
-        with self.assertRaisesRegex(ValueError, "rounds is -2"):
-            reinsert(result, rounds=-2)
+        with self.assertRaisesRegex(ValueError, "seconds is -2"):
+            reinsert(result, seconds=-2)
 
     def test_drawings(self):
         graph = self.graph()
@@ -88,7 +88,7 @@ class PlanarizedTwice(unittest.TestCase):
         first = to_networkx_embedding(planarize(nx.complete_graph(6)))
         extended = nx.Graph(first.edges)
         extended.add_edges_from([(Dummy("crossing", 0), 3), (Dummy("crossing", 1), 4), (Dummy("crossing", 2), 1), (0, Dummy("crossing", 2)), (1, Dummy("crossing", 0))])
-        result = planarize(extended, order=list(reversed(list(extended.edges))))
+        result = planarize(extended)
         embedding = to_networkx_embedding(result)
         embedding.check_structure()
         self.assertGreater(result.crossings, 0)

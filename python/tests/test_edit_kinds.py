@@ -5,7 +5,7 @@ from dataclasses import replace
 
 import networkx as nx
 
-from fezdrok import Planarizer, Report, planarize
+from fezdrok import Planarizer, Report, from_positions, planarize
 from fezdrok.edit.boards import Board, NotDoneError
 
 from .edit_support import Served, needs_server
@@ -128,7 +128,8 @@ class Tables(Served):
 
     async def test_tidying_leaves_the_kinds(self):
         """Also those that no edge has."""
-        await self.serve(planarize(nx.complete_graph(7), effort="quick", order="random", seed=0))
+        graph = nx.complete_graph(7)
+        await self.serve(from_positions(graph, nx.spiral_layout(graph)))
         talk = await self.talk()
         await talk.ask("prices", [2, 5, None, 2])
         await talk.ask("tidy")

@@ -17,7 +17,7 @@ from unittest import mock
 
 import networkx as nx
 
-from fezdrok import Planarizer, Progress, Refused, Report, load, planarize
+from fezdrok import Planarizer, Progress, Refused, Report, from_positions, load, planarize
 from fezdrok.__main__ import main
 from fezdrok.edit import editors, tabs
 from fezdrok.edit.boards import Board, NotDoneError
@@ -27,8 +27,9 @@ from fezdrok.edit.views import settled_view, view_of, with_route
 from fezdrok.engine.answers import Route
 from fezdrok.engine.faults import ModuleMissing
 
-from .edit_support import PATIENCE, Served, needs_server
+from .edit_support import PATIENCE, Served, needs_server, shown
 from .support import ROOT, needs_program
+from .test_large_drawings import short_edges
 
 
 def k5_without_an_edge():
@@ -196,10 +197,40 @@ class Views(unittest.TestCase):
         self.assertGreater(len(lengths), 2)
         self.assertIsInstance(board.session.route(0, 0), Refused)
 
+    def test_what_a_change_touches(self):
+        """Lines are laid and judged anew, and sent, only of edges that are new, or crossed otherwise than before; what
+        is drawn then is true as a whole, and so is what settles."""
+        board = Board(planarize(short_edges(150), effort="quick"))
+        self.addCleanup(board.close)
+        chance, view = random.Random(2), view_of(0, 1, board.session.snapshot(), None)
+        words = ("insert", "insert", "grow", "delete", "undo", "insert", "undo", "redo", "grow", "insert", "delete")
+        for serial, word in enumerate(words, 2):
+            before, result = view, view.drawing.result
+            u, v = chance.choice(sorted(nx.non_edges(result.graph), key=str))
+            values = {
+                "insert": (result.vertex_of[u], result.vertex_of[v], 0), "grow": (result.vertex_of[u], 0, -serial, 0),
+                "delete": (max(result.edge_id(*edge) for edge in next(nx.chain_decomposition(result.graph))),),
+            }.get(word, ())
+            view = view_of(board.call(1, word, values).number, serial, board.session.snapshot(), before)
+            self.assertEqual((view.drawing.verify(), view.chain), ([], 1))
+            then = set(before.drawing.result.picture.edges)
+            touched = {row.id for row in view.drawing.result.picture.edges if row not in then}
+            lines = {id(it) for it in before.drawing.scene.strokes}
+            laid = [it for it in view.drawing.scene.strokes if id(it) not in lines]
+            self.assertEqual({it.edge_id for it in laid}, touched)
+            self.assertEqual(view.judge.judged, sum(len(it.points) - 1 for it in laid))
+            self.assertLess(view.judge.judged, len(view.judge.lines) / 3)
+            sent = json.loads(view.text(before))["drawing"]
+            self.assertLessEqual({row["id"] for row in sent["edges"]}, touched)
+            self.assertLess(len(sent["nodes"]), 10)
+            if serial % 4 == 0:
+                view = settled_view(serial, view, lambda: False)
+                self.assertEqual((view.drawing.verify(), view.judge.judged), ([], len(view.judge.lines)))
+
     def test_corners(self):
         result = k5_without_an_edge()
         view = view_of(0, 1, result, None)
-        rows = {row["id"]: row["d"] for row in view.to_json()["edges"]}
+        rows = {row["id"]: row["d"] for row in json.loads(view.text(None))["drawing"]["edges"]}
         for vertex, around in enumerate(result.picture.rotations):
             for edge_id in around:
                 points = [tuple(map(float, it.split())) for it in rows[edge_id][1:].split("L")]
@@ -215,12 +246,13 @@ class Views(unittest.TestCase):
             session.insert_edge(1, 4)
             after = view_of(1, 2, session.result(), view)
         self.assertEqual((after.unit, after.chain), (view.unit, 1))
+        first = shown(json.loads(view.text(None))["drawing"])
+        drawings = first, shown(json.loads(after.text(view))["drawing"], first)
+        self.assertEqual(drawings[1], shown(json.loads(after.text(None))["drawing"]))
         places = [
-            {
-                row["name"]: [(it - at) * shown["scale"] for it, at in zip((row["x"], row["y"]), shown["origin"])]
-                for row in shown["nodes"]
-            }
-            for shown in (view.to_json(), after.to_json())
+            {row["name"]: [(it - at) * its["scale"] for it, at in zip((row["x"], row["y"]), its["origin"])]
+             for row in its["nodes"]}
+            for its in drawings
         ]
         for name, (x, y) in places[0].items():
             self.assertAlmostEqual(x, places[1][name][0], delta=0.2)
@@ -412,7 +444,7 @@ class Servers(Served):
 
         await self.serve(k5_without_an_edge())
         talk = await self.talk()
-        with mock.patch("fezdrok.edit.tidying.planarize", endless):
+        with mock.patch("fezdrok.edit.tidying.reinsert", endless):
             for word in ("stop", "undo", "delete"):
                 self.assertEqual(await talk.ask("tidy"), {})
                 self.assertEqual((await talk.ask("tidy"))["refused"], "Tidy is under way")
@@ -429,7 +461,7 @@ class Servers(Served):
         graph = nx.complete_graph(7)
         name = "</script><script>alert(1)</script>"
         nx.relabel_nodes(graph, {0: name}, copy=False)
-        await self.serve(planarize(graph, effort="quick", order="random", seed=0))
+        await self.serve(from_positions(graph, nx.spiral_layout(graph)))
         talk = await self.talk()
         before = await talk.drawn(0)
         self.assertGreater(before["count"], 9)

@@ -168,7 +168,7 @@ class SameAnswers(unittest.TestCase):
 
     def test_a_line_that_needs_more_room(self):
         """It is tried again where there is none, as for a fault at a deep path."""
-        judge = in_process()._library.judge
+        judge = Program().library.judge
         with mock.patch.object(library, "_ROOM", 1):
             self.assertEqual(judge("check", b"{}")[0], 1)
             self.assertTrue(judge("check", b"{}")[1].startswith("planar: 52 BadShape"))

@@ -69,7 +69,12 @@ class Near(unittest.TestCase):
 
     def test_a_search_that_went_on(self):
         """Of edges that were taken out and put in elsewhere, the others keep the nodes where they are."""
-        first = planarize(nx.complete_graph(8), effort="quick")
+        graph, later = nx.complete_graph(8), [(0, 1), (2, 3)]
+        graph.remove_edges_from(later)
+        with planarize(graph).session() as session:
+            for u, v in later:
+                session.insert_edge(u, v)
+            first = session.result()
         better = reinsert(first)
         self.assertLess(better.crossings, first.crossings)
         drawing = drawing_of(first)

@@ -107,14 +107,16 @@ class Pages(unittest.TestCase):
         self.check_pictures(Path(self.folder))
 
     def check_pictures(self, folder: Path):
-        """The pictures that are shown are small, and are those that the examples wrote: with as many lines, nodes and
-        marks, and the same names. Points may differ a little from machine to machine."""
-        all_shown = re.findall(r"!\[[^]]+\]\((pictures/\S+)\)", (ROOT / "docs" / "PYTHON.md").read_text())
+        """The pictures that pages show are small, and are those that the examples and `tools/pictures` wrote: with as
+        many lines, nodes and marks, and the same names. Points may differ a little from machine to machine."""
+        subprocess.run([sys.executable, "-W", "ignore", ROOT / "tools" / "pictures", folder], check=True)
+        pages = "".join(page.read_text() for page in sorted((ROOT / "docs").glob("*.md")))
+        all_shown = re.findall(r"!\[[^]]+\]\((pictures/\S+)\)", pages)
         shown = [name for name in all_shown if name.endswith(".svg")]
         self.assertEqual(
             sorted(all_shown), sorted(f"pictures/{file.name}" for file in (ROOT / "docs" / "pictures").iterdir())
         )
-        self.assertEqual((len(shown), len(all_shown)), (12, 19))
+        self.assertEqual((len(shown), len(all_shown)), (15, 22))
         for name in all_shown:
             self.assertLess((ROOT / "docs" / name).stat().st_size, 60000)
         for name in shown:
@@ -125,6 +127,20 @@ class Pages(unittest.TestCase):
                 for file in (kept, written)
             )
             self.assertEqual(shown_there, written_now)
+
+    def test_the_picture_of_the_crates(self):
+        """Each arrow leads from a crate to one that it uses."""
+        rows = [line.split(":") for line in (ROOT / "crates.txt").read_text().splitlines() if ":" in line]
+        uses = {crate.split()[0]: used.split() for crate, used in rows}
+        picture = ElementTree.parse(ROOT / "docs" / "pictures" / "crates.svg")
+        arrows = [(it.get("data-from"), it.get("data-to")) for it in picture.iterfind(".//*[@class='edge']")]
+        self.assertEqual(len(arrows), 25)
+        self.assertEqual([(start, end) for start, end in arrows if end not in uses[start]], [])
+
+    def test_pictures_for_no_folder(self):
+        tool = [sys.executable, ROOT / "tools" / "pictures", Path(self.folder) / "none"]
+        wrong = subprocess.run(tool, capture_output=True, text=True)
+        self.assertEqual((wrong.returncode, wrong.stderr), (2, "usage: tools/pictures [FOLDER]\n"))
 
     def checkout(self) -> Path:
         """A folder that is as the repository, with the program that the tests call as the one that is built there and the

@@ -37,8 +37,11 @@ class Texts(unittest.TestCase):
             for name in ("id", "a", "b", "kind"):
                 row = replace(Edge(0, 0, 1, 0, (0,)), **{name: value})
                 pictures.append(replace(cross(), edges=(row,)))
-            pictures += [replace(cross(), next_edge=value), replace(cross(), rotations=((value,),))]
+            pictures += [replace(cross(), next_edge=value), replace(cross(), next_crossing=value)]
+            pictures += [replace(cross(), rotations=((value,),)), replace(cross(), rotations=((), (value,) * 40))]
             pictures.append(replace(cross(), crossings=(Crossing(0, 0, 1, value),)))
+        wide = Edge(1999, 1024, 1500, 2000, (1024, 1999))
+        pictures.append(replace(cross(), edges=(wide,), rotations=((1999,) * 40,), next_edge=2000, next_crossing=2000))
         for picture in pictures:
             self.assertEqual(picture.to_text(), json_text(picture.to_json()))
 

@@ -9,10 +9,9 @@ from fractions import Fraction
 import networkx as nx
 
 from fezdrok import (
-    Counts, Fault, Limits, NotPlanarized, Planarizer, Report, planarize, prepare, reinsert, to_networkx_embedding,
+    Counts, Fault, NotPlanarized, Planarizer, planarize, planarize_many, prepare, reinsert, to_networkx_embedding,
 )
 from fezdrok.files.graphs import read_graph
-from fezdrok.search.connectivity import bridges
 
 from .support import crossings_of, euler, graph_pairs, needs_program, pairs_of, traced
 
@@ -88,9 +87,7 @@ class Refusals(unittest.TestCase):
         with self.assertRaisesRegex(ValueError, "the node nan is not equal to itself"):
             planarize(nx.Graph([(float("nan"), 1)]))
         with self.assertRaisesRegex(ValueError, "no edge"):
-            prepare(nx.empty_graph(3))
-        with self.assertRaisesRegex(ValueError, "not connected: 2 cannot be reached from 0"):
-            prepare(nx.Graph([(0, 1), (2, 3)]))
+            prepare(nx.Graph())
         for other in (5, None, "ab", [(0, 1, 2)], [0, 1], [([], 1)]):
             with self.subTest(other), self.assertRaisesRegex(ValueError, r"is no graph of networkx, and no list of pairs"):
                 planarize(other)
@@ -119,7 +116,7 @@ class Refusals(unittest.TestCase):
     def test_64_prices_and_one_more(self):
         graph = nx.path_graph(66)
         self.assertEqual(len(read_graph(graph, lambda u, v, data: 1 + u % 64).prices), 64)
-        with self.assertRaisesRegex(ValueError, "65 different prices"):
+        with self.assertRaisesRegex(ValueError, r"65 different prices.* \(64, 65\) is one too many, and round_prices=True"):
             planarize(graph, price=lambda u, v, data: 1 + u)
         with self.assertRaisesRegex(ValueError, "65 different prices"):
             planarize(graph, price=lambda u, v, data: 1 + u % 64, forbidden=[(0, 1)])
@@ -147,36 +144,52 @@ class Refusals(unittest.TestCase):
         with self.assertRaisesRegex(ValueError, "no edge of the graph"):
             planarize(nx.path_graph(3), forbidden=[(0, 2)])
         with self.assertRaisesRegex(ValueError, "no edge of the graph"):
-            planarize(nx.path_graph(3), order=[(0, 2)])
+            prepare(nx.path_graph(3), forbidden=[(0, 2)])
 
     def test_options(self):
         wrong = {
-            "tries": (0, "1 or more"),
-            "rounds": (-1, "rounds is -1: it must be 0 or more"),
-            "shakes": (-3, "0 or more"),
+            "tries": (0, "tries is 0: it must be 1 or more"),
             "seconds": (-0.5, "seconds is -0.5"),
         }
         wrong["progress"] = (3, "a function")
         for name, (value, words) in wrong.items():
             with self.subTest(name), self.assertRaisesRegex(ValueError, words):
                 planarize(nx.path_graph(3), **{name: value})
-        for name, value in (
-            ("tries", 1.5), ("rounds", "two"), ("shakes", "many"), ("seconds", "long"), ("seconds", float("nan"))
-        ):
+        for name, value in (("tries", 1.5), ("seed", "two"), ("seconds", "long"), ("seconds", float("nan"))):
             with self.subTest(name), self.assertRaisesRegex(ValueError, f"{name} is .*: it must be a"):
                 planarize(nx.path_graph(3), **{name: value})
-        for options in ({"order": "best"}, {"begin": "best"}):
+        for options in ({"effort": "best"}, {"objective": "best"}):
             with self.assertRaisesRegex(ValueError, "not known"):
                 planarize(nx.path_graph(3), **options)
+        for call in (planarize, prepare, reinsert):
+            with self.assertRaisesRegex(TypeError, "unexpected keyword argument 'turns'"):
+                call(nx.path_graph(3), turns=3)
 
+    @needs_program
+    def test_options_of_before(self):
+        """Each is taken, with a warning at the line of the caller that says what stands in its place."""
+        graph = nx.complete_graph(6)
+        due = planarize(graph)
+        for name, value, words in (
+            ("begin", "tree", "planar part"), ("order", "random", "`seed`"), ("rounds", 3, "`effort`"),
+            ("shakes", 7, "`effort`"), ("limits", None, "greatest limits"),
+        ):
+            for call in (
+                planarize, lambda graph, **old: prepare(graph, **old).run(),
+                lambda graph, **old: reinsert(due, **old), lambda graph, **old: planarize_many([graph], **old)[0],
+            ):
+                with self.assertWarnsRegex(DeprecationWarning, f"{name} counts for nothing any more: .*{words}") as told:
+                    self.assertEqual(call(graph, **{name: value}), due)
+                self.assertEqual(told.filename, __file__)
+
+    @needs_program
     def test_forbidden_edges_that_cross(self):
         graph = nx.complete_graph(5)
         with self.assertRaisesRegex(ValueError, "without crossings"):
             planarize(graph, forbidden=graph.edges)
-        for call in (planarize, prepare):
-            with self.assertRaises(NotPlanarized) as caught:
-                call(nx.complete_graph(6), forbidden=[(5, 4), *graph.edges])
-            self.assertEqual((caught.exception.edge, caught.exception.reply), ((3, 4), None))
+        with self.assertRaises(NotPlanarized) as caught:
+            planarize(nx.complete_graph(6), forbidden=[(5, 4), *graph.edges])
+        self.assertEqual((caught.exception.edge, caught.exception.reply), ((3, 4), None))
 
 
 class PriceKinds(unittest.TestCase):
@@ -198,40 +211,6 @@ class PriceKinds(unittest.TestCase):
         self.assertEqual(read_graph(graph, forbidden=[(1, 0, 1)]).kinds, (1, 0, 1))
         self.assertEqual(read_graph(graph, forbidden=[(1, 0)]).kinds, (0, 0, 1))
 
-    def test_bridges(self):
-        for seed in range(30):
-            graph = nx.random_labeled_tree(14, seed=seed) if hasattr(nx, "random_labeled_tree") else nx.random_tree(14, seed=seed)
-            graph.add_edges_from(random.Random(seed).sample(sorted(nx.non_edges(graph)), seed % 7))
-            edges = list(graph.edges)
-            with self.subTest(seed):
-                self.assertEqual(
-                    {edges[place] for place in bridges(edges)},
-                    {edge for edge in edges if edge in set(nx.bridges(graph)) or edge[::-1] in set(nx.bridges(graph))},
-                )
-        self.assertEqual(bridges([(0, 1), (1, 0), (1, 2)]), {2})
-
-    def test_cheap_edges_are_inserted_last(self):
-        graph = nx.cycle_graph(5)
-        graph.add_edges_from([(0, 2, {"weight": 1}), (0, 3, {"weight": 9}), (1, 3, {"weight": 4})])
-        prepared = prepare(graph, "weight")
-        inserted = [prepared.source.price(place) for place in prepared.asked[-4:]]
-        self.assertEqual(inserted, sorted(inserted, reverse=True))
-
-    def test_an_order_that_is_given(self):
-        graph = nx.complete_graph(5)
-        prepared = prepare(graph, order=[(4, 3), (3, 2), (4, 2)])
-        self.assertEqual([prepared.source.edges[place] for place in prepared.drawn], [(3, 4)])
-        grown, inserted = prepared.asked[:3], prepared.asked[3:]
-        self.assertEqual([prepared.source.edges[place] for place in grown], [(2, 3), (0, 3), (1, 3)])
-        self.assertEqual(prepared.source.edges[inserted[0]], (2, 4))
-
-    def test_a_seed_fixes_the_order(self):
-        graph = nx.complete_graph(6)
-        texts = [prepare(graph, order="random", seed=seed).script_text() for seed in (1, 1, 2)]
-        self.assertEqual(texts[0], texts[1])
-        self.assertNotEqual(prepare(graph, order="random", seed=1).asked, prepare(graph, order="random", seed=2).asked)
-
-
 @needs_program
 class Planarizations(PlanarizationTest):
     def test_known_crossing_numbers_are_lower_bounds(self):
@@ -251,49 +230,19 @@ class Planarizations(PlanarizationTest):
             with self.subTest(seed):
                 graph = nx.random_regular_graph(3 + seed % 3, 14, seed=seed)
                 if nx.is_connected(graph):
-                    self.judge(planarize(graph, effort="quick", order="random", seed=seed))
+                    self.judge(planarize(graph, effort="quick", seed=seed))
 
-    def test_several_orders(self):
-        graph = nx.complete_graph(7)
-        result = planarize(graph, effort="quick", tries=6, seed=3)
-        self.judge(result)
-        self.assertEqual(len(result.tries), 6)
-        self.assertEqual(result.crossings, min(result.tries))
-        self.assertEqual(result.tries[0], planarize(graph, effort="quick").crossings)
-        again = planarize(graph, effort="quick", tries=6, seed=3)
-        self.assertEqual((again.picture, again.tries), (result.picture, result.tries))
-
-    def test_a_planar_beginning(self):
-        """A planar graph has no crossing then, and others have no fewer than they must."""
+    def test_planar_graphs_and_no_fewer_crossings_than_there_must_be(self):
         for name, (graph, number) in named_graphs().items():
             with self.subTest(name):
-                result = planarize(graph, effort="quick", begin="planar")
-                self.judge(result)
-                if number == 0:
-                    self.assertEqual(result.crossings, 0)
-                self.assertGreaterEqual(result.crossings, number)
+                for effort in ("quick", "default"):
+                    result = planarize(graph, effort=effort)
+                    self.judge(result)
+                    if number == 0:
+                        self.assertEqual(result.crossings, 0)
+                    self.assertGreaterEqual(result.crossings, number)
         graph = nx.MultiGraph(list(nx.complete_graph(5).edges) * 2)
-        self.judge(planarize(graph, effort="quick", begin="planar", forbidden=[(0, 1)], order="random", price=lambda u, v, data: 1 + u))
-
-    def test_a_planar_beginning_is_as_large_as_one_edge_after_another_makes_it(self):
-        graph = nx.complete_graph(7)
-        prepared = prepare(graph, begin="planar", order="random", seed=4)
-        edges = [prepared.source.edges[place] for place in prepared.drawn]
-        self.assertTrue(nx.check_planarity(nx.Graph(edges))[0])
-        for place in prepared.asked:
-            self.assertFalse(nx.check_planarity(nx.Graph([*edges, prepared.source.edges[place]]))[0])
-
-    def test_rounds_save_crossings_and_replay(self):
-        before = planarize(nx.complete_graph(8), effort="quick")
-        after = reinsert(before, rounds=5)
-        self.judge(after)
-        self.assertLess(after.crossings, before.crossings)
-        self.assertGreaterEqual(after.crossings, 18)
-        self.assertEqual(planarize(nx.complete_graph(8), effort="quick", rounds=5).picture, after.picture)
-        for report, following in zip(after.reports, after.reports[1:]):
-            self.assertEqual(report.picture, following.start)
-        for report in after.reports:
-            self.assertEqual(Planarizer().replay(report), len(report.history))
+        self.judge(planarize(graph, effort="quick", forbidden=[(0, 1)], price=lambda u, v, data: 1 + u))
 
     def test_multigraphs_directed_graphs_and_names_of_any_kind(self):
         multi = nx.MultiGraph([("a", "b"), ("a", "b"), ("b", "c"), ("c", "a"), ("b", "a")])
@@ -308,14 +257,12 @@ class Planarizations(PlanarizationTest):
         graph = nx.complete_graph(5)
         for seed in range(4):
             doubled = nx.MultiGraph(list(graph.edges) * 2)
-            self.judge(planarize(doubled, effort="quick", order="random", seed=seed))
+            self.judge(planarize(doubled, effort="quick", seed=seed))
 
     def test_prices_decide_what_is_crossed(self):
         graph = nx.complete_graph(5)
         dear = {edge: 1000 for edge in graph.edges if edge != (0, 1)}
-        result = planarize(
-            graph, effort="quick", price=dear, order=[edge for edge in graph.edges if 4 not in edge or edge[0] > 1]
-        )
+        result = planarize(graph, effort="quick", price=dear)
         self.judge(result)
         self.assertEqual(
             result.cost,
@@ -330,15 +277,14 @@ class Planarizations(PlanarizationTest):
             graph = nx.complete_graph(7)
             forbidden = random.Random(seed).sample(sorted(nx.maximal_matching(graph)) + [(0, 2), (2, 4)], 4)
             with self.subTest(seed):
-                result = planarize(graph, effort="quick", forbidden=forbidden, order="random", seed=seed)
+                result = planarize(graph, effort="quick", forbidden=forbidden, seed=seed)
                 self.judge(result)
-                self.assertEqual(result.reports[0].version, 2)
                 for u, v in forbidden:
                     self.assertEqual(result.picture.edge(result.edge_id(u, v)).crossings, ())
 
     def test_forbidden_parallel_edges(self):
         graph = nx.MultiGraph(list(nx.complete_graph(6).edges) + [(0, 1), (0, 1)])
-        result = planarize(graph, forbidden=[(0, 1)], rounds=2)
+        result = planarize(graph, forbidden=[(0, 1)])
         self.judge(result)
         for key in range(3):
             self.assertEqual(result.picture.edge(result.edge_id(0, 1, key)).crossings, ())
@@ -350,21 +296,10 @@ class Planarizations(PlanarizationTest):
             planarize(graph, forbidden=forbidden)
         self.assertEqual((caught.exception.edge, caught.exception.reply.name), ((3, 4), "NoRoute"))
 
-    def test_limits(self):
-        with self.assertRaises(NotPlanarized) as caught:
-            planarize(nx.complete_graph(5), limits=Limits(5, 10, 0))
-        self.assertEqual(caught.exception.reply.name, "Full")
-        twice = nx.disjoint_union(nx.complete_graph(5), nx.complete_graph(5))
-        self.assertEqual(planarize(twice, effort="quick", limits=Limits(5, 10, 1)).crossings, 2)
-        for limits, due in ((Limits(4, 10, 1), "20 TooMany"), (Limits(65537, 10, 1), "11 BadLimits")):
-            with self.assertRaisesRegex(Fault, due):
-                planarize(twice, limits=limits)
-
-    def test_a_script_that_is_run_elsewhere(self):
-        graph = nx.petersen_graph()
-        prepared = prepare(graph)
-        text = prepared.planarizer.program.run(prepared.script_text())
-        self.assertEqual(prepared.result(Report.from_text(text)), planarize(graph, effort="quick"))
+    def test_a_graph_that_is_larger_than_a_picture_may_be(self):
+        for graph in (nx.path_graph(65_537), nx.MultiGraph([(0, 1)] * 65_537)):
+            with self.assertRaisesRegex(Fault, "82 TooLarge"):
+                planarize(graph)
 
     def test_the_program_counts_the_same(self):
         result = planarize(nx.complete_graph(6))
@@ -382,7 +317,12 @@ class Routes(unittest.TestCase):
         for graph, price in (
             (nx.complete_graph(6), None), (nx.complete_graph(5), lambda u, v, data: 1 + (3 * u + v) % 5)
         ):
-            report = planarize(graph, price, effort="quick").reports[0]
+            result = planarize(graph, price)
+            with result.session() as session:
+                for u, v in graph.edges:
+                    session.delete_edge(u, v)
+                    session.insert_edge(u, v, result.prices[result.picture.edge(result.edge_id(u, v)).kind])
+                report = session.result().reports[-1]
             planarizer = Planarizer(start=report.start, prices=report.prices)
             before = report.start
             for entry in report.history:

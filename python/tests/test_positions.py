@@ -110,11 +110,10 @@ class Starts(unittest.TestCase):
         graph = nx.complete_graph(8)
         start = from_positions(graph, {node: (x, x * x) for node, x in enumerate((0, 1, 3, 7, 12, 20, 30, 44))})
         self.assertGreater(start.crossings, 40)
-        self.assertEqual(planarize(graph, start=start, effort="quick").picture.crossings, start.picture.crossings)
+        self.assertLess(planarize(graph, start=start, effort="quick").crossings, start.crossings)
         result = planarize(graph, start=start)
         self.assertEqual(result.crossings, 18)
         result.verify(graph)
-        self.assertEqual(result.reports[0].start, planarize(graph, start=start, effort="quick").picture)
 
     def test_from_a_planarization_with_other_prices(self):
         graph = nx.relabel_nodes(nx.complete_graph(7), str)
@@ -142,9 +141,6 @@ class Starts(unittest.TestCase):
             ({"start": 5}, "start is 5: it must be a Planarization"),
             ({"start": from_positions(nx.cycle_graph(4), pos)}, "start is <Planarization: 4 nodes, 4 .* another graph"),
             ({"start": from_positions(nx.star_graph(3), {**pos, 0: (1, 1)})}, "of another graph"),
-            ({"start": start, "begin": "tree"}, "begin is 'tree': it counts for nothing beside a start"),
-            ({"start": start, "tries": 3}, "tries is 3: it counts for nothing"),
-            ({"start": start, "order": "random"}, "order is 'random': it counts for nothing"),
             ({"start": start, "forbidden": [(1, 3)]}, r"start has crossings on the edge \(1, 3\)"),
         ):
             with self.assertRaisesRegex(ValueError, message):

@@ -24,8 +24,8 @@ class Costs(unittest.TestCase):
         graph = nx.complete_graph(5)
         for first, second in itertools.combinations([(0, 1), (2, 3), (0, 4)], 2):
             price = {edge: 1000 for edge in graph.edges} | {first: 3, second: 5}
-            for order in ([first, second], [second, first]):
-                result = planarize(graph, price, order=order, effort="thorough")
+            for seed in (1, 2):
+                result = planarize(graph, price, seed=seed, effort="thorough")
                 self.assertEqual(result.cost, cost_from_both_sides(result))
                 self.assertEqual(result.cost, 15 if not set(first) & set(second) else 3000)
 
@@ -48,7 +48,7 @@ class Costs(unittest.TestCase):
             prices = {edge: 1 + random.Random(f"{seed}{edge}").randrange(20) for edge in graph.edges}
             before = planarize(graph, prices, effort="quick")
             for objective, name in (("cost", "cost"), ("crossings", "crossings"), (None, "cost")):
-                after = reinsert(before, rounds=None, objective=objective)
+                after = reinsert(before, objective=objective)
                 self.assertLessEqual(getattr(after, name), getattr(before, name))
                 self.assertEqual(after.cost, cost_from_both_sides(after))
 
@@ -66,7 +66,7 @@ class Forbidden(unittest.TestCase):
             chance = random.Random(seed)
             graph = nx.gnm_random_graph(10, 26, seed=seed)
             forbidden = chance.sample(list(graph.edges), 8)
-            for options in ({}, {"effort": "quick"}, {"order": list(graph.edges)[::-1]}, {"seconds": 0}):
+            for options in ({}, {"effort": "quick"}, {"seed": 3}, {"seconds": 0}):
                 try:
                     with warnings.catch_warnings():
                         warnings.simplefilter("ignore")  # of orders that come to no picture
@@ -108,16 +108,11 @@ class Options(unittest.TestCase):
             ({"forbidden": 5}, "forbidden is 5"),
             ({"forbidden": [1]}, "forbidden names 1, which is no edge of the graph"),
             ({"forbidden": [([], 1)]}, r"forbidden names \(\[\], 1\)"),
-            ({"order": 5}, "the order is 5"),
-            ({"order": [5]}, "order names 5, which is no edge"),
-            ({"order": {(0, 1)}}, "the order is a set"),
             ({"effort": "much"}, "the effort 'much' is not known: it is 'quick' or 'default' or 'thorough'"),
             ({"effort": None}, "the effort None"),
-            ({"begin": 3}, "the begin 3"),
             ({"seed": "one"}, "seed is 'one'"),
             ({"seed": 1.5}, "seed is 1.5"),
             ({"seconds": "5"}, "seconds is '5'"),
-            ({"limits": (1, 2, 3)}, r"limits is \(1, 2, 3\)"),
             ({"program": 7}, "program is 7"),
             ({"progress": 7}, "progress is 7"),
             ({"round_prices": "yes"}, "round_prices is 'yes'"),

@@ -17,9 +17,9 @@ class ProgressLines(unittest.TestCase):
         line(Progress("shakes", 4, 4, 7, 8, 0.7))
         line(Progress("done", 4, 4, 7, 7, 0.8))
         written = stream.getvalue().split("\r")
-        self.assertEqual(written[1:2], ["order 1 of 4, round 12: 123 crossings, best none yet, 0.5 s"])
+        self.assertEqual(written[1:2], ["search 1 of 4, round 12: 123 crossings, best none yet, 0.5 s"])
         self.assertEqual(len(written[2]), len(written[1]))
-        self.assertEqual(written[2].rstrip(), "order 4 of 4, shakes: 7 crossings, best 8, 0.7 s")
+        self.assertEqual(written[2].rstrip(), "search 4 of 4, shakes: 7 crossings, best 8, 0.7 s")
         self.assertEqual(len(written), 4)
         self.assertTrue(written[3].endswith("\n"))
 
@@ -46,7 +46,8 @@ class ProgressLines(unittest.TestCase):
 class Clocks(unittest.TestCase):
     def test_time(self):
         self.assertFalse(Clock().is_over or Clock(1000).is_over)
-        self.assertTrue(Clock(0).is_over)
+        self.assertTrue(Clock(0).is_over and Clock(0).is_late)
+        self.assertFalse(Clock().is_late or Clock(1000).is_late)
         self.assertGreaterEqual(Clock().spent, 0)
 
 

@@ -8,7 +8,7 @@ import networkx as nx
 from fezdrok import drawing_of, from_positions, planarize, quality
 from fezdrok.drawing.drawings import STYLES
 
-from .quality_table import ten_graphs
+from .quality_table import SEED, ten_graphs
 from .support import needs_program
 
 SQUARE = {0: (0, 0), 1: (3, 0), 2: (3, 3), 3: (0, 3)}
@@ -60,7 +60,7 @@ class Bounds(unittest.TestCase):
     def test_ten_graphs(self):
         found = {
             (name, style): quality(drawing_of(result, style=style))
-            for name, result in ((name, planarize(graph)) for name, graph in ten_graphs().items())
+            for name, result in ((name, planarize(graph, seed=SEED)) for name, graph in ten_graphs().items())
             for style in STYLES
         }
         dense = {"K8", "scale-free, 60 nodes"}

@@ -3,8 +3,7 @@
 import json
 import unittest
 
-from fezdrok import Dart, Deleted, Grow, Grown, Inserted, Limits, NoReport, Picture, Refused, Report
-from fezdrok.engine.reports import Reports as Sequences
+from fezdrok import Dart, Deleted, Grow, Grown, Inserted, Limits, Picture, Refused, Report
 
 from .support import EXAMPLES, example_reports, report_files
 
@@ -42,34 +41,6 @@ class Reports(unittest.TestCase):
     def test_pictures_are_written_as_they_were(self):
         text = (EXAMPLES / "bipyramid.json").read_text()
         self.assertEqual(json.loads(Picture.from_json(json.loads(text)).to_text()), json.loads(text))
-
-
-class Several(unittest.TestCase):
-    """Reports that are read when they are asked for."""
-
-    def setUp(self):
-        self.text = (EXAMPLES / "first_run.report.json").read_text()
-        self.reports = Sequences([self.text, "no report", self.text])
-
-    def test_each_is_read_when_it_is_asked_for(self):
-        self.assertEqual(
-            (len(self.reports), self.reports[0], self.reports[-1]), (3, read("first_run"), read("first_run"))
-        )
-        self.assertIs(self.reports[0], self.reports[0])
-        with self.assertRaises(NoReport):
-            self.reports[1]
-
-    def test_as_a_tuple(self):
-        pair = self.reports[::2]
-        self.assertEqual(pair, (read("first_run"),) * 2)
-        self.assertEqual((pair, hash(pair)), (Sequences([self.text, read("first_run")]), hash(tuple(pair))))
-        self.assertNotEqual(pair, (read("first_run"),))
-        self.assertNotEqual(pair, [1])
-        self.assertEqual(repr(pair), repr(tuple(pair)))
-
-    def test_one_after_another(self):
-        joined = Sequences.joined([self.reports[:1], (read("first_run"),), Sequences()])
-        self.assertEqual(joined, (read("first_run"),) * 2)
 
 
 if __name__ == "__main__":

@@ -99,7 +99,7 @@ class Results(unittest.TestCase):
         for row in value["edges"]:
             for segment in row["segments"]:
                 self.assertEqual(faces[tuple(segment["dart"])], segment["left"])
-        self.assertEqual(len(value["crossings"]), 4)
+        self.assertEqual(len(value["crossings"]), 2)
 
 
 if __name__ == "__main__":

@@ -1,8 +1,10 @@
-"""Searches that fail, where what was found is given: at the limits of the program, where it fails, when time is over,
-and at Ctrl-C. Most programs here are shell scripts, which hand on to the program itself until a process at which they
-fail."""
+"""Searches that fail, where what was found is given: where the program fails, when time is over, and at Ctrl-C; and out
+of memory, which is told. Programs that fail are shell scripts, which hand on to the program itself until a process at
+which they fail; no library is beside them."""
 
 import os
+import subprocess
+import sys
 import tempfile
 import unittest
 import warnings
@@ -12,11 +14,11 @@ from unittest import mock
 import networkx as nx
 
 from fezdrok import (
-    Fault, Limits, NotPlanarized, PlanarWarning, Planarizer, ProgramFailed, find_program, planarize, reinsert,
+    Fault, MemoryFault, PlanarWarning, ProgramFailed, find_program, from_positions, planarize, reinsert,
 )
-from fezdrok.search import local_search, search_picture
+from fezdrok.engine import searches
 
-from .support import fake, needs_program
+from .support import ROOT, fake, needs_library, needs_program
 
 TOO_LONG = "echo 'planar: 51 TooLong' >&2; exit 1"
 KILLED = "kill -9 $$"
@@ -26,7 +28,6 @@ KILLED = "kill -9 $$"
 class SearchFailures(unittest.TestCase):
     def setUp(self):
         self.graph = nx.complete_graph(8)
-        self.once = planarize(self.graph, effort="quick")
 
     def failing(self, calls: str, how: str) -> str:
         """A program that fails in this way in each process whose number is in this pattern of the shell."""
@@ -38,105 +39,110 @@ class SearchFailures(unittest.TestCase):
         counted = f"n=$(($(cat {count}) + 1)); echo $n > {count}"
         return fake(self, f"{counted}\ncase $n in {calls}) {how};; esac\nexec {program} \"$@\"")
 
-    def short(self, lines: int) -> str:
-        """A program that ends when it has read so many lines."""
-        return fake(self, f"sed -u {lines}q | {os.path.abspath(find_program())} \"$@\"")
-
     def warned(self, words: str):
         return self.assertWarnsRegex(PlanarWarning, f"best picture so far is given.*{words}")
 
     def test_nothing_is_told_where_all_was_tried(self):
         with warnings.catch_warnings():
             warnings.simplefilter("error")
-            self.assertEqual(len(planarize(self.graph, effort="quick", tries=3, rounds=2).tries), 3)
+            planarize(self.graph, effort="quick", tries=3)
 
-    def test_a_round_in_which_the_program_ends(self):
-        """21 edges come to the 7 of the tree, then each crossed edge is two lines more."""
-        first = planarize(self.graph, effort="quick", rounds=1)
-        self.assertLess(first.crossings, self.once.crossings)
-        rows = sum(1 for row in self.once.picture.edges if row.crossings)
-        for lines, due in ((28 + 3, self.once), (28 + 2 * rows + 4, first)):
-            with self.warned("ProgramFailed"):
-                result = planarize(self.graph, effort="quick", rounds=5, program=self.short(lines))
-            self.assertEqual(result.picture, due.picture)
-            self.assertEqual(Planarizer().replay(result.reports[-1]), len(result.reports[-1].history))
-
-    def test_an_order_that_fails(self):
-        whole = planarize(self.graph, effort="quick", tries=4)
-        with self.warned("order 2 of 4: Fault 51 TooLong; order 3 of 4: Fault 51"):
-            result = planarize(self.graph, effort="quick", tries=4, program=self.failing("[23]", TOO_LONG))
-        self.assertEqual(result.tries, (whole.tries[0], whole.tries[3]))
-        with self.warned("order 1 of 4"):
-            result = planarize(self.graph, effort="quick", tries=4, program=self.failing("1", TOO_LONG))
-        self.assertEqual(result.tries, whole.tries[1:])
+    def test_a_search_that_fails(self):
+        """It is passed over where another comes to a picture."""
+        for calls, words, seeds in (
+            ("[23]", "search 2 of 4: Fault 51 TooLong; search 3 of 4: Fault 51", (1, 4)), ("1", "search 1 of 4", (2, 3, 4))
+        ):
+            alone = [planarize(self.graph, effort="quick", seed=seed) for seed in seeds]
+            with self.warned(words):
+                result = planarize(self.graph, effort="quick", tries=4, program=self.failing(calls, TOO_LONG))
+            self.assertEqual(result, min(alone, key=lambda it: it.crossings))
 
     def test_a_program_that_fails_ends_the_search(self):
+        alone = [planarize(self.graph, effort="quick", seed=seed) for seed in (1, 2)]
         with self.warned("ProgramFailed"):
             result = planarize(self.graph, effort="quick", tries=4, program=self.failing("3", KILLED))
-        self.assertEqual(result.tries, planarize(self.graph, effort="quick", tries=2).tries)
+        self.assertEqual(result, min(alone, key=lambda it: it.crossings))
 
-    def test_shakes_that_fail(self):
-        whole = planarize(self.graph, tries=2, shakes=0)
+    def test_a_process_that_fails_in_the_middle(self):
+        """A quick picture was made before, so that something is there."""
+        quick = planarize(self.graph, effort="quick")
         with self.warned("ProgramFailed"):
-            result = planarize(self.graph, tries=2, program=self.failing("3", KILLED))
-        self.assertEqual((result.picture, result.tries), (whole.picture, whole.tries))
+            result = planarize(self.graph, program=self.failing("2", KILLED))
+        self.assertEqual(result, quick)
 
     def test_the_first_failure_is_raised_where_nothing_was_found(self):
         for calls, how, kind in (("*", TOO_LONG, Fault), ("*", KILLED, ProgramFailed), ("1", KILLED, ProgramFailed)):
             with self.subTest(kind), self.assertRaises(kind):
                 planarize(self.graph, tries=3, program=self.failing(calls, how))
 
-    def test_limits(self):
-        """Ids run out in a round, and crossings in some orders."""
-        with self.warned("NotPlanarized .* 7 Full"):
-            result = planarize(self.graph, effort="quick", rounds=5, limits=Limits(8, 28, 1000))
-        self.assertEqual(result.picture, self.once.picture)
-        whole = planarize(self.graph, effort="quick", tries=10, seed=1)
-        with self.warned("order 3 of 10: NotPlanarized .* 7 Full"):
-            result = planarize(self.graph, effort="quick", tries=10, seed=1, limits=Limits(8, 28, 19))
-        self.assertEqual(result.tries, tuple(number for number in whole.tries if number <= 19))
-        with self.assertRaises(NotPlanarized):
-            planarize(self.graph, effort="quick", tries=10, seed=1, limits=Limits(8, 28, 5))
-
-    def test_ids_that_run_out_are_made_room_for(self):
-        """With few ids the process begins anew again and again, and comes to the same as with many."""
-        many = planarize(self.graph, effort="quick", rounds=5)
-        for limits, turn in ((Limits(8, 31, 1000), 64), (Limits(8, 40, 1000), 64), (Limits(8, 1000, 45), 2)):
-            with mock.patch.multiple(search_picture, _FIRST=turn, _MOST=turn, _LEAST=turn):
-                few = planarize(self.graph, effort="quick", rounds=5, limits=limits)
-            self.assertEqual((few.crossings, few.tries), (many.crossings, many.tries))
-            self.assertGreater(len(few.reports), 1)
-            for report in few.reports:
-                self.assertEqual(Planarizer().replay(report), len(report.history))
-            self.assertEqual(few.reports[-1].picture, few.picture)
-
-    def test_reinsert(self):
-        with self.warned("ProgramFailed"):
-            self.assertIs(reinsert(self.once, rounds=3, program=self.failing("1", KILLED)), self.once)
-        with self.warned("TooLong"):
-            self.assertIs(reinsert(self.once, rounds=3, program=self.failing("1", TOO_LONG)), self.once)
-
-    def test_a_picture_that_is_longer_than_a_script_may_be(self):
-        graph = nx.barabasi_albert_graph(500, 2, seed=3)
-        first = planarize(graph, effort="quick")
-        with warnings.catch_warnings():
-            warnings.simplefilter("error")
-            result = planarize(graph, effort="quick", rounds=1)
-        self.assertGreater(len(first.picture.to_text()), 1_048_576)
-        self.assertLess(result.crossings, first.crossings)
-        self.assertEqual(result.picture.counts.edges, graph.number_of_edges())
+    def test_starts(self):
+        start = from_positions(self.graph, nx.spiral_layout(self.graph))
+        for how, words in ((KILLED, "ProgramFailed"), (TOO_LONG, "TooLong")):
+            with self.warned(words):
+                self.assertIs(reinsert(start, program=self.failing("1", how)), start)
+            with self.warned(words):
+                self.assertEqual(planarize(self.graph, start=start, program=self.failing("1", how)), start)
 
     def test_time(self):
         """With no time at all there is the first picture all the same, and nobody warns of what was asked for."""
         graph = nx.random_regular_graph(4, 60, seed=2)
+        for program in (None, self.failing("none", KILLED)):
+            with warnings.catch_warnings():
+                warnings.simplefilter("error")
+                result = planarize(graph, seconds=0, program=program)
+                self.assertEqual(set(result.id_of), set(graph.edges))
+                told = []
+                result = planarize(graph, tries=10**6, seconds=0.5, progress=told.append, program=program)
+            self.assertLess(told[-1].seconds, 20)
+            self.assertEqual((told[-1].step, told[-1].best), ("done", result.crossings))
+
+    def test_the_best_so_far_at_the_end_of_the_time(self):
+        """In a search that would go on the picture is better than the first one."""
+        graph = nx.complete_graph(20)
         with warnings.catch_warnings():
             warnings.simplefilter("error")
-            result = planarize(graph, seconds=0)
-            self.assertEqual((len(result.tries), set(result.id_of)), (1, set(graph.edges)))
             told = []
-            result = planarize(graph, tries=1000, shakes=10**6, seconds=0.5, progress=told.append)
-        self.assertLess(told[-1].seconds, 5)
-        self.assertEqual(told[-1].step, "done")
+            result = planarize(graph, effort="thorough", seconds=3, progress=told.append)
+        result.verify(graph)
+        self.assertLess(told[-1].seconds, 30)
+        self.assertEqual(result.crossings, min(one.crossings for one in told if one.crossings))
+
+
+@needs_library
+class OutOfMemory(unittest.TestCase):
+    def test_a_clear_error(self):
+        """A search that is refused memory is told as such, and the process goes on."""
+        code = """if True:
+            import resource
+            import networkx as nx
+            from fezdrok import MemoryFault, planarize
+            graph = nx.complete_graph(60)
+            planarize(nx.complete_graph(5))
+            with open("/proc/self/statm") as file:
+                now = int(file.read().split()[0]) * resource.getpagesize()
+            resource.setrlimit(resource.RLIMIT_AS, (now + (12 << 20),) * 2)
+            try:
+                planarize(graph)
+            except MemoryFault as fault:
+                print(fault, planarize(nx.complete_graph(6)).crossings)
+        """
+        environment = {**os.environ, "PYTHONPATH": os.fspath(ROOT / "python")}
+        ran = subprocess.run([sys.executable, "-c", code], capture_output=True, text=True, env=environment)
+        self.assertEqual((ran.stdout, ran.stderr), ("8 Memory 3\n", ""))
+
+    def test_that_another_search_makes_up_for(self):
+        graph, asked, count = nx.complete_graph(7), searches.LibrarySearch.step, 0
+
+        def step(search):
+            nonlocal count
+            count += 1
+            if count == 1:
+                raise MemoryFault(8, "Memory")
+            return asked(search)
+
+        with mock.patch.object(searches.LibrarySearch, "step", step):
+            with self.assertWarnsRegex(PlanarWarning, "search 1 of 2: MemoryFault 8 Memory"):
+                self.assertEqual(planarize(graph, tries=2).crossings, 9)
 
 
 class Interrupted(Exception):
@@ -147,10 +153,11 @@ class Interrupted(Exception):
 class ProgressCalls(unittest.TestCase):
     def test_progress(self):
         told = []
-        result = planarize(nx.complete_graph(8), progress=told.append)
+        result = planarize(nx.complete_graph(14), tries=2, progress=told.append)
         self.assertEqual((told[0].step, told[0].order, told[0].best), ("begins", 1, None))
         self.assertEqual((told[-1].step, told[-1].best, told[-1].tries), ("done", result.crossings, 2))
-        self.assertTrue({"edges are inserted", "round 1", "shakes"} <= {one.step for one in told})
+        self.assertEqual({one.step for one in told}, {"begins", "searches", "done"})
+        self.assertEqual({one.order for one in told}, {1, 2})
         self.assertEqual([one.seconds for one in told], sorted(one.seconds for one in told))
 
     def test_what_it_raises_is_raised(self):
@@ -163,41 +170,74 @@ class ProgressCalls(unittest.TestCase):
 
     def test_ctrl_c(self):
         """Before the first picture it goes on; after that the best picture is given."""
-        graph = nx.complete_graph(8)
-        for step in ("round 1", "shakes"):
+        graph = nx.complete_graph(20)
+        told = []
 
-            def interrupt(told, step=step):
-                if told.step == step and told.order == 2 or told.step == step == "shakes":
-                    raise KeyboardInterrupt
+        def interrupt(one):
+            told.append(one)
+            if one.best is not None:
+                raise KeyboardInterrupt
 
-            with self.subTest(step), self.assertWarnsRegex(
-                PlanarWarning, "best picture so far is given, .*KeyboardInterrupt"
-            ):
-                result = planarize(graph, progress=interrupt)
-            self.assertEqual(result.tries[0], planarize(graph, tries=1, shakes=0).crossings)
-            self.assertEqual(len(result.tries), 2)
-            self.assertEqual(Planarizer().replay(result.reports[-1]), len(result.reports[-1].history))
-
+        with self.assertWarnsRegex(PlanarWarning, "best picture so far is given, .*KeyboardInterrupt"):
+            result = planarize(graph, progress=lambda one: one.step == "done" or interrupt(one))
+        self.assertLessEqual(result.crossings, told[-1].best)
+        result.verify(graph)
         with self.assertRaises(KeyboardInterrupt):
             planarize(graph, progress=at_once)
 
-    def test_ctrl_c_within_a_long_round(self):
-        """The picture is kept now and then, so that not all of the round is lost."""
-        graph = nx.random_regular_graph(4, 40, seed=1)
-        turns = []
-
-        def interrupt(told):
-            turns.append(told.step)
-            if turns[-1] == "round 1" and turns.count("round 1") == 5:
+    def test_ctrl_c_in_a_later_search(self):
+        def interrupt(one):
+            if one.order == 2:
                 raise KeyboardInterrupt
 
-        first = planarize(graph, effort="quick")
-        with mock.patch.multiple(local_search, _SPARE_SECONDS=0.0, _SPARE_TIMES=0):
-            with mock.patch.multiple(search_picture, _FIRST=8, _MOST=8), self.assertWarns(PlanarWarning):
-                result = planarize(graph, begin="tree", tries=1, progress=interrupt)
-        self.assertLess(result.crossings, first.crossings)
-        self.assertEqual(set(result.id_of), set(graph.edges))
-        self.assertEqual(Planarizer().replay(result.reports[-1]), len(result.reports[-1].history))
+        graph = nx.complete_graph(8)
+        with self.assertWarnsRegex(PlanarWarning, "KeyboardInterrupt"):
+            self.assertEqual(planarize(graph, tries=3, progress=interrupt_before_done(interrupt)), planarize(graph))
+
+    def test_ctrl_c_in_a_later_part(self):
+        """The parts behind it have a first picture."""
+        graph = nx.disjoint_union(nx.complete_graph(5), nx.complete_graph(20))
+        steps = []
+
+        def interrupt(one):
+            steps.append(one.step)
+            if len(steps) == 2:
+                raise KeyboardInterrupt
+
+        with self.assertWarnsRegex(PlanarWarning, "KeyboardInterrupt"):
+            result = planarize(graph, progress=interrupt)
+        self.assertEqual(len(result.parts), 2)
+        result.verify(graph)
+
+    @needs_library
+    def test_ctrl_c_wherever_it_comes(self):
+        """Between two calls of the library nothing is lost, also after the pictures were taken."""
+        graph, due = nx.complete_graph(8), planarize(nx.complete_graph(8))
+        told = searches.LibrarySearch._told
+        for place in range(2, 20):
+            count = 0
+
+            def interrupted(search):
+                nonlocal count
+                count += 1
+                if count == place:
+                    raise KeyboardInterrupt
+                return told(search)
+
+            with mock.patch.object(searches.LibrarySearch, "_told", interrupted), warnings.catch_warnings():
+                warnings.simplefilter("ignore", PlanarWarning)
+                try:
+                    self.assertGreaterEqual(planarize(graph).crossings, due.crossings)
+                except KeyboardInterrupt:
+                    self.assertLess(place, 5)
+            if count < place:
+                return
+        self.fail("the search was interrupted to no end")
+
+
+def interrupt_before_done(interrupt):
+    """What is told of the progress but its end."""
+    return lambda one: one.step == "done" or interrupt(one)
 
 
 def at_once(told):

@@ -16,6 +16,7 @@ from fezdrok import Picture, find_program
 
 from .reference_sessions import ABOUT, NAMES, Lines, Standing, Told, opening
 from .support import ROOT, example_rows, in_process, needs_library, needs_program
+from .test_planarize_command import Shows
 
 COUNT, SEED = int(os.environ.get("FEZDROK_LINES", "20000")), int(os.environ.get("FEZDROK_SEED", "1"))
 
@@ -282,7 +283,7 @@ class ReopenedReports(unittest.TestCase):
             self.assertEqual(answer, right, line[:2000])
 
 
-class Page(unittest.TestCase):
+class Page(Shows):
     """The examples of docs/FORMATS.md and docs/EDITOR.md."""
 
     @needs_program
@@ -295,10 +296,18 @@ class Page(unittest.TestCase):
             self.assertEqual(done.returncode, 1 if due[1] else 0)
 
     def test_the_second_planarizer(self):
+        """It answers as is shown. It does not search: pictures of a graph that are shown are judged."""
         for shown in sessions_of_pages():
             lines, told, end = Lines(), [], []
-            for line in (line for line in shown if line[0] == ">"):
+            for place, line in enumerate(shown):
+                if line[0] != ">":
+                    continue
                 told.append(line)
+                if line.startswith('> {"planarize":'):
+                    graph = json.loads(line[2:])["planarize"]
+                    self.judge(graph["vertices"], graph["edges"], json.loads(shown[place + 1][2:]))
+                    told.append(shown[place + 1])
+                    continue
                 try:
                     told += [] if end else [f"< {lines.answer(line[2:].encode())}"]
                 except Told as fault:

@@ -75,13 +75,13 @@ class DrawnTest(unittest.TestCase):
 class TrueDrawings(DrawnTest):
     def test_random_graphs(self):
         for seed in range(COUNT):
-            result = planarize(random_graph(seed), tries=1, rounds=1, shakes=0)
+            result = planarize(random_graph(seed), effort="quick")
             for style in STYLES:
                 with self.subTest(seed=seed, style=style):
                     self.check(result, style, seed % 4 == 0 or COUNT > 100)
 
     def test_curves_that_cross_at_a_small_angle(self):
-        self.check(planarize(random_graph(365), tries=1, rounds=1, shakes=0), "curved")
+        self.check(planarize(random_graph(365), effort="quick"), "curved")
 
     def test_graphs_with_few_edges(self):
         for graph in (nx.empty_graph(1), nx.empty_graph(5), nx.path_graph(2), nx.star_graph(3)):
@@ -93,7 +93,7 @@ class TrueDrawings(DrawnTest):
     def test_named_graphs(self):
         graphs = named_graphs()
         for name in graphs if COUNT > 100 else ("k5", "k8", "karate_club", "heawood"):
-            result = planarize(graphs[name], tries=1, rounds=1, shakes=0)
+            result = planarize(graphs[name], effort="quick")
             for style in STYLES:
                 with self.subTest(name=name, style=style):
                     self.check(result, style, name != "k12")

@@ -65,7 +65,7 @@ fn gives(numbers: (u32, u32, u32, u32, u32), price: u64, list: Listed<Item>) -> 
     }
 }
 
-/// Numbers alone.
+/// What is given as numbers alone.
 pub(crate) fn counted(alloc: Global, numbers: (u32, u32, u32, u32, u32)) -> Given
     ensures { result ≡ gives numbers.0 numbers.1 numbers.2 numbers.3 numbers.4 0 [] }
 {
@@ -137,7 +137,7 @@ fn end_item(edges: &[u32], ends: &[End], place: usize) -> Item
     }
 }
 
-/// Darts as items.
+/// Darts written as items of a list.
 fn dart_items(alloc: Global, darts: &[Dart]) -> Result<Listed<Item>, AllocError>
     ensures { IfOk result (λ items. items ≡ map dart_item darts.now) }
 {

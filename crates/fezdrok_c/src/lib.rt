@@ -1,10 +1,10 @@
 //! The commands `replay` and `check`, and sessions, for programs in C.
 //!
 //! A judgement goes from bytes to bytes, in memory of the caller's. A session lies in a block of the
-//! caller's, which `fezdrok_begin` fills and `fezdrok_end` gives back. `c/fezdrok.h` declares what
-//! programs call: the judgements, and the functions of `c/fezdrok.c`, which makes the blocks and
-//! turns wrong use away. `run` is not among them: its lists run in threads, and a static library of
-//! this toolchain starts none.
+//! caller's, which `fezdrok_begin` fills and `fezdrok_end` gives back. Programs call the functions of
+//! `c/fezdrok.c`, which `c/fezdrok.h` declares: they make the blocks, and turn wrong use away before it
+//! comes here. `run` is not among them: its lists run in threads, and a static library of this
+//! toolchain starts none.
 #![tactic(auto)]
 
 mod given;

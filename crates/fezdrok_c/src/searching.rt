@@ -12,11 +12,9 @@ use topo_forms::{ScriptFault, read_graph};
 use topo_planarize::{Planarizer, Way};
 use topo_price::tariff::PriceFn;
 use topo_script::written::write_after;
+use topo_session::lines::NOT_OPEN;
 use topo_session::texts::{fault_text, text_of};
 use topo_settings::{FromTable, RunFault};
-
-/// The answer where the pictures were taken, or there was no graph.
-const NOT_OPEN: &str = "{\"fault\":[72,\"NotOpen\"]}";
 
 /// A search, until its pictures are taken, with the text of its last answer.
 pub struct Searching<F: PriceFn> {
@@ -133,6 +131,7 @@ fn reply<F: PriceFn + Drop>(
         SearchReplies request planarizer.old planarizer.new (string_bytes text)) }
     ensures lost { OnErr result (LosesPictures request planarizer.old planarizer.new) }
 {
+    // The pictures were taken, or there was no graph.
     let Some(mut found) = planarizer.take() else {
         return String::from_str(heap, NOT_OPEN);
     };

@@ -131,7 +131,7 @@ fn carry<F: PriceFn>(
     reply_given(heap, reply)
 }
 
-/// Tells a route.
+/// Tells a route between two vertices.
 fn route<F: PriceFn>(
     session: &mut Session<F>,
     heap: Global,
@@ -179,7 +179,7 @@ fn perform<F: PriceFn + Drop>(
     }
 }
 
-/// The same where a session is open; else it is told that none is.
+/// Performs a call where a session is open; else the answer tells that none is.
 fn perform_in<F: PriceFn + Drop>(
     session: &mut Option<Session<F>>,
     heap: Global,

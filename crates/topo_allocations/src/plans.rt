@@ -39,7 +39,7 @@ fn walk<R: Print>(rt: &R, frozen: &Frozen) -> io::Result<()> {
     println!(rt; "  {twin} {edge} {kind} {face} {tail:?}")
 }
 
-/// Judges a plan.
+/// Judges a plan for an insertion.
 fn judge<F: PriceFn, R: Print>(
     rt: &R,
     frozen: &Frozen,

@@ -56,7 +56,7 @@ fn serve_with<F: PriceFn + Drop + Send + Sync, R: Wait + Console + Sync>(
     named::<F, Brand, R>(rt, FreshService::new(), start, tariff)
 }
 
-/// The same, over the service that K names.
+/// Calls the service that K names in the way of `serve_with`.
 fn named<
     F: PriceFn + Drop + Send + Sync,
     K: ServiceBrand<F> + Send + Sync,

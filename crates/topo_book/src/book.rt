@@ -173,14 +173,14 @@ impl<F: PriceFn> Book<F> {
         })
     }
 
-    /// The prices.
+    /// The prices of the book's insertions.
     pub fn tariff(&self) -> &Tariff<F>
         ensures { result.now ≡ self.now.tariff }
     {
         &self.tariff
     }
 
-    /// The same prices, of which another book may take a share.
+    /// The prices of the book, of which another book may take a share.
     pub fn shared_tariff(&self) -> &Arc<Tariff<F>>
         ensures { arc_value result.now ≡ self.now.tariff }
     {
@@ -216,8 +216,8 @@ impl<F: PriceFn> Book<F> {
         self.shared_picture()
     }
 
-    /// The same picture, of which a reader may take a share: it stays as it is for as long as the
-    /// share is held, and calls go on with another.
+    /// The picture of the book, of which a reader may take a share: it stays as it is for as long
+    /// as the share is held, and calls go on with another.
     pub fn shared_picture(&self) -> &Arc<Picture>
         ensures picture { arc_value result.now ≡ self.now.picture }
         ensures replay { Replays (prices_of (F.may_return self.now.tariff))

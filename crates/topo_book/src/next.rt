@@ -59,7 +59,7 @@ impl Next {
         }
     }
 
-    /// A refused entry.
+    /// The entry of a refused call.
     pub(crate) fn refused(entry: Entry) -> Self
         requires refused { is_accepted entry.reply ≡ false }
         requires no_memory { entry.reply ≢ Refused Memory }
@@ -72,7 +72,7 @@ impl Next {
         }
     }
 
-    /// The entry.
+    /// The entry that comes next.
     pub fn entry(&self) -> &Entry
         ensures entry { result.now ≡ self.now.entry }
         ensures no_memory { self.now.entry.reply ≢ Refused Memory }
@@ -92,8 +92,8 @@ impl Next {
         }
     }
 
-    /// The same picture, of which a reader may take a share: it stays as it is for as long as the
-    /// share is held, whatever is entered later.
+    /// The picture after the entry, of which a reader may take a share: it stays as it is for as
+    /// long as the share is held, whatever is entered later.
     pub fn shared(&self) -> Option<&Arc<Picture>>
         ensures picture { option_map arc_value (option_copied result) ≡ self.now.picture }
         ensures accepted { is_some result ≡ is_accepted self.now.entry.reply }
@@ -103,7 +103,7 @@ impl Next {
         self.picture.as_ref()
     }
 
-    /// Both.
+    /// The entry, and the picture after it.
     pub(crate) fn into_parts(self) -> (Entry, Option<Arc<Picture>>)
         ensures entry { result.0 ≡ self.entry }
         ensures picture { option_map arc_value result.1 ≡ self.picture }

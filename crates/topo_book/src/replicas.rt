@@ -40,7 +40,7 @@ impl Model for Replicas {
 }
 
 impl Replicas {
-    /// None, with room for as many as are kept at most.
+    /// No replicas, with room for as many as are kept at most.
     pub(crate) fn new(alloc: Global) -> Result<Self, AllocError>
         ensures { IfOk result (λ r. r ≡ []) }
     {

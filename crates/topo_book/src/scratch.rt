@@ -16,7 +16,7 @@ pub(crate) struct Scratch {
 }
 
 impl Scratch {
-    /// One for pictures of any size.
+    /// Scratch space for pictures of any size.
     pub(crate) fn new(alloc: Global) -> Result<Self, AllocError> {
         Ok(Scratch {
             work: Workspace::new(alloc)?,

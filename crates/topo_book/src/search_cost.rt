@@ -25,7 +25,7 @@ pub(crate) struct SearchCost {
 }
 
 impl SearchCost {
-    /// No search yet.
+    /// The cost while no search was made.
     pub(crate) fn none() -> Self {
         SearchCost {
             reached: 0,

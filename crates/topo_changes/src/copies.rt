@@ -18,7 +18,7 @@ fn copy_rotations(alloc: Global, lists: &[Listed<u32>]) -> Result<Vec<Listed<u32
     Ok(copy)
 }
 
-/// An equal path.
+/// A copy of a path.
 pub(crate) fn copy_path(alloc: Global, path: &[u32]) -> Result<Listed<u32>, AllocError>
     ensures { IfOk result (λ copy. copy ≡ path.now) }
 {
@@ -47,7 +47,7 @@ fn copy_edges(alloc: Global, edges: &[EdgeRow]) -> Result<Vec<EdgeRow>, AllocErr
     Ok(copy)
 }
 
-/// Equal rows.
+/// A copy of rows.
 pub fn copy_rows(alloc: Global, rows: &Rows) -> Result<Rows, AllocError>
     ensures { IfOk result (λ copy. copy ≡ rows.now) }
 {

@@ -122,7 +122,7 @@ impl Model for KeptRows {
 }
 
 impl KeptRows {
-    /// These rows, whose edges and crossings have ids that rise.
+    /// Keeps rows whose edges and crossings have ids that rise.
     pub fn of(alloc: Global, rows: Rows) -> Result<Self, AllocError>
         requires crossings { has_good_crossings rows ≡ true }
         requires edges { has_good_paths rows ≡ true }
@@ -147,8 +147,8 @@ impl KeptRows {
         })
     }
 
-    /// The same as plain rows. The lists of the vertices and the paths of the edges are handed over
-    /// and not copied.
+    /// The kept rows as plain rows. The lists of the vertices and the paths of the edges are handed
+    /// over and not copied.
     pub fn into_rows(self, alloc: Global) -> Result<Rows, AllocError>
         ensures { IfOk result (λ rows. rows ≡ self) }
     {

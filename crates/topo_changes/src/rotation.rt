@@ -144,7 +144,7 @@ fn cut_near(head: &mut Vec<u32>, tail: &mut Vec<u32>, place: usize) -> Result<()
 }
 
 impl Rotation {
-    /// One in a single part.
+    /// A rotation in a single part.
     fn whole(alloc: Global, ids: Vec<u32>) -> Self
         ensures { result ≡ ids.items }
     {
@@ -250,7 +250,7 @@ impl Rotation {
     }
 }
 
-/// These rotations, each in memory of its own.
+/// The rotations of these lists, each in memory of its own.
 pub(crate) fn rotations_of(
     alloc: Global,
     lists: &[Listed<u32>],

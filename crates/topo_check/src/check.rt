@@ -50,7 +50,7 @@ pub fn check_bytes(alloc: Global, bytes: &[u8]) -> Result<String, RunFault>
     line_of_read(alloc, read_rows(alloc, bytes))
 }
 
-/// The same, from what was read of the bytes.
+/// The line of the verdict on what was read of the rows' bytes.
 fn line_of_read(alloc: Global, read: Result<Rows, ScriptFault>) -> Result<String, RunFault>
     ensures line { (bytes : List ℕ) → Gives read (rows_of bytes)
         → IfOk result (λ line. IsSizeOfBytes bytes (string_bytes line)) }

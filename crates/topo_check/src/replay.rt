@@ -60,7 +60,7 @@ pub fn replay_bytes(alloc: Global, bytes: &[u8]) -> Result<String, RunFault>
     line_of_read(alloc, read_report(alloc, bytes))
 }
 
-/// The same, from what was read of the bytes.
+/// The line of the verdict on what was read of the report's bytes.
 fn line_of_read(alloc: Global, read: Result<Report, ScriptFault>) -> Result<String, RunFault>
     ensures line { (bytes : List ℕ) → Gives read (report_of bytes)
         → IfOk result (λ line. TellsCalls bytes (string_bytes line)) }

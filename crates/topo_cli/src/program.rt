@@ -52,7 +52,7 @@ pub enum WordsFault {
 /// What words ask for.
 #[derive(Clone, Copy, Debug, PartialEq, Eq)]
 enum Asked {
-    /// A command.
+    /// A command with its options.
     Command(Verb),
     /// The version of the program.
     Version,

@@ -24,13 +24,13 @@ use topo_settings::RunFault;
 use topo_settings::reading::CountedReader;
 use topo_settings::settings::validate;
 
-/// One list, which grows a vertex on each side of a triangle and crosses it twice between them.
+/// A list that grows a vertex on each side of a triangle and crosses it twice between them.
 const ONE_LIST: &str = concat!(
     r#"{"prices":[3,2],"version":1,"workers":[[["grow",0,0,1],["insert",2,1,0],["grow",0,0,0],"#,
     r#"["grow",0,1,0],["insert",3,4,0],["planned",3,4,1],["delete",9]]]}"#,
 );
 
-/// The same list beside an empty one: so it is carried out with a service.
+/// The list of `ONE_LIST` beside an empty one: so it is carried out with a service.
 const TWO_LISTS: &str = concat!(
     r#"{"prices":[3,2],"version":1,"workers":[[["grow",0,0,1],["insert",2,1,0],["grow",0,0,0],"#,
     r#"["grow",0,1,0],["insert",3,4,0],["planned",3,4,1],["delete",9]],[]]}"#,

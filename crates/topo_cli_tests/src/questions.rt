@@ -29,7 +29,7 @@ const TRIANGLE: &str = "\
 [\"route\",1,4]
 ";
 
-/// The answers.
+/// The answers to the questions of a triangle.
 const TRIANGLE_ANSWERS: &str = "\
 {\"crossings\":0,\"edges\":1,\"faces\":1,\"segments\":1,\"vertices\":2}
 {\"edge\":1,\"vertex\":2}
@@ -68,7 +68,7 @@ const CROSSED: &str = "\
 [\"delete\",6]
 ";
 
-/// The answers.
+/// The answers to the questions of crossed edges.
 const CROSSED_ANSWERS: &str = "\
 {\"crossings\":0,\"edges\":1,\"faces\":1,\"segments\":1,\"vertices\":2}
 {\"edge\":1,\"vertex\":2}
@@ -111,9 +111,9 @@ const ENVELOPES: &str = "\
 \"counts\"
 ";
 
-/// The answers.
+/// The answers to the calls in envelopes.
 const ENVELOPES_ANSWERS: &str = "\
-{\"limits\":{\"crossings\":1048576,\"edges\":65536,\"vertices\":65536},\"program\":\"planar\",\"requests\":[\"about\",\"counts\",\"delete\",\"edge\",\"face\",\"forget\",\"grow\",\"insert\",\"open\",\"picture\",\"planned\",\"renumber\",\"reopen\",\"report\",\"route\",\"undo\",\"vertex\"],\"version\":\"0.5.0\"}
+{\"limits\":{\"crossings\":1048576,\"edges\":65536,\"vertices\":65536},\"program\":\"planar\",\"requests\":[\"about\",\"counts\",\"delete\",\"edge\",\"face\",\"forget\",\"grow\",\"insert\",\"open\",\"picture\",\"planarize\",\"planned\",\"renumber\",\"reopen\",\"report\",\"route\",\"undo\",\"vertex\"],\"version\":\"0.5.0\"}
 {\"fault\":[72,\"NotOpen\"]}
 {\"fault\":[72,\"NotOpen\"]}
 {\"fault\":[52,\"BadShape\",\"$\"]}
@@ -175,7 +175,7 @@ const TAKEN_BACK: &str = "\
 {\"call\":{\"reopen\":{\"history\":[{\"call\":[\"grow\",0,0,0],\"caller\":0,\"reply\":{\"edge\":2,\"vertex\":2}}],\"limits\":{\"crossings\":1048576,\"edges\":65536,\"vertices\":65536},\"picture\":{\"crossings\":[],\"edges\":[{\"a\":0,\"b\":1,\"crossings\":[],\"id\":0,\"kind\":0},{\"a\":0,\"b\":2,\"crossings\":[],\"id\":1,\"kind\":0}],\"next_crossing\":0,\"next_edge\":2,\"rotations\":[[0,1],[0],[1]]},\"prices\":[],\"start\":{\"crossings\":[],\"edges\":[{\"a\":0,\"b\":1,\"crossings\":[],\"id\":0,\"kind\":0}],\"next_crossing\":0,\"next_edge\":1,\"rotations\":[[0],[0]]},\"version\":1}}}
 ";
 
-/// The answers.
+/// The answers while calls are taken back.
 const TAKEN_BACK_ANSWERS: &str = "\
 {\"crossings\":0,\"edges\":1,\"faces\":1,\"segments\":1,\"vertices\":2}
 {\"crossings\":0,\"edges\":1,\"undone\":0,\"vertices\":2}
@@ -214,6 +214,43 @@ const TAKEN_BACK_ANSWERS: &str = "\
 {\"answer\":{\"fault\":[60,\"WrongReply\",0]}}
 ";
 
+/// Graphs of which pictures are wanted, before a session is open and after: each is answered as the
+/// command answers it, and the session's picture stays.
+const GRAPHS: &str = "\
+{\"planarize\":{\"edges\":[[0,1,0],[1,2,0],[2,0,0]],\"progress\":true,\"threads\":2,\"vertices\":4,\"version\":1}}
+\"counts\"
+{\"open\":{\"version\":1}}
+{\"planarize\":{\"edges\":[[0,1,0],[1,2,0],[2,0,0]],\"progress\":true,\"threads\":2,\"vertices\":4,\"version\":1}}
+{\"call\":{\"planarize\":{\"edges\":[[0,1,0],[1,2,0],[2,0,0]],\"progress\":true,\"threads\":2,\"vertices\":4,\"version\":1}},\"id\":7}
+\"counts\"
+{\"planarize\":{\"edges\":[[0,1,0],[1,1,0]],\"vertices\":2,\"version\":1}}
+{\"planarize\":{\"edges\":[[0,1,0],[1,2,0]],\"vertices\":2,\"version\":1}}
+{\"planarize\":{\"edges\":[[0,1,77]],\"vertices\":2,\"version\":1}}
+{\"planarize\":{\"edges\":[[0,1,0]],\"prices\":[0],\"vertices\":2,\"version\":1}}
+{\"planarize\":{\"edges\":[[0,1,0]],\"seconds\":1,\"vertices\":2,\"version\":1}}
+{\"planarize\":{\"edges\":[[0,1,0]],\"start\":{\"lonely\":[],\"parts\":[{\"edges\":[0],\"picture\":{\"crossings\":[],\"edges\":[{\"a\":0,\"b\":1,\"crossings\":[],\"id\":0,\"kind\":0}],\"next_crossing\":0,\"next_edge\":1,\"rotations\":[[0],[0]]},\"vertices\":[1,0]}]},\"vertices\":2,\"version\":1}}
+{\"planarize\":{\"edges\":[[0,1,0],[1,2,0],[2,0,0]],\"progress\":true,\"threads\":2,\"vertices\":4,\"version\":1},\"id\":7}
+\"report\"
+";
+
+/// The answers to the graphs.
+const GRAPHS_ANSWERS: &str = "\
+{\"cost\":0,\"crossings\":0,\"lonely\":[3],\"parts\":[{\"edges\":[0,1,2],\"picture\":{\"crossings\":[],\"edges\":[{\"a\":0,\"b\":1,\"crossings\":[],\"id\":0,\"kind\":0},{\"a\":1,\"b\":2,\"crossings\":[],\"id\":1,\"kind\":0},{\"a\":2,\"b\":0,\"crossings\":[],\"id\":2,\"kind\":0}],\"next_crossing\":0,\"next_edge\":3,\"rotations\":[[0,2],[0,1],[1,2]]},\"vertices\":[0,1,2]}],\"tries\":[0]}
+{\"fault\":[72,\"NotOpen\"]}
+{\"crossings\":0,\"edges\":1,\"faces\":1,\"segments\":1,\"vertices\":2}
+{\"cost\":0,\"crossings\":0,\"lonely\":[3],\"parts\":[{\"edges\":[0,1,2],\"picture\":{\"crossings\":[],\"edges\":[{\"a\":0,\"b\":1,\"crossings\":[],\"id\":0,\"kind\":0},{\"a\":1,\"b\":2,\"crossings\":[],\"id\":1,\"kind\":0},{\"a\":2,\"b\":0,\"crossings\":[],\"id\":2,\"kind\":0}],\"next_crossing\":0,\"next_edge\":3,\"rotations\":[[0,2],[0,1],[1,2]]},\"vertices\":[0,1,2]}],\"tries\":[0]}
+{\"answer\":{\"cost\":0,\"crossings\":0,\"lonely\":[3],\"parts\":[{\"edges\":[0,1,2],\"picture\":{\"crossings\":[],\"edges\":[{\"a\":0,\"b\":1,\"crossings\":[],\"id\":0,\"kind\":0},{\"a\":1,\"b\":2,\"crossings\":[],\"id\":1,\"kind\":0},{\"a\":2,\"b\":0,\"crossings\":[],\"id\":2,\"kind\":0}],\"next_crossing\":0,\"next_edge\":3,\"rotations\":[[0,2],[0,1],[1,2]]},\"vertices\":[0,1,2]}],\"tries\":[0]},\"id\":7}
+{\"crossings\":0,\"edges\":1,\"faces\":1,\"segments\":1,\"vertices\":2}
+{\"fault\":[80,\"Loop\",1]}
+{\"fault\":[81,\"NoEnd\",1]}
+{\"fault\":[54,\"BadNumber\",\"$/edges/0/2\"]}
+{\"fault\":[10,\"BadPrice\",0]}
+{\"fault\":[52,\"BadShape\",\"$/seconds\"]}
+{\"fault\":[84,\"OtherGraph\"]}
+{\"fault\":[52,\"BadShape\",\"$\"]}
+{\"history\":[],\"limits\":{\"crossings\":1048576,\"edges\":65536,\"vertices\":65536},\"picture\":{\"crossings\":[],\"edges\":[{\"a\":0,\"b\":1,\"crossings\":[],\"id\":0,\"kind\":0}],\"next_crossing\":0,\"next_edge\":1,\"rotations\":[[0],[0]]},\"prices\":[],\"start\":{\"crossings\":[],\"edges\":[{\"a\":0,\"b\":1,\"crossings\":[],\"id\":0,\"kind\":0}],\"next_crossing\":0,\"next_edge\":1,\"rotations\":[[0],[0]]},\"version\":1}
+";
+
 #[test]
 fn questions(rt: HostRuntime) {
     check(&rt, TRIANGLE, TRIANGLE_ANSWERS);
@@ -224,4 +261,9 @@ fn questions(rt: HostRuntime) {
 #[test]
 fn envelopes_and_openings(rt: HostRuntime) {
     check(&rt, ENVELOPES, ENVELOPES_ANSWERS);
+}
+
+#[test]
+fn graphs_are_answered_as_by_the_command(rt: HostRuntime) {
+    check(&rt, GRAPHS, GRAPHS_ANSWERS);
 }

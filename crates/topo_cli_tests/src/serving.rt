@@ -46,7 +46,7 @@ fn first_answers(alloc: Global, count: usize) -> Result<String, Fail> {
     Ok(text)
 }
 
-/// These bytes are answered by these.
+/// Checks that a session answers what is read with these answers.
 fn check_session<R: TestRuntime>(rt: &R, read: &[u8], answers: &str) {
     let mut reader = read;
     writes(rt, Verb::Serve, &mut reader, Ok(()), answers);

@@ -141,7 +141,7 @@ pub struct Entry {
 }
 
 impl Entry {
-    /// An equal entry.
+    /// A copy of an entry.
     pub fn copy(&self, alloc: Global) -> Result<Self, AllocError>
         ensures { IfOk result (λ entry. entry ≡ self.now) }
     {

@@ -28,7 +28,7 @@ pub fn bipyramid()
     ensures { BipyramidEvidence }
 {}
 
-/// The same with an edge from apex to apex across the triangle, and with its crossing's sign
+/// The bipyramid with an edge from apex to apex across the triangle, and with its crossing's sign
 /// exchanged.
 pub fn joined_apexes()
     ensures { JoinedApexesEvidence }

@@ -19,7 +19,7 @@ pub struct Route {
 }
 
 impl Route {
-    /// An equal route.
+    /// A copy of a route.
     pub fn copy(&self, alloc: Global) -> Result<Self, AllocError>
         ensures { IfOk result (λ route. route ≡ self.now) }
     {
@@ -41,7 +41,7 @@ pub struct Inserted {
 }
 
 impl Inserted {
-    /// An equal insertion.
+    /// A copy of an insertion.
     pub fn copy(&self, alloc: Global) -> Result<Self, AllocError>
         ensures { IfOk result (λ made. made ≡ self.now) }
     {

@@ -82,7 +82,7 @@ impl Frozen {
         self.embedded.vertex_count() as u32
     }
 
-    /// The same, borrowed.
+    /// The frozen picture with its numbers, borrowed.
     fn as_numbered(&self) -> Numbered<'_>
         ensures rows { result.rows ≡ self.now.rows }
         ensures faces { result.faces ≡ self.now.faces }

@@ -57,8 +57,8 @@ impl<'a> Numbered<'a> {
     ghost use Rattle.topo_core.specs.declared.darts.Dart.{Dart};
     ghost use Rattle.topo_core.specs.declared.darts.Way.TheVariants.{Forward};
 
-    /// These rows with their embedding, and with lists that are written for them. Nothing of the
-    /// rows is copied.
+    /// Rows with their embedding, and with lists that are written for them. Nothing of the rows is
+    /// copied.
     pub fn new(embedded: &'a Embedded, lists: &'a mut NumberLists) -> Result<Self, AllocError>
         requires lawful { Lawful embedded.now.rows }
         requires vertices { length embedded.now.rows.rotations < 2 ^ 32 }

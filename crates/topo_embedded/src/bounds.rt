@@ -46,7 +46,7 @@ impl Model for Bounds {
 }
 
 impl Bounds {
-    /// None.
+    /// Bounds of a picture without faces.
     pub(crate) fn none(alloc: Global) -> Self
         ensures { (result.potentials ≡ []) × (result.floors ≡ []) }
     {
@@ -56,7 +56,7 @@ impl Bounds {
         }
     }
 
-    /// These.
+    /// Bounds with these potentials and floors.
     pub(crate) fn new(potentials: Vec<Potentials>, floors: Vec<u16>) -> Self
         ensures potentials { result.potentials ≡ potentials.items }
         ensures floors { result.floors ≡ floors.items }
@@ -77,7 +77,7 @@ impl Bounds {
         !self.potentials.is_empty()
     }
 
-    /// Those of a face, by its label.
+    /// The potentials of a face, by its label.
     pub(crate) fn at(&self, face: u32) -> Potentials
         ensures { result ≡ at_face self.now face }
     {
@@ -174,7 +174,7 @@ fn is_consistent_at(
     here.are_within(slope(rows, kinds, bounds, segments.edge(half)), &there)
 }
 
-/// The same for all halves, which lie on edges that are there.
+/// Whether bounds are consistent at all halves, which lie on edges that are there.
 pub(crate) fn are_consistent(
     rows: &KeptRows,
     kinds: &Kinds,

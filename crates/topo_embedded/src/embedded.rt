@@ -135,7 +135,7 @@ impl Embedded {
         Ok(())
     }
 
-    /// The rows.
+    /// The rows of the picture.
     pub fn rows(&self) -> &KeptRows
         ensures { result.now ≡ self.now.rows }
     {

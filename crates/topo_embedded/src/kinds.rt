@@ -45,7 +45,7 @@ fn kind_in(rows: &KeptRows, edge: u32) -> Option<u8>
 }
 
 impl Kinds {
-    /// Those of rows.
+    /// The kinds of the edges of rows.
     pub(crate) fn of(alloc: Global, rows: &KeptRows) -> Result<Self, AllocError>
         requires { IsWellFormed rows.now }
         ensures { IfOk result (λ kinds. AreKindsOf rows.now kinds) }

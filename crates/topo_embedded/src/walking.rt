@@ -109,7 +109,7 @@ impl<'a> Model for EmbeddedRows<'a> {
 impl<'a> EmbeddedRows<'a> {
     ghost use Rattle.std.specs.Prelude.{◌≡◌, ◌<◌, ◌^◌, length};
 
-    /// These rows with their embedding.
+    /// Walks on rows with their embedding.
     pub fn new(embedded: &'a Embedded) -> Self
         requires lawful { Lawful embedded.now.rows }
         requires vertices { length embedded.now.rows.rotations < 2 ^ 32 }

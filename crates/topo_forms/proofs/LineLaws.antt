@@ -12,7 +12,7 @@ use Rattle.topo_core.specs.declared.calls.Command.{Command}
 use Rattle.topo_forms.specs.declared.fault.ScriptFault.{ScriptFault}
 use Rattle.topo_forms.specs.declared.fault.ScriptFault.TheVariants.{Memory, BadShape}
 use Rattle.topo_forms.specs.declared.path.Key.{Key}
-use Rattle.topo_forms.specs.declared.path.Key.TheVariants.{Call, Limits, Open, Prices, Reopen, Start, Version}
+use Rattle.topo_forms.specs.declared.path.Key.TheVariants.{Call, Limits, Open, Planarize, Prices, Reopen, Start, Version}
 use Rattle.topo_forms.specs.declared.path.Path.{Path}
 use Rattle.topo_forms.specs.declared.lines.Asked.{Asked}
 use Rattle.topo_forms.specs.declared.lines.Frame.{Frame}
@@ -26,7 +26,7 @@ use Rattle.topo_forms.specs.CallForms.{begins, call_form, command_form, plain_fo
 use Rattle.topo_forms.specs.Paths.{key_name, member_of, whole}
 use Rattle.topo_forms.specs.Reads.{Read, and_then, due, passes, json_of, is_text, element_count, has_key, is_known, all_known, all_there, has_keys, value_of, IsFirstFault, Gives}
 use Rattle.topo_forms.specs.Scripts.{nulls_in}
-use Rattle.topo_forms.specs.Sessions.{text_id, number_id, id_form, open_form, reopen_form, begins_anew, begun_form, carry_form, look_form, request_form}
+use Rattle.topo_forms.specs.Sessions.{text_id, number_id, id_form, open_form, reopen_form, planarize_form, is_keyed, keyed_form, carry_form, look_form, request_form}
 use Rattle.topo_forms.specs.Sessions.{opening_form, opened_form, bare_asked, envelope_head, envelope_asked, envelope_line}
 use Rattle.topo_forms.specs.Sessions.{is_opening, bare_line, object_line, line_form, line_limit, line_or, line_of, command_line, frame_without, has_brace, ReadsLine}
 use Rattle.topo_forms.proofs.Bytes.{too_long, within}
@@ -153,7 +153,8 @@ opening_line d o e =
     let no_call = other_key (Version ∷ []) (Limits ∷ Prices ∷ Start ∷ []) whole Call d refl refl keys in
     let no_open = other_key (Version ∷ []) (Limits ∷ Prices ∷ Start ∷ []) whole Open d refl refl keys in
     let no_reopen = other_key (Version ∷ []) (Limits ∷ Prices ∷ Start ∷ []) whole Reopen d refl refl keys in
-    rw (no_call, no_open, no_reopen, no_text_opens (codes "about") whole d o e, opening_asked d o e) refl
+    let no_graph = other_key (Version ∷ []) (Limits ∷ Prices ∷ Start ∷ []) whole Planarize d refl refl keys in
+    rw (no_call, no_open, no_reopen, no_graph, no_text_opens (codes "about") whole d o e, opening_asked d o e) refl
 
 first_found : (found : Read Data) (o : Opening) → and_then found (opening_form whole) ≡ Ok o
     → line_or true found ≡ record { frame = AsOpening; asked = Ok (record { caller = 0; request = OpenRequest o }) }
@@ -245,10 +246,11 @@ carry_read path d command e =
       apart (codes "undo") (record { planned = refl; grow = refl; insert = refl; delete = refl }) 2,
       no_key Open path d command e,
       no_key Reopen path d command e,
+      no_key Planarize path d command e,
     )
     (went (command_form path d) (λ (found : Command). Ok (Carry found)) command e)
 
--- ---- Objects that begin the session anew
+-- ---- Objects that ask by their key
 
 passed : (fault : ScriptFault) (b : Bool) → passes fault b ≡ Ok tt → b ≡ true
 passed fault true e = refl
@@ -262,27 +264,35 @@ key_there path key d h =
     let known = went_back (passes (BadShape path) (all_known (key ∷ []) [] members.0)) _ tt members.2 in
     passed (BadShape (member_of path key)) (has_key key d) known.2
 
--- what begins the session anew has one of the two keys, and is no envelope
-begun_keys : (path : Path) (d : Data) (request : Request) → begun_form path d ≡ Ok request → (begins_anew d ≡ true) × (has_key Call d ≡ false)
-unfolding begun_form open_form reopen_form
-begun_keys path d request e = by (has_key Open d) refl e
+-- what asks by its key has one of the three keys, and is no envelope
+keyed_keys : (path : Path) (d : Data) (request : Request) → keyed_form path d ≡ Ok request → (is_keyed d ≡ true) × (has_key Call d ≡ false)
+unfolding keyed_form open_form reopen_form planarize_form
+keyed_keys path d request e = by (has_key Open d) refl e
   where
-    by : (b : Bool) → has_key Open d ≡ b → (if b then open_form path d else reopen_form path d) ≡ Ok request → (begins_anew d ≡ true) × (has_key Call d ≡ false)
+    by_reopen : (b : Bool) → has_key Reopen d ≡ b → has_key Open d ≡ false → (if b then reopen_form path d else planarize_form path d) ≡ Ok request
+        → (is_keyed d ≡ true) × (has_key Call d ≡ false)
+    by_reopen true h no_open e =
+        let keys = went_back (has_keys path (Reopen ∷ []) [] d) _ request e in
+        (rw (no_open, h) refl, other_key (Reopen ∷ []) [] path Call d refl refl keys.1)
+    by_reopen false h no_open e =
+        let keys = went_back (has_keys path (Planarize ∷ []) [] d) _ request e in
+        (rw (no_open, h) (key_there path Planarize d keys.1), other_key (Planarize ∷ []) [] path Call d refl refl keys.1)
+
+    by : (b : Bool) → has_key Open d ≡ b → (if b then open_form path d else (if has_key Reopen d then reopen_form path d else planarize_form path d)) ≡ Ok request
+        → (is_keyed d ≡ true) × (has_key Call d ≡ false)
     by true h e =
         let keys = went_back (has_keys path (Open ∷ []) [] d) _ request e in
         (rw h refl, other_key (Open ∷ []) [] path Call d refl refl keys.1)
-    by false h e =
-        let keys = went_back (has_keys path (Reopen ∷ []) [] d) _ request e in
-        (rw h (key_there path Reopen d keys.1), other_key (Reopen ∷ []) [] path Call d refl refl keys.1)
+    by false h e = by_reopen (has_key Reopen d) refl h e
 
-pub begun_read : (path : Path) (d : Data) (request : Request) → begun_form path d ≡ Ok request → request_form path d ≡ Ok request
+pub keyed_read : (path : Path) (d : Data) (request : Request) → keyed_form path d ≡ Ok request → request_form path d ≡ Ok request
 unfolding request_form look_form
-begun_read path (object ms) request e = rw (begun_keys path (object ms) request e).0 e
-begun_read path d request e = let none = (begun_keys path d request e).0 in absurd cc
+keyed_read path (object ms) request e = rw (keyed_keys path (object ms) request e).0 e
+keyed_read path d request e = let none = (keyed_keys path d request e).0 in absurd cc
 
-pub begun_line : (d : Data) (request : Request) → begun_form whole d ≡ Ok request → object_line d ≡ Ok (bare_line request)
+pub keyed_line : (d : Data) (request : Request) → keyed_form whole d ≡ Ok request → object_line d ≡ Ok (bare_line request)
 unfolding object_line
-begun_line d request e = rw (begun_keys whole d request e).1 (went (begun_form whole d) (λ (r : Request). Ok (bare_line r)) request e)
+keyed_line d request e = rw (keyed_keys whole d request e).1 (went (keyed_form whole d) (λ (r : Request). Ok (bare_line r)) request e)
 
 pub envelope_read : (d : Data) (id : Option LineId) (asked : Asked) → has_key Call d ≡ true → envelope_head d ≡ Ok id → envelope_asked d ≡ Ok asked
     → object_line d ≡ Ok (record { frame = Envelope id; asked = Ok asked })
@@ -298,15 +308,15 @@ object_read : (first : Bool) (d : Data) (line : Line) → object_line d ≡ Ok l
 unfolding object_line line_form
 object_read first d line e = by (has_key Call d) refl e
   where
-    by : (b : Bool) → has_key Call d ≡ b → (if b then Ok (envelope_line d) else and_then (begun_form whole d) (λ (r : Request). Ok (bare_line r))) ≡ Ok line
+    by : (b : Bool) → has_key Call d ≡ b → (if b then Ok (envelope_line d) else and_then (keyed_form whole d) (λ (r : Request). Ok (bare_line r))) ≡ Ok line
         → line_form first d ≡ line
     by true h e = let same : envelope_line d ≡ line = cc in rw h same
     by false h e =
-        let begun = went_back (begun_form whole d) (λ (r : Request). Ok (bare_line r)) line e in
-        let anew = (begun_keys whole d begun.0 begun.1).0 in
+        let begun = went_back (keyed_form whole d) (λ (r : Request). Ok (bare_line r)) line e in
+        let anew = (keyed_keys whole d begun.0 begun.1).0 in
         let never : (first && is_opening d) ≡ false = and_right first (is_opening d) (rw anew refl) in
         let same : bare_line begun.0 ≡ line = cc in
-        rw (h, never, bare_read d begun.0 (begun_read whole d begun.0 begun.1)) same
+        rw (h, never, bare_read d begun.0 (keyed_read whole d begun.0 begun.1)) same
 
 object_found : (first : Bool) (found : Read Data) (line : Line) → and_then found object_line ≡ Ok line → line_or first found ≡ line
 unfolding and_then
@@ -325,11 +335,11 @@ object_bytes first bytes line is e =
 -- no request is an envelope
 no_envelope : (path : Path) (d : Data) (request : Request) → request_form path d ≡ Ok request → has_key Call d ≡ false
 unfolding request_form look_form carry_form command_form plain_form call_form and_then
-no_envelope path (object ms) request e = by (begins_anew (object ms)) refl e
+no_envelope path (object ms) request e = by (is_keyed (object ms)) refl e
   where
-    by : (b : Bool) → begins_anew (object ms) ≡ b → (if b then begun_form path (object ms) else carry_form path (object ms)) ≡ Ok request
+    by : (b : Bool) → is_keyed (object ms) ≡ b → (if b then keyed_form path (object ms) else carry_form path (object ms)) ≡ Ok request
         → has_key Call (object ms) ≡ false
-    by true h e = (begun_keys path (object ms) request e).1
+    by true h e = (keyed_keys path (object ms) request e).1
     by false h e = absurd cc
 no_envelope path _ request e = refl
 

@@ -15,10 +15,10 @@ use Rattle.topo_forms.specs.declared.lines.LineId.TheVariants.{Number}
 use Rattle.topo_forms.specs.declared.sessions.Request.{Request}
 use Rattle.topo_forms.specs.Paths.{key_name, whole}
 use Rattle.topo_forms.specs.Reads.{and_then, number_below, number_form, has_keys}
-use Rattle.topo_forms.specs.Sessions.{text_id, number_id, id_form, some_id, caller_form, request_form, begun_form, envelope_head, envelope_asked, bare_line, object_line}
+use Rattle.topo_forms.specs.Sessions.{text_id, number_id, id_form, some_id, caller_form, request_form, keyed_form, envelope_head, envelope_asked, bare_line, object_line}
 use Rattle.topo_forms.specs.Slots.{members_of, IsHeld, SpellsValue}
 use Rattle.topo_forms.specs.Tokens.{Spells}
-use Rattle.topo_forms.proofs.LineLaws.{begun_line, envelope_read}
+use Rattle.topo_forms.proofs.LineLaws.{keyed_line, envelope_read}
 use Rattle.topo_forms.proofs.Lookups.{member_read}
 use Rattle.topo_forms.proofs.Objects.{IsDue, IsMaybe, then, maybe, object_tokens}
 use Rattle.topo_forms.proofs.Spellings.{word_tokens, read_so}
@@ -112,6 +112,6 @@ envelope_tokens {request} {o} {p} {caller} {id} v within first second third end 
     object_tokens envelope_order (Some first.spelled ∷ second.spelled ∷ third.spelled ∷ []) v within ((then) first (maybe second (maybe third end)))
     (λ path. envelope_read d id _ refl head asked)
 
-pub bare_tokens : {r : Request} {line : Line} {ts rest : List Token} → line ≡ bare_line r → Spells 7 begun_form ts r rest
+pub bare_tokens : {r : Request} {line : Line} {ts rest : List Token} → line ≡ bare_line r → Spells 7 keyed_form ts r rest
     → Spells 8 (λ path. object_line) ts line rest
-bare_tokens {r} is s = read_so s (omega arith) (λ path. begun_line s.spelled r (s.reads whole) ∙ ap (λ l. Ok l) (sym is))
+bare_tokens {r} is s = read_so s (omega arith) (λ path. keyed_line s.spelled r (s.reads whole) ∙ ap (λ l. Ok l) (sym is))

@@ -1,25 +1,29 @@
 -- Tokens that spell what a line of a session asks for.
-use Rattle.std.proofs.Common.{◌≡◌, ℕ, ◌≤◌, List, [], ◌∷◌, codes, Option, Some, None, IfSome, Ok, refl, sym, ap, subst, ◌∙◌, arith}
+use Rattle.std.proofs.Common.{◌≡◌, ℕ, ◌≤◌, true, List, [], ◌∷◌, codes, Option, Some, None, is_none, IfSome, Ok, refl, sym, ap, subst, ◌∙◌, arith}
 use Rattle.json.specs.Token.{Token, begin_array, string as text_token}
 use Rattle.json.specs.Json.{after_end_array}
 use Rattle.serde_json.specs.Data.{Data, array, item, no_items, string, object}
 use Rattle.topo_core.specs.declared.calls.Command.{Command}
 use Rattle.topo_core.specs.declared.darts.Dart.{Dart}
-use Rattle.topo_forms.specs.declared.path.Key.TheVariants.{Open, Reopen}
+use Rattle.topo_forms.specs.declared.path.Key.TheVariants.{Open, Planarize, Reopen, Seconds}
+use Rattle.topo_forms.specs.declared.fault.ScriptFault.TheVariants.{BadShape}
+use Rattle.topo_forms.specs.declared.graphs.GraphAsked.{GraphAsked}
 use Rattle.topo_forms.specs.declared.path.Path.{Path}
 use Rattle.topo_forms.specs.declared.reports.Report.{Report}
 use Rattle.topo_forms.specs.declared.sessions.Opening.{Opening}
 use Rattle.topo_forms.specs.declared.sessions.Request.{Request}
-use Rattle.topo_forms.specs.declared.sessions.Request.TheVariants.{Carry, Route, Edge, Vertex, Face, Undo, Open as OpenRequest, Reopen as ReopenRequest}
+use Rattle.topo_forms.specs.declared.sessions.Request.TheVariants.{Carry, Route, Edge, Vertex, Face, Undo, Open as OpenRequest, Planarize as PlanarizeRequest, Reopen as ReopenRequest}
 use Rattle.topo_forms.specs.CallForms.{command_form}
-use Rattle.topo_forms.specs.Reads.{◌>>=◌, and_then, number_form, element, has_keys}
+use Rattle.topo_forms.specs.Graphs.{graph_form}
+use Rattle.topo_forms.specs.Paths.{member_of, whole}
+use Rattle.topo_forms.specs.Reads.{◌>>=◌, and_then, number_form, element, has_keys, passes}
 use Rattle.topo_forms.specs.ReplyForms.{way_form}
 use Rattle.topo_forms.specs.Scripts.{report_form}
-use Rattle.topo_forms.specs.Sessions.{opening_form, route_form, edge_form, vertex_form, face_form, undo_form, open_form, reopen_form, begun_form, look_form, request_form}
+use Rattle.topo_forms.specs.Sessions.{opening_form, route_form, edge_form, vertex_form, face_form, undo_form, open_form, reopen_form, planarize_form, keyed_form, look_form, request_form}
 use Rattle.topo_forms.specs.Slots.{members_of, SpellsValue}
 use Rattle.topo_forms.specs.Tokens.{Spells}
 use Rattle.topo_forms.specs.TokenParts.{SpellsAsked}
-use Rattle.topo_forms.proofs.LineLaws.{carry_read, begun_read}
+use Rattle.topo_forms.proofs.LineLaws.{carry_read, keyed_read}
 use Rattle.topo_forms.proofs.Lookups.{element_read, member_read}
 use Rattle.topo_forms.proofs.Objects.{IsDue, object_tokens}
 use Rattle.topo_forms.proofs.Spellings.{few_done, element_then, text_then, few_tokens, word_tokens, read_so, deeper}
@@ -101,20 +105,33 @@ unfolding has_keys and_then
 reopen_keys path d = refl
 
 pub open_asked : {x : Opening} {n : ℕ} {ts rest : List Token} {os : List (Option Data)} → SpellsValue n ts (object (members_of (Open ∷ []) os)) rest
-    → n ≤ 7 → IsDue opening_form x os [] → Spells 7 begun_form ts (OpenRequest x) rest
-unfolding begun_form open_form
+    → n ≤ 7 → IsDue opening_form x os [] → Spells 7 keyed_form ts (OpenRequest x) rest
+unfolding keyed_form open_form
 open_asked {x} v within opening =
     let d = object (members_of (Open ∷ []) (Some opening.spelled ∷ [])) in
     object_tokens (Open ∷ []) (Some opening.spelled ∷ []) v within opening.is
     (λ path. went _ _ tt (open_keys path opening.spelled) ∙ went _ _ x (member_read opening_form path Open d refl opening.reads))
 
 pub reopen_asked : {x : Report} {n : ℕ} {ts rest : List Token} {os : List (Option Data)} → SpellsValue n ts (object (members_of (Reopen ∷ []) os)) rest
-    → n ≤ 7 → IsDue report_form x os [] → Spells 7 begun_form ts (ReopenRequest x) rest
-unfolding begun_form reopen_form
+    → n ≤ 7 → IsDue report_form x os [] → Spells 7 keyed_form ts (ReopenRequest x) rest
+unfolding keyed_form reopen_form
 reopen_asked {x} v within report =
     let d = object (members_of (Reopen ∷ []) (Some report.spelled ∷ [])) in
     object_tokens (Reopen ∷ []) (Some report.spelled ∷ []) v within report.is
     (λ path. went _ _ tt (reopen_keys path report.spelled) ∙ went _ _ x (member_read report_form path Reopen d refl report.reads))
 
-pub begun_asked : {request : Request} {ts rest : List Token} → Spells 7 begun_form ts request rest → Spells 7 request_form ts request rest
-begun_asked {request} s = read_so s (omega arith) (λ path. begun_read path s.spelled request (s.reads path))
+planarize_keys : (path : Path) (d : Data) → has_keys path (Planarize ∷ []) [] (object (members_of (Planarize ∷ []) (Some d ∷ []))) ≡ Ok tt
+unfolding has_keys and_then
+planarize_keys path d = refl
+
+pub planarize_asked : {x : GraphAsked} {n : ℕ} {ts rest : List Token} {os : List (Option Data)} → SpellsValue n ts (object (members_of (Planarize ∷ []) os)) rest
+    → n ≤ 7 → IsDue (λ _. graph_form) x os [] → is_none x.seconds ≡ true → Spells 7 keyed_form ts (PlanarizeRequest x) rest
+unfolding keyed_form planarize_form
+planarize_asked {x} v within graph none =
+    let d = object (members_of (Planarize ∷ []) (Some graph.spelled ∷ [])) in
+    let passed : passes (BadShape (member_of whole Seconds)) (is_none x.seconds) ≡ Ok tt = rw none refl in
+    object_tokens (Planarize ∷ []) (Some graph.spelled ∷ []) v within graph.is
+    (λ path. went _ _ tt (planarize_keys path graph.spelled) ∙ went _ _ x (member_read (λ _. graph_form) path Planarize d refl graph.reads) ∙ went _ _ tt passed)
+
+pub keyed_asked : {request : Request} {ts rest : List Token} → Spells 7 keyed_form ts request rest → Spells 7 request_form ts request rest
+keyed_asked {request} s = read_so s (omega arith) (λ path. keyed_read path s.spelled request (s.reads path))

@@ -2,7 +2,7 @@
 use Rattle.std.specs.Prelude.{ℕ, List, [], ◌++◌, codes, decimal, Option, Some, None, is_none, if◌then◌else◌}
 use Rattle.topo_forms.specs.declared.path.Key.{Key}
 use Rattle.topo_forms.specs.declared.path.Key.TheVariants.{A, B, Call, Caller, Cost, Crossed, Crossings, Deleted, Edge, Edges, Effort, End, History}
-use Rattle.topo_forms.specs.declared.path.Key.TheVariants.{Id, Kind, Limits, Lonely, Newcomer, NextCrossing, NextEdge, Open, Parts, Picture, Price, Prices}
+use Rattle.topo_forms.specs.declared.path.Key.TheVariants.{Id, Kind, Limits, Lonely, Newcomer, NextCrossing, NextEdge, Open, Parts, Picture, Planarize, Price, Prices}
 use Rattle.topo_forms.specs.declared.path.Key.TheVariants.{Progress, Refused, Reopen, Reply, Rotations, Seconds, Seed, Sign, Start, Threads, Tries, Version, Vertex, Vertices, Workers}
 use Rattle.topo_forms.specs.declared.path.Step.{Step}
 use Rattle.topo_forms.specs.declared.path.Step.TheVariants.{Member, Element}
@@ -33,6 +33,7 @@ key_name NextEdge = codes "next_edge"
 key_name Open = codes "open"
 key_name Parts = codes "parts"
 key_name Picture = codes "picture"
+key_name Planarize = codes "planarize"
 key_name Price = codes "price"
 key_name Prices = codes "prices"
 key_name Progress = codes "progress"

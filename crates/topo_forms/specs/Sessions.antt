@@ -1,5 +1,5 @@
 -- The forms of what a session reads: its opening, what it can be asked for, and its lines.
-use Rattle.std.specs.Prelude.{◌≡◌, ◌⊎◌, ℕ, ◌==◌, nat_le, Bool, not, ◌&&◌, ◌||◌, List, [], ◌∷◌, length, codes, Option, Some, None, option_map, unwrap_or}
+use Rattle.std.specs.Prelude.{◌≡◌, ◌⊎◌, ℕ, ◌==◌, nat_le, Bool, not, ◌&&◌, ◌||◌, List, [], ◌∷◌, length, codes, Option, Some, None, is_none, option_map, unwrap_or}
 use Rattle.std.specs.Prelude.{if◌then◌else◌, Ok, Err}
 use Rattle.json.specs.Ascii as ascii
 use Rattle.json.specs.Word.{head}
@@ -7,7 +7,7 @@ use Rattle.serde_json.specs.Data.{Data}
 use Rattle.serde_json.specs.Find.{as_str}
 use Rattle.topo_core.specs.declared.calls.Command.{Command}
 use Rattle.topo_forms.specs.declared.fault.ScriptFault.TheVariants.{Memory, BadShape}
-use Rattle.topo_forms.specs.declared.path.Key.TheVariants.{Call, Caller, Id, Limits, Open, Prices, Reopen, Start, Version}
+use Rattle.topo_forms.specs.declared.path.Key.TheVariants.{Call, Caller, Id, Limits, Open, Planarize, Prices, Reopen, Seconds, Start, Version}
 use Rattle.topo_forms.specs.declared.path.Path.{Path}
 use Rattle.topo_forms.specs.declared.lines.Asked.{Asked}
 use Rattle.topo_forms.specs.declared.lines.Frame.{Frame}
@@ -18,9 +18,10 @@ use Rattle.topo_forms.specs.declared.lines.LineId.TheVariants.{Text, Number}
 use Rattle.topo_forms.specs.declared.sessions.Opening.{Opening}
 use Rattle.topo_forms.specs.declared.sessions.Request.{Request}
 use Rattle.topo_forms.specs.declared.sessions.Request.TheVariants.{Carry, Counts, Picture, Report, About, Route, Edge, Vertex, Face}
-use Rattle.topo_forms.specs.declared.sessions.Request.TheVariants.{Undo, Forget, Renumber, Open as OpenRequest, Reopen as ReopenRequest}
-use Rattle.topo_forms.specs.Paths.{whole}
-use Rattle.topo_forms.specs.Reads.{Read, ◌>>=◌, number_below, number_form, is_text, element, has_key, has_keys, member_form, member_or, value_of}
+use Rattle.topo_forms.specs.declared.sessions.Request.TheVariants.{Undo, Forget, Renumber, Open as OpenRequest, Planarize as PlanarizeRequest, Reopen as ReopenRequest}
+use Rattle.topo_forms.specs.Paths.{member_of, whole}
+use Rattle.topo_forms.specs.Graphs.{graph_form}
+use Rattle.topo_forms.specs.Reads.{Read, ◌>>=◌, number_below, number_form, is_text, element, has_key, has_keys, member_form, member_or, passes, value_of}
 use Rattle.topo_forms.specs.CallForms.{begins, command_form}
 use Rattle.topo_forms.specs.ReplyForms.{way_form}
 use Rattle.topo_forms.specs.Scripts.{greatest_limits, limits_form, nulls_in, prices_form, start_form, report_form}
@@ -96,19 +97,31 @@ reopen_form path d = do
   report ← member_form report_form path Reopen d
   Ok (ReopenRequest report)
 
--- an object that begins the session anew: by an opening, or by a report
-abbrev pub begins_anew : Data → Bool
-begins_anew d = has_key Open d || has_key Reopen d
+-- A graph, as the one member of an object, of which pictures with few crossings are wanted. Paths in its faults begin at the
+-- graph, as those of the command do. A session has no clock: the seconds are the command's alone.
+unfoldable pub planarize_form : Path → Data → Read Request
+planarize_form path d = do
+  _ ← has_keys path (Planarize ∷ []) [] d
+  asked ← member_form (λ _. graph_form) path Planarize d
+  _ ← passes (BadShape (member_of whole Seconds)) (is_none asked.seconds)
+  Ok (PlanarizeRequest asked)
 
-unfoldable pub begun_form : Path → Data → Read Request
-begun_form path d = if has_key Open d then open_form path d else reopen_form path d
+-- an object that asks by its one key: for an opening, for a report to go on with, or for pictures of a graph
+abbrev pub is_keyed : Data → Bool
+is_keyed d = has_key Open d || has_key Reopen d || has_key Planarize d
+
+unfoldable pub keyed_form : Path → Data → Read Request
+keyed_form path d =
+    if has_key Open d then open_form path d else (
+    if has_key Reopen d then reopen_form path d else
+    planarize_form path d)
 
 unfoldable pub carry_form : Path → Data → Read Request
 carry_form path d = do
   command ← command_form path d
   Ok (Carry command)
 
--- what an array or an object asks for: a look at the picture, a step back, an opening, a report to go on with, or a command
+-- what an array or an object asks for: a look at the picture, a step back, what a key names, or a command
 unfoldable pub look_form : Path → Data → Read Request
 look_form path d =
     if begins (codes "route") 3 d then route_form path d else (
@@ -116,7 +129,7 @@ look_form path d =
     if begins (codes "vertex") 2 d then vertex_form path d else (
     if begins (codes "face") 4 d then face_form path d else (
     if begins (codes "undo") 2 d then undo_form path d else (
-    if begins_anew d then begun_form path d else
+    if is_keyed d then keyed_form path d else
     carry_form path d)))))
 
 -- the text `about`, `counts`, `picture`, `report`, `forget` or `renumber`, or what an array or an object asks for
@@ -185,7 +198,7 @@ bare_asked form d = do
 
 -- whether a first line is the opening itself: it has no envelope, and asks for nothing else that may come first
 abbrev pub is_opening : Data → Bool
-is_opening d = not (begins_anew d) && not (is_text (codes "about") d)
+is_opening d = not (is_keyed d) && not (is_text (codes "about") d)
 
 -- a line as a value, which is the first one of its session or not
 unfoldable pub line_form : Bool → Data → Line
@@ -198,9 +211,9 @@ line_form first d =
 abbrev pub bare_line : Request → Line
 bare_line request = record { frame = Bare; asked = Ok (record { caller = 0; request = request }) }
 
--- a line that means the same first and later: an envelope, or an object that begins the session anew
+-- a line that means the same first and later: an envelope, or an object that asks by its key
 unfoldable pub object_line : Data → Read Line
-object_line d = if has_key Call d then Ok (envelope_line d) else (begun_form whole d >>= λ request. Ok (bare_line request))
+object_line d = if has_key Call d then Ok (envelope_line d) else (keyed_form whole d >>= λ request. Ok (bare_line request))
 
 -- the first byte opens an object
 abbrev pub has_brace : List ℕ → Bool

@@ -17,7 +17,7 @@ use crate::form::{
 };
 use crate::path::{Key, Path};
 use crate::row_forms::MAX_PICTURE_BYTES;
-use crate::sessions::{Opening, Request, begins_anew, read_opened};
+use crate::sessions::{Opening, Request, is_keyed, read_opened};
 use crate::tokens::read_tokens;
 use serde_json::Value;
 use std::alloc::Global;
@@ -57,7 +57,7 @@ impl Model for IdText {
 }
 
 impl IdText {
-    /// The text itself.
+    /// The text of the id.
     pub fn as_str(&self) -> &str
         ensures { result.now ≡ self.now }
     {
@@ -145,7 +145,7 @@ fn read_head(alloc: Global, value: &Value) -> Result<Option<LineId>, ScriptFault
     read_member_or(alloc, Path::WHOLE, Key::Id, value, None)
 }
 
-/// A caller's number.
+/// Reads a caller's number.
 fn read_caller(path: Path, value: &Value) -> Result<u32, ScriptFault>
     ensures { result ≡ caller_form path (view value.now) }
 {
@@ -220,7 +220,7 @@ fn asked_bare(alloc: Global, value: &Value) -> Result<Asked, ScriptFault>
 fn is_opening(value: &Value) -> bool
     ensures { result ≡ is_opening (view value.now) }
 {
-    !begins_anew(value) && !is_text("about", value)
+    !is_keyed(value) && !is_text("about", value)
 }
 
 /// The line that a value is.
@@ -296,8 +296,8 @@ pub(crate) fn bare_line(request: Request) -> Line
     }
 }
 
-/// A line that may be an envelope, or an object that begins the session anew. Such a one is read
-/// from its tokens, if it can be, so that a picture in it takes little memory.
+/// A line that may be an envelope, or an object that asks by its key. Such a one is read from its
+/// tokens, if it can be, so that a picture or a graph in it takes little memory.
 #[inline(never)]
 fn read_object_line(alloc: Global, first: bool, bytes: &[u8]) -> Line
     ensures { ReadsLine result (line_of first bytes.now) }

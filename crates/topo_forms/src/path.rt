@@ -32,6 +32,7 @@ pub enum Key {
     Open,
     Parts,
     Picture,
+    Planarize,
     Price,
     Prices,
     Progress,
@@ -80,6 +81,7 @@ impl Key {
             Key::Open => "open",
             Key::Parts => "parts",
             Key::Picture => "picture",
+            Key::Planarize => "planarize",
             Key::Price => "price",
             Key::Prices => "prices",
             Key::Progress => "progress",
@@ -101,7 +103,7 @@ impl Key {
     }
 }
 
-/// One step into a value: to a member by its key, or to an element by its index from 0.
+/// A step into a value: to a member by its key, or to an element by its index from 0.
 #[derive(Clone, Copy, Debug, PartialEq, Eq)]
 pub enum Step {
     Member(Key),

@@ -241,7 +241,7 @@ impl<'a> TokenReader<'a> {
         }
     }
 
-    /// Takes a text.
+    /// Takes a text, if the next token is one.
     pub fn next_text(&mut self) -> Option<&'a [u8]>
         ensures { IfSome result (λ text. self.old ≡ string text.now ∷ self.new) }
     {

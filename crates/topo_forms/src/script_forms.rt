@@ -93,7 +93,7 @@ pub(crate) fn read_nulls(alloc: Global, path: Path, value: &Value) -> Result<boo
     nulls_of(version)
 }
 
-/// The greatest limits.
+/// The greatest limits that a script may have.
 pub(crate) const GREATEST_LIMITS: LimitRows = LimitRows {
     vertices: 65_536,
     edges: 65_536,

@@ -1,16 +1,20 @@
 //! What a session can be asked for: its opening, and what a line of it asks for.
 
-ghost use Rattle.std.specs.Prelude.{◌≡◌};
+ghost use Rattle.std.specs.Prelude.{◌≡◌, is_none};
 ghost use Rattle.serde_json.specs.View.{view};
-ghost use Rattle.topo_forms.specs.Reads.{Gives};
+ghost use Rattle.topo_forms.specs.declared.fault.ScriptFault.TheVariants.{BadShape};
+ghost use Rattle.topo_forms.specs.declared.path.Key.TheVariants.{Seconds};
+ghost use Rattle.topo_forms.specs.Paths.{member_of, whole};
+ghost use Rattle.topo_forms.specs.Reads.{Gives, passes};
 ghost use Rattle.topo_forms.specs.Sessions.{carry_form, opening_form, opened_form};
 ghost use Rattle.topo_forms.specs.Sessions.{route_form, edge_form, vertex_form, face_form, undo_form};
-ghost use Rattle.topo_forms.specs.Sessions.{open_form, reopen_form, begun_form, begins_anew};
-ghost use Rattle.topo_forms.specs.Sessions.{look_form, request_form};
+ghost use Rattle.topo_forms.specs.Sessions.{open_form, reopen_form, planarize_form, keyed_form};
+ghost use Rattle.topo_forms.specs.Sessions.{is_keyed, look_form, request_form};
 
 use crate::calls::begins;
 use crate::fault::ScriptFault;
 use crate::form::{Form, check_keys, has_key, is_text, read_element, read_elements, read_member};
+use crate::graphs::GraphAsked;
 use crate::path::{Key, Path};
 use crate::reports;
 use crate::script_forms::{read_nulls, read_settings};
@@ -37,7 +41,7 @@ pub enum Request {
     Carry(Command),
     /// How large the picture is.
     Counts,
-    /// The picture.
+    /// Asks for the picture.
     Picture,
     /// The report so far.
     Report,
@@ -45,9 +49,9 @@ pub enum Request {
     About,
     /// The cheapest route between two vertices.
     Route { u: u32, v: u32 },
-    /// An edge.
+    /// Asks for an edge.
     Edge(u32),
-    /// A vertex.
+    /// Asks for a vertex.
     Vertex(u32),
     /// The face beside a dart.
     Face(Dart),
@@ -57,10 +61,12 @@ pub enum Request {
     Forget,
     /// To number what is there anew.
     Renumber,
-    /// To begin anew.
+    /// Asks to begin anew.
     Open(Opening),
     /// To go on from a report.
     Reopen(reports::Report),
+    /// To search for pictures of a graph with few crossings. The session's picture stays.
+    Planarize(GraphAsked),
 }
 
 impl Form for Opening {
@@ -139,21 +145,44 @@ fn read_reopen(alloc: Global, path: Path, value: &Value) -> Result<Request, Scri
     Ok(Request::Reopen(report))
 }
 
-/// Whether a value is an object that begins the session anew.
-pub(crate) fn begins_anew(value: &Value) -> bool
-    ensures { result ≡ begins_anew (view value.now) }
+/// Tests that a graph says nothing of seconds, since a session has no clock.
+fn check_seconds(asked: &GraphAsked) -> Result<(), ScriptFault>
+    ensures { result
+        ≡ passes (BadShape (member_of whole Seconds)) (is_none asked.now.seconds) }
 {
-    has_key(Key::Open, value) || has_key(Key::Reopen, value)
+    if asked.seconds.is_none() {
+        Ok(())
+    } else {
+        Err(ScriptFault::BadShape(Path::WHOLE.member(Key::Seconds)))
+    }
 }
 
-#[tactic(auto, unfolding(crate::specs::Sessions::begun_form))]
-fn read_begun(alloc: Global, path: Path, value: &Value) -> Result<Request, ScriptFault>
-    ensures { Gives result (begun_form path (view value.now)) }
+fn read_planarize(alloc: Global, path: Path, value: &Value) -> Result<Request, ScriptFault>
+    ensures { Gives result (planarize_form path (view value.now)) }
+{
+    check_keys(path, &[Key::Planarize], &[], value)?;
+    let asked: GraphAsked = read_member(alloc, path, Key::Planarize, value)?;
+    check_seconds(&asked)?;
+    Ok(Request::Planarize(asked))
+}
+
+/// Whether a value is an object that asks by its one key.
+pub(crate) fn is_keyed(value: &Value) -> bool
+    ensures { result ≡ is_keyed (view value.now) }
+{
+    has_key(Key::Open, value) || has_key(Key::Reopen, value) || has_key(Key::Planarize, value)
+}
+
+#[tactic(auto, unfolding(crate::specs::Sessions::keyed_form))]
+fn read_keyed(alloc: Global, path: Path, value: &Value) -> Result<Request, ScriptFault>
+    ensures { Gives result (keyed_form path (view value.now)) }
 {
     if has_key(Key::Open, value) {
         read_open(alloc, path, value)
-    } else {
+    } else if has_key(Key::Reopen, value) {
         read_reopen(alloc, path, value)
+    } else {
+        read_planarize(alloc, path, value)
     }
 }
 
@@ -179,8 +208,8 @@ fn read_look(alloc: Global, path: Path, value: &Value) -> Result<Request, Script
         read_face(alloc, path, value)
     } else if begins("undo", 2, value) {
         read_undo(alloc, path, value)
-    } else if begins_anew(value) {
-        read_begun(alloc, path, value)
+    } else if is_keyed(value) {
+        read_keyed(alloc, path, value)
     } else {
         read_carry(alloc, path, value)
     }

@@ -31,7 +31,7 @@ pub trait Slots {
             → FillsOne nesting keys.now reader.old reader.new os (holds self.new)) };
 }
 
-/// No slot.
+/// There is no slot.
 #[derive(Drop)]
 pub struct NoSlot {}
 

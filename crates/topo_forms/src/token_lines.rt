@@ -9,7 +9,7 @@ use crate::path::{Key, Path};
 use crate::reader::TokenReader;
 use crate::sessions::Request;
 use crate::slots::{NoSlot, Slot, read_object};
-use crate::token_requests::token_begun;
+use crate::token_requests::token_keyed;
 use crate::tokens::FromTokens;
 use std::alloc::Global;
 
@@ -77,7 +77,7 @@ fn token_envelope(alloc: Global, reader: &mut TokenReader<'_>) -> Option<Line>
 fn token_bare(alloc: Global, reader: &mut TokenReader<'_>) -> Option<Line>
     ensures { IfSome result (λ line. Spells 8 (λ path. object_line) reader.old line reader.new) }
 {
-    let request = token_begun(alloc, reader)?;
+    let request = token_keyed(alloc, reader)?;
     Some(bare_line(request))
 }
 

@@ -3,10 +3,11 @@
 ghost use Rattle.std.specs.Prelude.{◌≡◌, IfSome, Ok, codes};
 ghost use Rattle.serde_json.specs.Data.{string};
 ghost use Rattle.topo_forms.specs.declared.path.Path.{Path};
-ghost use Rattle.topo_forms.specs.Sessions.{begun_form, request_form};
+ghost use Rattle.topo_forms.specs.Sessions.{keyed_form, request_form};
 ghost use Rattle.topo_forms.specs.Tokens.{Spells};
 ghost use Rattle.topo_forms.specs.TokenParts.{SpellsAsked};
 
+use crate::graphs::GraphAsked;
 use crate::lexing::bytes_are;
 use crate::path::Key;
 use crate::reader::TokenReader;
@@ -130,7 +131,7 @@ fn token_word(reader: &mut TokenReader<'_>) -> Option<Request>
 
 /// An opening that is next, behind its key.
 fn token_open(alloc: Global, reader: &mut TokenReader<'_>) -> Option<Request>
-    ensures { IfSome result (λ request. Spells 7 begun_form reader.old request reader.new) }
+    ensures { IfSome result (λ request. Spells 7 keyed_form reader.old request reader.new) }
 {
     let slots: Slot<Opening, NoSlot> = read_object(alloc, &[Key::Open], reader)?;
     let (opening, _slots) = slots.due()?;
@@ -139,23 +140,40 @@ fn token_open(alloc: Global, reader: &mut TokenReader<'_>) -> Option<Request>
 
 /// A report that is next, behind its key.
 fn token_reopen(alloc: Global, reader: &mut TokenReader<'_>) -> Option<Request>
-    ensures { IfSome result (λ request. Spells 7 begun_form reader.old request reader.new) }
+    ensures { IfSome result (λ request. Spells 7 keyed_form reader.old request reader.new) }
 {
     let slots: Slot<Report, NoSlot> = read_object(alloc, &[Key::Reopen], reader)?;
     let (report, _slots) = slots.due()?;
     Some(Request::Reopen(report))
 }
 
-/// An object that is next, and begins the session anew.
-pub fn token_begun(alloc: Global, reader: &mut TokenReader<'_>) -> Option<Request>
-    ensures { IfSome result (λ request. Spells 7 begun_form reader.old request reader.new) }
+/// A graph that is next, behind its key. One that says how many seconds is read by way of its value.
+fn token_planarize(alloc: Global, reader: &mut TokenReader<'_>) -> Option<Request>
+    ensures { IfSome result (λ request. Spells 7 keyed_form reader.old request reader.new) }
+{
+    let slots: Slot<GraphAsked, NoSlot> = read_object(alloc, &[Key::Planarize], reader)?;
+    let (asked, _slots) = slots.due()?;
+    if asked.seconds.is_some() {
+        drop(asked);
+        return None;
+    }
+    Some(Request::Planarize(asked))
+}
+
+/// An object that is next, and asks by its one key.
+pub fn token_keyed(alloc: Global, reader: &mut TokenReader<'_>) -> Option<Request>
+    ensures { IfSome result (λ request. Spells 7 keyed_form reader.old request reader.new) }
 {
     let begins = reader.copy();
     if let Some(opened) = token_open(alloc, reader) {
         return Some(opened);
     }
+    *reader = begins.copy();
+    if let Some(reopened) = token_reopen(alloc, reader) {
+        return Some(reopened);
+    }
     *reader = begins;
-    token_reopen(alloc, reader)
+    token_planarize(alloc, reader)
 }
 
 impl FromTokens for Request {
@@ -168,7 +186,7 @@ impl FromTokens for Request {
             return token_word(reader);
         }
         if !reader.is_at(b'[') {
-            return token_begun(alloc, reader);
+            return token_keyed(alloc, reader);
         }
         reader.begin_array()?;
         let word = reader.next_text()?;

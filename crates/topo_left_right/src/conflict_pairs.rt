@@ -12,7 +12,7 @@ pub(crate) struct Interval {
 }
 
 impl Interval {
-    /// No back edges.
+    /// An interval without back edges.
     pub(crate) const EMPTY: Interval = Interval {
         low: NONE,
         high: NONE,
@@ -32,13 +32,13 @@ pub(crate) struct ConflictPair {
 }
 
 impl ConflictPair {
-    /// No back edges.
+    /// A pair without back edges.
     pub(crate) const EMPTY: ConflictPair = ConflictPair {
         left: Interval::EMPTY,
         right: Interval::EMPTY,
     };
 
-    /// The sides exchanged.
+    /// The pair with its sides exchanged.
     pub(crate) fn exchanged(self) -> Self {
         ConflictPair {
             left: self.right,
@@ -51,7 +51,8 @@ impl ConflictPair {
         is_above(orientation, self.right.high, edge)
     }
 
-    /// The same on either side.
+    /// Whether the interval on either side ends with an edge that leads back less far than this
+    /// one.
     pub(crate) fn conflicts(self, orientation: &Orientation, edge: u32) -> bool {
         is_above(orientation, self.left.high, edge) || self.conflicts_right(orientation, edge)
     }

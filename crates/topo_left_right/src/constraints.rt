@@ -21,7 +21,7 @@ pub(crate) struct Constraints {
 }
 
 impl Constraints {
-    /// Those of a graph without edges.
+    /// The constraints of a graph without edges.
     pub(crate) fn new(alloc: Global) -> Self {
         Constraints {
             pairs: Vec::new(alloc),
@@ -191,7 +191,7 @@ impl Constraints {
         Some(merged)
     }
 
-    /// One interval above another on the same side.
+    /// Puts one interval above another on the same side.
     fn chain(&mut self, above: Interval, below: Interval) -> Interval {
         if above.is_empty() {
             return below;

@@ -63,7 +63,7 @@ impl Halving {
         })
     }
 
-    /// Tries all parts.
+    /// Tries all parts of the graph.
     fn run(&mut self, edges: &[Ends], order: &[u32]) -> Result<(), AllocError> {
         // A part of k edges falls into less than 2 k parts.
         let bound = 2 * number_of(order.len()) as u64;
@@ -154,7 +154,8 @@ fn count_parallel(alloc: Global, vertices: u32, edges: &[Ends]) -> Result<u32, A
     Ok(parallel)
 }
 
-/// The same of the edges that lead from a vertex to greater ones.
+/// How many edges that lead from a vertex to greater ones have the same ends as another one before
+/// them.
 fn count_parallel_at(incidences: &Groups, met: &mut Numbers, edges: &[Ends], vertex: u32) -> u32 {
     let mut parallel: u32 = 0;
     for place in incidences.start(vertex)..incidences.end(vertex) {

@@ -28,7 +28,7 @@ pub(crate) struct Numbers {
 }
 
 impl Numbers {
-    /// An empty list.
+    /// A list without numbers.
     pub(crate) fn new(alloc: Global) -> Self {
         Numbers {
             items: Vec::new(alloc),

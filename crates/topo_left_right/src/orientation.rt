@@ -64,7 +64,7 @@ impl Orientation {
         vertices + 2 * edges + 1
     }
 
-    /// Nothing is known.
+    /// Begins anew, with nothing known.
     fn reset(&mut self, vertices: u32, edges: u32) -> Result<(), AllocError> {
         self.vertices = vertices;
         self.edges = edges;

@@ -15,7 +15,7 @@ pub(crate) struct Sides {
 }
 
 impl Sides {
-    /// Those of a graph without edges.
+    /// The sides of a graph without edges.
     pub(crate) fn new(alloc: Global) -> Self {
         Sides {
             references: Numbers::new(alloc),

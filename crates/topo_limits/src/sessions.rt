@@ -15,7 +15,7 @@ const TRIPLES: u32 = 47_000;
 /// What is answered to the first line of a session without a start, and to `"counts"`.
 const OPENED: &str = "{\"crossings\":0,\"edges\":1,\"faces\":1,\"segments\":1,\"vertices\":2}\n";
 
-/// The same while there is a second edge.
+/// What is answered to `"counts"` while there is a second edge.
 const TWO_EDGES: &str = "{\"crossings\":0,\"edges\":2,\"faces\":2,\"segments\":2,\"vertices\":2}\n";
 
 /// How a session ends on this reader: whether its answers are those that are due.
@@ -60,7 +60,7 @@ fn is_served(alloc: Global, lines: &str, piece: usize, due: &str) -> Result<Stri
     served(alloc, &mut reader, due)
 }
 
-/// The same of lines and answers that are made first.
+/// A session with lines and answers that are made first.
 fn made_is_served(
     alloc: Global,
     lines: Result<String, AllocError>,

@@ -48,7 +48,7 @@ pub(crate) enum Start {
     Seed(u32),
     /// So many vertices, each joined to the next.
     Line(u32),
-    /// The same, and the last is joined to the first.
+    /// So many vertices in a ring, each joined to the next, and the last to the first.
     Ring(u32),
     /// An edge that winds round and crosses a ray of one edge so often.
     Wound(u32),

@@ -54,7 +54,8 @@ impl Model for Embedding {
 }
 
 impl Embedding {
-    /// One segment with two points, on an edge with this label, and one of its halves.
+    /// Makes an embedding of one segment with two points, on an edge with this label, and gives one
+    /// of its halves.
     pub fn seed(alloc: Global, edge: u32) -> Result<(Self, Half), AllocError>
         ensures made { IfOk result
             (λ made. IsMadeFrom (0 ∷ 1 ∷ []) (made.1 ∷ twin made.1 ∷ []) made.0) }
@@ -118,7 +119,7 @@ impl Embedding {
         segments::reserve(&mut self.segments, more)
     }
 
-    /// The same halves with the same turn, in memory of its own, with no less room.
+    /// A copy of the embedding: its halves with their turn in memory of its own, with no less room.
     pub fn copy(&self) -> Result<Self, AllocError>
         ensures slots { IfOk result (λ copy. copy.slots ≡ self.now.slots) }
         ensures room { IfOk result (λ copy. self.now.room ≤ copy.room) }

@@ -161,7 +161,7 @@ fn extend(walks: &mut Vec<Walk>, places: usize) -> Result<(), AllocError>
     Ok(())
 }
 
-/// The same segments at the same keys, with no less room, in memory of their own.
+/// A copy of segments at their keys, with no less room, in memory of its own.
 pub(crate) fn copy(segments: &Segments) -> Result<Segments, AllocError>
     ensures slots { IfOk result (λ copy. copy.slots ≡ segments.now.slots) }
     ensures room { IfOk result (λ copy. room_of segments.now ≤ room_of copy) }
@@ -272,7 +272,7 @@ fn set_previous(segments: &mut Segments, at: Half, to: Half)
     }
 }
 
-/// `to` follows `from`.
+/// Makes `to` follow `from`.
 pub(crate) fn link(segments: &mut Segments, from: Half, to: Half)
     requires from { holds segments.old from ≡ true }
     requires to { holds segments.old to ≡ true }

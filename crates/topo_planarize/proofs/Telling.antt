@@ -1,5 +1,5 @@
 -- What is told of bytes is told of what was read and written.
-use Rattle.std.proofs.Common.{◌≡◌, ℕ, List, Ok, Option}
+use Rattle.std.proofs.Common.{◌≡◌, ◌⊎◌, ℕ, List, Ok, Option, inl, inr}
 use Rattle.std.specs.Io.KnownBytes.{Appends, Keeps}
 use Rattle.topo_forms.specs.Graphs.{graph_of}
 use Rattle.topo_forms.specs.declared.graphs.GraphAsked.{GraphAsked}
@@ -9,15 +9,14 @@ use Rattle.topo_settings.specs.Reading.{IsRead, ReaderState}
 use Rattle.topo_settings.specs.Writing.{AppendsPart, IsOfWriting}
 use Rattle.topo_settings.proofs.Interface.{appends_so, by_writing, part_so}
 use Rattle.topo_planarize.specs.Answers.{HasNoAnswer}
-use Rattle.topo_planarize.specs.Planarizing.{HasNone, IsPlanarized, IsPlanarizedBy, IsUnplanarized, PlanarizeFailsBy, ReadsNone}
+use Rattle.topo_planarize.specs.Planarizing.{HasNone, IsPlanarized, IsPlanarizedBy, IsUnplanarized, PlanarizeFailsBy, ReadsNone, TellsOfGraph, TellsOfRead}
 use Rattle.topo_planarize.specs.Ways.{TellsWay}
-use Rattle.topo_planarize.proofs.Ways.{way_grows}
 
 module _ (old_told new_told : Option (List ℕ)) where
   -- a graph that was read, and has no answer
   pub unplanarized : (bytes : List ℕ) (asked : GraphAsked) → graph_of bytes ≡ Ok asked → TellsWay asked.progress old_told new_told → (fault : RunFault)
       → HasNoAnswer asked fault → IsUnplanarized bytes fault old_told new_told
-  unplanarized bytes asked is way Memory none = way_grows asked.progress old_told new_told way
+  unplanarized bytes asked is way Memory none = inr (record { asked = asked; spelled = is; way = way })
   unplanarized bytes asked is way (Price fault) none = record { asked = asked; spelled = is; none = none; way = way }
   unplanarized bytes asked is way (Graph fault) none = record { asked = asked; spelled = is; none = none; way = way }
   unplanarized bytes asked is way _ none = absurd none
@@ -44,9 +43,13 @@ module _ (old_told new_told : Option (List ℕ)) where
         way = is.way;
       }
 
+      tells_of_read : Keeps old_told new_told ⊎ TellsOfGraph bytes old_told new_told → Keeps old_told new_told ⊎ TellsOfRead old.left new.left old_told new_told
+      tells_of_read (inl kept) = inl kept
+      tells_of_read (inr is) = inr (record { asked = is.asked; spelled = record { input = bytes; read = read; spelled = is.spelled }; way = is.way })
+
       pub planarize_fails : (fault : RunFault) → IsUnplanarized bytes fault old_told new_told → Keeps old_held new_held
           → PlanarizeFailsBy fault old new old_held new_held old_told new_told
-      planarize_fails Memory is kept = (kept, is)
+      planarize_fails Memory is kept = (kept, tells_of_read is)
       planarize_fails (Script fault) is kept = (record { input = bytes; read = read; first = is.0 }, kept, is.1)
       planarize_fails (Price fault) is kept = (reads_none (Price fault) is, kept)
       planarize_fails (Graph fault) is kept = (reads_none (Graph fault) is, kept)

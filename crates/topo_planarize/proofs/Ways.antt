@@ -36,7 +36,3 @@ way_told false a b is grows = absurd (false≢true is)
 pub way_then : (told : Bool) (a b c : Option (List ℕ)) → TellsWay told a b → TellsWay told b c → TellsWay told a c
 way_then true a b c first next = grows_then a b c first next
 way_then false a b c first next = Keeps-trans a b c first next
-
-pub way_grows : (told : Bool) (a b : Option (List ℕ)) → TellsWay told a b → Grows a b
-way_grows true a b way = way
-way_grows false a b way = grows_kept a b way

@@ -13,6 +13,6 @@ mod searches;
 mod side_by_side;
 
 pub use answers::Answer;
-pub use planarize::planarize_io;
+pub use planarize::{answer_graph, planarize_io};
 pub use planarizer::Planarizer;
 pub use searches::Way;

@@ -78,6 +78,17 @@ fn line_of_read<R: Threads + Clock + Sync, E: Write>(
     }
 }
 
+/// An answer to what was asked, for which the thread that calls searches to the end. How many
+/// seconds it may take, and whether it is told how far it is, plays no part.
+pub fn answer_graph<F: FromTable>(alloc: Global, asked: GraphAsked) -> Result<Answer, RunFault>
+    ensures answer { IfOk result (IsAnswerTo asked) }
+    ensures fault { IfErr result (HasNoAnswer asked) }
+{
+    let mut planarizer = Planarizer::<F>::open(alloc, asked)?;
+    planarizer.run(alloc);
+    planarizer.into_answer(alloc)
+}
+
 /// The line of an answer, with its line feed.
 fn answer_line(alloc: Global, answer: &Answer) -> Result<String, AllocError>
     ensures { IfOk result (λ line. string_bytes line ≡ answer_line answer.now) }

@@ -10,7 +10,7 @@ ghost use Rattle.topo_settings.specs.Settings.{price_table};
 
 use crate::answers::{Answer, total_cost, total_crossings};
 use crate::searches::{Beginning, Found, Searches, Way};
-use crate::side_by_side::{Terms, have_all_ended, search_to_the_end};
+use crate::side_by_side::{Terms, have_all_ended, search_in_turn, search_to_the_end};
 use std::alloc::{AllocError, Global};
 use std::io::Write;
 use std::marker::Model;
@@ -294,6 +294,15 @@ impl<F: PriceFn> Planarizer<F> {
         for searches in self.all.iter_mut() {
             searches.end_soon();
         }
+    }
+
+    /// Searches to the end in the thread that calls.
+    pub fn run(&mut self, alloc: Global)
+    where
+        F: Drop,
+        ensures { self.new ≡ self.old }
+    {
+        search_in_turn(alloc, &mut self.all);
     }
 
     /// Searches to the end, each search in a thread of its own.

@@ -92,7 +92,8 @@ fn search_for_a_while<R: Clock, F: PriceFn + Drop>(
     }
 }
 
-/// The same, for each in a thread of its own, or in its turn where no thread can be made.
+/// Searches for a while, for each search in a thread of its own, or in its turn where no thread can
+/// be made.
 fn search_together<R: Threads + Clock + Sync, F: PriceFn + Drop + Send + Sync>(
     rt: &R,
     alloc: Global,
@@ -156,6 +157,18 @@ fn tell_first<F: PriceFn, E: Write>(all: &[Searches<F>], is_told: bool, told: &m
 /// Whether all searches have ended.
 pub(crate) fn have_all_ended<F: PriceFn>(all: &[Searches<F>]) -> bool {
     all.iter().all(|searches| searches.have_ended())
+}
+
+/// Searches to the end in the thread that calls, each search in its turn.
+pub(crate) fn search_in_turn<F: PriceFn + Drop>(alloc: Global, all: &mut [Searches<F>]) {
+    for _ in 0..u64::MAX {
+        if have_all_ended(all) {
+            return;
+        }
+        for searches in all.iter_mut() {
+            searches.step(alloc);
+        }
+    }
 }
 
 /// Searches until all searches have ended.

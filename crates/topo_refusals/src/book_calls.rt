@@ -22,11 +22,11 @@ pub(crate) const CALLER: u32 = 3;
 pub(crate) enum Step {
     /// Carried out and entered at once.
     Made(Call),
-    /// The same of an insertion for which there is a plan.
+    /// An insertion carried out and entered at once, for which there is a plan.
     Planned(Call),
     /// Made ready first, and then entered.
     Ready(Call),
-    /// The same of an insertion for which there is a plan.
+    /// An insertion made ready first, and then entered, for which there is a plan.
     ReadyPlanned(Call),
 }
 

@@ -31,7 +31,7 @@ fn state<R: Eprint + AllocGlobal>(
     twice(rt, BOOKKEEPING, |alloc| text_of(alloc, embedding, halves))
 }
 
-/// An equal embedding.
+/// A copy of an embedding.
 fn copy<R: Console>(rt: &R, embedding: &Embedding, halves: &[Half], before: &str) -> Result<()> {
     let look = |rt: &R| state(rt, embedding, halves);
     let copy = retried(rt, "Embedding::copy", before, look, |_| embedding.copy())?;

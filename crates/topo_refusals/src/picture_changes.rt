@@ -15,7 +15,7 @@ use topo_route::check::check;
 use topo_route::plan::Plan;
 use topo_test_support::plans::are_ends;
 
-/// A growth.
+/// Grows an edge to a new vertex.
 fn grow<R: Console>(rt: &R, picture: &mut Picture, u: u32, position: u32, kind: u32) -> Result<()> {
     let before = picture_state(rt, picture)?;
     let answer = match picture.grow(rt.alloc(), u, position, kind) {
@@ -57,7 +57,7 @@ fn pass<F: PriceFn>(frozen: &Frozen, tariff: &Tariff<F>, u: u32, v: u32, plan: &
     }
 }
 
-/// The same on a picture, which is frozen.
+/// Lets a plan pass on a picture, which is frozen.
 fn pass_on<R: Eprint + AllocGlobal, F: PriceFn>(
     rt: &R,
     picture: &Picture,

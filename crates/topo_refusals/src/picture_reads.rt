@@ -132,7 +132,7 @@ pub(crate) fn read<R: Console>(rt: &R, name: &str, picture: &Picture) -> Result<
     number(rt, picture, before.as_str())
 }
 
-/// The frozen picture.
+/// The frozen form of a picture.
 pub(crate) fn frozen_of<R: Eprint + AllocGlobal>(
     rt: &R,
     picture: &Picture,

@@ -102,7 +102,7 @@ fn state_of(
     text
 }
 
-/// The same, which is made once more if it is out of memory.
+/// The text of a state, which is made once more if it is out of memory.
 fn state<R: Eprint + AllocGlobal>(
     rt: &R,
     history: Option<&[Entry]>,

@@ -45,8 +45,8 @@ pub(crate) fn twice<T, R: Eprint + AllocGlobal, C: Fn(Global) -> Result<T, Alloc
     }
 }
 
-/// The same of a call whose traces are looked for: if it is out of memory, what is seen after it is
-/// compared with what was seen before.
+/// Makes a call whose traces are looked for, once more if it is out of memory: then what is seen
+/// after it is compared with what was seen before.
 pub(crate) fn retried<
     T,
     R: Console,

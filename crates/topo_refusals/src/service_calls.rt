@@ -41,8 +41,8 @@ const FIRST: [Call; 4] = [
 enum KnownRoute<F: PriceFn, K: ServiceBrand<F>> {
     /// That of a plan. It is taken where the plan passes the check.
     Planned(Plan),
-    /// One that was found on a version. It is taken as it was found, or after a change looked for
-    /// again.
+    /// A route that was found on a version. It is taken as it was found, or after a change looked
+    /// for again.
     Found(FoundRoute<F, K>),
 }
 

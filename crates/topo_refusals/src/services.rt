@@ -26,7 +26,7 @@ use topo_test_support::pictures::BIPYRAMID;
 use topo_test_support::prices::{FIVE_TWO_NINE, table_of};
 use topo_versions::ServiceBrand;
 
-/// One pass looks at versions, one makes the calls, and one plans.
+/// How many passes there are: one looks at versions, one makes the calls, and one plans.
 const PASSES: usize = 3;
 
 /// A service that begins with the bipyramid.
@@ -95,7 +95,7 @@ fn begun<F: PriceFn + Drop + Send + Sync, R: Threads + Wait + Console + Sync>(
     named::<F, Brand, R>(rt, FreshService::new(), copy, tariff, watch)
 }
 
-/// The same, over the service that K names.
+/// Tries the service that K names in the way of `begun`.
 fn named<
     F: PriceFn + Drop + Send + Sync,
     K: ServiceBrand<F> + Send + Sync,

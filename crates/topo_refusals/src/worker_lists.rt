@@ -61,7 +61,7 @@ impl Watch {
         }
     }
 
-    /// Begins anew.
+    /// Begins anew with lists of workers.
     pub(crate) fn begin(&self) {
         self.begun.store(0, Ordering::SeqCst);
         self.ended.store(0, Ordering::SeqCst);
@@ -100,7 +100,7 @@ impl Gate for Watch {
     }
 }
 
-/// One list, of these commands.
+/// A single list, of these commands.
 fn list_of(alloc: Global, commands: &[Command]) -> Result<Vec<Vec<Command>>, AllocError> {
     let list = Vec::from_slice(alloc, commands)?;
     let mut lists = Vec::with_capacity(alloc, 1)?;

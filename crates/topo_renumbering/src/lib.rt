@@ -198,8 +198,8 @@ fn next_id(rows: usize) -> Option<u32>
     Some(rows as u32)
 }
 
-/// These rows with their ids closed up from 0 in their order, and what that did. Rows of a picture
-/// have such rows.
+/// Rows with their ids closed up from 0 in their order, and what that did. Rows of a picture have
+/// such rows.
 pub fn close_up(alloc: Global, old: &Rows) -> Result<Option<(Renumbered, Rows)>, AllocError>
     ensures { IfOk result (λ found. IfSome found (λ made. IsRenumbered old.now made.0 made.1)) }
 {

@@ -47,7 +47,7 @@ impl Model for BucketQueue {
 }
 
 impl BucketQueue {
-    /// One in which none waits, with room for so many pushes before it asks for more.
+    /// A queue in which none waits, with room for so many pushes before it asks for more.
     pub(crate) fn new(alloc: Global, room: usize) -> Result<Self, AllocError>
         ensures { IfOk result (λ w. w ≡ []) }
     {

@@ -30,7 +30,7 @@ pub trait FaceGraph {
         requires { IsName (named self.now) dart }
         ensures { result ≡ next_name (named self.now) dart };
 
-    /// The same segment, the other way.
+    /// The dart on the same segment that leads the other way.
     fn twin(&self, dart: u32) -> u32
         requires { IsName (named self.now) dart }
         ensures { result ≡ twin_name (named self.now) dart };

@@ -45,7 +45,7 @@ pub(crate) fn next_along<D: Dual>(dual: &D, dart: u32) -> u32
     steps::next_along(dual, dart)
 }
 
-/// The same segment, the other way.
+/// The dart on the same segment that leads the other way.
 pub(crate) fn across<D: Dual>(dual: &D, dart: u32) -> u32
     requires { dart < length (darts (D.shows dual.now)) }
     ensures twin { result ≡ twin dart }

@@ -37,7 +37,7 @@ pub(crate) struct Labels {
 }
 
 impl Labels {
-    /// Those of a picture without faces, with room for so many that wait.
+    /// The search state of a picture without faces, with room for so many that wait.
     pub(crate) fn new(alloc: Global, room: usize) -> Result<Self, AllocError>
         ensures { IfOk result (λ labels. (labels.heights ≡ []) × (labels.waiting ≡ [])) }
     {

@@ -118,7 +118,7 @@ fn grow_beside(wide: &mut Vec<u64>, len: usize) -> Result<(), AllocError>
 }
 
 impl StampedArray {
-    /// An empty list.
+    /// An array without places.
     pub(crate) fn new(alloc: Global) -> Self
         ensures { result ≡ [] }
     {
@@ -156,7 +156,7 @@ impl StampedArray {
         self.read(place as usize)
     }
 
-    /// As `get`.
+    /// Reads what stands at a place, as `get` does.
     fn read(&self, place: usize) -> u64
         requires { place < length self.now }
         ensures { result ≡ slice_index self.now place }

@@ -24,7 +24,7 @@ pub(crate) fn next_along<W: FaceGraph>(graph: &W, dart: u32) -> u32
     graph.next(dart)
 }
 
-/// The same segment, the other way.
+/// The dart on the same segment that leads the other way.
 pub(crate) fn across<W: FaceGraph>(graph: &W, dart: u32) -> u32
     requires { IsName (W.named graph.now) dart }
     ensures twin { result ≡ twin_name (W.named graph.now) dart }

@@ -24,12 +24,12 @@ impl Drop for Workspace {
 }
 
 impl Workspace {
-    /// One for pictures of any size.
+    /// A workspace for pictures of any size.
     pub fn new(alloc: Global) -> Result<Self, AllocError> {
         Workspace::with_room(alloc, 0)
     }
 
-    /// One with room for so many faces that wait for the target, before it asks for more.
+    /// A workspace with room for so many faces that wait for the target, before it asks for more.
     pub(crate) fn with_room(alloc: Global, room: usize) -> Result<Self, AllocError>
         ensures { IfOk result (λ work. work.to_start.heights ≡ []) }
     {

@@ -8,10 +8,10 @@ use topo_core::rows::{CrossRow, EdgeRow};
 
 /// A row that has an id.
 pub(crate) trait Identified {
-    /// Its id.
+    /// The id of a row.
     ghost id_of: { Self → ℕ };
 
-    /// Its id.
+    /// The id of a row.
     fn id(&self) -> u32
         ensures { result ≡ id_of self.now };
 }

@@ -366,7 +366,7 @@ pub fn turns_of(alloc: Global, rows: &Rows) -> Result<Turns, AllocError>
     turns_from(alloc, rows, &hints, ahead)
 }
 
-/// The same, from the numbers of the darts ahead of the crossings.
+/// How the darts of rows turn, from the numbers of the darts ahead of the crossings.
 pub(crate) fn turns_from(
     alloc: Global,
     rows: &Rows,

@@ -12,7 +12,7 @@ use topo_price::tariff::{PriceFn, Tariff};
 pub(crate) struct Graph {
     pub vertices: usize,
     pub edges: Vec<GraphEdge>,
-    /// The same edges without their kinds.
+    /// The ends of each edge, without its kind.
     pub ends: Vec<Ends>,
     /// For each vertex its edges.
     around: Vec<Vec<u32>>,

@@ -2,7 +2,7 @@
 
 use std::alloc::{AllocError, Global};
 
-/// No number.
+/// Stands where there is no number.
 pub(crate) const NONE: u32 = u32::MAX;
 
 /// The number at a place, and `NONE` where there is no such place.

@@ -46,7 +46,7 @@ fn crossed_in_order<F: PriceFn>(
 }
 
 impl Repair {
-    /// Nothing to do.
+    /// A repair with nothing to do.
     pub(crate) fn none(alloc: Global) -> Self {
         Repair {
             waiting: Vec::new(alloc),

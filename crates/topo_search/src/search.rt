@@ -18,7 +18,7 @@ use topo_price::tariff::{PriceFn, Tariff};
 /// What a search is told.
 #[derive(Clone, Copy, Debug, PartialEq, Eq)]
 pub struct Options {
-    /// The same seed gives the same pictures.
+    /// Seed of the random numbers: one seed gives one picture.
     pub seed: u32,
     pub effort: Effort,
 }
@@ -49,26 +49,26 @@ pub enum Progress {
     /// It goes on. `crossings` is how many the best picture so far has, where there is one, and
     /// `orders` how many orders have ended.
     Going { crossings: Option<u64>, orders: u32 },
-    /// It has ended.
+    /// The search has ended.
     Done,
 }
 
 /// What comes next, once nothing waits to be put in again.
 #[derive(Clone, Copy)]
 enum Stage {
-    /// An order begins.
+    /// A new order begins.
     Order,
     /// The edges that wait are put in.
     Inserting,
     /// A round over all crossed edges has ended; before it the picture was so dear.
     Round(Score),
-    /// A shake begins.
+    /// A new shake begins.
     Shake,
     /// The edges that were taken out are put in.
     Replacing,
-    /// A shake ends.
+    /// The shake comes to its end.
     Settling,
-    /// Nothing.
+    /// Nothing comes any more.
     Done,
 }
 
@@ -321,7 +321,7 @@ impl<F: PriceFn> Search<F> {
         }
     }
 
-    /// Begins an order.
+    /// Begins a new order.
     fn begin_order(&mut self, alloc: Global) -> Result<(), SearchFault> {
         let is_random = self.orders() > 0 || self.failed > 0;
         self.waiting = begin_order(alloc, &mut self.board, is_random)?;
@@ -445,7 +445,7 @@ impl<F: PriceFn> Search<F> {
         Ok(())
     }
 
-    /// Ends a shake.
+    /// Ends the last shake.
     fn end_shake(&mut self, alloc: Global) -> Result<(), SearchFault> {
         let has_saved = keep(alloc, &self.board, &mut self.best)?;
         self.idle = if has_saved {

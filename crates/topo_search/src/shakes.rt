@@ -58,7 +58,7 @@ fn crossed_from<F: PriceFn>(board: &Board<F>, first: u32) -> Option<u32> {
     None
 }
 
-/// A random edge.
+/// An edge chosen at random.
 fn random_edge<F: PriceFn>(board: &mut Board<F>) -> u32 {
     let place = board.random.below(board.graph.edges.len());
     u32::try_from(place).unwrap_or(0)

@@ -21,7 +21,7 @@ enum Outcome {
     Fault(SearchFault),
 }
 
-/// The complete graph.
+/// The edges of a complete graph.
 fn complete(alloc: Global, vertices: u32, kind: u32) -> Result<Vec<GraphEdge>, Fail> {
     let mut edges = Vec::new(alloc);
     for a in 0..vertices {
@@ -122,7 +122,7 @@ fn outcome_of<F: PriceFn + Drop>(
     Ok(Outcome::Crossings(crossings_of(rt, alloc, edges, search.best())?))
 }
 
-/// The same, where kind 0 costs 1, kind 1 must not be crossed, and all others cost 10.
+/// What a search comes to where kind 0 costs 1, kind 1 must not be crossed, and all others cost 10.
 fn outcome_at_prices(
     rt: &impl Abort,
     alloc: Global,

@@ -80,7 +80,7 @@ fn keep(most: usize, more: &[u8], line: &mut Vec<u8>) -> Result<(), RunFault>
 }
 
 impl Ahead {
-    /// Nothing is ahead.
+    /// A reader ahead of which nothing was read.
     pub fn new(alloc: Global) -> Self
         ensures { result ≡ [] }
     {
@@ -90,7 +90,8 @@ impl Ahead {
         }
     }
 
-    /// One call of `read`, and whether it found the end. An interrupted call gives nothing.
+    /// Makes one call of `read`, and tells whether it found the end. An interrupted call gives
+    /// nothing.
     fn refill<R: Read>(&mut self, reader: &mut R) -> Result<bool, RunFault>
         ensures read { OnOk result
             (Consumes (R.remaining reader.old) (R.remaining reader.new) self.new) }

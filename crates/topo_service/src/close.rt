@@ -14,6 +14,7 @@ use crate::checks::{first_fault, gather};
 use crate::faults::EndFault;
 use crate::locked_state::LockedState;
 use crate::pass::Pass;
+use crate::planned::copies::Copies;
 use crate::service::ServiceOver;
 use crate::share_pool::SharePool;
 use std::alloc::{AllocError, Global};
@@ -161,6 +162,7 @@ impl<F: PriceFn + Drop, K: ServiceBrand<F>> Service<F, K> {
             pool: SharePool::new(rest),
             nothing,
             places,
+            copies: Copies::new(),
         })
     }
 }
@@ -210,6 +212,7 @@ impl<F: PriceFn + Drop, K: ServiceBrand<F>, W: VersionWriter<F, K>> ServiceOver<
             pool,
             nothing: _nothing,
             places: _,
+            copies: _,
         } = self;
         let (given, rest) = pool.into_parts(rt);
         let mut state = state.into_inner();

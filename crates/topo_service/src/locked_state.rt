@@ -185,8 +185,8 @@ impl<F: PriceFn, K: ServiceBrand<F>, W: VersionWriter<F, K>> LockedState<F, K, W
         }
     }
 
-    /// One call. An accepted one is published before it is entered. All that can fail comes before
-    /// anything changes.
+    /// Makes one call. An accepted one is published before it is entered. All that can fail comes
+    /// before anything changes.
     pub(crate) fn call<R: Wait>(
         &mut self,
         rt: &R,
@@ -229,7 +229,7 @@ impl<F: PriceFn, K: ServiceBrand<F>, W: VersionWriter<F, K>> LockedState<F, K, W
         Ok(pair)
     }
 
-    /// The accepted entries.
+    /// The log prefix of the accepted entries.
     pub(crate) fn prefix(&self) -> &LogPrefix<F, K>
         ensures now { result.now ≡ versions self.now.history }
         ensures replayed { IsVersion (prices_named F.may_return K.closure)

@@ -11,6 +11,7 @@ ghost use Rattle.topo_versions.specs.Versions.{AreLegal, IsVersionFrom};
 ghost use Rattle.topo_service.specs.Faults.{IsPlanFault, IsPlanRefusal};
 
 use crate::faults::PassFault;
+use crate::planned::copies::Copies;
 use crate::planned::inbox::Inbox;
 use crate::planned::lookahead::Lookahead;
 use std::alloc::Global;
@@ -46,6 +47,8 @@ pub struct Pass<F: PriceFn, K: ServiceBrand<F>> {
     // A version of its own, on which its planned commands look for their routes, once there was
     // one.
     pub(crate) own: Option<Version<F, K>>,
+    // Whether it may have such a version: it is counted among those that do.
+    pub(crate) may_copy: bool,
     // What was accepted since that version.
     pub(crate) inbox: Inbox<F, K>,
     // Whether its planned insertions look for their routes ahead.
@@ -162,6 +165,7 @@ impl<F: PriceFn, K: ServiceBrand<F>> Pass<F, K> {
             prefix,
             work: _work,
             own: _own,
+            may_copy: _,
             inbox: _inbox,
             lookahead: _,
             of: _,
@@ -174,6 +178,27 @@ impl<F: PriceFn, K: ServiceBrand<F>> Pass<F, K> {
         ensures { self.new ≡ self.old }
     {
         self.lookahead.is_due()
+    }
+
+    /// Whether it may have a version of its own: it may from the first time that one more may.
+    pub(crate) fn takes_copy(&mut self, copies: &Copies) -> bool
+        ensures { self.new ≡ self.old }
+    {
+        if !self.may_copy {
+            self.may_copy = copies.take();
+        }
+        self.may_copy
+    }
+
+    /// Lets its own version go, so that another pass may have one.
+    pub(crate) fn give_copy_back(&mut self, copies: &Copies)
+        ensures { self.new ≡ self.old }
+    {
+        drop(self.own.take());
+        if self.may_copy {
+            self.may_copy = false;
+            copies.give_back();
+        }
     }
 
     /// The version of now: the picture after accepted entries that begin with all that the pass has

@@ -12,6 +12,7 @@ ghost use Rattle.topo_core.specs.declared.limits.TheConstants.{MAX_PASSES};
 use crate::faults::ServiceFault;
 use crate::locked_state::{Demand, LockedState};
 use crate::pass::{Pass, Receipt};
+use crate::planned::copies::Copies;
 use crate::planned::found::FoundRoute;
 use crate::planned::inbox::Inbox;
 use crate::planned::lookahead::Lookahead;
@@ -26,8 +27,8 @@ use topo_price::tariff::{PriceFn, Tariff};
 use topo_route::plan::Plan;
 use topo_versions::{LogPrefix, ServiceBrand, VersionWriter, wait_forever};
 
-/// One lock round a book, with the passes that were given out. Contracts see what answers its
-/// prices, how many passes it gives out at most, and how many it has given out.
+/// A service: one lock round a book, with the passes that were given out. Contracts see what
+/// answers its prices, how many passes it gives out at most, and how many it has given out.
 pub struct ServiceOver<F: PriceFn, K: ServiceBrand<F>, W: VersionWriter<F, K>> {
     pub(crate) alloc: Global,
     pub(crate) tariff: Arc<Tariff<F>>,
@@ -37,6 +38,8 @@ pub struct ServiceOver<F: PriceFn, K: ServiceBrand<F>, W: VersionWriter<F, K>> {
     // What a new pass has seen.
     pub(crate) nothing: LogPrefix<F, K>,
     pub(crate) places: u32,
+    // How many passes have a picture of their own.
+    pub(crate) copies: Copies,
 }
 
 impl<F: PriceFn, K: ServiceBrand<F>, W: VersionWriter<F, K>> Model for ServiceOver<F, K, W> {
@@ -95,6 +98,7 @@ impl<F: PriceFn, K: ServiceBrand<F>, W: VersionWriter<F, K>> ServiceOver<F, K, W
             prefix: self.nothing.share(),
             work: None,
             own: None,
+            may_copy: false,
             inbox: Inbox::new(self.alloc, &self.nothing),
             lookahead: Lookahead::new(),
             of: PhantomData,
@@ -195,7 +199,7 @@ impl<F: PriceFn, K: ServiceBrand<F>, W: VersionWriter<F, K>> ServiceOver<F, K, W
         self.call(rt, pass, growth, RouteSource::Search)
     }
 
-    /// One call under the lock, and its reply.
+    /// Makes one call under the lock, and gives its reply.
     pub(crate) fn call<'a, R: Wait>(
         &'a self,
         rt: &R,
@@ -219,8 +223,8 @@ impl<F: PriceFn, K: ServiceBrand<F>, W: VersionWriter<F, K>> ServiceOver<F, K, W
         }
     }
 
-    /// One call under the lock, of which the pass keeps the receipt. The reply is copied once more
-    /// only if it is asked for.
+    /// Makes one call under the lock, of which the pass keeps the receipt. The reply is copied once
+    /// more only if it is asked for.
     pub(crate) fn enter<'a, R: Wait>(
         &'a self,
         rt: &R,
@@ -293,8 +297,8 @@ where
     pass.inbox.learn(alloc, state.history(), &pass.prefix);
 }
 
-/// One call on what lies under the lock, of which the pass keeps the receipt. Its place is taken
-/// first.
+/// Makes one call on what lies under the lock, of which the pass keeps the receipt. Its place is
+/// taken first.
 fn enter_in<'a, F, K, W, R>(
     rt: &R,
     alloc: Global,

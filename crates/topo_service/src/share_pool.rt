@@ -28,7 +28,7 @@ impl<K: LogBrand> Model for Rest<K> {
 }
 
 impl<K: LogBrand> Rest<K> {
-    /// None was given out.
+    /// The rest while nothing was given out.
     fn new(share: Share<K>) -> Rest<K>
         requires { (share.parts ≡ MAX_PASSES) × (share.amount ≡ 0) }
         ensures { result ≡ 0 }
@@ -36,7 +36,7 @@ impl<K: LogBrand> Rest<K> {
         Rest { share, given: 0 }
     }
 
-    /// One part, if one is left.
+    /// Takes one part, if one is left.
     fn take(&mut self) -> Option<Share<K>>
         ensures { IfSome result (λ share. (share.parts ≡ 1) × (share.amount ≡ 0)) }
     {
@@ -76,7 +76,7 @@ impl<K: LogBrand> Model for SharePool<K> {
 }
 
 impl<K: LogBrand> SharePool<K> {
-    /// None was given out.
+    /// A pool of which nothing was given out.
     pub fn new(share: Share<K>) -> SharePool<K>
         requires { (share.parts ≡ MAX_PASSES) × (share.amount ≡ 0) }
         ensures { result ≡ 0 }
@@ -94,7 +94,7 @@ impl<K: LogBrand> SharePool<K> {
         self.given
     }
 
-    /// One part with its number, counted from 0, if one is left.
+    /// Takes one part with its number, counted from 0, if one is left.
     pub fn take(&mut self) -> Option<(u32, Share<K>)>
         ensures number { IfSome result (λ taken. taken.0 ≡ self.old) }
         ensures part { IfSome result (λ taken. (taken.1.parts ≡ 1) × (taken.1.amount ≡ 0)) }

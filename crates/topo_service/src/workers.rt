@@ -58,7 +58,7 @@ pub enum WorkerEnd {
     OutOfMemory(usize),
 }
 
-/// One call, of which the pass keeps the receipt. Nobody asks for its reply.
+/// Makes one call, of which the pass keeps the receipt. Nobody asks for its reply.
 fn enter<'a, F: PriceFn, K: ServiceBrand<F>, W: VersionWriter<F, K>, R: Wait>(
     rt: &R,
     service: &'a ServiceOver<F, K, W>,
@@ -82,7 +82,7 @@ fn enter<'a, F: PriceFn, K: ServiceBrand<F>, W: VersionWriter<F, K>, R: Wait>(
 }
 
 /// The first of the cheapest routes on the pass's own version, looked for without the lock; none if
-/// there is none, or it is out of memory.
+/// there is none, or it may have no such version, or it is out of memory.
 fn find_ahead<F: PriceFn, K: ServiceBrand<F>, W: VersionWriter<F, K>>(
     service: &ServiceOver<F, K, W>,
     pass: &mut Pass<F, K>,
@@ -96,6 +96,9 @@ fn find_ahead<F: PriceFn, K: ServiceBrand<F>, W: VersionWriter<F, K>>(
     ensures v { IfSome result (λ found. found.v ≡ v) }
 {
     let alloc = service.alloc;
+    if !pass.takes_copy(&service.copies) {
+        return None;
+    }
     let Ok(own) = pass.take_own(alloc, service.tariff()) else {
         return None;
     };
@@ -248,6 +251,7 @@ fn run_each<
                 K.start pass.exit.now.seen }
         {
             work(rt, service, pass, i, lists[i].as_slice(), gate);
+            pass.give_copy_back(&service.copies);
             // For the proof: what the type keeps.
             pass.seen();
         },

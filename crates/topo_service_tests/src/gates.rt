@@ -15,11 +15,12 @@ use topo_versions::{ServiceBrand, Version};
 /// What is done round each command.
 #[derive(Drop)]
 pub(crate) enum Round {
-    /// Nothing.
+    /// Nothing is done round a command.
     Still,
     /// The first call of worker 1 comes between the beginning and the end of that of worker 0.
     InTurn(Turns),
-    /// The same, but worker 0 begins with the first price that its search asks for.
+    /// The first call of worker 1 comes after worker 0 began with the first price that its search
+    /// asks for.
     FromFirstPrice(Turns),
     /// Each worker waits before its call until all are there.
     Together(Meeting),
@@ -157,7 +158,7 @@ fn an_earlier_view_shows_the_start(rt: HostRuntime) -> Result<(), Fail> {
     are_carried_out(&rt, &scene, SEED_LISTS, &round)
 }
 
-/// One list plans between the apexes, and the other takes the edge out that a plan crosses.
+/// Two lists: one plans between the apexes, and the other takes the edge out that a plan crosses.
 const APEX_LISTS: &[&[Command]] = &[
     &[Command::Planned {
         u: 3,
@@ -177,7 +178,7 @@ const APEX_SCENE: Scene<'static> = Scene {
         []; 2 calls, replayed: true",
 };
 
-/// One worker plans while the other changes the picture.
+/// Has one worker plan while the other changes the picture.
 #[test]
 fn a_plan_is_made_anew_where_the_picture_changed_meanwhile(rt: HostRuntime) -> Result<(), Fail> {
     let round = Round::FromFirstPrice(Turns::new());

@@ -57,7 +57,7 @@ pub(crate) enum Work<'a> {
     SecondAlone(usize),
     /// Of a service of so many places one pass more than it has is asked for, and refused.
     Seats(u32),
-    /// One for each list carries it out, with the gate's calls round each command.
+    /// A worker for each list carries it out, with the gate's calls round each command.
     Lists(&'a [&'a [Command]], &'a Round),
     /// So many make calls of their own, and look at versions meanwhile.
     Crowd(usize, &'a Watch),
@@ -157,7 +157,7 @@ fn picture_at<R: Abort + AllocGlobal>(rt: &R, start: Start) -> Result<Picture, F
     }
 }
 
-/// The same at the prices of a closure.
+/// Runs the work at the prices of a closure.
 fn run_work<F: PriceFn + Drop + Send + Sync, R: TestRuntime>(
     rt: &R,
     ask: F,
@@ -171,8 +171,8 @@ fn run_work<F: PriceFn + Drop + Send + Sync, R: TestRuntime>(
     named::<F, Brand, R>(rt, FreshService::new(), start, tariff, play)
 }
 
-/// The same, over the service that K names. The service and its passes are owned here alone, and
-/// nothing returns early while they are.
+/// Runs the work over the service that K names. The service and its passes are owned here alone,
+/// and nothing returns early while they are.
 fn named<F: PriceFn + Drop + Send + Sync, K: ServiceBrand<F> + Send + Sync, R: TestRuntime>(
     rt: &R,
     fresh: FreshService,
@@ -337,7 +337,7 @@ fn run_made<F: PriceFn + Drop + Send + Sync, K: ServiceBrand<F> + Send + Sync, R
     Ok(text?)
 }
 
-/// The same, of lists that are made first.
+/// Runs lists that are made first.
 fn run_lists<F: PriceFn + Drop + Send + Sync, K: ServiceBrand<F> + Send + Sync, R: TestRuntime>(
     rt: &R,
     service: &Service<F, K>,

@@ -33,9 +33,9 @@ fn is_told_of<R: TestRuntime>(
     Ok(())
 }
 
-/// The same of all invented plans: of the dart that the first route crosses, with the least heights
-/// of which one is raised, with the least heights, and with others that prove nothing; and of a
-/// dart that is not there.
+/// What is told of all invented plans is what is due: of the dart that the first route crosses,
+/// with the least heights of which one is raised, with the least heights, and with others that
+/// prove nothing; and of a dart that is not there.
 fn is_told_of_all<R: TestRuntime>(rt: &R, due: &str) -> Result<(), Fail> {
     for at in 0..LEAST_HEIGHTS.len() {
         let mut heights = LEAST_HEIGHTS;
@@ -91,7 +91,7 @@ fn told_of_late<R: TestRuntime>(rt: &R, insertion: Step) -> Result<String, Fail>
     )
 }
 
-/// It begins so.
+/// What is told first of a plan that comes late.
 const LATE: &str = "planned for 2\n\
     Deleted(EdgeId(1))\n\
     Grown { vertex: VertexId(5), edge: EdgeId(9) }\n\

@@ -33,7 +33,7 @@ enum Change {
     Right(u8, u8),
     /// The edge from a vertex to the one below it is taken out.
     Below(u8, u8),
-    /// Another call.
+    /// Any other call of a worker.
     Other(Call),
 }
 
@@ -111,7 +111,7 @@ fn are_told<R: TestRuntime>(rt: &R, rows: &[&[Change]], is_known: bool) -> Resul
     Ok(())
 }
 
-/// Changes elsewhere.
+/// Changes elsewhere in the picture.
 const ELSEWHERE: &[&[Change]] = &[
     &[],
     &[Change::Grow(7, 7)],

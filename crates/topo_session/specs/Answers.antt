@@ -8,6 +8,7 @@ use Rattle.topo_core.specs.declared.rows.Rows.{Rows}
 use Rattle.topo_core.specs.History.{call_of}
 use Rattle.topo_core.specs.Picture.{edge_row}
 use Rattle.topo_forms.specs.declared.fault.ScriptFault.TheVariants.{Memory as NoMemory}
+use Rattle.topo_forms.specs.declared.graphs.GraphAsked.{GraphAsked}
 use Rattle.topo_forms.specs.declared.lines.Asked.{Asked as Asking}
 use Rattle.topo_forms.specs.declared.lines.Line.{Line}
 use Rattle.topo_forms.specs.declared.lines.Frame.TheVariants.{Opening}
@@ -15,9 +16,11 @@ use Rattle.topo_forms.specs.declared.reports.Report.{Report}
 use Rattle.topo_forms.specs.declared.sessions.Opening.{Opening as Opened}
 use Rattle.topo_forms.specs.declared.sessions.Request.{Request}
 use Rattle.topo_forms.specs.declared.sessions.Request.TheVariants.{Carry, Counts as AskCounts, Picture as AskPicture, Report as AskReport, About}
-use Rattle.topo_forms.specs.declared.sessions.Request.TheVariants.{Route, Edge, Vertex, Face, Open, Undo, Forget, Renumber, Reopen}
+use Rattle.topo_forms.specs.declared.sessions.Request.TheVariants.{Route, Edge, Vertex, Face, Open, Undo, Forget, Renumber, Reopen, Planarize}
 use Rattle.topo_forms.specs.Reads.{Read}
 use Rattle.topo_picture.specs.declared.counts.Counts.{Counts}
+use Rattle.topo_planarize.specs.Answers.{HasNoAnswer, IsAnswerTo, answer_data}
+use Rattle.topo_planarize.specs.declared.answers.Answer.{Answer}
 use Rattle.topo_picture.specs.Faces.{IsFaceOf}
 use Rattle.topo_picture.specs.Totals.{AreCountsOf}
 use Rattle.topo_script.specs.Pictures.{rows_text}
@@ -100,6 +103,12 @@ pub record TellsRenumbered (text : List ℕ) (old new : Standing) : Type 0 where
   pub is : Renumbers ids old new
   pub told : text ≡ compact_text (renumbered_data ids)
 
+-- the text tells pictures of a graph, as the command `planarize` does
+pub record TellsPictures (asked : GraphAsked) (text : List ℕ) : Type 0 where
+  pub answer : Answer
+  pub answers : IsAnswerTo asked answer
+  pub told : text ≡ compact_text (answer_data answer)
+
 -- The text answers a request, and the session stands so behind it. A command changes the picture, what takes commands back or
 -- closes ids up does, and an opening puts another in its place. Nothing else does.
 abbrev pub Answers : ℕ → Request → List ℕ → Standing → Standing → Type 0
@@ -117,6 +126,7 @@ Answers caller (Undo entries) text old new = TellsUndone entries text old new
 Answers caller Forget text old new = TellsCounts old.picture text × (new ≡ begins_with old.picture old)
 Answers caller Renumber text old new = TellsRenumbered text old new
 Answers caller (Reopen report) text old new = Reopens report text new
+Answers caller (Planarize asked) text old new = TellsPictures asked text × (new ≡ old)
 
 -- a fault of loading a picture. A renumbering has this, as far as this says; tests have never seen one
 abbrev pub IsOfLoading : RunFault → Type 0
@@ -124,11 +134,12 @@ IsOfLoading Memory = ⊤
 IsOfLoading (Load fault) = ⊤
 IsOfLoading _ = ⊥
 
--- The fault of a request is that of an opening, of its limits, its prices or its start, or that of a report. Any request may
--- be out of memory.
+-- The fault of a request is that of an opening, of its limits, its prices or its start, or that of a report, or of a graph. Any
+-- request may be out of memory.
 abbrev pub IsFaultOfRequest : Request → RunFault → Type 0
 IsFaultOfRequest (Open opening) fault = IsUnsound opening.limits opening.prices opening.start fault
 IsFaultOfRequest (Reopen report) fault = IsUntrue report fault
+IsFaultOfRequest (Planarize asked) fault = HasNoAnswer asked fault
 IsFaultOfRequest Renumber fault = IsOfLoading fault
 IsFaultOfRequest request fault = fault ≡ Memory
 
@@ -139,11 +150,12 @@ LeavesBy _ caller request old new = new ≡ old
 
 -- ---- One request, whether a session is open or not
 
--- where no session is open, only these three requests are answered, and each other one is told so
+-- where no session is open, only these four requests are answered, and each other one is told so
 abbrev pub AnswersClosed : Request → List ℕ → Option Standing → Type 0
 AnswersClosed About text new = (text ≡ about_text) × (new ≡ None)
 AnswersClosed (Open opening) text new = (s : Standing) × (new ≡ Some s) × Opens opening text s
 AnswersClosed (Reopen report) text new = (s : Standing) × (new ≡ Some s) × Reopens report text s
+AnswersClosed (Planarize asked) text new = TellsPictures asked text × (new ≡ None)
 AnswersClosed request text new = (text ≡ not_open_text) × (new ≡ None)
 
 -- the text answers what was asked without fault

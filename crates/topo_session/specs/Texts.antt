@@ -16,6 +16,8 @@ use Rattle.topo_forms.specs.declared.lines.LineId.{LineId}
 use Rattle.topo_forms.specs.declared.lines.LineId.TheVariants.{Text, Number}
 use Rattle.topo_forms.specs.FaultTexts.{fault_name as script_name, fault_number as script_number}
 use Rattle.topo_forms.specs.Paths.{path_text}
+use Rattle.topo_graph.specs.declared.GraphFault.{GraphFault}
+use Rattle.topo_graph.specs.declared.GraphFault.TheVariants.{Loop, NoEnd, TooLarge, NotPlanarized, OtherGraph, NotShown}
 use Rattle.topo_picture.specs.declared.counts.Counts.{Counts}
 use Rattle.topo_price.specs.declared.table.PriceFault.TheVariants.{BadPrice}
 use Rattle.topo_script.specs.Pictures.{list_data, number_data, sign_data}
@@ -117,7 +119,7 @@ nothing_text entries = counted_text 70 (codes "NothingToUndo") entries
 
 -- what the program is, and which requests it knows
 abbrev pub about_text : List ℕ
-about_text = codes "{\"limits\":{\"crossings\":1048576,\"edges\":65536,\"vertices\":65536},\"program\":\"planar\",\"requests\":[\"about\",\"counts\",\"delete\",\"edge\",\"face\",\"forget\",\"grow\",\"insert\",\"open\",\"picture\",\"planned\",\"renumber\",\"reopen\",\"report\",\"route\",\"undo\",\"vertex\"],\"version\":\"0.5.0\"}"
+about_text = codes "{\"limits\":{\"crossings\":1048576,\"edges\":65536,\"vertices\":65536},\"program\":\"planar\",\"requests\":[\"about\",\"counts\",\"delete\",\"edge\",\"face\",\"forget\",\"grow\",\"insert\",\"open\",\"picture\",\"planarize\",\"planned\",\"renumber\",\"reopen\",\"report\",\"route\",\"undo\",\"vertex\"],\"version\":\"0.5.0\"}"
 
 -- ---- Faults
 
@@ -139,6 +141,15 @@ script_fault_text (BadShape path) = placed_text (BadShape path) path
 script_fault_text BadVersion = numbered_text (script_number BadVersion) (script_name BadVersion)
 script_fault_text (BadNumber path) = placed_text (BadNumber path) path
 
+-- what is told of a fault of a graph: where it is that of an edge, also the edge's place
+abbrev pub graph_fault_text : GraphFault → List ℕ
+graph_fault_text (Loop place) = counted_text (fault_number (Graph (Loop place))) (fault_name (Graph (Loop place))) place
+graph_fault_text (NoEnd place) = counted_text (fault_number (Graph (NoEnd place))) (fault_name (Graph (NoEnd place))) place
+graph_fault_text TooLarge = numbered_text (fault_number (Graph TooLarge)) (fault_name (Graph TooLarge))
+graph_fault_text (NotPlanarized place) = counted_text (fault_number (Graph (NotPlanarized place))) (fault_name (Graph (NotPlanarized place))) place
+graph_fault_text OtherGraph = numbered_text (fault_number (Graph OtherGraph)) (fault_name (Graph OtherGraph))
+graph_fault_text NotShown = numbered_text (fault_number (Graph NotShown)) (fault_name (Graph NotShown))
+
 -- what is told of a fault, of a line or of what it opens
 abbrev pub fault_text : RunFault → List ℕ
 fault_text Memory = numbered_text (fault_number Memory) (fault_name Memory)
@@ -146,7 +157,7 @@ fault_text (Script fault) = script_fault_text fault
 fault_text BadLimits = numbered_text (fault_number BadLimits) (fault_name BadLimits)
 fault_text (Price (BadPrice kind)) = counted_text (fault_number (Price (BadPrice kind))) (fault_name (Price (BadPrice kind))) kind
 fault_text (Load fault) = numbered_text (fault_number (Load fault)) (fault_name (Load fault))
-fault_text (Graph fault) = numbered_text (fault_number (Graph fault)) (fault_name (Graph fault))
+fault_text (Graph fault) = graph_fault_text fault
 fault_text NoSeat = numbered_text (fault_number NoSeat) (fault_name NoSeat)
 fault_text (Mismatch list place) = numbered_text (fault_number (Mismatch list place)) (fault_name (Mismatch list place))
 fault_text (WrongReply place) = counted_text (fault_number (WrongReply place)) (fault_name (WrongReply place)) place

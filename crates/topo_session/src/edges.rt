@@ -18,7 +18,7 @@ use topo_core::rows::CrossRow;
 pub struct Meeting {
     /// The id of the crossing.
     pub crossing: u32,
-    /// The other edge.
+    /// The other edge of the crossing.
     pub other: u32,
     /// How the other edge passes, as seen along this one.
     pub sign: Sign,
@@ -36,7 +36,7 @@ pub struct EdgeAnswer {
     pub price: Option<u32>,
 }
 
-/// The other sign.
+/// The sign of a crossing as the other edge sees it.
 fn opposite(sign: Sign) -> Sign
     ensures { result ≡ opposite sign }
 {

@@ -11,9 +11,10 @@ ghost use Rattle.topo_session.specs.Answers.{Answers, AnswersClosed, AnswersFirs
 ghost use Rattle.topo_session.specs.Answers.{CarriesOut, IsBadOpening, IsFaultOfAsked, IsFaultOfRequest};
 ghost use Rattle.topo_session.specs.Answers.{Leaves, LeavesBy, LosesLine, Opens, RespondsTo};
 ghost use Rattle.topo_session.specs.Answers.{IsOfLoading, Reopens, TellsCounts, TellsFace, TellsRoute};
-ghost use Rattle.topo_session.specs.Answers.{TellsRenumbered, TellsUndone};
+ghost use Rattle.topo_session.specs.Answers.{TellsPictures, TellsRenumbered, TellsUndone};
 ghost use Rattle.topo_session.specs.Answers.{edge_text, vertex_text};
 ghost use Rattle.topo_check.specs.Replays.{IsUntrue};
+ghost use Rattle.topo_planarize.specs.Answers.{HasNoAnswer};
 ghost use Rattle.topo_forms.specs.declared.sessions.Request.TheVariants.{Renumber};
 ghost use Rattle.topo_session.specs.Standings.{begins_with, report_so_far};
 ghost use Rattle.topo_session.specs.Texts.{fault_text};
@@ -30,8 +31,9 @@ use std::mem;
 use topo_core::calls::{Call, Command, Refusal, Reply};
 use topo_core::darts::Dart;
 use topo_forms::{
-    Asked, Frame, Line, Opening, Report, Request, ScriptFault, read_command, read_line,
+    Asked, Frame, GraphAsked, Line, Opening, Report, Request, ScriptFault, read_command, read_line,
 };
+use topo_planarize::answer_graph;
 use topo_price::tariff::PriceFn;
 use topo_rows::LoadFault;
 use topo_script::{picture_text, report};
@@ -39,10 +41,10 @@ use topo_settings::{FromTable, RunFault};
 
 /// What the program is, how large a picture may be, and which requests there are.
 const ABOUT: &str =
-    "{\"limits\":{\"crossings\":1048576,\"edges\":65536,\"vertices\":65536},\"program\":\"planar\",\"requests\":[\"about\",\"counts\",\"delete\",\"edge\",\"face\",\"forget\",\"grow\",\"insert\",\"open\",\"picture\",\"planned\",\"renumber\",\"reopen\",\"report\",\"route\",\"undo\",\"vertex\"],\"version\":\"0.5.0\"}";
+    "{\"limits\":{\"crossings\":1048576,\"edges\":65536,\"vertices\":65536},\"program\":\"planar\",\"requests\":[\"about\",\"counts\",\"delete\",\"edge\",\"face\",\"forget\",\"grow\",\"insert\",\"open\",\"picture\",\"planarize\",\"planned\",\"renumber\",\"reopen\",\"report\",\"route\",\"undo\",\"vertex\"],\"version\":\"0.5.0\"}";
 
-/// What each request but three is answered where no session is open.
-const NOT_OPEN: &str = "{\"fault\":[72,\"NotOpen\"]}";
+/// What each request but four is answered where no session is open.
+pub const NOT_OPEN: &str = "{\"fault\":[72,\"NotOpen\"]}";
 
 /// Carries a command out, and gives the text of its reply. A planned insertion is looked for as any
 /// other.
@@ -275,6 +277,15 @@ fn tell_renumber<F: PriceFn + Drop>(
     or_memory(renumbered_text(alloc, &ids))
 }
 
+/// Searches for pictures of a graph with few crossings, and gives the text that tells them.
+fn tell_pictures<F: FromTable>(alloc: Global, asked: GraphAsked) -> Result<String, RunFault>
+    ensures told { IfOk result (λ text. TellsPictures asked (string_bytes text)) }
+    ensures fault { IfErr result (HasNoAnswer asked) }
+{
+    let answer = answer_graph::<F>(alloc, asked)?;
+    or_memory(text_of(alloc, &answer))
+}
+
 /// A text, or out of memory as the fault that it is.
 fn or_memory(text: Result<String, AllocError>) -> Result<String, RunFault>
     ensures { MatchResult text (λ text. result ≡ Ok text) (λ _. result ≡ Err Memory) }
@@ -313,6 +324,7 @@ impl<F: FromTable> Session<F> {
             Request::Forget => or_memory(tell_forget(alloc, self)),
             Request::Renumber => tell_renumber(alloc, self),
             Request::Reopen(report) => reopen_another(alloc, self, report),
+            Request::Planarize(asked) => tell_pictures::<F>(alloc, asked),
         }
     }
 }
@@ -341,6 +353,7 @@ fn answer_closed<F: FromTable>(
             *session = Some(opened);
             Ok(text)
         }
+        Request::Planarize(asked) => tell_pictures::<F>(alloc, asked),
         _ => or_memory(text_like(alloc, NOT_OPEN)),
     }
 }

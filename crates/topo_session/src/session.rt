@@ -39,7 +39,8 @@ use topo_rows::LoadFault;
 use topo_settings::settings::{price_of_kind, validate};
 use topo_settings::{FromTable, RunFault};
 
-/// One picture with its history, at the prices and under the limits that it was opened with.
+/// A session: one picture with its history, at the prices and under the limits that it was opened
+/// with.
 pub struct Session<F: PriceFn> {
     limits: LimitRows,
     prices: Listed<Option<u32>>,
@@ -376,7 +377,7 @@ impl<F: PriceFn> Session<F> {
         self.book.picture().kept_rows().edge(edge).is_some()
     }
 
-    /// The picture.
+    /// The picture of the session.
     pub fn picture(&self) -> &Picture
         ensures rows { result.now.rows ≡ self.now.picture }
         ensures limits { result.now.limits ≡ self.now.limits }
@@ -402,7 +403,7 @@ impl<F: PriceFn> Session<F> {
     }
 }
 
-/// Equal entries.
+/// A copy of entries.
 fn copy_entries(alloc: Global, entries: &[Entry]) -> Result<Listed<Entry>, AllocError>
     ensures { IfOk result (λ copies. copies ≡ entries.now) }
 {

@@ -8,7 +8,7 @@ ghost use Rattle.topo_session.specs.Texts.{counts_text, edge_data, end_data, fac
 ghost use Rattle.topo_session.specs.Texts.{fault_text, framed, id_data, meeting_data};
 ghost use Rattle.topo_session.specs.Texts.{counted_text, nothing_text, numbered_text};
 ghost use Rattle.topo_session.specs.Texts.{renumbered_data, route_data, route_reply_data};
-ghost use Rattle.topo_session.specs.Texts.{script_fault_text, undone_data, vertex_data};
+ghost use Rattle.topo_session.specs.Texts.{graph_fault_text, script_fault_text, undone_data, vertex_data};
 
 use crate::edges::{EdgeAnswer, Meeting};
 use crate::session::Undone;
@@ -21,6 +21,7 @@ use topo_core::listed::Listed;
 use topo_core::routes::Inserted;
 use topo_forms::path::Path;
 use topo_forms::{Frame, LineId, ScriptFault};
+use topo_graph::GraphFault;
 use topo_picture::Counts;
 use topo_price::table::PriceFault;
 use topo_renumbering::Renumbered;
@@ -250,6 +251,22 @@ fn script_fault_text(alloc: Global, fault: ScriptFault) -> Result<String, AllocE
     }
 }
 
+/// The text of a fault of a graph: where it is that of an edge, also the edge's place.
+fn graph_fault_text(alloc: Global, fault: &GraphFault) -> Result<String, AllocError>
+    ensures { IfOk result (λ text. string_bytes text ≡ graph_fault_text fault.now) }
+{
+    let number = fault.number();
+    let name = fault.name();
+    match fault {
+        GraphFault::Loop(place) => counted_text(alloc, number, name, *place),
+        GraphFault::NoEnd(place) => counted_text(alloc, number, name, *place),
+        GraphFault::TooLarge => numbered_text(alloc, number, name),
+        GraphFault::NotPlanarized(place) => counted_text(alloc, number, name, *place),
+        GraphFault::OtherGraph => numbered_text(alloc, number, name),
+        GraphFault::NotShown => numbered_text(alloc, number, name),
+    }
+}
+
 /// The text of a fault, of a line or of what it opens.
 pub fn fault_text(alloc: Global, fault: RunFault) -> Result<String, AllocError>
     ensures { IfOk result (λ text. string_bytes text ≡ fault_text fault) }
@@ -264,7 +281,7 @@ pub fn fault_text(alloc: Global, fault: RunFault) -> Result<String, AllocError>
         RunFault::Memory => numbered_text(alloc, number, name),
         RunFault::BadLimits => numbered_text(alloc, number, name),
         RunFault::Load(_) => numbered_text(alloc, number, name),
-        RunFault::Graph(_) => numbered_text(alloc, number, name),
+        RunFault::Graph(fault) => graph_fault_text(alloc, &fault),
         RunFault::NoSeat => numbered_text(alloc, number, name),
         RunFault::Mismatch(_, _) => numbered_text(alloc, number, name),
         RunFault::WrongReply(place) => counted_text(alloc, number, name, place),

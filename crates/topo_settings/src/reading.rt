@@ -125,8 +125,8 @@ pub fn read_bytes<R: Read>(
     Err(RunFault::ReadFault)
 }
 
-/// One call of `read` by way of `chunk`, and whether it found the end. An interrupted call gives
-/// nothing.
+/// Makes one call of `read` by way of `chunk`, and tells whether it found the end. An interrupted
+/// call gives nothing.
 fn read_more<R: Read>(
     limit: usize,
     reader: &mut CountedReader<R>,

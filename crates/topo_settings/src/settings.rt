@@ -52,7 +52,7 @@ pub fn validate(
     }
 }
 
-/// The greatest limits.
+/// The greatest limits of a picture.
 pub fn greatest_limits() -> Limits
     ensures { AreLimits greatest_limits result }
 {

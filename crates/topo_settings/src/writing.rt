@@ -26,7 +26,7 @@ pub fn write_text<W: Write>(writer: &mut W, text: &str) -> Result<(), RunFault>
     Err(RunFault::WriteFault)
 }
 
-/// One call of `write`, and how many bytes it took. An interrupted call takes none.
+/// Makes one call of `write`, and tells how many bytes it took. An interrupted call takes none.
 fn write_more<W: Write>(writer: &mut W, bytes: &[u8]) -> Result<usize, RunFault>
     ensures within { IfOk result (λ n. n ≤ length bytes.now) }
     ensures taken { IfOk result

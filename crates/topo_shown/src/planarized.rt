@@ -177,7 +177,7 @@ pub fn shown<'a>(
 }
 
 impl<'a> Planarized<'a> {
-    /// The parts.
+    /// The parts of the planarized graph.
     pub fn parts(&self) -> &[Part]
         ensures { result.now ≡ self.now.parts }
     {

@@ -58,7 +58,7 @@ pub const BIPYRAMID: Named = Named {
     next_crossing: 0,
 };
 
-/// The same with an edge from apex to apex, across edge 1.
+/// The bipyramid with an edge from apex to apex, across edge 1.
 pub const JOINED: Named = Named {
     name: "joined bipyramid",
     rotations: &[
@@ -233,7 +233,7 @@ pub fn rows_of(alloc: Global, named: &Named) -> Result<Rows, AllocError>
     })
 }
 
-/// The greatest limits.
+/// The greatest limits of a picture.
 pub fn greatest_limits() -> Limits
     ensures vertices { result.vertices ≡ 65536 }
     ensures edges { result.edges ≡ 65536 }

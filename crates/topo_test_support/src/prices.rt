@@ -13,7 +13,7 @@ pub type Entries = &'static [(u8, Option<u32>)];
 /// apex crosses edge 1.
 pub const FIVE_TWO_NINE: Entries = &[(1, Some(5)), (2, Some(2)), (3, Some(9))];
 
-/// The same, but the second edge must not be crossed.
+/// Prices as `FIVE_TWO_NINE`, but the second edge must not be crossed.
 pub const SECOND_CLOSED: Entries = &[(1, Some(5)), (2, None), (3, Some(9))];
 
 /// No edge of the triangle may be crossed.

@@ -132,7 +132,7 @@ fn are_agreed(
     Ok(())
 }
 
-/// The same of a picture.
+/// Searches from both ends of some pairs of a picture agree with those from one end.
 fn is_searched(
     rt: &impl Abort,
     alloc: Global,
@@ -188,7 +188,7 @@ fn run_all<R: Abort>(rt: &R, alloc: Global, hubs: u32, work: &mut Workspace) -> 
     Ok(())
 }
 
-/// The same with a new workspace.
+/// Runs all with a new workspace.
 fn run_anew<R: Abort>(rt: &R, alloc: Global, hubs: u32) -> Result<(), Fail> {
     let mut work = Workspace::new(alloc)?;
     let told = run_all(rt, alloc, hubs, &mut work);

@@ -161,7 +161,7 @@ fn are_read(
     Ok(())
 }
 
-/// One picture after another.
+/// Reads one picture after another.
 fn read_all(rt: &impl Abort, alloc: Global, lists: &mut NumberLists) -> Result<(), Fail> {
     for (named, facts) in PICTURES {
         let picture = picture_of(alloc, *named)?;

@@ -103,7 +103,7 @@ fn are_labelled(rt: &impl Abort, embedding: &Embedding, halves: &[Half]) {
     }
 }
 
-/// One of the halves, if there are any. A half that is gone is answered too.
+/// A random half of those there are, if there are any. A half that is gone is answered too.
 fn one_of(numbers: &mut Numbers, halves: &[Half]) -> Option<Half> {
     let place = numbers.below(halves.len().min(1000) as u32) as usize;
     halves.get(place).copied()
@@ -161,7 +161,7 @@ fn is_built(
         && (half.number() as usize) < embedding.limit()
 }
 
-/// The same at each place, and the labels.
+/// An embedding is built as its turns say at each place, and its labels are right.
 fn are_built(
     rt: &impl Abort,
     embedding: &Embedding,
@@ -201,7 +201,7 @@ fn labels_follow(
     Ok(())
 }
 
-/// The same of what was made.
+/// What was made is right, and so is a copy of it, while labels follow so many edits.
 fn are_right(
     rt: &impl Abort,
     made: Result<(Embedding, Vec<Half>), AllocError>,

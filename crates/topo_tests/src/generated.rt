@@ -24,7 +24,7 @@ use topo_test_support::prices::{Entries, table_of};
 /// The prices of kinds 0 to 3, which are those that the calls have.
 const PRICES: [Option<u32>; 4] = [Some(1), Some(5), Some(2), None];
 
-/// The same but for kind 0.
+/// The prices of all kinds but kind 0.
 pub(crate) const ENTRIES: Entries = &[(1, Some(5)), (2, Some(2)), (3, None)];
 
 /// The numbers of a linear congruence modulo 2^32.
@@ -188,7 +188,7 @@ fn has_each_sort(rt: &impl Abort, history: &[Entry]) {
     }
 }
 
-/// Copies of entries.
+/// A copy of entries.
 fn copies_of(alloc: Global, entries: &[Entry]) -> Result<Listed<Entry>, AllocError> {
     let mut copies = Vec::new(alloc);
     for entry in entries {

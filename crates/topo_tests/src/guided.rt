@@ -68,7 +68,7 @@ fn asks_for_fewer<F: PriceFn>(
     Ok(())
 }
 
-/// The same on the grid, at the prices of a closure, which counts its calls.
+/// Searches on the grid are guided at the prices of a closure, which counts its calls.
 fn is_guided<F: PriceFn + Drop>(
     rt: &impl Abort,
     alloc: Global,

@@ -20,8 +20,8 @@ fn frame_text(alloc: Global, frame: &Frame) -> Result<String, AllocError> {
     }
 }
 
-/// The caller and what is asked for. Of an opening it is how many prices it has, and of a report
-/// how many entries.
+/// The caller and what is asked for. Of an opening it is how many prices it has, of a report how
+/// many entries, and of a graph how many edges.
 fn asked_text(alloc: Global, asked: &Asked) -> Result<String, AllocError> {
     let caller = asked.caller;
     match &asked.request {
@@ -32,6 +32,10 @@ fn asked_text(alloc: Global, asked: &Asked) -> Result<String, AllocError> {
         Request::Reopen(report) => {
             let count = report.history.len();
             format!(in alloc; "{caller} reopen with {count} entries")
+        }
+        Request::Planarize(graph) => {
+            let count = graph.edges.len();
+            format!(in alloc; "{caller} planarize {count} edges")
         }
         request => format!(in alloc; "{caller} {request:?}"),
     }

@@ -33,7 +33,7 @@ fn exchanges_images_and_bypasses_points(rt: HostRuntime) -> Result<(), Fail> {
     Ok(())
 }
 
-/// These numbers of a rotation system.
+/// The numbers of points, segments, faces and components of a rotation system.
 fn numbers(points: u64, segments: u64, faces: u64, components: u64) -> Euler {
     Euler {
         points,

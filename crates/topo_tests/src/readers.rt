@@ -64,7 +64,8 @@ const EACH_FIELD: &str = concat!(
     r#""rotations":[]},"version":2}"#,
 );
 
-/// The same with the keys in other orders, escapes in keys and words, and a price more.
+/// The report of `EACH_FIELD` with the keys in other orders, escapes in keys and words, and a price
+/// more.
 const EACH_OTHERWISE: &str = concat!(
     r#"{"version":2,"start":{"rotations":[],"edges":[],"next_crossing":64,"next_edge":65,"#,
     r#""crossings":[]},"history":[{"caller":23,"call":["\u0067row",20,21,22],"#,

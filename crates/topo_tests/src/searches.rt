@@ -33,7 +33,7 @@ struct Question {
     /// The price of all kinds but some, and the prices of those.
     at: (Option<u32>, Entries),
     ends: (u32, u32),
-    /// None where there is no route.
+    /// The first answer; none where there is no route.
     first: Option<Answer>,
     /// The least height of each dart. None stand here where nobody knows them.
     heights: &'static [u64],

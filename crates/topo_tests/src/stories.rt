@@ -42,7 +42,8 @@ pub(crate) fn tell_at<S: Story, R: Abort, E: Debug + Drop>(
     tell(rt, alloc, start, ask, &asked, story)
 }
 
-/// The same at the prices of a closure, which counts its calls.
+/// Tells the story of a book that begins with this picture, at the prices of a closure, which
+/// counts its calls.
 fn tell<F: PriceFn + Drop, S: Story, R: Abort, E: Debug + Drop>(
     rt: &R,
     alloc: Global,

@@ -34,7 +34,7 @@ impl Rule<Entry, u64> for AppendOnly {
     ghost moves = { λ ask before after answer. Unit {0} };
 }
 
-/// Callers trade nothing.
+/// A brand with which callers trade nothing.
 pub struct NoGain;
 
 impl Gain<Entry, u64> for NoGain {
@@ -149,7 +149,7 @@ impl<F: PriceFn, K: ServiceBrand<F>> LogPrefix<F, K> {
         self.len
     }
 
-    /// The same prefix once more.
+    /// Shares the prefix with another holder.
     pub fn share(&self) -> LogPrefix<F, K>
         ensures same { result ≡ self.now }
         ensures legal { AreLegal (prices_named F.may_return K.closure) K.start result }

@@ -31,6 +31,6 @@ pub trait VersionWriter<F: PriceFn, K: ServiceBrand<F>> {
     /// A reader; out of memory also if no place for one is left.
     fn reader(&self) -> Result<VersionReader<F, K>, AllocError>;
 
-    /// Ends it.
+    /// Ends what is published.
     fn end<R: Wait>(self, rt: &R);
 }

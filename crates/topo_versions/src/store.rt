@@ -19,7 +19,7 @@ use std::sync::{Arc, Wait};
 use topo_picture::Picture;
 use topo_price::tariff::PriceFn;
 
-/// What takes versions.
+/// A reader: what takes versions.
 pub struct VersionReader<F: PriceFn, K: ServiceBrand<F>> {
     reader: Reader<Slot<F, K>, (), Unruled>,
 }

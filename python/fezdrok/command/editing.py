@@ -4,6 +4,7 @@ from __future__ import annotations
 
 import argparse
 import asyncio
+import gc
 import signal
 import tempfile
 import warnings
@@ -80,6 +81,7 @@ async def _edit(words: argparse.Namespace, result: Planarization) -> int:
         loop.add_signal_handler(number, is_over.set)
     try:
         await server.begin(words.port)
+        gc.freeze()  # what is there by now stays, so no collection of garbage has to look at it again
         say(f"{server.address}  (Ctrl-C ends it)\n")
         if not words.no_browser:
             Thread(target=webbrowser.open, args=[server.address], daemon=True).start()

@@ -17,10 +17,10 @@ from typing import Any
 
 from ..engine.faults import PlanarWarning
 from ..engine.processes import kill_when_closed
-from ..search.lower_bounds import crossings_at_least, is_planar_graph
 from ..search.planarization import planarize
 from .graph_inputs import inputs_of, name_of, read_graph, without_loops
 from .graph_work import Run, search_options
+from .lower_bounds import crossings_at_least
 from .streams import complain, say
 
 COLUMNS = ("file", "nodes", "edges", "planar", "crossings", "lower_bound", "seconds")
@@ -38,14 +38,14 @@ def row_of(path: str, words: argparse.Namespace) -> tuple[Row, list[str]]:
         warnings.simplefilter("always", PlanarWarning)
         graph = without_loops(read_graph(path, words.format))
         result = planarize(graph, **search_options(words, graph))
-    edges = list(graph.edges())
+    bound = crossings_at_least(graph.edges()) if result.crossings else 0
     row = {
         "file": name_of(path),
         "nodes": len(graph),
-        "edges": len(edges),
-        "planar": is_planar_graph(edges),
+        "edges": graph.number_of_edges(),
+        "planar": bound == 0,
         "crossings": result.crossings,
-        "lower_bound": crossings_at_least(edges),
+        "lower_bound": bound,
         "seconds": round(time.monotonic() - begun, 3),
     }
     return row, [str(it.message) for it in caught]

@@ -115,7 +115,7 @@ def _add_search(parser: argparse.ArgumentParser) -> None:
     parser.add_argument("--objective", choices=get_args(Objective), help="what is to be as small as can be")
     parser.add_argument("--price", metavar="ATTR", help="the attribute of edges that says what crossing one costs")
     parser.add_argument("--forbid", metavar="ATTR", help="the attribute of edges that must not be crossed")
-    parser.add_argument("--seed", type=int, default=0, help="what random orders are made from")
+    parser.add_argument("--seed", type=int, default=1, help="what the choices of the search begin with")
 
 
 def _add_planarize(parser: argparse.ArgumentParser) -> None:

@@ -61,7 +61,7 @@ def least_bends(picture: Picture, outer: int, are_small: bool = False, dear: Map
     `outer` is the place in `picture.faces` of the face that lies outside. Of all that have the fewest bends it is one
     in which few corners of a vertex take many of its right angles. Where boxes are to be small, a side of a box without
     an edge counts as a bend: then others have more edges, of which all but one bend (see `doglegs`). A bend of an edge
-    that is `dear` counts so many times more. ValueError where there is no such face.
+    that is `dear` counts so many quarters more. ValueError where there is no such face.
     """
     if not 0 <= outer < len(picture.faces):
         raise ValueError(f"there is no face {outer}: the picture has {len(picture.faces)}")
@@ -118,7 +118,7 @@ def _arcs(picture: Picture, are_small: bool, dear: Mapping[int, int]) -> Iterato
     for dart in picture.darts:
         left, right = picture.face_of(dart), picture.face_of(dart.twin)
         if left != right:
-            yield ("face", left), ("face", right), ("bend", dart), room, bend * (1 + dear.get(dart.edge, 0))
+            yield ("face", left), ("face", right), ("bend", dart), room, bend + bend * dear.get(dart.edge, 0) // 4
 
 
 def _headings(picture: Picture, angles: dict[Dart, int], bends: dict[Dart, int]) -> dict[Dart, int]:

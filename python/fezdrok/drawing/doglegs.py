@@ -25,7 +25,7 @@ FAR = 20
 LARGE = 400
 ROUNDS = 4
 #: How often the bends of edges that turn too far are made to count more, and how many darts all tries have at most.
-TRIES = 8
+TRIES = 12
 DARTS = 20_000
 #: At a corner of a box edges go over it clockwise, or counterclockwise.
 CLOCKWISE, BACK = range(2)
@@ -59,7 +59,7 @@ def shape_with_small_boxes(picture: Picture, outer: int | None = None) -> Shape:
 
 def _tries(picture: Picture, boxes: Collection[Point], outer: int | None) -> Iterator[Shape]:
     """Shapes with small boxes: with the face outside, then with others, larger ones first; and with each several, where
-    the bends of edges that turn too far count more and more."""
+    the bends of edges that turn too far, or nearly so, count more and more."""
     faces = [picture.outer_face if outer is None else outer]
     if outer is None:
         faces += sorted(set(range(len(picture.faces))) - {*faces}, key=lambda it: (-len(picture.faces[it]), it))
@@ -70,7 +70,7 @@ def _tries(picture: Picture, boxes: Collection[Point], outer: int | None) -> Ite
             left -= 1
             shape = narrowed(least_bends(picture, face, True, dear), boxes)
             yield shape
-            dear.update({it: dear.get(it, 0) + 1 for it, turns in _turns(shape).items() if turns > MOST_TURNS})
+            dear.update({it: dear.get(it, 0) + turns - 1 for it, turns in _turns(shape).items() if turns >= MOST_TURNS})
 
 
 def _turns(shape: Shape) -> dict[int, int]:

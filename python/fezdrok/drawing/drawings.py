@@ -20,11 +20,11 @@ from .labels import LETTER_HEIGHT
 from .near_lines import near_chains, settled
 from .orthogonal_layout import orthogonal_drawing
 from .pages import Page
-from .scenes import PLAIN, Position, Scene, flat, grid_of, middle_of, orthogonal_scene
+from .scenes import PLAIN, Position, Scene, flat, grid_of, middle_of, orthogonal_scene, with_arrows
 from .straight_layout import chain, grid_positions, places_between, positions
-from .straight_scenes import Chains, scene_beside, true_scene
+from .straight_scenes import Chains, scene_beside, straight_scene, true_scene
 from .svg import NODE_COLOR, RIM_WIDTH, Paint, svg_of
-from .verification import Defect, defects
+from .verification import Defect, Judge, defects
 from .wider_angles import Effort
 
 if TYPE_CHECKING:
@@ -33,6 +33,8 @@ if TYPE_CHECKING:
 STYLES = ("straight", "curved", "orthogonal")
 #: How much is done to widen the angles at a new edge, and then those of all the drawing.
 QUICK, SLOW = Effort(first=0.02, looks=250), Effort(first=0.01, looks=6000)
+#: How many decimals coordinates have where lines are still to come, so that these are seldom too near to others.
+FINE_DECIMALS = 3
 
 
 class FalseDrawing(PlanarError, ValueError):
@@ -77,9 +79,9 @@ class Drawing:
         nodes, a mapping from them, or an attribute of theirs. At a crossing the edge that was there first has a gap, or
         in the style `orthogonal` the newcomer an arc; with a `crossing_color` crossings have dots instead, but none in
         that style. With None as `background` it has none, and edges that have no colour of yours or of a price are
-        drawn in `currentColor`, so that it fits a dark page as well as a light one; crossings then have dots. Its ids
-        begin with `prefix`; without it with a checksum of the document, so that those of drawings which differ do not
-        meet on one page."""
+        drawn in `currentColor`, so that it fits a dark page as well as a light one; crossings then have dots, and labels
+        of edges stand beside them. Its ids begin with `prefix`; without it with a checksum of the document, so that
+        those of drawings which differ do not meet on one page."""
         scene = with_nodes(self.result, self.scene, node_color, node_width)
         every = node_color if is_for_all(node_values(self.result, node_color, "node_color"), node_color) else NODE_COLOR
         return svg_of(self.result, scene, Paint(every, crossing_color, background), prefix)
@@ -203,33 +205,45 @@ def _scene(
     return scene
 
 
-def drawing_beside(result: Planarization, before: Drawing) -> Drawing | None:
-    """A drawing that goes on from a true one with straight lines, soon: what both have lies as there, and the new edges
-    lead through the faces between, where they are moved a little. None where that is not true."""
+def judged(drawing: Drawing) -> tuple[Drawing, Judge] | None:
+    """A drawing, with more decimals where it is true with them, and its judge; None where it is not true."""
+    for decimals in (FINE_DECIMALS, drawing.scene.decimals):
+        scene = replace(drawing.scene, decimals=decimals)
+        judge = Judge(drawing.result, Page(scene))
+        if not judge.defects():
+            return replace(drawing, scene=scene), judge
+    return None
+
+
+def drawing_beside(result: Planarization, before: Drawing, judge: Judge) -> tuple[Drawing, Judge] | None:
+    """A drawing that goes on from a true one with straight lines, soon, and its judge, which goes on from that one's:
+    what both have lies as there, and the new edges lead through the faces between, where they are moved a little. None
+    where that is not true."""
     chains = near_chains(result, before.result, before.scene)
     if chains is None:
         return None
     new = [edge_id for edge_id, name in result.edge_of.items() if name not in before.result.id_of]
     inner = [node for edge_id in new for node in chains.nodes[edge_id][1:-1]]
     names = names_of(result, True)
-    for its in (settled(chains, QUICK._replace(nodes=inner)), chains):
-        scene, false = scene_beside(its, before.scene, names)
+    for its in (settled(chains, QUICK._replace(nodes=inner)), chains) if inner else (chains,):
+        scene = scene_beside(its, names, before.scene)
+        now, false = judge.beside(result, Page(scene, judge.page))
         if not false:
-            return Drawing(result, before.style, scene)
+            return Drawing(result, before.style, scene), now
     return None
 
 
-def drawing_settled(before: Drawing, is_over: Callable[[], bool]) -> Drawing | None:
+def drawing_settled(before: Drawing, is_over: Callable[[], bool]) -> tuple[Drawing, Judge] | None:
     """A drawing with straight lines whose points are moved a little so that fewer angles are small, and whose nodes are
-    as large as there is room. None where that is not true, or where it `is_over` before."""
-    chains = near_chains(before.result, before.result, before.scene)
+    as large as there is room, and its judge. None where that is not true, or where it `is_over` before."""
+    result = before.result
+    chains = near_chains(result, result, before.scene)
     if chains is None:
         return None
     chains = settled(chains, SLOW._replace(is_over=is_over))
     if is_over():
         return None
-    scene, false = true_scene(chains, False, names_of(before.result, True))
-    return None if false else Drawing(before.result, before.style, scene)
+    return judged(Drawing(result, before.style, with_arrows(result, straight_scene(chains, names_of(result, True)))))
 
 
 def scene_of(result: Planarization, style: str = "curved", **words: Any) -> Scene:

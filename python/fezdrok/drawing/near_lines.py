@@ -5,7 +5,7 @@ Edges that are new are put in one after another, each through the faces that its
 
 from __future__ import annotations
 
-from collections.abc import Container, Hashable, Mapping
+from collections.abc import Container, Hashable, Iterable, Mapping
 from dataclasses import replace
 from math import hypot
 from typing import Any
@@ -29,11 +29,11 @@ def near_chains(result: Planarization, before: Planarization, scene: Scene) -> C
     None where this does not hang together, or lies otherwise in both pictures."""
     if result.parts or before.parts or not result.picture.edges:
         return None
-    kept = _common(result, before)
-    rest = restricted(result.picture, kept)
-    if not kept or not hangs_together(rest):
+    kept, same = _common(result, before)
+    is_whole = len(kept) in (len(result.edge_of), len(before.edge_of))  # and each of both hangs together
+    if not kept or not is_whole and not hangs_together(restricted(result.picture, kept)):
         return None
-    drawn = _kept_lines(result, before, scene, kept, rest)
+    drawn = _kept_lines(result, before, scene, kept, same)
     left = [row.id for row in result.picture.edges if row.id not in kept]
     placed = {end for edge_id in kept for end in _ends(result.picture.edge(edge_id))}
     while left:
@@ -44,7 +44,7 @@ def near_chains(result: Planarization, before: Planarization, scene: Scene) -> C
         picture = restricted(result.picture, {*drawn.lines, edge_id})
         _put(drawn, picture, picture.edge(edge_id), placed)
         placed.update(_ends(picture.edge(edge_id)))
-    return _chains(result, drawn)
+    return _chains(result, drawn, same)
 
 
 def _ends(row: Edge) -> tuple[int, int]:
@@ -62,7 +62,7 @@ def _put(drawn: StepLines, picture: Picture, row: Edge, placed: Container[int]) 
     drawn.lines[row.id] = Line(line.points[::-1], line.crossings[::-1])
 
 
-def _chains(result: Planarization, drawn: StepLines) -> Chains:
+def _chains(result: Planarization, drawn: StepLines, same: Container[int]) -> Chains:
     """The lines as chains of names, with a place for each."""
     places: dict[Any, Position] = dict(zip(result.node_of, drawn.vertices))
     nodes: dict[int, list[Any]] = {}
@@ -74,7 +74,7 @@ def _chains(result: Planarization, drawn: StepLines) -> Chains:
         ]
         places.update(zip(inner, line.points[1:-1]))
         nodes[edge_id] = [result.node_of[row.a], *inner, result.node_of[row.b]]
-    return Chains(result, {row.id: nodes[row.id] for row in result.picture.edges}, places)
+    return Chains(result, {row.id: nodes[row.id] for row in result.picture.edges}, places, same)
 
 
 # ---- Points that are moved
@@ -86,26 +86,34 @@ def settled(chains: Chains, effort: Effort) -> Chains:
     xs, ys = zip(*chains.places.values())
     left, bottom, right, top = min(xs), min(ys), max(xs), max(ys)
     x, y, radius = (left + right) / 2, (bottom + top) / 2, hypot(right - left, top - bottom) / 2
-    crossings = {chains.result.name_of(point) for point in chains.result.picture.points if point.is_crossing}
+    crossings = {chains.result.name_of(Point(True, row.id)) for row in chains.result.picture.crossings}
     unit = {node: ((u - x) / radius, (v - y) / radius) for node, (u, v) in chains.places.items()}
-    found = widened(_around(chains), crossings, chains.nodes.values(), unit, effort)
+    found = widened(_Around(chains), crossings, chains.nodes.values(), unit, effort)
     moved = {node: (x + radius * u, y + radius * v) for node, (u, v) in found.items() if (u, v) != unit[node]}
     return replace(chains, places={**chains.places, **moved})
 
 
-def _around(chains: Chains) -> dict[Any, list[Any]]:
-    """The neighbours of each node of the chains, clockwise."""
-    result = chains.result
-    found: dict[Any, list[Any]] = {}
-    for nodes in chains.nodes.values():
-        found.update((node, [before, after]) for before, node, after in zip(nodes, nodes[1:], nodes[2:]))
-    for point in result.picture.points:
-        name = result.name_of(point)
-        found[name] = []
-        for dart in result.picture.around(point):
-            nodes = chains.nodes[dart.edge]
-            found[name].append(nodes[nodes.index(name) + (-1 if dart.back else 1)])
-    return found
+class _Around(dict[Any, list[Any]]):
+    """The neighbours of each node of the chains, clockwise, which are found when they are asked for."""
+
+    def __init__(self, chains: Chains):
+        super().__init__()
+        self._chains = chains
+
+    def __missing__(self, name: Any) -> list[Any]:
+        result, chains = self._chains.result, self._chains.nodes
+        vertex = result.vertex_of.get(name)
+        if vertex is None and name.kind == "bend":
+            nodes = chains[name.of.edge]
+            place = nodes.index(name)
+            found = [nodes[place - 1], nodes[place + 1]]
+        else:
+            found = []
+            for dart in result.picture.around(Point(True, name.of) if vertex is None else Point(False, vertex)):
+                nodes = chains[dart.edge]
+                found.append(nodes[nodes.index(name) + (-1 if dart.back else 1)])
+        self[name] = found
+        return found
 
 
 # ---- Parts of pictures
@@ -115,8 +123,8 @@ def restricted(picture: Picture, kept: Container[int]) -> Picture:
     """The picture without the edges that are not kept; all ids stay."""
     if all(row.id in kept for row in picture.edges):
         return picture
-    crossings = tuple(row for row in picture.crossings if row.crossed in kept and row.newcomer in kept)
-    left = {row.id for row in crossings}
+    left = _left(picture, kept)
+    crossings = tuple(row for row in picture.crossings if row.id in left)
     edges = tuple(
         Edge(row.id, row.a, row.b, row.kind, tuple(it for it in row.crossings if it in left))
         for row in picture.edges
@@ -159,48 +167,65 @@ def hangs_together(picture: Picture) -> bool:
 # ---- What two planarizations have in common
 
 
-def _common(result: Planarization, before: Planarization) -> dict[int, int]:
-    """The ids of edges that lie alike in both pictures, with those that they had before. Where some do not, the one
-    that differs most is left out, again and again; empty where the edges leave a node in another order."""
-    kept = {
-        edge_id: before.id_of[name]
-        for edge_id, name in result.edge_of.items()
-        if name in before.id_of and _named_ends(result, edge_id) == _named_ends(before, before.id_of[name])
-    }
-    while kept:
-        now, then = _passed(result, kept), _passed(before, set(kept.values()))
-        differing = {it: len(set(now[it]) ^ set(then[kept[it]])) + 1 for it in kept if now[it] != then[kept[it]]}
+def _common(result: Planarization, before: Planarization) -> tuple[dict[int, int], Container[int]]:
+    """The ids of edges that lie alike in both pictures, with those that they had before; and those of them that are the
+    same in both. Where some do not lie alike, the one that differs most is left out, again and again; empty where the
+    edges leave a node in another order."""
+    kept = {}
+    for row in result.picture.edges:
+        old = before.id_of.get(result.edge_of[row.id])
+        if old is not None and _named_ends(result, row) == _named_ends(before, before.picture.edge(old)):
+            kept[row.id] = old
+    same = {it for it in kept if _is_same(result, before, kept, it)}
+    left = [it for it in kept if it not in same]
+    while True:
+        now, then = _passed(result, left, kept), _passed(before, [kept[it] for it in left], set(kept.values()))
+        differing = {it: len(set(now[it]) ^ set(then[kept[it]])) + 1 for it in left if now[it] != then[kept[it]]}
         if not differing:
-            break
-        del kept[max(differing, key=differing.__getitem__)]
-    return kept if _are_alike(result, before, kept) else {}
+            return (kept, same) if _are_alike(result, before, kept) else ({}, ())
+        worst = max(differing, key=differing.__getitem__)
+        del kept[worst]
+        left.remove(worst)
 
 
-def _named_ends(result: Planarization, edge_id: int) -> tuple[Any, Any]:
-    row = result.picture.edge(edge_id)
+def _named_ends(result: Planarization, row: Edge) -> tuple[Any, Any]:
     return result.node_of[row.a], result.node_of[row.b]
 
 
-def _passed(result: Planarization, kept: Container[int]) -> dict[int, Passed]:
-    """What crosses each of the edges that are kept, along it."""
-    picture = restricted(result.picture, kept)
+def _is_same(result: Planarization, before: Planarization, kept: Mapping[int, int], edge_id: int) -> bool:
+    """Whether an edge has the same row in both pictures, and so have its crossings, with edges that have kept their
+    ids."""
+    row = result.picture.edge(edge_id)
+    if kept[edge_id] != edge_id or row != before.picture.edge(edge_id):
+        return False
+    for crossing in row.crossings:
+        now = result.picture.crossing(crossing)
+        if now != before.picture.crossing(crossing) or any(kept.get(it) != it for it in (now.crossed, now.newcomer)):
+            return False
+    return True
+
+
+def _passed(result: Planarization, edge_ids: Iterable[int], kept: Container[int]) -> dict[int, Passed]:
+    """What crosses each of these edges, along it, of the edges that are kept."""
     found: dict[int, Passed] = {}
-    for row in picture.edges:
-        rows = [picture.crossing(it) for it in row.crossings]
-        found[row.id] = [
-            (result.edge_of[it.newcomer], it.sign == "ltr")
-            if it.crossed == row.id
-            else (result.edge_of[it.crossed], it.sign == "rtl")
-            for it in rows
-        ]
+    for edge_id in edge_ids:
+        its = found.setdefault(edge_id, [])
+        for row in map(result.picture.crossing, result.picture.edge(edge_id).crossings):
+            is_crossed = row.crossed == edge_id
+            other = row.newcomer if is_crossed else row.crossed
+            if other in kept:
+                its.append((result.edge_of[other], row.sign == ("ltr" if is_crossed else "rtl")))
     return found
 
 
 def _are_alike(result: Planarization, before: Planarization, kept: Mapping[int, int]) -> bool:
     """Whether the edges that are kept leave each node in the same order."""
-    olds = set(kept.values())
+    olds, are_ids_kept = set(kept.values()), all(new == old for new, old in kept.items())
     for node, vertex in result.vertex_of.items():
-        now = [kept[it] for it in result.picture.rotations[vertex] if it in kept]
+        around, old = result.picture.rotations[vertex], before.vertex_of.get(node)
+        if are_ids_kept and old is not None and around == before.picture.rotations[old]:
+            continue
+        now = [kept[it] for it in around if it in kept]
         if now:
             then = [it for it in before.picture.rotations[before.vertex_of[node]] if it in olds]
             place = then.index(now[0])
@@ -210,18 +235,24 @@ def _are_alike(result: Planarization, before: Planarization, kept: Mapping[int, 
 
 
 def _kept_lines(
-    result: Planarization, before: Planarization, scene: Scene, kept: Mapping[int, int], rest: Picture
+    result: Planarization, before: Planarization, scene: Scene, kept: Mapping[int, int], same: Container[int]
 ) -> StepLines:
-    """The lines of the edges that are kept, as in the scene, with the crossings that are left, as in the rest of the
-    picture."""
+    """The lines of the edges that are kept, as in the scene, with the crossings that are left."""
     place_of = {shape.node: shape.middle for shape in scene.nodes}
     drawn = StepLines([place_of.get(node, (0.0, 0.0)) for node in result.node_of])
     stroke_of = {stroke.edge_id: stroke for stroke in scene.strokes}
-    left = {row.id for row in restricted(before.picture, set(kept.values())).crossings}
-    for row in rest.edges:
-        stroke = stroke_of[kept[row.id]]
+    left, left_before = _left(result.picture, kept), _left(before.picture, set(kept.values()))
+    for edge_id, old in kept.items():
+        stroke = stroke_of[old]
         ids = [mark.id if mark is not None and mark.is_crossing else None for mark in stroke.marks]
-        id_of: dict[int | None, int] = dict(zip([it for it in ids if it in left], row.crossings, strict=True))
-        points = list(stroke.points[:: 3 if stroke.curved else 1])
-        drawn.lines[row.id] = Line(points, [id_of.get(it) for it in ids])
+        if edge_id not in same:
+            crossings = [it for it in result.picture.edge(edge_id).crossings if it in left]
+            id_of: dict[int | None, int] = dict(zip([it for it in ids if it in left_before], crossings, strict=True))
+            ids = [id_of.get(it) for it in ids]
+        drawn.lines[edge_id] = Line([*stroke.points[:: 3 if stroke.curved else 1]], ids)
     return drawn
+
+
+def _left(picture: Picture, kept: Container[int]) -> set[int]:
+    """The crossings that are left of a picture with the edges that are kept."""
+    return {row.id for row in picture.crossings if row.crossed in kept and row.newcomer in kept}

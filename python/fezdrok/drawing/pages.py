@@ -13,7 +13,7 @@ from typing import NamedTuple
 
 from ..engine.graph_edges import Node
 from ..engine.pictures import Point
-from .scenes import Position, Scene, Stroke, pieces_of
+from .scenes import NodeShape, Position, Scene, Stroke, pieces_of
 
 PagePoint = tuple[int, int]
 
@@ -46,28 +46,38 @@ class PageLine:
 
 
 class Page:
-    """A scene on a page. `steps` is how many units of the page a pixel has."""
+    """A scene on a page. `steps` is how many units of the page a pixel has, `corner` its upper left corner, and `size`
+    its width and height. Where it goes on from a page with the same unit and decimals, that one's corner is where it
+    was, and strokes and nodes that are in both scenes have the same lines and nodes on both pages."""
 
-    def __init__(self, scene: Scene):
+    def __init__(self, scene: Scene, before: "Page | None" = None):
         self.scene = scene
         self.steps = 10**scene.decimals
         left, bottom, right, top = scene.bounds
         self._factor = scene.unit * self.steps
         margin = MARGIN * self.steps
-        self._left = floor(left * self._factor) - margin
-        self._top = floor(-top * self._factor) - margin
-        self.size = self.at((right, bottom))[0] + margin, self.at((right, bottom))[1] + margin
-        self.nodes = [
-            PageNode(
-                shape.node,
-                self.at(shape.middle),
-                floor(shape.width * self._factor / 2 + 1e-6),
-                floor(shape.height * self._factor / 2 + 1e-6),
-                not shape.box and abs(shape.width - shape.height) * self._factor < 0.1,
-            )
-            for shape in scene.nodes
-        ]
-        self.lines = [self.line(stroke) for stroke in scene.strokes]
+        west, north = floor(left * self._factor) - margin, floor(-top * self._factor) - margin
+        self._left: int = west if before is None else before._left
+        self._top: int = north if before is None else before._top
+        self.corner = west - self._left, north - self._top
+        east, south = self.at((right, bottom))
+        self.size = east + margin - self.corner[0], south + margin - self.corner[1]
+        lines: dict[int, PageLine] = {}
+        nodes: dict[int, PageNode] = {}
+        if before is not None:
+            lines = {id(stroke): line for stroke, line in zip(before.scene.strokes, before.lines)}
+            nodes = {id(shape): node for shape, node in zip(before.scene.nodes, before.nodes)}
+        self.lines: list[PageLine] = [lines.get(id(stroke)) or self.line(stroke) for stroke in scene.strokes]
+        self.nodes: list[PageNode] = [nodes.get(id(shape)) or self._node(shape) for shape in scene.nodes]
+
+    def _node(self, shape: NodeShape) -> PageNode:
+        return PageNode(
+            shape.node,
+            self.at(shape.middle),
+            floor(shape.width * self._factor / 2 + 1e-6),
+            floor(shape.height * self._factor / 2 + 1e-6),
+            not shape.box and abs(shape.width - shape.height) * self._factor < 0.1,
+        )
 
     def at(self, place: Position) -> PagePoint:
         """The point of the page for a place of the scene."""

@@ -183,8 +183,7 @@ def orthogonal_scene(
         points, marks = _with_crossings(line, crossings)
         marks = (Point(False, row.a), *marks[1:-1], Point(False, row.b))
         strokes.append(Stroke(edge_id, points, False, kinds[row.kind], marks, (), ROUNDING / unit))
-    scene = Scene(unit, tuple(strokes), tuple(nodes), (), legend, 2)
-    return with_arrows(result, scene) if result.graph.is_directed() else scene
+    return with_arrows(result, Scene(unit, tuple(strokes), tuple(nodes), (), legend, 2))
 
 
 def _with_crossings(
@@ -253,9 +252,14 @@ def flat(stroke: Stroke, steps: int = 16) -> list[Position]:
     return points
 
 
+def longest_piece(stroke: Stroke) -> tuple[Position, ...]:
+    """The straight line or the curve of a stroke whose ends are farthest apart."""
+    return max(pieces_of(stroke)[0], key=lambda piece: hypot(piece[-1][0] - piece[0][0], piece[-1][1] - piece[0][1]))
+
+
 def middle_of(stroke: Stroke) -> Position:
     """The middle of the longest piece of a stroke, where its label stands."""
-    longest = max(pieces_of(stroke)[0], key=lambda piece: hypot(piece[-1][0] - piece[0][0], piece[-1][1] - piece[0][1]))
+    longest = longest_piece(stroke)
     if len(longest) == 2:
         return (longest[0][0] + longest[1][0]) / 2, (longest[0][1] + longest[1][1]) / 2
     (x, y), (u, v), (p, q), (r, s) = longest
@@ -272,10 +276,16 @@ def toward(start: Position, end: Position) -> Position:
 
 
 def with_arrows(result: Planarization, scene: Scene) -> Scene:
-    """The scene of a directed graph: each edge with an arrow at the node that it leads to."""
+    """The scene, where the graph is directed with an arrow on each edge, at the node that it leads to, which has none
+    yet."""
+    if not result.graph.is_directed():
+        return scene
     shape_of = {shape.node: shape for shape in scene.nodes}
     strokes = []
     for stroke in scene.strokes:
+        if stroke.head:
+            strokes.append(stroke)
+            continue
         source, target = result.edge_of[stroke.edge_id][:2]
         line = flat(stroke)
         if result.node_of[result.picture.edge(stroke.edge_id).a] != source:

@@ -3,7 +3,8 @@ all pairs."""
 
 from __future__ import annotations
 
-from collections.abc import Iterable, Iterator, Sequence
+from collections.abc import Container, Iterable, Iterator, Sequence
+from copy import copy
 from math import sqrt
 from typing import Any
 
@@ -31,16 +32,29 @@ class SegmentGrid:
         for square in self.passed(segment):
             self.squares.setdefault(square, []).append(place)
 
+    def without(self, gone: Container[int]) -> "SegmentGrid":
+        """A grid of the other segments, to be changed without this one."""
+        other = copy(self)
+        other.squares = {
+            square: [place for place in places if place not in gone] for square, places in self.squares.items()
+        }
+        return other
+
     @staticmethod
     def of_rectangles(bounds: Sequence[tuple[float, float, float, float]]) -> "SegmentGrid":
         """A grid of rectangles, each the least x and y and the greatest, with the places of those in each square."""
         grid = SegmentGrid(())
         grid.size = _square_size(bounds)
-        for place, (left, bottom, right, top) in enumerate(bounds):
-            for column in range(int(left // grid.size), int(right // grid.size) + 1):
-                for row in range(int(bottom // grid.size), int(top // grid.size) + 1):
-                    grid.squares.setdefault((column, row), []).append(place)
+        for place, its in enumerate(bounds):
+            for square in grid.covered(*its):
+                grid.squares.setdefault(square, []).append(place)
         return grid
+
+    def covered(self, left: float, bottom: float, right: float, top: float) -> Iterator[Square]:
+        """The squares that a rectangle covers."""
+        for column in range(int(left // self.size), int(right // self.size) + 1):
+            for row in range(int(bottom // self.size), int(top // self.size) + 1):
+                yield column, row
 
     def passed(self, segment: Segment) -> Iterator[Square]:
         """The squares that a segment passes, column by column."""
@@ -60,12 +74,16 @@ class SegmentGrid:
             for row in range(int((low - spare) // size), int((high + spare) // size) + 1):
                 yield column, row
 
+    def along(self, segment: Segment) -> set[int]:
+        """The places of all that are in the squares that a segment passes."""
+        return {place for square in self.passed(segment) for place in self.squares.get(square, ())}
+
     def near(self, left: float, bottom: float, right: float, top: float) -> set[int]:
         """The places of all segments that come into a rectangle, and of some near it."""
         columns = range(int(left // self.size), int(right // self.size) + 1)
         rows = range(int(bottom // self.size), int(top // self.size) + 1)
         if len(columns) * len(rows) <= len(self.squares):
-            squares: Iterable[Square] = ((column, row) for column in columns for row in rows)
+            squares: Iterable[Square] = self.covered(left, bottom, right, top)
         else:
             squares = [it for it in self.squares if it[0] in columns and it[1] in rows]
         return {place for square in squares for place in self.squares.get(square, ())}

@@ -8,7 +8,7 @@ is right; with every curve straight it is.
 
 from __future__ import annotations
 
-from collections.abc import Container, Iterator, Mapping, Sequence
+from collections.abc import Container, Mapping, Sequence
 from dataclasses import dataclass, replace
 from math import hypot, sqrt
 from typing import Any
@@ -34,11 +34,13 @@ LESS_REACH_OF_MANY = {1.0: 0.3, 0.3: 0.0}
 
 @dataclass(frozen=True)
 class Chains:
-    """A planarization to be drawn: for each edge the nodes of an embedding along it, and a place for each of them."""
+    """A planarization to be drawn: for each edge the nodes of an embedding along it, and a place for each of them.
+    Edges of `same` lie as in the drawing before, where they have the same ids."""
 
     result: Planarization
     nodes: Mapping[int, Sequence[Any]]
     places: Mapping[Any, Position]
+    same: Container[int] = ()
 
     @property
     def segments(self) -> list[tuple[Any, ...]]:
@@ -61,7 +63,7 @@ def true_scene(
     if is_curved:
         curved, false = _curved(chains, scene, [])
         if not false:
-            return _finished(chains, curved), []
+            return with_arrows(chains.result, curved), []
     for decimals in range(least, MOST_DECIMALS + 1):
         scene = replace(scene, decimals=decimals)
         false = defects(chains.result, Page(scene))
@@ -69,12 +71,7 @@ def true_scene(
             break
     if is_curved:
         scene, false = _curved(chains, scene, false)
-    return _finished(chains, scene), false
-
-
-def _finished(chains: Chains, scene: Scene) -> Scene:
-    """The scene, with arrows where the graph is directed."""
-    return with_arrows(chains.result, scene) if chains.result.graph.is_directed() else scene
+    return with_arrows(chains.result, scene), false
 
 
 def straight_scene(chains: Chains, names: Mapping[Node, str], color: str = PLAIN) -> Scene:
@@ -83,56 +80,71 @@ def straight_scene(chains: Chains, names: Mapping[Node, str], color: str = PLAIN
     return _scene_of(chains, unit, nodes, color)
 
 
-def scene_beside(
-    chains: Chains, before: Scene, names: Mapping[Node, str], color: str = PLAIN
-) -> tuple[Scene, list[Defect]]:
-    """The scene that goes on from a true one with straight lines, in which all nodes lie that both have; and what is
-    false in it. Nodes are as large as there, or smaller where a line is new beside them. Lines that lie as there are
-    not judged again."""
-    scene = _scene_of(chains, before.unit, (), color)
-    lines_before = {(it.edge_id, it.points) for it in before.strokes}
-    fresh = {it.edge_id for it in scene.strokes if (it.edge_id, it.points) not in lines_before}
-    shapes = _shapes_beside(chains, before, names, fresh)
-    scene = replace(scene, nodes=shapes, decimals=before.decimals)
-    are_nodes_new = len(shapes) > len(before.nodes)
-    near = scene.strokes if are_nodes_new else tuple(_strokes_beside(scene, fresh))
-    judge = Judge(chains.result, Page(replace(scene, strokes=near)))
-    return _finished(chains, scene), judge.beside(fresh, are_nodes_new)
+def scene_beside(chains: Chains, names: Mapping[Node, str], before: Scene) -> Scene:
+    """The scene that goes on from one with straight lines, in which all nodes lie that both have. Strokes and nodes
+    that are as there are the same objects; a node is smaller where a line is new beside it."""
+    result, (kinds, _) = chains.result, looks(chains.result)
+    old = {
+        it.edge_id: it
+        for it in before.strokes
+        if it.edge_id in chains.same and it.look == kinds[result.picture.edge(it.edge_id).kind]
+    }
+    nodes = _nodes_beside(chains, names, before, [edge_id for edge_id in chains.nodes if edge_id not in old])
+    if result.graph.is_directed():
+        kept = {id(it) for it in before.nodes}
+        ends = {it.node for it in nodes if id(it) in kept}  # at which arrows stay where they are
+        old = {edge_id: it for edge_id, it in old.items() if result.edge_of[edge_id][1] in ends}
+    scene = replace(_scene_of(chains, before.unit, nodes, PLAIN, old), decimals=before.decimals)
+    return with_arrows(result, scene)
 
 
-def _strokes_beside(scene: Scene, fresh: Container[int]) -> Iterator[Stroke]:
-    """The strokes of these edges, and all whose extents meet the extent of one of their lines."""
-    lines = [pair for it in scene.strokes if it.edge_id in fresh for pair in zip(it.points, it.points[1:])]
-    extents = [(min(x, u), min(y, v), max(x, u), max(y, v)) for (x, y), (u, v) in lines]
-    spare = 10**-scene.decimals / scene.unit
-    for stroke in scene.strokes:
-        xs, ys = zip(*stroke.points)
-        left, bottom, right, top = min(xs) - spare, min(ys) - spare, max(xs) + spare, max(ys) + spare
-        if any(x <= right and u >= left and y <= top and v >= bottom for x, y, u, v in extents):
-            yield stroke
-
-
-def _shapes_beside(
-    chains: Chains, before: Scene, names: Mapping[Node, str], fresh: Container[int]
+def _nodes_beside(
+    chains: Chains, names: Mapping[Node, str], before: Scene, fresh: Sequence[int]
 ) -> tuple[NodeShape, ...]:
-    """The nodes, each as large as before, or smaller where one of the fresh edges comes near it."""
-    labels = [label_of(names[node]) for node in chains.result.node_of]
-    sizes = [label_size(label) for label in labels]
-    near = replace(chains, nodes={edge_id: its for edge_id, its in chains.nodes.items() if edge_id in fresh})
-    scales = _scales_beside_lines(near, sizes, before.unit)
-    scale_of = {shape.node: shape.scale for shape in before.nodes}
-    if len(scale_of) < len(labels):
-        scale_of = {**dict(zip(chains.result.node_of, _scales(chains, sizes, before.unit))), **scale_of}
-    scales = [min(scale, scale_of[node]) for node, scale in zip(chains.result.node_of, scales)]
-    return _shapes(chains, labels, scales, before.unit)
+    """The nodes, each as before, or smaller where one of the fresh edges comes near it; a new one is as large as there
+    is room."""
+    old = {it.node: it for it in before.nodes}
+    lines = replace(chains, nodes={edge_id: chains.nodes[edge_id] for edge_id in fresh})
+    kept = [node for node in chains.result.node_of if node in old] if fresh else []
+    sizes = [label_size(old[node].label) for node in kept]
+    scales = dict(zip(kept, _scales_beside_lines(lines, kept, sizes, before.unit)))
+    found = []
+    for node in chains.result.node_of:
+        shape = old.get(node)
+        if shape is None:
+            label = label_of(names[node])
+            shape = _shape(chains, node, label, _scale_of_new(chains, node, label, before), before.unit)
+        elif scales.get(node, 1.0) < shape.scale:
+            shape = _shape(chains, node, shape.label, scales[node], before.unit)
+        found.append(shape)
+    return tuple(found)
 
 
-def _scene_of(chains: Chains, unit: float, nodes: tuple[NodeShape, ...], color: str) -> Scene:
-    """The scene with these nodes."""
+def _scale_of_new(chains: Chains, node: Node, label: str, before: Scene) -> float:
+    """By how much a new node has to be made smaller to lie on nothing; else 1."""
+    (x, y), unit, (width, height) = chains.places[node], before.unit, label_size(label)
+    right, up = (width / 2 + GAP) / unit, (height / 2 + GAP) / unit
+    near = {}
+    for edge_id, nodes in chains.nodes.items():
+        xs, ys = zip(*(chains.places[it] for it in nodes))
+        if min(xs) <= x + right and max(xs) >= x - right and min(ys) <= y + up and max(ys) >= y - up:
+            near[edge_id] = nodes
+    scale = _scales_beside_lines(replace(chains, nodes=near), [node], [(width, height)], unit)[0]
+    for shape in before.nodes:
+        across, rise = abs(shape.middle[0] - x) - shape.width / 2, abs(shape.middle[1] - y) - shape.height / 2
+        scale = min(scale, max((2 * unit * across - GAP) / width, (2 * unit * rise - GAP) / height))
+    return max(scale, 0.0)
+
+
+def _scene_of(
+    chains: Chains, unit: float, nodes: tuple[NodeShape, ...], color: str, old: Mapping[int, Stroke] = {}
+) -> Scene:
+    """The scene with these nodes, and with these strokes of some edges."""
     result, places = chains.result, chains.places
     kinds, legend = looks(result, color)
     strokes = [
-        Stroke(
+        old.get(edge_id)
+        or Stroke(
             edge_id,
             tuple(places[node] for node in chain),
             False,
@@ -147,8 +159,9 @@ def _scene_of(chains: Chains, unit: float, nodes: tuple[NodeShape, ...], color: 
 
 def _marks(result: Planarization, edge_id: int, chain: Sequence[Any]) -> tuple[Point | None, ...]:
     """For each node of an edge's chain the point of the picture that it is."""
-    point_of = {result.name_of(point): point for point in result.picture.path(edge_id)}
-    return tuple(point_of.get(node) for node in chain)
+    row = result.picture.edge(edge_id)
+    inner = (Point(True, node.of) if node.kind == "crossing" else None for node in chain[1:-1])
+    return (Point(False, row.a), *inner, Point(False, row.b))
 
 
 # ---- Nodes that have room
@@ -173,49 +186,57 @@ def _shapes(
     chains: Chains, labels: Sequence[str], scales: Sequence[float], unit: float
 ) -> tuple[NodeShape, ...]:
     """The nodes at their places, so many times as large as their labels want."""
-    found = []
-    for node, label, scale in zip(chains.result.node_of, labels, scales):
-        width, height = (scale * extent / unit for extent in label_size(label))
-        found.append(NodeShape(node, label, chains.places[node], width, height, "\n" in label, scale))
-    return tuple(found)
+    return tuple(_shape(chains, *its, unit) for its in zip(chains.result.node_of, labels, scales))
+
+
+def _shape(chains: Chains, node: Node, label: str, scale: float, unit: float) -> NodeShape:
+    width, height = (scale * extent / unit for extent in label_size(label))
+    return NodeShape(node, label, chains.places[node], width, height, "\n" in label, scale)
 
 
 def _scales(chains: Chains, sizes: Sequence[tuple[float, float]], unit: float) -> list[float]:
     """By how much each node has to be made smaller, at so many pixels a step, to lie on nothing; else 1."""
     middles = [(unit * x, unit * y) for x, y in (chains.places[node] for node in chains.result.node_of)]
-    scales = _scales_beside_lines(chains, sizes, unit)
+    scales = _scales_beside_lines(chains, chains.result.node_of, sizes, unit)
     boxes = [(x - w, y - h, x + w, y + h) for (x, y), (w, h) in zip(middles, sizes)]
     near = SegmentGrid.of_rectangles(boxes)
     for place, ((x, y), (width, height)) in enumerate(zip(middles, sizes)):
+        scale = scales[place]
         for other in near.near(*boxes[place]):
-            if other != place:
-                (u, v), (w, h) = middles[other], sizes[other]
-                right, up, way = (width + w + GAP) / 2, (height + h + GAP) / 2, (u - x, v - y)
-                scales[place] = min(scales[place], _reach(way, way, right, up))
+            (u, v), (w, h) = middles[other], sizes[other]
+            right, up, way = (width + w + GAP) / 2, (height + h + GAP) / 2, (u - x, v - y)
+            if abs(way[0]) < scale * right and abs(way[1]) < scale * up and other != place:
+                scale = min(scale, _reach(way, way, right, up))
+        scales[place] = scale
     return scales
 
 
-def _scales_beside_lines(chains: Chains, sizes: Sequence[tuple[float, float]], unit: float) -> list[float]:
-    """By how much each node has to be made smaller to reach no other end of its own lines, and no other line."""
+def _scales_beside_lines(
+    chains: Chains, nodes: Sequence[Node], sizes: Sequence[tuple[float, float]], unit: float
+) -> list[float]:
+    """By how much each of these nodes has to be made smaller to reach no other end of its own lines, and no other
+    line."""
     lines = [(*(unit * it for it in row[:4]), *row[4:]) for row in chains.segments]
     far: dict[Any, list[Position]] = {}
     for p, q, r, s, _, start, end in lines:
         far.setdefault(start, []).append((r - p, s - q))
         far.setdefault(end, []).append((p - r, q - s))
     grid = SegmentGrid(lines)
+    extents = [(min(p, r), min(q, s), max(p, r), max(q, s)) for p, q, r, s, *_ in lines]
     scales = []
-    for node, (width, height) in zip(chains.result.node_of, sizes):
+    for node, (width, height) in zip(nodes, sizes):
         x, y = (unit * it for it in chains.places[node])
         right, up = width / 2 + GAP, height / 2 + GAP
         scale = min([1.0, *(_reach(way, way, right, up) for way in far.get(node, ()))])
         wide, high = scale * right, scale * up
         for place in grid.near(x - wide, y - high, x + wide, y + high):
-            p, q, r, s, _, start, end = lines[place]
-            wide, high = scale * right, scale * up
-            if max(p, r) < x - wide or min(p, r) > x + wide or max(q, s) < y - high or min(q, s) > y + high:
+            p, q, r, s = extents[place]
+            if r < x - wide or p > x + wide or s < y - high or q > y + high:
                 continue
+            p, q, r, s, _, start, end = lines[place]
             if node not in (start, end):
                 scale = min(scale, _reach((p - x, q - y), (r - x, s - y), right, up))
+                wide, high = scale * right, scale * up
         scales.append(scale)
     return scales
 

@@ -15,9 +15,9 @@ from zlib import crc32
 
 from ..engine.results import Planarization
 from .bridges import bridges
-from .labels import LETTER_HEIGHT, LINE, clean, label_in_one_line
+from .labels import LETTER_HEIGHT, LINE, clean, label_in_one_line, text_width
 from .pages import MARGIN, Page, PageLine, PageNode, PagePoint
-from .scenes import FORBIDDEN, PLAIN, Look, NodeShape, Position, Scene, middle_of
+from .scenes import FORBIDDEN, PLAIN, Look, NodeShape, Position, Scene, longest_piece, middle_of, toward
 
 LEGEND_ROW = 16.0
 #: The colours of the rims of nodes and of the letters of the legend.
@@ -256,13 +256,20 @@ class _Writer:
                 self.label(group, node)
 
     def edge_labels(self, root: Element) -> None:
-        """The labels of the edges, each on the middle of its edge, with a rim of the background round the letters."""
+        """The labels of the edges, each on the middle of its edge with a rim of the background round the letters, or
+        beside it where there is no background."""
         words = {"font_family": "sans-serif", "font_size": number(LETTER_HEIGHT - 1), "text_anchor": "middle"}
         rim = {"fill": "none", "stroke": self.paint.background or "", "stroke_width": "3", "stroke_linejoin": "round"}
         for stroke in self.scene.strokes:
             if stroke.label:
                 x, y = (it / self.page.steps for it in self.page.at(middle_of(stroke)))
-                text, place = label_in_one_line(stroke.label), {"x": number(x), "y": number(y + LETTER_HEIGHT / 3)}
+                text = label_in_one_line(stroke.label)
+                if self.paint.background is None:
+                    piece = longest_piece(stroke)
+                    across, up = toward(*sorted((piece[0], piece[-1])))
+                    apart = abs(up) * text_width(text) / 2 + across * LETTER_HEIGHT / 2 + stroke.look.width / 2 + 2
+                    x, y = x - up * apart, y - across * apart
+                place = {"x": number(x), "y": number(y + LETTER_HEIGHT / 3)}
                 group = _put(root, "g", pointer_events="none", **words)
                 if self.paint.background is not None:
                     _put(group, "text", text, aria_hidden="true", **rim, **place)

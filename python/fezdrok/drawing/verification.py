@@ -7,8 +7,8 @@ numbers are whole, so nothing is rounded in any test. Lines that could meet are 
 from __future__ import annotations
 
 from collections import Counter
-from collections.abc import Collection, Container, Iterable, Iterator, Sequence
-from math import inf
+from collections.abc import Collection, Container, Iterable, Iterator, Mapping, Sequence
+from copy import copy
 from typing import NamedTuple
 
 from ..engine.pictures import Dart, Point
@@ -20,8 +20,8 @@ from .segment_grid import SegmentGrid
 Piece = tuple[int, int]
 #: How far, in pixels, a curve may be from the straight lines that stand for it.
 TOLERANCE = 0.1
-#: The extent of a line that is not judged.
-NOWHERE = (inf, inf, -inf, -inf)
+#: The least x and y, and the greatest.
+Extent = tuple[int, int, int, int]
 
 
 class Defect(NamedTuple):
@@ -58,81 +58,112 @@ def defects(result: Planarization, page: Page) -> list[Defect]:
 class Judge:
     """A page with all its straight lines, and how the darts of the picture leave their points. Edges can be drawn
     otherwise, and are then judged beside all that stays. `extents` are the least x and y of each line, and the
-    greatest. The pieces of `yielding` are drawn otherwise if anything is told of them: then no more is."""
+    greatest; `judged` counts the lines that were judged. The pieces of `yielding` are drawn otherwise if anything is
+    told of them: then no more is."""
 
     def __init__(self, result: Planarization, page: Page):
         self.result, self.page, self.picture = result, page, result.picture
-        self.lines: list[_Straight] = []
-        self.extents: list[tuple[float, float, float, float]] = []
+        self.lines: dict[int, _Straight] = {}
+        self.extents: dict[int, Extent] = {}
+        self.judged = self._next = 0
+        self.drawn: dict[int, PageLine] = {}
         self.places_of: dict[int, range] = {}
         self.found: list[Defect] = []
         self.yielding: set[Piece] = set()
         self.wrong: set[Piece] = set()  # of those, what was told of
-        self.place_of: dict[Point, PagePoint] = {}
         self.leaving: dict[Dart, tuple[PagePoint, PagePoint, Piece]] = {}
         self.tangents: dict[Dart, PagePoint] = {}
-        self.shapes = {Point(False, result.vertex_of[node.node]): _Shape(node) for node in page.nodes}
+        self.degree: Counter[Point | None] = Counter()
+        self.shapes = {result.vertex_of[node.node]: _Shape(node) for node in page.nodes}
         for line in page.lines:
             self._add(line)
-        self.grid = SegmentGrid(self.lines)
-        self.degree: Counter[Point | None] = Counter(mark for line in self.lines for mark in (line.start, line.end))
-        self.degree[None] = 0
-        self.boxes = SegmentGrid.of_rectangles([shape.bounds for shape in self.shapes.values()])
+        self.grid = SegmentGrid([*self.lines.values()])
+        self.boxes = SegmentGrid.of_rectangles([self.shapes[vertex].bounds for vertex in range(len(self.shapes))])
 
     def defects(self) -> list[Defect]:
         """What is false."""
-        hubs = [self._hub(line) for line in self.lines]
+        self.judged += len(self.lines)
+        hubs = {place: self._hub(line) for place, line in self.lines.items()}
         for places in self.grid.squares.values():
             if self.wrong:
                 places = [place for place in places if self.lines[place].piece not in self.wrong]
             for one, other in _pairs(places, hubs, self.extents):
                 self._judge_pair(one, other)
         self._judge_orders(self.picture.points)
-        self._judge_shapes()
+        self._judge_shapes(self.shapes)
         return self._told()
 
     def drawn_otherwise(self, lines: Sequence[PageLine], pieces: Container[Piece]) -> list[Defect]:
         """What is false about these pieces where the edges are drawn like this from now on. No other piece of these
         edges may be drawn otherwise; what is false among others alone is not told again."""
-        first = len(self.lines)
-        for drawn in lines:
-            for place in self.places_of[drawn.edge_id]:
-                self.extents[place] = NOWHERE
-            self._add(drawn)
         judged = []
-        for place in range(first, len(self.lines)):
-            if self.lines[place].piece in pieces:
-                judged.append(place)
-            else:
-                self.grid.add(place, self.lines[place])
+        self._take_out([drawn.edge_id for drawn in lines])
+        for drawn in lines:
+            for place in self._add(drawn):
+                if self.lines[place].piece in pieces:
+                    judged.append(place)
+                else:
+                    self.grid.add(place, self.lines[place])
+        self._judge_lines(judged, {drawn.edge_id for drawn in lines})
+        return self._told()
+
+    def beside(self, result: Planarization, page: Page) -> tuple["Judge", list[Defect]]:
+        """The judge of a page that goes on from this one, and what is false there if nothing is here. What is one
+        object on both pages stands where it stood: it was judged, and is true. So each line and each node that is not
+        one is judged beside all that are there, and then the whole is true: what can be false is false about a line or
+        a node, about two of them, or about the order in which edges pass a point, which are fresh where it changed."""
+        judge = copy(self)
+        judge.result, judge.page, judge.picture, judge.judged = result, page, result.picture, 0
+        judge.found, judge.yielding, judge.wrong = [], set(), set()
+        for name in ("lines", "extents", "drawn", "places_of", "leaving", "tangents", "degree", "shapes"):
+            setattr(judge, name, getattr(self, name).copy())
+        there = {line.edge_id: line for line in page.lines}
+        judge._take_out([edge_id for edge_id, line in self.drawn.items() if there.get(edge_id) is not line])
+        fresh = [line for line in page.lines if line.edge_id not in judge.drawn]
+        judged = [place for line in fresh for place in judge._add(line)]
+        nodes = judge._put_nodes(page)
+        judge._judge_lines(judged, {line.edge_id for line in fresh})
+        judge._judge_shapes(nodes)
+        return judge, judge._told()
+
+    def has(self, vertex: int, node: PageNode) -> bool:
+        """Whether a vertex is drawn as this object."""
+        return vertex in self.shapes and self.shapes[vertex].page_node is node
+
+    def _put_nodes(self, page: Page) -> set[int]:
+        """Puts the shapes of all nodes of a page in the place of those that are there; the vertices of those that are
+        not the same objects."""
+        there = {self.result.vertex_of[node.node]: node for node in page.nodes}
+        gone = {vertex for vertex, it in self.shapes.items() if there.get(vertex) is not it.page_node}
+        for vertex in gone:
+            del self.shapes[vertex]
+        self.boxes = self.boxes.without(gone)
+        fresh = there.keys() - self.shapes.keys()
+        for vertex in fresh:
+            shape = self.shapes[vertex] = _Shape(there[vertex])
+            for square in self.boxes.covered(*shape.bounds):
+                self.boxes.squares.setdefault(square, []).append(vertex)
+        return fresh
+
+    def _judge_lines(self, judged: Sequence[int], edge_ids: Iterable[int]) -> None:
+        """These lines, which come into the grid, beside all lines and nodes, and how these edges pass their points."""
         for place in judged:
+            if self.lines[place].piece in self.wrong:
+                continue  # it is drawn otherwise, and then judged
+            self.judged += 1
             squares = [self.grid.squares.setdefault(square, []) for square in self.grid.passed(self.lines[place])]
             self._judge_line(place, squares)
             for others in squares:
                 others.append(place)
-        self._judge_points(judged, {drawn.edge_id for drawn in lines})
-        return self._told()
-
-    def beside(self, edge_ids: Collection[int], are_nodes_new: bool) -> list[Defect]:
-        """What is false about these edges, and about all nodes where some are new, if all others are as on a page that
-        was true."""
-        judged = [place for edge_id in edge_ids for place in self.places_of[edge_id]]
-        for place in judged:
-            self._judge_line(place, [self.grid.squares[square] for square in self.grid.passed(self.lines[place])])
-        self._judge_points(judged, edge_ids)
-        if are_nodes_new:
-            self._judge_shapes()
-        return self._told()
-
-    def _judge_points(self, judged: Iterable[int], edge_ids: Iterable[int]) -> None:
-        """These lines beside all nodes, and how these edges pass their points."""
-        self._judge_orders({point for edge_id in edge_ids for point in self.picture.path(edge_id)})
-        own, shapes = self._judge_ends(), list(self.shapes.items())
+        points = {point for edge_id in edge_ids for point in self.picture.path(edge_id)}
+        self._judge_orders(points)
+        for point in points:
+            if not point.is_crossing:
+                self._judge_ends(point)
         for place in judged:
             line = self.lines[place]
-            for number in self.boxes.near(*self.extents[place]) if line.piece not in self.wrong else ():
-                point, shape = shapes[number]
-                self._judge_shape(shape, line, (line.piece, point) in own)
+            for vertex in self.boxes.along(line) if line.piece not in self.wrong else ():
+                self._judge_shape(vertex, place)
 
     def _told(self) -> list[Defect]:
         """What was found, each defect once."""
@@ -152,13 +183,14 @@ class Judge:
 
     # ---- The lines of the edges
 
-    def _add(self, line: PageLine) -> None:
-        """The straight lines of an edge. It has to pass the points of its path in their order, each where it is."""
+    def _add(self, line: PageLine) -> range:
+        """The straight lines of an edge, and their places. It has to pass the points of its path in their order."""
         path = self.picture.path(line.edge_id)
         if tuple(mark for mark in line.marks if mark is not None) != path:
             self._tell(f"{self._name(line.edge_id)} does not pass its crossings in their order", (0, 0))
         number = segment = 0
-        first = len(self.lines)
+        first = self._next
+        self.drawn[line.edge_id] = line
         tolerance = max(1, int(TOLERANCE * self.page.steps))
         for place, piece in enumerate(line.pieces):
             own = (line.edge_id, place)
@@ -173,17 +205,31 @@ class Judge:
             ):
                 if mark is not None:
                     self.leaving[dart], self.tangents[dart] = (point, beside, own), tangent
-                    if mark.is_crossing and self.place_of.setdefault(mark, point) != point:
-                        self._tell(f"{self._name(line.edge_id)} is not at its crossing", point, own)
+                    self.degree[mark] += 1
             last = len(points) - 2
             for step, (start, end) in enumerate(zip(points, points[1:])):
                 ends = (marks[0] if step == 0 else None, marks[1] if step == last else None)
-                self.lines.append(_Straight(*start, *end, own, number, *ends))
+                self.lines[self._next] = _Straight(*start, *end, own, number, *ends)
                 (x, y), (u, v) = start, end
-                self.extents.append((x if x < u else u, y if y < v else v, u if x < u else x, v if y < v else y))
+                self.extents[self._next] = (x if x < u else u, y if y < v else v, u if x < u else x, v if y < v else y)
+                self._next += 1
                 number += 1
             segment += marks[1] is not None
-        self.places_of[line.edge_id] = range(first, len(self.lines))
+        places = self.places_of[line.edge_id] = range(first, self._next)
+        return places
+
+    def _take_out(self, edge_ids: Sequence[int]) -> None:
+        """The straight lines of these edges are there no more."""
+        gone = {place for edge_id in edge_ids for place in self.places_of.pop(edge_id)}
+        for place in gone:
+            del self.lines[place], self.extents[place]
+        self.grid = self.grid.without(gone)
+        for edge_id in edge_ids:
+            marks = [mark for mark in self.drawn.pop(edge_id).marks if mark is not None]
+            for dart in (Dart(edge_id, segment, back) for segment in range(len(marks) - 1) for back in (False, True)):
+                if self.leaving.pop(dart, None) is not None:
+                    del self.tangents[dart]
+                    self.degree[marks[dart.segment + dart.back]] -= 1
 
     # ---- Lines that meet
 
@@ -205,7 +251,7 @@ class Judge:
         """A line and all others that are in these squares."""
         left, top, right, bottom = self.extents[place]
         hub = self._hub(self.lines[place])
-        for other in set().union(*squares) if self.lines[place].piece not in self.wrong else ():
+        for other in set().union(*squares):
             x, y, u, v = self.extents[other]
             if x <= right and u >= left and y <= bottom and v >= top and other != place:
                 if hub is None or self._hub(self.lines[other]) != hub:
@@ -221,7 +267,10 @@ class Judge:
             left = [self.leaving[dart] for dart in darts]
             at = left[0][0] if point.is_crossing and left else (0, 0)
             if not point.is_crossing:
-                at = self.shapes[point].middle
+                at = self.shapes[point.id].middle
+            for dart, (end, _, piece) in zip(darts, left) if point.is_crossing else ():
+                if end != at:
+                    self._tell(f"{self._name(dart.edge)} is not at its crossing", end, piece)
             by_tangent = [_way(at, self.leaving[dart][0], self.tangents[dart]) for dart in darts]
             if not is_clockwise([_way(at, end, beside) for end, beside, _ in left]) or not is_clockwise(by_tangent):
                 what = "crossing" if point.is_crossing else f"node {self.result.node_of[point.id]!r}"
@@ -229,41 +278,39 @@ class Judge:
 
     # ---- Nodes
 
-    def _judge_ends(self) -> set[tuple[Piece, Point]]:
-        """The edges of a node come to its shape; the pieces that end at points, each with its point."""
-        own = set()
-        for dart, (end, _, piece) in self.leaving.items():
-            point = self.picture.start(dart)
-            own.add((piece, point))
-            if not point.is_crossing and not self.shapes[point].has(end):
+    def _judge_ends(self, point: Point) -> None:
+        """The edges of a node come to its shape."""
+        for dart in self.picture.around(point):
+            if dart in self.leaving and not self.shapes[point.id].has(self.leaving[dart][0]):
+                end, _, piece = self.leaving[dart]
                 self._tell(f"{self._name(dart.edge)} does not come to its node", end, piece)
-        return own
 
-    def _judge_shape(self, shape: "_Shape", line: _Straight, is_own: bool) -> None:
+    def _judge_shape(self, vertex: int, place: int) -> None:
         """A node and a line that is near it, which may be one of the node's own."""
+        shape, line = self.shapes[vertex], self.lines[place]
         left, top, right, bottom = shape.bounds
-        x, y, u, v = line[:4]
-        if x < left and u < left or x > right and u > right or y < top and v < top or y > bottom and v > bottom:
+        x, y, u, v = self.extents[place]
+        if u < left or x > right or v < top or y > bottom:
             return
         for mark, end in ((line.start, (line.x, line.y)), (line.end, (line.u, line.v))):
             if mark is not None and mark.is_crossing and shape.has(end):
                 self._tell(f"the node {shape.node!r} lies on a crossing", end, line.piece)
-        if not is_own and shape.meets(line):
-            self._tell(f"the node {shape.node!r} lies on {self._name(line.piece[0])}", shape.middle, line.piece)
+        edge_id, piece = line.piece
+        if Point(False, vertex) not in self.drawn[edge_id].marks[piece : piece + 2] and shape.meets(line):
+            self._tell(f"the node {shape.node!r} lies on {self._name(edge_id)}", shape.middle, line.piece)
 
-    def _judge_shapes(self) -> None:
-        """No node lies on a line that is not its own, or on another node."""
-        own = self._judge_ends()
-        for point, shape in self.shapes.items():
+    def _judge_shapes(self, vertices: Collection[int]) -> None:
+        """None of these nodes lies on a line that is not its own, or on another node."""
+        for vertex in vertices:
+            shape = self.shapes[vertex]
+            self._judge_ends(Point(False, vertex))
             for place in self.grid.near(*shape.bounds):
-                line = self.lines[place]
-                if line.piece not in self.wrong:
-                    self._judge_shape(shape, line, (line.piece, point) in own)
-        shapes = list(self.shapes.values())
-        for place, shape in enumerate(shapes):
-            for other in self.boxes.near(*shape.bounds):
-                if other < place and shape.overlaps(shapes[other]):
-                    self._tell(f"the node {shapes[other].node!r} lies on the node {shape.node!r}", shape.middle)
+                if self.lines[place].piece not in self.wrong:
+                    self._judge_shape(vertex, place)
+            for number in self.boxes.near(*shape.bounds):
+                other = self.shapes[number]
+                if (number < vertex or number not in vertices) and shape.overlaps(other):
+                    self._tell(f"the node {other.node!r} lies on the node {shape.node!r}", shape.middle)
 
 
 # ---- Tests in whole numbers
@@ -273,7 +320,7 @@ class _Shape:
     """The shape of a node, FINE times as large: a disk, or else the rectangle round it."""
 
     def __init__(self, node: PageNode):
-        self.node, self.is_round = node.node, node.is_round
+        self.page_node, self.node, self.is_round = node, node.node, node.is_round
         self.middle = (node.middle[0] * FINE, node.middle[1] * FINE)
         self.right, self.down = node.right * FINE, node.down * FINE
         (x, y), right, down = self.middle, self.right, self.down
@@ -342,7 +389,7 @@ def _way(at: PagePoint, end: PagePoint, beside: PagePoint) -> PagePoint:
 
 
 def _pairs(
-    places: Sequence[int], hubs: Sequence[Point | None], extents: Sequence[tuple[float, float, float, float]]
+    places: Sequence[int], hubs: Mapping[int, Point | None], extents: Mapping[int, Extent]
 ) -> Iterator[tuple[int, int]]:
     """All pairs of lines whose extents meet, of which not both come from one hub. Two lines that do meet elsewhere only
     where they have one direction, which the order round the hub tells."""

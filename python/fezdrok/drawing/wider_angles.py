@@ -52,20 +52,33 @@ def widened(
     places: Mapping[Any, Position],
     effort: Effort = Effort(),
 ) -> dict[Any, Position]:
-    """Other places in the unit disk for the nodes of a connected plane graph, drawn with straight lines that do not
-    cross, so that fewer angles are small. `rotations` has the neighbours of each node, clockwise; at those of
+    """Other places in the unit disk for nodes of a connected plane graph, drawn with straight lines that do not cross,
+    so that fewer angles are small. `rotations` has the neighbours of each node, clockwise; at those of
     `crossings`, which have four, two edges pass each other. `chains` are the nodes along each edge; one that turns by
     more than FAR turns no farther than it did."""
-    number = {node: place for place, node in enumerate(rotations)}
+    number = {node: place for place, node in enumerate(places)}
+    moved = places if effort.nodes is None else dict.fromkeys(effort.nodes)
     drawing = _Points(
-        [complex(*places[node]) for node in rotations],
-        [[number[other] for other in others] for others in rotations.values()],
-        [node in crossings for node in rotations],
-        [[number[node] for node in chain] for chain in chains],
+        [complex(*place) for place in places.values()],
+        _Around(rotations, list(places), number),
+        [node in crossings for node in places],
+        [[number[node] for node in chain] for chain in chains if not moved.keys().isdisjoint(chain)],
     )
-    moved = rotations if effort.nodes is None else effort.nodes
     drawing.settle([number[node] for node in moved], effort)
-    return {node: (point.real, point.imag) for node, point in zip(rotations, drawing.points)}
+    points = [drawing.points[number[node]] for node in moved]
+    return {node: (point.real, point.imag) for node, point in zip(moved, points)}
+
+
+class _Around(dict[int, list[int]]):
+    """The numbers of the neighbours of each node by its number, which are found when they are asked for."""
+
+    def __init__(self, rotations: Mapping[Any, Sequence[Any]], nodes: Sequence[Any], number: Mapping[Any, int]):
+        super().__init__()
+        self._rotations, self._nodes, self._number = rotations, nodes, number
+
+    def __missing__(self, place: int) -> list[int]:
+        found = self[place] = [self._number[other] for other in self._rotations[self._nodes[place]]]
+        return found
 
 
 class _Points:
@@ -76,7 +89,7 @@ class _Points:
     def __init__(
         self,
         points: list[complex],
-        around: Sequence[Sequence[int]],
+        around: Mapping[int, Sequence[int]],
         is_crossing: Sequence[bool],
         chains: Sequence[Sequence[int]],
     ):

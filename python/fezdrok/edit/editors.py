@@ -62,7 +62,7 @@ class Editor:
         self._is_to_draw.set()
         self._changes: deque[Change] = deque(maxlen=KEPT)
         self._views: WeakKeyDictionary[EditedSession, View] = WeakKeyDictionary()
-        self._shown: str | None = None
+        self._shown: View | None = None
         self._tidying: Tidying | None = None
         self._drawings = 0
         self.number = 0  # of the last change that the tabs were told of
@@ -232,7 +232,7 @@ class Editor:
             view = await aside(lambda: view_of(number, serial, result, before))
         except FAILURES:
             view = await aside(lambda: view_of(number, serial, result, None))
-        await self._show(session, view)
+        self._show(session, view)
         if view.chain != serial:
             with suppress(*FAILURES):
                 await self._settle(session, view)
@@ -244,18 +244,16 @@ class Editor:
         serial, is_over = self._next_serial(), self._is_to_draw.is_set
         settled = None if is_over() else await aside(lambda: settled_view(serial, view, is_over))
         if settled is not None and not is_over():
-            await self._show(session, settled)
+            self._show(session, settled)
 
     def _next_serial(self) -> int:
         self._drawings += 1
         return self._drawings
 
-    async def _show(self, session: EditedSession, view: View) -> None:
+    def _show(self, session: EditedSession, view: View) -> None:
         """Shows all tabs a drawing of the picture of a session."""
-        text = await aside(lambda: json_text({"drawing": view.to_json()}))
-        self._views[session] = view
-        self._shown = text
-        self.tabs.show(text)
+        self._views[session] = self._shown = view
+        self.tabs.show(view)
 
     # ---- The search
 

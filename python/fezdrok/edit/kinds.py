@@ -1,4 +1,4 @@
-"""The kinds of edges and their prices: a picture at other prices, and a better picture with the kinds of before."""
+"""The kinds of edges and their prices: a picture at other prices."""
 
 from __future__ import annotations
 
@@ -38,11 +38,3 @@ def repriced(result: Planarization, prices: Sequence[Price | float]) -> Planariz
 def price_words(prices: Sequence[Price | float]) -> str:
     """Prices in words, in the order of the kinds."""
     return ", ".join("nothing may cross" if price is None else str(price) for price in prices)
-
-
-def with_kinds_of(found: Planarization, before: Planarization) -> Planarization:
-    """A planarization of the same graph at the same prices, with the table of prices and the kinds of the one before:
-    kinds that no edge has are there too."""
-    before_of = {edge_id: before.edge_id(*edge) for edge_id, edge in found.edge_of.items()}
-    edges = tuple(replace(row, kind=before.picture.edge(before_of[row.id]).kind) for row in found.picture.edges)
-    return replace(found, picture=replace(found.picture, edges=edges), prices=before.prices, reports=())

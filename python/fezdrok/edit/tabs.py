@@ -7,6 +7,7 @@ from collections import deque
 from collections.abc import Awaitable, Callable, Iterator
 
 from ..engine.pictures import json_text
+from .views import View
 
 #: How many tabs there may be: a report knows callers from 0 to 15, and the editor itself is 0.
 MOST_TABS = 15
@@ -24,7 +25,8 @@ class Tab:
         self.rename(None)
         self._pointers: dict[int, str] = {}
         self._waiting: deque[str] = deque()
-        self._drawing: str | None = None
+        self._drawing: View | None = None
+        self._seen: View | None = None
         self._is_cut = False
         self._has_more = asyncio.Event()
 
@@ -41,9 +43,9 @@ class Tab:
             self._is_cut = True
             self.cut()
 
-    def show(self, text: str) -> None:
-        """Has a drawing be sent, in the place of one that still waits."""
-        self._drawing = text
+    def show(self, view: View) -> None:
+        """Has a drawing be sent, in the place of one that still waits: what is otherwise than in that sent before."""
+        self._drawing = view
         self._has_more.set()
 
     def point(self, number: int, text: str) -> None:
@@ -58,9 +60,10 @@ class Tab:
             self._has_more.clear()
             while self._waiting:
                 await send(self._waiting.popleft())
-            text, self._drawing = self._drawing, None
-            if text is not None:
-                await send(text)
+            view, self._drawing = self._drawing, None
+            if view is not None:
+                await send(view.text(self._seen))
+                self._seen = view
             pointers, self._pointers = self._pointers, {}
             for text in pointers.values():
                 await send(text)
@@ -99,10 +102,10 @@ class Tabs:
         for tab in self:
             tab.tell(text)
 
-    def show(self, text: str) -> None:
+    def show(self, view: View) -> None:
         """Shows all tabs this drawing."""
         for tab in self:
-            tab.show(text)
+            tab.show(view)
 
     def tell_names(self) -> None:
         """Tells all tabs which there are, and their names."""

@@ -6,9 +6,8 @@ from collections.abc import Callable
 
 from ..engine.program import PathLike
 from ..engine.results import Planarization
-from ..search.planarization import planarize
+from ..search.planarization import reinsert
 from ..search.progress import Progress
-from .kinds import with_kinds_of
 
 #: How many seconds a search takes at most.
 SECONDS = 60.0
@@ -38,10 +37,6 @@ class Tidying:
 
     def run(self, program: PathLike | None) -> Planarization | None:
         """A planarization that costs less, or as much with fewer crossings; None where none was found."""
-        before, prices = self._result, self._result.prices
-        price_of = {name: prices[before.picture.edge(it).kind] for it, name in before.edge_of.items()}
-        found = planarize(
-            before.graph, price_of, start=before, seconds=SECONDS, progress=self._go_on, program=program
-        )
-        is_better = (found.cost, found.crossings) < (before.cost, before.crossings)
-        return with_kinds_of(found, before) if is_better else None
+        before = self._result
+        found = reinsert(before, effort="default", seconds=SECONDS, progress=self._go_on, program=program)
+        return None if found is before else found

@@ -97,7 +97,7 @@ class MemoryFault(Fault, MemoryError):
 
 
 class OtherReport(PlanarError, ValueError):
-    """A report was to be read as that of a script that it does not belong to."""
+    """An answer was to be read as that to the search of a graph that it does not belong to."""
 
 
 class VerificationError(PlanarError, ValueError):
@@ -112,7 +112,8 @@ class NotPlanarized(PlanarError, ValueError):
     """A graph could not be planarized, since one of its edges could not be drawn as it has to be.
 
     `edge` is the edge of the graph, `reply` the refusal of the program, as 9 `NoRoute` where edges that must not be
-    crossed part its ends. It is None where the edge itself must not be crossed, and would have crossings.
+    crossed part its ends. It is None where the edge itself must not be crossed, and would have crossings. Of a search
+    it says that no other picture was found, not that there is none.
     """
 
     def __init__(self, edge: Any, reply: Any = None):

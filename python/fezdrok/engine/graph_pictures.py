@@ -61,7 +61,7 @@ class GraphPicture:
 
     def __eq__(self, other: object) -> bool:
         """Whether both are the same picture of the same graph, with the same names and prices. Reports, and what each
-        order came to, count for nothing."""
+        attempt came to, count for nothing."""
         if not isinstance(other, GraphPicture):
             return NotImplemented
         mine, others = (
@@ -143,7 +143,7 @@ class GraphPicture:
     @property
     def crossings(self) -> int:
         """How many crossings the picture has."""
-        return len(self.picture.crossings)
+        return self.picture.crossing_count
 
     @property
     def crossing_pairs(self) -> list[tuple[GraphEdge, GraphEdge]]:

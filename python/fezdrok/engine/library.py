@@ -1,4 +1,4 @@
-"""The C library `libfezdrok`: where it is found, texts that it judges, and sessions in this process."""
+"""The C library `libfezdrok`: where it is found, texts that it judges, and and what it keeps in this process."""
 
 from __future__ import annotations
 
@@ -34,18 +34,22 @@ class Library:
     def __init__(self, path: str):
         self.path = path
         functions = CDLL(path)
-        self.open, self.call, self.close = functions.fezdrok_open, functions.fezdrok_call, functions.fezdrok_close
+        self.session, self.search = (
+            tuple(getattr(functions, f"fezdrok_{kind}{name}") for name in ("open", "call", "close"))
+            for kind in ("", "search_")
+        )
         text = POINTER(_Text)
-        self.open.argtypes = [c_char_p, c_size_t, POINTER(c_void_p), text]
-        self.call.argtypes = [c_void_p, c_char_p, c_size_t, text]
-        self.close.argtypes = [c_void_p]
+        for opened, call, close in (self.session, self.search):
+            opened.argtypes = [c_char_p, c_size_t, POINTER(c_void_p), text]
+            call.argtypes = [c_void_p, c_char_p, c_size_t, text]
+            close.argtypes = [c_void_p]
         self._judges = {"check": functions.fezdrok_check, "replay": functions.fezdrok_replay}
         for judge in self._judges.values():
             judge.argtypes = [c_char_p, c_size_t, c_char_p, c_size_t, POINTER(c_size_t)]
         #: The calls without a text, which have no `argtypes`: numbers below 2**32 are given as they are, and the two
         #: pointers are made once for a session. To convert each would take longer than the call.
         self.typed = {call: getattr(functions, f"fezdrok_{call}") for call in READERS}
-        for function in (self.open, self.call, self.close, *self._judges.values(), *self.typed.values()):
+        for function in (*self.session, *self.search, *self._judges.values(), *self.typed.values()):
             function.restype = c_uint8
 
     def judge(self, verb: str, text: bytes) -> tuple[int, str]:
@@ -94,24 +98,60 @@ def library_of(program: str) -> Library | None:
     return _load(os.path.join(top, "lib", NAME)) if os.path.isfile(os.path.join(top, "lib", NAME)) else None
 
 
-class LibrarySession:
-    """A session in this process, which answers each line by a line.
+class InProcess:
+    """What the library keeps in this process, by its functions that open, call and close it.
 
     It is for one thread at a time, and its memory is given back by `end`, or where nothing has it any more.
     """
+
+    def __init__(self, functions: tuple[Any, ...]):
+        self._open, self._ask, self._close = functions  # the last is still there when the interpreter ends
+        self._handle = c_void_p()
+        self._text = _Text()
+        self._answer = byref(self._text)
+
+    def _expect(self, status: int) -> bool:
+        """Whether the status of a call tells a fault; raises what any other stands for."""
+        if status > _FAULT:
+            raise _failure(status)
+        return status == _FAULT
+
+    def _begin(self, line: bytes) -> int:
+        status: int = self._open(line, len(line), byref(self._handle), self._answer)
+        return status
+
+    def _call(self, line: bytes) -> int:
+        status: int = self._ask(self._handle, line, len(line), self._answer)
+        return status
+
+    def _told(self) -> bytes:
+        """The text of the last answer."""
+        return string_at(self._text.at, self._text.length)
+
+    def end(self, patience: float = 0.0) -> tuple[int, str]:
+        """Gives the memory back. There is no status, and nothing is told."""
+        handle, self._handle.value = self._handle.value, None
+        if handle is not None:
+            self._close(handle)
+        return 0, ""
+
+    def __del__(self) -> None:
+        if self._handle:
+            self.end()
+
+
+class LibrarySession(InProcess):
+    """A session in this process, which answers each line by a line."""
 
     #: It has no process of its own.
     process_id = None
 
     def __init__(self, library: Library):
+        super().__init__(library.session)
         self.path = library.path
-        self._library = library
-        self._close = library.close  # which is still there when the interpreter ends
-        self._handle = c_void_p()
-        self._text = _Text()
-        self._answer = byref(self._text)
-        self._told = Reply()
-        self._reply = byref(self._told)
+        self._held: Any = None  # the session as it is handed to a call, made once
+        self._reply = Reply()
+        self._at_reply = byref(self._reply)
         self._typed = library.typed
         self.is_over = False
 
@@ -124,25 +164,18 @@ class LibrarySession:
         if self.is_over:
             raise SessionClosed("the session is closed")
         self._expect(self._call(line) if self._handle else self._begin(line))
-        return string_at(self._text.at, self._text.length)
+        return self._told()
 
     def make(self, call: str, numbers: tuple[int, ...]) -> Any:
         """What a call with these numbers is answered, without a line. The exceptions are those of `answer`, and Fault
         where so many entries are not there."""
-        self._expect(self._typed[call](self._handle, *numbers, self._reply))
-        return read(call, self._told, numbers)
-
-    def _expect(self, status: int) -> None:
-        """Raises what the status of a call stands for."""
-        if status > _FAULT:
-            raise _failure(status)
+        if self._expect(self._typed[call](self._held, *numbers, self._at_reply)):
+            raise SessionClosed("the session was opened by settings at fault")
+        return read(call, self._reply, numbers)
 
     def _begin(self, line: bytes) -> int:
-        status: int = self._library.open(line, len(line), byref(self._handle), self._answer)
-        return status
-
-    def _call(self, line: bytes) -> int:
-        status: int = self._library.call(self._handle, line, len(line), self._answer)
+        status = super()._begin(line)
+        self._held = c_void_p.from_param(self._handle.value)
         return status
 
     def ask(self, line: str) -> bytes:
@@ -154,15 +187,10 @@ class LibrarySession:
         return [self.ask(line) for line in lines]
 
     def end(self, patience: float = 0.0) -> tuple[int, str]:
-        """Gives the memory back. There is no status, and nothing is told."""
+        """Gives the memory back."""
         self.is_over = True
-        handle, self._handle.value = self._handle.value, None
-        if handle is not None:
-            self._close(handle)
-        return 0, ""
-
-    def __del__(self) -> None:
-        self.end()
+        self._held = None
+        return super().end()
 
 
 def _failure(status: int) -> Exception:

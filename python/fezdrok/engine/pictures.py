@@ -8,8 +8,9 @@ from __future__ import annotations
 
 import json
 from collections.abc import Iterator
-from dataclasses import dataclass
+from dataclasses import dataclass, field
 from functools import cached_property
+from itertools import chain
 from typing import Any, NamedTuple
 
 from .faults import read_as
@@ -123,18 +124,24 @@ class Counts(NamedTuple):
 
 
 class _Digits(dict[int, str]):
-    """The digits of each number. Those of small ones are kept, which saves most of the time of a text."""
+    """The digits of each number."""
 
     def __missing__(self, number: int) -> str:
         return int.__repr__(number)
 
 
-_digits = _Digits((number, str(number)) for number in range(1024))
+class _Lists(dict[int, str]):
+    """The form of a list of so many numbers."""
+
+    def __missing__(self, length: int) -> str:
+        return f"[{','.join(['%s'] * length)}]"
 
 
-def _numbers(values: tuple[int, ...]) -> str:
-    """Numbers as they stand in a list."""
-    return ",".join(map(_digits.__getitem__, values))
+#: The digits of small numbers, and the forms of short lists, are kept: this saves most of the time of a text. A plain
+#: dict is faster still.
+_small_digits = {number: str(number) for number in range(1024)}
+_digits = _Digits(_small_digits)
+_lists = _Lists((length, _Lists()[length]) for length in range(32))
 
 
 @dataclass(frozen=True)
@@ -153,12 +160,12 @@ class Picture:
 
     rotations: tuple[tuple[int, ...], ...]
     edges: tuple[Edge, ...]
-    crossings: tuple[Crossing, ...] = ()
-    next_edge: int = 0
-    next_crossing: int = 0
+    crossings: tuple[Crossing, ...] = field(default_factory=tuple)
+    next_edge: int = field(default_factory=int)
+    next_crossing: int = field(default_factory=int)
 
     def __repr__(self) -> str:
-        counts = f"{len(self.rotations)} vertices, {len(self.edges)} edges, {len(self.crossings)} crossings"
+        counts = f"{len(self.rotations)} vertices, {len(self.edges)} edges, {self.crossing_count} crossings"
         return f"<Picture: {counts}>"
 
     @staticmethod
@@ -182,6 +189,26 @@ class Picture:
         """The picture of a text that the program wrote. NoReport where the text is no JSON, or is of another form."""
         return read_as("picture", text, Picture.from_json)
 
+    @staticmethod
+    def of_text(text: str) -> "Picture":
+        """The picture of a text that the program wrote, which is kept, and read when a row is first asked for."""
+        picture = object.__new__(Picture)
+        picture.__dict__["_text"] = text
+        return picture
+
+    def __getattr__(self, name: str) -> Any:
+        """The rows of a picture of which the text alone was known."""
+        if name not in Picture.__dataclass_fields__ or "_text" not in self.__dict__:
+            raise AttributeError(f"a Picture has no {name!r}")
+        self.__dict__.update(Picture.from_text(self._text).__dict__)
+        return self.__dict__[name]
+
+    @property
+    def crossing_count(self) -> int:
+        """How many crossings there are, for which no row is read."""
+        rows = self.__dict__.get("crossings")
+        return self._text.count('"newcomer":') if rows is None else len(rows)
+
     def to_json(self) -> dict[str, Any]:
         """The picture as a JSON object in the form of docs/FORMATS.md."""
         return {
@@ -204,22 +231,27 @@ class Picture:
             return json_text(self.to_json())
 
     def _text_of_numbers(self) -> str:
-        """The same three times as fast. An exception where a row has what is no number, or no sign."""
-        digits = _digits
+        """The same in less time. An exception where a row has what is no number, or no sign."""
+        is_small = max(len(self.rotations), self.next_edge, self.next_crossing) <= len(_small_digits)
+        digits = _small_digits if is_small else _digits
+        spelled = digits.__getitem__
         crossings = [
             f'{{"crossed":{digits[it.crossed]},"id":{digits[it.id]},"newcomer":{digits[it.newcomer]},'
             f'"sign":{_SIGNS[it.sign]}}}'
             for it in self.crossings
         ]
         edges = [
-            f'{{"a":{digits[it.a]},"b":{digits[it.b]},"crossings":[{_numbers(it.crossings) if it.crossings else ""}],'
+            f'{{"a":{digits[it.a]},"b":{digits[it.b]},'
+            f'"crossings":[{",".join(map(spelled, it.crossings)) if it.crossings else ""}],'
             f'"id":{digits[it.id]},"kind":{digits[it.kind]}}}'
             for it in self.edges
         ]
+        lists = ",".join(map(_lists.__getitem__, map(len, self.rotations)))
+        rotations = lists % tuple(map(spelled, chain.from_iterable(self.rotations)))
         return (
             f'{{"crossings":[{",".join(crossings)}],"edges":[{",".join(edges)}],'
-            f'"next_crossing":{digits[self.next_crossing]},"next_edge":{digits[self.next_edge]},'
-            f'"rotations":{json_text(self.rotations)}}}'
+            f'"next_crossing":{_digits[self.next_crossing]},"next_edge":{_digits[self.next_edge]},'
+            f'"rotations":[{rotations}]}}'
         )
 
     # ---- Rows by their ids
@@ -242,14 +274,17 @@ class Picture:
 
     @cached_property
     def _paths(self) -> dict[int, tuple[Point, ...]]:
-        return {
-            row.id: (Point(False, row.a), *(Point(True, i) for i in row.crossings), Point(False, row.b))
-            for row in self.edges
-        }
+        """Those that were asked for."""
+        return {}
 
     def path(self, edge_id: int) -> tuple[Point, ...]:
         """The points on an edge from its end `a` to its end `b`, both among them."""
-        return self._paths[edge_id]
+        path = self._paths.get(edge_id)
+        if path is None:
+            row = self.edge(edge_id)
+            path = (Point(False, row.a), *(Point(True, it) for it in row.crossings), Point(False, row.b))
+            self._paths[edge_id] = path
+        return path
 
     @cached_property
     def _places(self) -> dict[tuple[int, int], int]:
@@ -302,19 +337,19 @@ class Picture:
 
     @cached_property
     def _turns(self) -> dict[Dart, Dart]:
-        turns: dict[Dart, Dart] = {}
-        for point in self.points:
-            darts = self.around(point)
-            turns.update(zip(darts, darts[1:] + darts[:1]))
-        return turns
+        """Those round the points that were asked about."""
+        return {}
 
     def turn(self, dart: Dart) -> Dart:
         """The next dart clockwise at the point where this one starts."""
+        if dart not in self._turns:
+            darts = self.around(self.start(dart))
+            self._turns.update(zip(darts, darts[1:] + darts[:1]))
         return self._turns[dart]
 
     def face_step(self, dart: Dart) -> Dart:
         """The next dart along the face on the left: the turn of the twin."""
-        return self._turns[dart.twin]
+        return self.turn(dart.twin)
 
     def corner(self, vertex: int, position: int) -> Dart:
         """The dart that names the corner at a position of a vertex; the corner lies in this dart's face."""

@@ -9,7 +9,9 @@ import os
 import signal
 import subprocess
 import sys
-from collections.abc import Sequence
+from collections.abc import Iterator, Sequence
+from contextlib import contextmanager
+from typing import Any
 
 if sys.platform == "linux":
     import fcntl
@@ -27,19 +29,16 @@ def kill_when_closed(reading: int, process: int) -> None:
         fcntl.fcntl(reading, fcntl.F_SETFL, fcntl.fcntl(reading, fcntl.F_GETFL) | os.O_ASYNC)
 
 
-def run(command: Sequence[str], text: bytes) -> tuple[int, bytes, bytes]:
-    """The status of a command that is given this text, and what it wrote on standard output and on standard error.
-
-    It is killed where an exception comes before its end, as KeyboardInterrupt does, and where this process ends.
-    OSError where it cannot be started.
-    """
+@contextmanager
+def begun(command: Sequence[str], **streams: Any) -> Iterator["subprocess.Popen[bytes]"]:
+    """A process of a command, which has ended at the end of the `with` block. It is killed where an exception comes
+    before its end, as KeyboardInterrupt does, and where this process ends. OSError where it cannot be started."""
     reading, writing = os.pipe()
     try:
-        pipe = subprocess.PIPE
-        with subprocess.Popen(command, stdin=pipe, stdout=pipe, stderr=pipe, pass_fds=[reading]) as process:
+        with subprocess.Popen(command, pass_fds=[reading], **streams) as process:
             try:
                 kill_when_closed(reading, process.pid)
-                output, errors = process.communicate(text)
+                yield process
             except BaseException:
                 process.kill()
                 process.wait()
@@ -47,4 +46,12 @@ def run(command: Sequence[str], text: bytes) -> tuple[int, bytes, bytes]:
     finally:
         os.close(reading)
         os.close(writing)
+
+
+def run(command: Sequence[str], text: bytes) -> tuple[int, bytes, bytes]:
+    """The status of a command that is given this text, and what it wrote on standard output and on standard error. It
+    ends as by `begun`."""
+    pipe = subprocess.PIPE
+    with begun(command, stdin=pipe, stdout=pipe, stderr=pipe) as process:
+        output, errors = process.communicate(text)
     return process.returncode, output, errors

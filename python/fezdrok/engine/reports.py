@@ -2,7 +2,7 @@
 
 from __future__ import annotations
 
-from collections.abc import Callable, Iterable, Sequence
+from collections.abc import Callable, Sequence
 from dataclasses import dataclass
 from typing import Any
 
@@ -255,96 +255,6 @@ class Report:
     def to_text(self) -> str:
         """The report as the program writes it, without its line feed."""
         return json_text(self.to_json())
-
-
-class Reports(Sequence[Report]):
-    """Reports, each of which may be given as its text, and is then read when it is first asked for."""
-
-    def __init__(self, given: Iterable[str | Report] = ()):
-        self._given: list[str | Report] = list(given)
-
-    @staticmethod
-    def joined(several: Iterable[Sequence[Report]]) -> "Reports":
-        """The reports of several sequences, one after another. None is read."""
-        return Reports(
-            report for reports in several for report in (reports._given if isinstance(reports, Reports) else reports)
-        )
-
-    def __len__(self) -> int:
-        return len(self._given)
-
-    def __getitem__(self, place: Any) -> Any:
-        if isinstance(place, slice):
-            return Reports(self._given[place])
-        report = self._given[place]
-        if isinstance(report, str):
-            report = self._given[place] = Report.from_text(report)
-        return report
-
-    def __eq__(self, other: object) -> bool:
-        if not isinstance(other, (Reports, tuple)):
-            return NotImplemented
-        return tuple(self) == tuple(other)
-
-    def __hash__(self) -> int:
-        return hash(tuple(self))
-
-    def __repr__(self) -> str:
-        return repr(tuple(self))
-
-
-def difference(
-    report: Report,
-    start: Picture | None,
-    limits: Limits | None,
-    prices: Sequence[int | None] | None,
-    calls: Sequence[Call],
-) -> str | None:
-    """How a report differs from that of a script with one list of calls, in words, or None where it may be the
-    script's.
-
-    What is None has its value as in a script that leaves it out. Whether the replies are true is not looked at.
-    """
-    kept = without_last_ones(prices or ())
-    if without_last_ones(report.prices) != kept:
-        return f"its prices are {list(report.prices)}, and not {list(kept)}"
-    if report.limits != (limits or Limits()):
-        return f"its limits are {report.limits.to_json()}, and not {(limits or Limits()).to_json()}"
-    if report.start != (start or Picture.seed()):
-        return f"its start is another picture: {_first_difference(report.start, start or Picture.seed())}"
-    if len(report.history) != len(calls):
-        return f"it has {len(report.history)} calls, and not {len(calls)}"
-    for place, (entry, call) in enumerate(zip(report.history, calls)):
-        due = as_entered(call)
-        if entry.caller != 0 or entry.call != due:
-            found, wanted = json_text(entry.call.to_json()), json_text(due.to_json())
-            return f"its call {place} is {found} of list {entry.caller}, and not {wanted} of list 0"
-    return None
-
-
-def _first_difference(picture: Picture, due: Picture) -> str:
-    """The first part of two pictures that differs, in words."""
-    parts = zip(picture.to_json().items(), due.to_json().values())
-    name, value, wanted = next((name, value, wanted) for (name, value), wanted in parts if value != wanted)
-    if isinstance(value, int):
-        return f"its {name} is {value}, and not {wanted}"
-    if len(value) != len(wanted):
-        return f"it has {len(value)} {name}, and not {len(wanted)}"
-    place = next(place for place in range(len(value)) if value[place] != wanted[place])
-    return f"its {name}[{place}] is {json_text(value[place])}, and not {json_text(wanted[place])}"
-
-
-def as_entered(call: Call) -> Call:
-    """The call as a history has it: an insertion with a plan stands there as any other."""
-    return Insert(call.u, call.v, call.kind) if isinstance(call, Planned) else call
-
-
-def without_last_ones(prices: Sequence[int | None]) -> Prices:
-    """The prices as a report has them: without the ones at their end, which say nothing."""
-    kept = list(prices)
-    while kept and kept[-1] == 1:
-        kept.pop()
-    return tuple(kept)
 
 
 def version_of(prices: Sequence[int | None]) -> int:

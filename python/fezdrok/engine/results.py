@@ -13,7 +13,7 @@ from .graph_pictures import GraphPicture
 from .graph_session import GraphSession
 from .pictures import Crossing, Edge, Picture, Point, json_text
 from .program import PathLike
-from .reports import Limits, Report, Reports  # the fields that are inherited name Report
+from .reports import Limits, Report  # the fields that are inherited name Report
 from .saved_graphs import edges_of, graph_from_json, graph_json
 from .verification import verify
 from .whole_files import write_whole
@@ -32,9 +32,9 @@ class Planarization(GraphPicture):
 
     `node_of[v]` is the node of vertex v and `vertex_of` leads back; `edge_of[e]` is the edge of the graph that has the
     id e in the picture, as the graph's `edges` gives it, and `id_of` leads back. `prices` are those of the kinds.
-    `reports` are the reports of the program's processes that lead to this picture, each of which starts where the one
-    before it ended, with other ids where they had run out. `tries` has the number of crossings to which each order came
-    that came to a picture, before the shakes.
+    `reports` are those of the sessions that lead to this picture, each of which starts where the one before it ended; a
+    search has none, and `verify` judges its picture. `tries` has the crossings to which each attempt of the search
+    came, in one part of the graph after another.
 
     Where the graph is not connected, `parts` has the planarization of each of its parts, in the order of their first
     nodes. The picture then has the rows of all parts side by side, each with an outer face of its own, and is none that
@@ -50,7 +50,7 @@ class Planarization(GraphPicture):
     >>> result
     <Planarization: 10 nodes, 15 edges, 2 crossings>
     >>> result.crossing_pairs
-    [((3, 4), (6, 8)), ((0, 1), (7, 9))]
+    [((3, 4), (0, 1)), ((2, 7), (6, 8))]
     >>> [segment.end for segment in result.segments(3, 4)]
     [x0, 4]
     """
@@ -234,7 +234,9 @@ def single(graph: Any, node: Node, prices: tuple[Price, ...]) -> Planarization:
     return Planarization(graph, Picture(((),), ()), (node,), {}, prices, ())
 
 
-def joined_parts(graph: Any, prices: tuple[Price, ...], parts: Sequence[Planarization]) -> Planarization:
+def joined_parts(
+    graph: Any, prices: tuple[Price, ...], parts: Sequence[Planarization], tries: tuple[int, ...] = ()
+) -> Planarization:
     """One planarization of a graph from those of its parts, whose rows come one after another."""
     rotations: list[tuple[int, ...]] = []
     edges: list[Edge] = []
@@ -254,9 +256,7 @@ def joined_parts(graph: Any, prices: tuple[Price, ...], parts: Sequence[Planariz
     _, next_edge, next_crossing = _offsets([*parts, parts[0]])[-1]
     picture = Picture(tuple(rotations), tuple(edges), tuple(crossings), next_edge, next_crossing)
     nodes = tuple(node for part in parts for node in part.node_of)
-    reports = Reports.joined(part.reports for part in parts)
-    tries = tuple(map(sum, zip(*(part.tries for part in parts if part.picture.edges))))
-    return Planarization(graph, picture, nodes, edge_of, prices, reports, tries, tuple(parts))
+    return Planarization(graph, picture, nodes, edge_of, prices, (), tries, tuple(parts))
 
 
 def _offsets(parts: Sequence[Planarization]) -> list[tuple[int, int, int]]:
@@ -324,7 +324,7 @@ def _from_saved(value: dict[str, Any]) -> Planarization:
         part_graph = graph if len(value["parts"]) == 1 else graph.subgraph(node_of)
         picture = Picture.from_json(row["picture"])
         parts.append(Planarization(part_graph, picture, node_of, edge_of, prices, (), tuple(row["tries"])))
-    result = parts[0] if len(parts) == 1 else joined_parts(graph, prices, parts)
+    result = parts[0] if len(parts) == 1 else joined_parts(graph, prices, parts, tuple(value["tries"]))
     for name, number in (("crossings", result.crossings), ("cost", result.cost)):
         if value[name] != number:
             raise ValueError(f"its {name} are {value[name]!r}, and those of its pictures {number}")

@@ -18,7 +18,7 @@ from .graph_edges import GraphEdge
 
 def edges_of(graph: Any) -> list[GraphEdge]:
     """The edges of a graph as its `edges` gives them, in a multigraph with their keys."""
-    return list(graph.edges(keys=True)) if graph.is_multigraph() else list(graph.edges())
+    return [*iter(graph.edges(keys=True))] if graph.is_multigraph() else [*iter(graph.edges())]
 
 
 def graph_json(graph: Any) -> dict[str, Any]:

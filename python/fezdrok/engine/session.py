@@ -3,6 +3,7 @@
 from __future__ import annotations
 
 import json
+import re
 from collections.abc import Callable, Sequence
 from operator import index
 from threading import Lock
@@ -15,12 +16,14 @@ from .library import IN_USE, LibrarySession
 from .line_process import HASTE, LineProcess
 from .pictures import Counts, Dart, Picture, json_text
 from .planarizer import Planarizer
-from .program import PathLike, Program
+from .program import PathLike
 from .reports import Deleted, Grown, Inserted, Limits, Prices, Refused, Report, reply_from_json
 from .typed_calls import COMMANDS, fit
 
 Value = TypeVar("Value")
 Own = TypeVar("Own", bound="Session")
+#: The answer to an opening that is not at fault.
+_COUNTED = re.compile(rb'\{"crossings":\d+,"edges":\d+,"faces":\d+,"segments":\d+,"vertices":\d+\}')
 #: What answers the lines of a session.
 Answerer = LibrarySession | LineProcess
 
@@ -92,8 +95,8 @@ class Session:
         program: PathLike | None = None,
         process: bool = False,
     ):
-        given = Planarizer(start, limits, prices)
-        self._begin(given, given.opening_text(), program, process)
+        given = Planarizer(start, limits, prices, program)
+        self._begin(given, given.opening_text(), process)
 
     @classmethod
     def from_report(cls: type[Own], report: Report, program: PathLike | None = None, process: bool = False) -> Own:
@@ -110,12 +113,12 @@ class Session:
         Undone(undone=1, vertices=2, next_edge=1, next_crossing=0)
         """
         session = cls.__new__(cls)
-        session._begin(_given_by(report), _reopening(report), program, process)
+        session._begin(_given_by(report, program), _reopening(report), process)
         return session
 
-    def _begin(self, given: Planarizer, first: str, program: PathLike | None, process: bool) -> None:
+    def _begin(self, given: Planarizer, first: str, process: bool) -> None:
         """Begins with this line."""
-        self._program = Program(program)
+        self._program = given.program
         self._given: Planarizer | None = given
         self.caller = 0
         self._lock = Lock()
@@ -123,7 +126,9 @@ class Session:
         library = None if process else self._program.library
         answerer: Answerer = LibrarySession(library) if library else LineProcess(self._program.path)
         try:
-            _understood(answerer, answerer.ask(first), _counts)
+            answer = answerer.ask(first)
+            if not _COUNTED.fullmatch(answer):
+                _understood(answerer, answer, _counts)
         except BaseException:
             answerer.end()
             raise
@@ -370,9 +375,9 @@ def _reopening(report: Report) -> str:
     return f'{{"reopen":{report.to_text()}}}'
 
 
-def _given_by(report: Report) -> Planarizer:
+def _given_by(report: Report, program: PathLike | None = None) -> Planarizer:
     """What a session that goes on from a report was given."""
-    return Planarizer(report.start, report.limits, report.prices)
+    return Planarizer(report.start, report.limits, report.prices, program)
 
 
 def _understood(answerer: Answerer, answer: bytes, read: Callable[[Any], Value]) -> Value:

@@ -4,6 +4,7 @@ from __future__ import annotations
 
 from collections.abc import Callable
 from ctypes import POINTER, Structure, c_size_t, c_uint32, c_uint64
+from itertools import repeat
 from struct import Struct
 from typing import Any
 
@@ -20,6 +21,8 @@ _NAMES = "", "NoVertex", "SameEnds", "NoPosition", "NoEdge", "BadKind", "Cut", "
 _REFUSALS = [Refused(number, name) for number, name in enumerate(_NAMES)]
 #: What the side of an item is called.
 _sign, _end = ("ltr", "rtl").__getitem__, ("a", "b").__getitem__
+#: Makes a named tuple of a tuple, which is faster than to call its class.
+_named: Callable[..., Any] = tuple.__new__
 
 
 class Reply(Structure):
@@ -51,15 +54,16 @@ def _grown(reply: Reply, told: Numbers, asked: Numbers) -> Grown:
     return Grown(told[3], told[4])
 
 
-def _crossed(reply: Reply, length: int) -> tuple[Dart, ...]:
+def _items(reply: Reply, length: int, kind: type, side: Callable[[int], Any]) -> tuple[Any, ...]:
+    """So many items, each as a named tuple of this kind, whose last field this function makes of the side."""
     if not length:
         return ()
     words = reply.items[: 3 * length]
-    return tuple(map(Dart, words[::3], words[1::3], map(bool, words[2::3])))
+    return tuple(map(_named, repeat(kind), zip(words[::3], words[1::3], map(side, words[2::3]))))
 
 
 def _inserted(reply: Reply, told: Numbers, asked: Numbers) -> Inserted:
-    return Inserted(told[3], _crossed(reply, told[0]), told[4], told[5], told[1])
+    return Inserted(told[3], _items(reply, told[0], Dart, bool), told[4], told[5], told[1])
 
 
 def _deleted(reply: Reply, told: Numbers, asked: Numbers) -> Deleted:
@@ -67,31 +71,27 @@ def _deleted(reply: Reply, told: Numbers, asked: Numbers) -> Deleted:
 
 
 def _route(reply: Reply, told: Numbers, asked: Numbers) -> Route:
-    return Route(_crossed(reply, told[0]), told[4], told[5], told[1])
+    return Route(_items(reply, told[0], Dart, bool), told[4], told[5], told[1])
 
 
 def _undone(reply: Reply, told: Numbers, asked: Numbers) -> Undone:
-    return Undone._make(told[3:7])
+    undone: Undone = _named(Undone, told[3:7])
+    return undone
 
 
 def _counts(reply: Reply, told: Numbers, asked: Numbers) -> Counts:
-    return Counts._make(told[3:])
-
-
-def _meetings(reply: Reply, length: int) -> tuple[Meeting, ...]:
-    if not length:
-        return ()
-    words = reply.items[: 3 * length]
-    return tuple(map(Meeting, words[::3], words[1::3], map(_sign, words[2::3])))
+    counts: Counts = _named(Counts, told[3:])
+    return counts
 
 
 def _edge(reply: Reply, told: Numbers, asked: Numbers) -> EdgeAnswer:
-    return EdgeAnswer(asked[0], told[3], told[4], told[5], told[1] or None, _meetings(reply, told[0]))
+    return EdgeAnswer(asked[0], told[3], told[4], told[5], told[1] or None, _items(reply, told[0], Meeting, _sign))
 
 
 def _vertex(reply: Reply, told: Numbers, asked: Numbers) -> VertexAnswer:
-    words = reply.items[: 3 * told[0]]
-    return VertexAnswer(tuple(words[::3]), tuple(map(_end, words[2::3])))
+    items, end = reply.items, 3 * told[0]
+    vertex: VertexAnswer = _named(VertexAnswer, (tuple(items[:end:3]), tuple(map(_end, items[2:end:3]))))
+    return vertex
 
 
 #: What each call's answer is made of, from what is told and what was asked.

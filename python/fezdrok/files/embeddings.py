@@ -143,13 +143,6 @@ def from_networkx_embedding(
     """
     embedding.check_structure()
     rotations = {node: list(embedding.neighbors_cw_order(node)) for node in embedding}
-    return picture_of(rotations, kind)[0]
-
-
-def picture_of(
-    rotations: Mapping[Node, Sequence[Node]], kind: Callable[[Any, Any], int]
-) -> tuple[Picture, list[tuple[Node, Node]]]:
-    """The picture with these neighbours, clockwise, and its edges by their ids."""
     vertex = {node: number for number, node in enumerate(rotations)}
     ids: dict[frozenset[Node], int] = {}
     edges: list[tuple[Node, Node]] = []
@@ -160,7 +153,7 @@ def picture_of(
     _judge_connected(rotations)
     lists = [from_least([ids[frozenset((node, other))] for other in around]) for node, around in rotations.items()]
     rows = tuple(Edge(number, vertex[u], vertex[v], kind(u, v)) for number, (u, v) in enumerate(edges))
-    return Picture(tuple(lists), rows, (), len(rows), 0), edges
+    return Picture(tuple(lists), rows, (), len(rows), 0)
 
 
 def _judge_connected(rotations: Mapping[Node, Sequence[Node]]) -> None:

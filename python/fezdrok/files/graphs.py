@@ -13,6 +13,7 @@ from operator import index
 from typing import Any, Literal
 
 from ..engine.graph_edges import GREATEST_PRICE, KINDS, GraphEdge, Node, Price, judge_kinds
+from ..engine.saved_graphs import edges_of
 
 #: How prices are given: the name of an edge attribute, a mapping from edges, or a function of both nodes and the data.
 Pricing = None | str | Mapping[GraphEdge, Price] | Callable[[Any, Any, dict[str, Any]], Price]
@@ -58,21 +59,22 @@ def read_graph(
     if not isinstance(round_prices, bool):
         raise ValueError(f"round_prices is {round_prices!r}: it must be True or False")
     graph = copied(graph)
-    nodes = tuple(graph.nodes)
-    multi = graph.is_multigraph()
-    rows = list(graph.edges(keys=True, data=True)) if multi else list(graph.edges(data=True))
-    edges = tuple(tuple(row[:-1]) for row in rows)
+    nodes, edges = tuple(graph), tuple(edges_of(graph))
     _judge_form(nodes, edges)
+    if price is None and forbidden is None:
+        table: tuple[Price, ...] = (1,) if edges else ()
+        return PricedGraph(graph, nodes, edges, (0,) * len(edges), table, objective or "crossings")
+    rows = [data for *_, data in graph.edges(data=True)]
     if isinstance(price, str):
-        _judge_attribute(price, [row[-1] for row in rows])
+        _judge_attribute(price, rows)
     price_of = _price_function(price, graph.is_directed())
-    prices = [_judge_price(edge, price_of(edge, row[-1])) for edge, row in zip(edges, rows)]
-    for place in places_of("forbidden", edges, () if forbidden is None else forbidden, graph.is_directed()):
+    prices = [_judge_price(edge, price_of(edge, data)) for edge, data in zip(edges, rows)]
+    for place in _forbidden_places(edges, () if forbidden is None else forbidden, graph.is_directed()):
         prices[place] = None
     if round_prices:
         near = _rounded(prices)
         prices = [near[price] for price in prices]
-    table = _price_table(prices)
+    table = _price_table(edges, prices)
     kind_of = {price: kind for kind, price in enumerate(table)}
     kinds = tuple(kind_of[price] for price in prices)
     return PricedGraph(graph, nodes, edges, kinds, table, objective or objective_for(table))
@@ -88,7 +90,7 @@ def copied(graph: Any) -> Any:
     import networkx
 
     if isinstance(graph, networkx.Graph):
-        return graph.copy()
+        return _copy_of(graph)
     try:
         pairs = [tuple(pair) for pair in graph]
         if not isinstance(graph, (str, bytes)) and all(len(pair) == 2 for pair in pairs):
@@ -96,6 +98,16 @@ def copied(graph: Any) -> Any:
     except (TypeError, ValueError, networkx.NetworkXException):
         pass
     raise ValueError(f"{graph!r:.80} is no graph of networkx, and no list of pairs of nodes")
+
+
+def _copy_of(graph: Any) -> Any:
+    """What the method `copy` of a graph gives, in half the time: each edge is added once."""
+    keys = {"keys": True} if graph.is_multigraph() else {}
+    copy = graph.__class__()
+    copy.graph.update(graph.graph)
+    copy.add_nodes_from(graph.nodes(data=True))
+    copy.add_edges_from(graph.edges(data=True, **keys))
+    return copy
 
 
 def _judge_form(nodes: Sequence[Node], edges: Sequence[GraphEdge]) -> None:
@@ -165,32 +177,33 @@ def _whole(value: Any) -> int | None:
         return int(value) if isinstance(value, Real) and float(value).is_integer() else None
 
 
-def places_of(option: str, edges: Sequence[GraphEdge], wanted: Any, directed: bool) -> list[int]:
-    """The places of the edges that an option names, in the order in which they are named, each once. Without a key all
-    edges between both nodes are meant. ValueError where it names none."""
+def _forbidden_places(edges: Sequence[GraphEdge], forbidden: Any, directed: bool) -> set[int]:
+    """The places of the edges that are forbidden. Without a key all edges between both nodes are meant. ValueError
+    where one is named that is not there."""
     by_name: dict[GraphEdge, list[int]] = {}
     for place, edge in enumerate(edges):
         for name in _names(edge, directed):
             by_name.setdefault(name, []).append(place)
     try:
-        rows = list(wanted)
+        rows = list(forbidden)
     except TypeError:
-        raise ValueError(f"{option} is {wanted!r}: it must be a list of edges") from None
-    ordered: dict[int, None] = {}
+        raise ValueError(f"forbidden is {forbidden!r}: it must be a list of edges") from None
+    places: set[int] = set()
     for edge in rows:
         try:
-            places = by_name[tuple(edge)]
+            places.update(by_name[tuple(edge)])
         except (KeyError, TypeError):
-            raise ValueError(f"{option} names {edge!r}, which is no edge of the graph") from None
-        ordered.update(dict.fromkeys(sorted(places)))
-    return list(ordered)
+            raise ValueError(f"forbidden names {edge!r}, which is no edge of the graph") from None
+    return places
 
 
-def _price_table(prices: Iterable[Price]) -> tuple[Price, ...]:
+def _price_table(edges: Sequence[GraphEdge], prices: Sequence[Price]) -> tuple[Price, ...]:
     """The different prices, the dearest first, or a ValueError if there are more than kinds."""
-    different = sorted(set(prices), key=lambda price: -rank(price))
-    judge_kinds(len(different), "; round_prices=True has near ones share a kind")
-    return tuple(different)
+    different = list(dict.fromkeys(prices))
+    for price in different[KINDS:]:
+        edge = edges[prices.index(price)]
+        judge_kinds(len(different), f"; that of {edge!r} is one too many, and round_prices=True has near ones share one")
+    return tuple(sorted(different, key=lambda price: GREATEST_PRICE + 1 if price is None else price, reverse=True))
 
 
 def _rounded(prices: Iterable[Price]) -> dict[Price, Price]:
@@ -226,8 +239,3 @@ def _runs(numbers: Sequence[int], factor: float) -> list[list[int]]:
         else:
             runs.append([number])
     return runs
-
-
-def rank(price: Price) -> int:
-    """A number that orders prices: None, which forbids, is above them all."""
-    return GREATEST_PRICE + 1 if price is None else price

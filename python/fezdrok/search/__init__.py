@@ -1,1 +1,1 @@
-"""The search for a picture with few crossings."""
+"""Graphs that the program searches for pictures with few crossings."""

@@ -1,4 +1,4 @@
-"""Many graphs at once: a pool of processes, each of which calls the program for one graph after another."""
+"""Many graphs at once: a pool of processes, each of which planarizes one graph after another."""
 
 from __future__ import annotations
 
@@ -12,7 +12,6 @@ from collections.abc import Callable, Generator, Iterable, Sized
 from concurrent.futures import FIRST_COMPLETED, Future, ProcessPoolExecutor, wait
 from concurrent.futures.process import BrokenProcessPool
 from contextlib import closing
-from dataclasses import replace
 from queue import SimpleQueue
 from typing import Any, TextIO
 
@@ -21,7 +20,7 @@ from ..engine.pictures import Picture
 from ..engine.planarizer import Planarizer
 from ..engine.processes import kill_when_closed
 from ..engine.results import Planarization
-from .options import whole
+from .options import taken, whole
 from .planarization import planarize
 from .progress import StatusLine, line_ended
 
@@ -67,8 +66,7 @@ def planarize_many(
     -------
     list of Planarization or Exception
         A graph that fails has its exception in its place, and the others go on. Graphs whose worker was killed are
-        tried once more, one by one; the exception BrokenProcessPool stands for one that kills its worker again. The
-        planarizations have no reports.
+        tried once more, one by one; the exception BrokenProcessPool stands for one that kills its worker again.
 
     Raises
     ------
@@ -151,6 +149,7 @@ def _outcomes(
     graphs: Iterable[Any], processes: int | None, executor: Any, options: dict[str, Any]
 ) -> Generator[tuple[int, Outcome], None, None]:
     """The places of the graphs with their outcomes, as they are done. What cannot be used is refused at once."""
+    options = taken(options, 3)
     if executor is not None:
         if processes is not None:
             raise ValueError(f"processes is {processes!r}: it counts for nothing beside an executor")
@@ -217,16 +216,11 @@ def _begin_worker() -> None:
 
 
 def _one(graph: Any, options: dict[str, Any]) -> Outcome:
-    """One graph, in a worker: its planarization, without reports, or its exception."""
+    """One graph, in a worker: its planarization, or its exception."""
     try:
-        return _without_reports(planarize(graph, **options))
+        return planarize(graph, **options)
     except Exception as fault:  # any failure of one graph is its outcome
         return fault
-
-
-def _without_reports(result: Planarization) -> Planarization:
-    """The same without its reports, which are much larger than what they lead to."""
-    return replace(result, reports=(), parts=tuple(map(_without_reports, result.parts)))
 
 
 def _pooled(jobs: Iterable[Job], workers: int, options: dict[str, Any]) -> Generator[tuple[Job, Outcome], None, None]:

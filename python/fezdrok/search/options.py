@@ -4,57 +4,40 @@ from __future__ import annotations
 
 import math
 import os
-from collections.abc import Sequence
+import warnings
 from numbers import Real
 from operator import index
-from typing import Any, Literal, NamedTuple, get_args
+from typing import Any, Literal, get_args
 
-from ..engine.graph_edges import GraphEdge
-from ..engine.reports import Limits
-
-#: How much is tried, where it is not said in numbers.
+#: How much is tried.
 EffortName = Literal["quick", "default", "thorough"]
-#: With what a planarization begins: a breadth-first tree, or a large part without crossings.
-Begin = Literal["tree", "planar"]
-#: The order of the graph's edges, one at random, or edges in the order in which they are to come.
-Order = Literal["given", "random"] | Sequence[GraphEdge]
 
-#: How many shakes in a row may save nothing, at least and at most, where it is not said.
-_SHAKES = (40, 200)
+#: How many seeds there are.
+SEEDS = 2**32
 
-
-class Effort(NamedTuple):
-    """How much is tried: how many orders, how many rounds at most for each (None: until one saves nothing), and how
-    many shakes in a row may save nothing before the search ends (None: by the crossings)."""
-
-    tries: int
-    rounds: int | None
-    shakes: int | None
-
-    def shakes_for(self, crossings: int) -> int:
-        """How many shakes in a row may save nothing, if the best picture has so many crossings."""
-        least, most = _SHAKES
-        return min(most, max(least, crossings // 10)) if self.shakes is None else self.shakes
-
-
-_EFFORTS: dict[str, tuple[Begin, Effort]] = {
-    "quick": ("tree", Effort(1, 0, 0)),
-    "default": ("planar", Effort(2, None, None)),
-    "thorough": ("planar", Effort(8, None, 1000)),
+#: Options of versions before that count for nothing, and what stands in their place.
+_OLD = {
+    "begin": "each search begins with a planar part",
+    "order": "another `seed` has edges come in another order",
+    "rounds": "`effort` says how much is tried",
+    "shakes": "`effort` says how much is tried",
+    "limits": "a search has the greatest limits of the program",
 }
 
 
-def judged_effort(
-    effort: Any, begin: Any = None, tries: Any = None, rounds: Any = None, shakes: Any = None
-) -> tuple[Begin, Effort]:
-    """With what is begun and how much is tried: what the name of the effort says, and each number that is given in the
-    place of its own."""
-    begin_of_name, numbers = _EFFORTS[one_of("effort", effort, EffortName)]
-    return begin_of_name if begin is None else one_of("begin", begin, Begin), Effort(
-        numbers.tries if tries is None else whole("tries", tries, 1),
-        numbers.rounds if rounds is None else whole("rounds", rounds, 0),
-        numbers.shakes if shakes is None else whole("shakes", shakes, 0),
-    )
+def taken(options: dict[str, Any], level: int) -> dict[str, Any]:
+    """The options without those that count for nothing any more, each of which is a DeprecationWarning for the caller
+    so many levels above."""
+    for name in _OLD.keys() & options.keys():
+        warnings.warn(f"{name} counts for nothing any more: {_OLD[name]}", DeprecationWarning, stacklevel=level + 1)
+    return {name: value for name, value in options.items() if name not in _OLD}
+
+
+def judge_old(options: dict[str, Any]) -> None:
+    """The same for the caller of the function that was given these, where there are to be no others."""
+    unknown = taken(options, 3)
+    if unknown:
+        raise TypeError(f"got an unexpected keyword argument {next(iter(unknown))!r}")
 
 
 def one_of(name: str, value: Any, words: Any) -> Any:
@@ -76,11 +59,6 @@ def whole(name: str, value: Any, least: int | None = None) -> int:
     return number
 
 
-def most(name: str, value: Any) -> int | None:
-    """A number that is 0 or more, or None where it is left to the search."""
-    return None if value is None else whole(name, value, 0)
-
-
 def judged_seconds(seconds: Any) -> float | None:
     """The seconds that a search has, or None for as many as it takes."""
     if seconds is None:
@@ -90,24 +68,7 @@ def judged_seconds(seconds: Any) -> float | None:
     return float(seconds)
 
 
-def judged_order(order: Any) -> Order:
-    """An order by its name, or a list of edges."""
-    if isinstance(order, str):
-        if order not in ("given", "random"):
-            raise ValueError(f"the order {order!r} is not known: it is 'given', 'random', or a list of edges")
-        return order  # type: ignore[return-value]  # it is one of both words
-    if isinstance(order, (set, frozenset)):
-        raise ValueError("the order is a set, whose edges stand in no order: give a list")
-    try:
-        return list(order)
-    except TypeError:
-        raise ValueError(f"the order is {order!r}: it must be 'given', 'random', or a list of edges") from None
-
-
-def judge_call(limits: Any, program: Any) -> None:
-    """What the program is called with: Limits or None, and a path or None."""
-    if limits is not None and not isinstance(limits, Limits):
-        raise ValueError(f"limits is {limits!r}: it must be a Limits, or None")
+def judge_program(program: Any) -> None:
+    """What names the program: a path or None."""
     if program is not None and not isinstance(program, (str, os.PathLike)):
         raise ValueError(f"program is {program!r}: it must be the path of planar, or None")
-

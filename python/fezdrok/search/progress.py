@@ -12,10 +12,9 @@ from typing import Any, NamedTuple, TextIO
 class Progress(NamedTuple):
     """How far a planarization is.
 
-    `step` says in words what is done now, in which order of the edges, from 1 to `tries`. `crossings` are those of the
-    picture that is worked at, which may not have all edges yet, and `best` those of the best whole picture so far, or
-    None where there is none. `seconds` are those since the beginning. Where the graph is not connected, all are those
-    of one part.
+    `step` says in words what is done now, in which search, from 1 to `tries`. `crossings` are those of the best
+    picture of this search, 0 where there is none yet, and `best` those of the best picture of all, or None. `seconds`
+    are those since the beginning. Where the graph is not connected, all are those of one part, until it is "done".
     """
 
     step: str
@@ -70,8 +69,7 @@ def line_ended(tell: Any) -> AbstractContextManager[Any]:
 
 
 class ProgressLine(StatusLine):
-    """How far a planarization is, written at most ten times a second. The line ends when a part of the graph is done,
-    or by `close`."""
+    """How far a planarization is, written at most ten times a second. The line ends when it is done, or by `close`."""
 
     def __init__(self, stream: TextIO, clock: Callable[[], float] = time.monotonic):
         super().__init__(stream)
@@ -84,7 +82,7 @@ class ProgressLine(StatusLine):
             return
         self._next = self._clock() + 0.1
         best = "none yet" if progress.best is None else str(progress.best)
-        text = f"order {progress.order} of {progress.tries}, {progress.step}: {progress.crossings} crossings, "
+        text = f"search {progress.order} of {progress.tries}, {progress.step}: {progress.crossings} crossings, "
         text += f"best {best}, {progress.seconds:.1f} s"
         self.write(text.ljust(self._length), progress.step == "done")
         self._length = len(text)
@@ -106,3 +104,8 @@ class Clock:
     def is_over(self) -> bool:
         """Whether the time that was given is over."""
         return self._seconds is not None and self.spent >= self._seconds
+
+    @property
+    def is_late(self) -> bool:
+        """Whether a third of the time is over."""
+        return self._seconds is not None and 3 * self.spent >= self._seconds

@@ -37,7 +37,7 @@ fn write_path(halves: &mut Vec<u32>, path: &Path) -> Result<(), AllocError>
     Ok(())
 }
 
-/// The same of each path in turn.
+/// Writes the two halves of each segment of each path in turn.
 fn write_paths(halves: &mut Vec<u32>, paths: &NumberedTable<Path>) -> Result<(), AllocError>
     ensures { OnOk result
         (halves.new.items ≡ halves.old.items ++ flat_map halves_of (values_in paths.now)) }

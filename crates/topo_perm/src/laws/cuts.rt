@@ -13,7 +13,7 @@ pub fn two_faces()
     ensures taken_out { TakenOutKeeps }
 {}
 
-/// One face on both sides, in genus zero: without the segment its ends are apart.
+/// Where one face is on both sides, in genus zero: without the segment its ends are apart.
 pub fn one_face()
     ensures ends { OneFaceParts }
     ensures taken_out { TakenOutParts }

@@ -3,7 +3,7 @@
 ghost use Rattle.topo_perm.specs.FaceLabels.{ChordLabels, HangLabels, SmoothLabels};
 ghost use Rattle.topo_perm.specs.FaceLabels.{SplitLabels, UnchordLabels};
 
-/// Both sides of the new segment have the label of the corner.
+/// A hung segment has the label of the corner on both sides.
 pub fn hang()
     ensures { HangLabels }
 {}

@@ -17,7 +17,7 @@ pub fn faces()
     ensures { RenumberedFaces }
 {}
 
-/// The same darts are joined.
+/// A renumbering joins the darts that were joined.
 pub fn joined()
     ensures joined { RenumberedJoined }
     ensures connected { RenumberedConnected }

@@ -40,7 +40,7 @@ impl Guide {
         guide
     }
 
-    /// One face more.
+    /// The guide for the faces so far and one more.
     fn with(self, face: Potentials) -> Self
         ensures itself { IsOfGuide result face }
         ensures others { (p : Potentials) → IsOfGuide self p → IsOfGuide result p }

@@ -29,7 +29,7 @@ impl Potentials {
         }
     }
 
-    /// Those with another number for a landmark.
+    /// The potentials with another number for a landmark.
     fn with(self, landmark: usize, number: u16) -> Self {
         match landmark {
             0 => Potentials {

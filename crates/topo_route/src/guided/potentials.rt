@@ -18,7 +18,7 @@ pub struct Potentials {
 }
 
 impl Potentials {
-    /// The same number four times.
+    /// Potentials of one number four times.
     pub fn all(number: u16) -> Self
         ensures { result ≡ all_four number }
     {

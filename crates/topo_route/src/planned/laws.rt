@@ -14,18 +14,20 @@ pub fn routes_survive<P: Prices>()
     ensures { RoutesSurvive P.price }
 {}
 
-/// The same of any region of whole faces outside of which all darts are equally high.
+/// A later picture that keeps a region of whole faces outside of which all darts are equally high,
+/// and the corners at both ends, has the same first route at the same price.
 pub fn covered_routes_survive<P: Prices>()
     ensures { CoveredRoutesSurvive P.price }
 {}
 
-/// The same of the heights that a search leaves.
+/// A later picture that keeps what a search has reached, by the heights that it leaves, has the
+/// same first route.
 pub fn found_routes_survive<P: Prices>()
     ensures { FoundRoutesSurvive P.price }
 {}
 
-/// The same of what a search from both ends leaves: the darts that it has settled from either end
-/// are enough.
+/// A later picture that keeps what a search from both ends has reached has the same first route:
+/// the darts that it has settled from either end are enough.
 pub fn met_routes_survive<P: Prices>()
     ensures { MetRoutesSurvive P.price }
 {}

@@ -35,7 +35,7 @@ impl Model for Region {
 }
 
 impl Region {
-    /// One with nothing in it.
+    /// A region with nothing in it.
     pub(crate) fn new(alloc: Global) -> Self
         ensures edges { (e : ℕ) → holds_edge result e ≡ false }
         ensures vertices { (w : ℕ) → holds_vertex result w ≡ false }

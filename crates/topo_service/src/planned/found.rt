@@ -87,7 +87,7 @@ impl<F: PriceFn, K: ServiceBrand<F>> FoundRoute<F, K> {
         &self.first
     }
 
-    /// The two vertices.
+    /// The two vertices that the route joins.
     pub fn ends(&self) -> (u32, u32)
         ensures u { result.0 ≡ self.now.u }
         ensures v { result.1 ≡ self.now.v }

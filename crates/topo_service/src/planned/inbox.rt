@@ -124,7 +124,7 @@ fn apply_all<F: PriceFn, K: ServiceBrand<F>>(
 }
 
 impl<F: PriceFn, K: ServiceBrand<F>> Inbox<F, K> {
-    /// One that nothing is put into, until it begins anew.
+    /// An inbox that nothing is put into, until it begins anew.
     pub(crate) fn new(alloc: Global, at: &LogPrefix<F, K>) -> Self {
         Inbox {
             from: at.share(),

@@ -1,11 +1,11 @@
 use Rattle.std.proofs.Common.{Some}
 use Rattle.std.proofs.lemmas.Option.{IfSome_then}
 use Rattle.topo_forms.specs.declared.sessions.Request.TheVariants.{Carry}
-use Rattle.topo_forms.proofs.TokenRequests.{array_asked, begun_asked, command_asked}
+use Rattle.topo_forms.proofs.TokenRequests.{array_asked, keyed_asked, command_asked}
 use Rattle.topo_forms.proofs.token_requests.RequestFromTokens.from_tokens.Goals as goal
 
 pub returns-then-not-is_at : goal.returns-then-not-is_at
-returns-then-not-is_at c = IfSome_then c.token_begun.result c.token_begun.ensures (λ request s. begun_asked s)
+returns-then-not-is_at c = IfSome_then c.token_keyed.result c.token_keyed.ensures (λ request s. keyed_asked s)
 
 pub returns-in_ok-command : goal.returns-in_ok-command
 returns-in_ok-command c =

@@ -15,30 +15,23 @@ from math import ceil
 from typing import Any
 
 from ..engine.graph_edges import GraphEdge
-from .connectivity import undirected
-from .planarity import is_planar
-
-
-def is_planar_graph(edges: Iterable[GraphEdge]) -> bool:
-    """Whether a graph with these edges can be drawn without crossings; loops and parallel edges count for nothing."""
-    graph = undirected(edge for edge in edges if edge[0] != edge[1])
-    number = {node: place for place, node in enumerate(graph)}
-    return is_planar(len(number), [(number[u], number[v]) for u, v in graph.edges])
 
 
 def crossings_at_least(edges: Iterable[GraphEdge]) -> int:
     """A lower bound of the number of crossings of a graph with these edges, 0 exactly where it is planar."""
     import networkx
 
-    graph = undirected(edge for edge in edges if edge[0] != edge[1])
+    graph = networkx.Graph(edge[:2] for edge in edges if edge[0] != edge[1])
     blocks = (graph.subgraph(nodes) for nodes in networkx.biconnected_components(graph))
     return sum(_of_block(block) for block in blocks)
 
 
 def _of_block(block: Any) -> int:
     """The bound of a block."""
+    import networkx
+
     count, size = len(block), int(block.number_of_edges())
-    if count < 5 or size < 9 or is_planar_graph(block.edges):
+    if count < 5 or size < 9 or networkx.is_planar(block):
         return 0
     cycle = _girth(block)
     euler = size - cycle * (count - 2) / (cycle - 2)
