@@ -47,6 +47,11 @@ def in_process() -> library.LibrarySession:
 needs_library = unittest.skipUnless(has_library(), "left out: there is no library libfezdrok.so beside the program")
 
 
+def on_a_curve(graph: Any) -> dict[Any, tuple[int, int]]:
+    """Points for the nodes, of which no three lie on a line, in the order of a ring: each two edges whose ends alternate cross."""
+    return {node: (number, number**3) for number, node in enumerate(graph)}
+
+
 def stopped(*words: Any) -> Any:
     """Is interrupted."""
     raise KeyboardInterrupt

@@ -10,7 +10,7 @@ from fezdrok import (
 )
 from fezdrok.drawing.drawings import positions
 
-from .support import crossings_of, fake, graph_pairs, needs_program, pairs_of, traced
+from .support import crossings_of, fake, graph_pairs, needs_program, on_a_curve, pairs_of, traced
 
 
 @needs_program
@@ -61,7 +61,7 @@ class Components(unittest.TestCase):
 
     def test_reinsert(self):
         graph = nx.disjoint_union(nx.petersen_graph(), nx.empty_graph(1))
-        result = from_positions(graph, nx.spiral_layout(graph))
+        result = from_positions(graph, on_a_curve(graph))
         better = reinsert(result)
         self.assertLess(better.crossings, result.crossings)
         self.assertEqual(set(better.id_of), set(graph.edges))

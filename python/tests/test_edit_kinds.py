@@ -9,7 +9,7 @@ from fezdrok import Planarizer, Report, from_positions, planarize
 from fezdrok.edit.boards import Board, NotDoneError
 
 from .edit_support import Served, needs_server
-from .support import needs_program
+from .support import needs_program, on_a_curve
 
 
 def parted():
@@ -129,7 +129,7 @@ class Tables(Served):
     async def test_tidying_leaves_the_kinds(self):
         """Also those that no edge has."""
         graph = nx.complete_graph(7)
-        await self.serve(from_positions(graph, nx.spiral_layout(graph)))
+        await self.serve(from_positions(graph, on_a_curve(graph)))
         talk = await self.talk()
         await talk.ask("prices", [2, 5, None, 2])
         await talk.ask("tidy")

@@ -28,7 +28,7 @@ from fezdrok.engine.answers import Route
 from fezdrok.engine.faults import ModuleMissing
 
 from .edit_support import PATIENCE, Served, needs_server, shown
-from .support import ROOT, needs_program
+from .support import ROOT, needs_program, on_a_curve
 from .test_large_drawings import short_edges
 
 
@@ -461,7 +461,7 @@ class Servers(Served):
         graph = nx.complete_graph(7)
         name = "</script><script>alert(1)</script>"
         nx.relabel_nodes(graph, {0: name}, copy=False)
-        await self.serve(from_positions(graph, nx.spiral_layout(graph)))
+        await self.serve(from_positions(graph, on_a_curve(graph)))
         talk = await self.talk()
         before = await talk.drawn(0)
         self.assertGreater(before["count"], 9)

@@ -18,7 +18,7 @@ from fezdrok import (
 )
 from fezdrok.engine import searches
 
-from .support import ROOT, fake, needs_library, needs_program
+from .support import ROOT, fake, needs_library, needs_program, on_a_curve
 
 TOO_LONG = "echo 'planar: 51 TooLong' >&2; exit 1"
 KILLED = "kill -9 $$"
@@ -76,7 +76,7 @@ class SearchFailures(unittest.TestCase):
                 planarize(self.graph, tries=3, program=self.failing(calls, how))
 
     def test_starts(self):
-        start = from_positions(self.graph, nx.spiral_layout(self.graph))
+        start = from_positions(self.graph, on_a_curve(self.graph))
         for how, words in ((KILLED, "ProgramFailed"), (TOO_LONG, "TooLong")):
             with self.warned(words):
                 self.assertIs(reinsert(start, program=self.failing("1", how)), start)

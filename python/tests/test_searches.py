@@ -12,7 +12,7 @@ import networkx as nx
 
 from fezdrok import NotPlanarized, Program, find_program, from_positions, planarize, prepare, reinsert
 
-from .support import ROOT, needs_library, needs_program
+from .support import ROOT, needs_library, needs_program, on_a_curve
 from .test_planarization import PlanarizationTest
 
 
@@ -66,7 +66,7 @@ class Defaults(PlanarizationTest):
 
     def test_reinsert_goes_on(self):
         graph = nx.complete_graph(9)
-        before = from_positions(graph, nx.spiral_layout(graph))
+        before = from_positions(graph, on_a_curve(graph))
         rounds = reinsert(before)
         after = reinsert(rounds, effort="default", seed=2)
         for result in (rounds, after):

@@ -487,7 +487,7 @@ def reinsert(
     --------
     >>> import networkx as nx
     >>> from fezdrok import from_positions, reinsert
-    >>> result = from_positions(nx.complete_graph(8), nx.spiral_layout(nx.complete_graph(8)))
+    >>> result = from_positions(nx.complete_graph(8), {node: (node, node * node) for node in range(8)})
     >>> reinsert(result).crossings < result.crossings
     True
     """
