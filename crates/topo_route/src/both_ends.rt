@@ -12,6 +12,7 @@ ghost use Rattle.topo_route.specs.Settling.{ArePrices};
 
 use crate::face_graph::FaceGraph;
 use crate::priced_graph::PricedGraph;
+use crate::spread::Ends;
 use crate::workspace::Workspace;
 use std::alloc::AllocError;
 use topo_price::tariff::PriceFn;
@@ -139,23 +140,21 @@ fn finish<W: FaceGraph, F: PriceFn>(
 {
     let reach = least.saturating_add(1);
     let level = level.clamp(1, least.clamp(1, MAX_HEIGHT_SUM));
-    work.to_start.spread(
-        priced,
-        &work.to_end.heights,
-        &mut least,
-        u,
-        reach - level,
-        0,
-    )?;
+    let ends = Ends {
+        v: u,
+        other: &work.to_end.heights,
+        guide: None,
+    };
+    work.to_start
+        .spread(priced, &ends, &mut least, reach - level, 0)?;
     let level = level.min(least.max(1));
-    work.to_end.spread(
-        priced,
-        &work.to_start.heights,
-        &mut least,
+    let ends = Ends {
         v,
-        level,
-        MAX_HEIGHT_SUM,
-    )?;
+        other: &work.to_start.heights,
+        guide: None,
+    };
+    work.to_end
+        .spread(priced, &ends, &mut least, level, MAX_HEIGHT_SUM)?;
     Ok(Stop {
         level: level.min(least.max(1)),
         least,
@@ -219,7 +218,11 @@ pub(crate) fn least_heights<W: FaceGraph, F: PriceFn>(
     let mut least = u64::MAX;
     work.to_end
         .start_at(priced, &work.to_start.heights, &mut least, v)?;
-    work.to_end
-        .spread(priced, &work.to_start.heights, &mut least, v, u64::MAX, 0)?;
+    let ends = Ends {
+        v,
+        other: &work.to_start.heights,
+        guide: None,
+    };
+    work.to_end.spread(priced, &ends, &mut least, u64::MAX, 0)?;
     Ok(())
 }

@@ -36,6 +36,24 @@ pub(crate) struct Labels {
     pub waiting: BucketQueue,
 }
 
+/// The two ends of a spread, seen from the one where it begins, the vertex `v`: how high the faces
+/// lie above the other one, and what guides the search there, if anything does.
+#[derive(Drop)]
+pub(crate) struct Ends<'a> {
+    pub v: u32,
+    pub other: &'a StampedArray,
+    pub guide: Option<&'a Guide>,
+}
+
+/// A dart that is to be crossed backwards: the label of the face beyond it, and the height of its
+/// own.
+#[derive(Clone, Copy)]
+pub(crate) struct Crossing {
+    pub dart: u32,
+    pub beyond: u32,
+    pub height: u64,
+}
+
 impl Labels {
     /// The search state of a picture without faces, with room for so many that wait.
     pub(crate) fn new(alloc: Global, room: usize) -> Result<Self, AllocError>
@@ -106,56 +124,55 @@ impl Labels {
     fn relax_twin<W: FaceGraph, F: PriceFn>(
         &mut self,
         priced: &PricedGraph<W, F>,
-        other: &StampedArray,
-        guide: Option<&Guide>,
+        ends: &Ends<'_>,
         least: &mut u64,
-        v: u32,
-        dart: u32,
-        face: u32,
-        height: u64,
+        crossing: Crossing,
     ) -> Result<(), AllocError>
-        requires beyond { face
-            ≡ W.face_of priced.now.graph.now (twin_name (W.named priced.now.graph.now) dart) }
-        requires within { face < W.face_bound priced.now.graph.now }
+        requires beyond { crossing.beyond
+            ≡ W.face_of priced.now.graph.now
+            (twin_name (W.named priced.now.graph.now) crossing.dart) }
+        requires within { crossing.beyond < W.face_bound priced.now.graph.now }
         requires right { ArePrices (prices_of (F.may_return priced.now.tariff.now))
             (W.named priced.now.graph.now) priced.now.prices.items }
         requires costs { AreFaceCosts (prices_of (F.may_return priced.now.tariff.now))
             (W.named priced.now.graph.now) (W.face_of priced.now.graph.now)
-            (W.face_bound priced.now.graph.now) v self.old.heights self.old.names.items }
+            (W.face_bound priced.now.graph.now) ends.now.v self.old.heights self.old.names.items }
         requires in_hand { IsReached (W.named priced.now.graph.now)
             (dart_heights (W.named priced.now.graph.now)
-            (W.face_of priced.now.graph.now) self.old.heights) dart }
-        requires height { height ≡ slice_index (dart_heights (W.named priced.now.graph.now)
-            (W.face_of priced.now.graph.now) self.old.heights) dart }
+            (W.face_of priced.now.graph.now) self.old.heights) crossing.dart }
+        requires height { crossing.height ≡ slice_index (dart_heights (W.named priced.now.graph.now)
+            (W.face_of priced.now.graph.now) self.old.heights) crossing.dart }
         requires sums { AreSums (W.named priced.now.graph.now)
             (dart_heights (W.named priced.now.graph.now) (W.face_of priced.now.graph.now)
             self.old.heights) (dart_heights (W.named priced.now.graph.now)
-            (W.face_of priced.now.graph.now) other.now) least.old }
+            (W.face_of priced.now.graph.now) ends.now.other.now) least.old }
         ensures relaxes { IfOk result (λ _. Relaxes (prices_of (F.may_return priced.now.tariff.now))
             (W.named priced.now.graph.now) (W.face_of priced.now.graph.now)
-            (W.face_bound priced.now.graph.now) v other.now self.old.heights self.old.names.items
-            self.old.waiting least.old dart self.new.heights self.new.names.items self.new.waiting
-            least.new dart) }
+            (W.face_bound priced.now.graph.now) ends.now.v ends.now.other.now
+            self.old.heights self.old.names.items self.old.waiting least.old crossing.dart
+            self.new.heights self.new.names.items self.new.waiting
+            least.new crossing.dart) }
         ensures crossed { IfOk result
             (λ _. IsCrossed (prices_of (F.may_return priced.now.tariff.now))
             (W.named priced.now.graph.now) (reach_of least.new)
             (dart_heights (W.named priced.now.graph.now)
-            (W.face_of priced.now.graph.now) self.new.heights) dart) }
+            (W.face_of priced.now.graph.now) self.new.heights) crossing.dart) }
         ensures same { IfOk result
             (λ _. slice_index (dart_heights (W.named priced.now.graph.now)
-            (W.face_of priced.now.graph.now) self.new.heights) dart ≡ height) }
+            (W.face_of priced.now.graph.now) self.new.heights) crossing.dart ≡ crossing.height) }
     {
-        let twin = across(priced.graph, dart);
-        if !self.is_lowered_by(*least, face, height + 1) {
+        let twin = across(priced.graph, crossing.dart);
+        if !self.is_lowered_by(*least, crossing.beyond, crossing.height + 1) {
             return Ok(());
         }
-        match priced.price(dart) {
+        match priced.price(crossing.dart) {
             Some(price) => {
                 let price = price as u64;
-                let lowered = height + price;
-                if self.is_lowered_by(*least, face, lowered) {
-                    self.lower(other, least, face, twin, lowered)?;
-                    let order = lowered.saturating_add(left_to_go(priced.graph, guide, face));
+                let lowered = crossing.height + price;
+                if self.is_lowered_by(*least, crossing.beyond, lowered) {
+                    self.lower(ends.other, least, crossing.beyond, twin, lowered)?;
+                    let left = left_to_go(priced.graph, ends.guide, crossing.beyond);
+                    let order = lowered.saturating_add(left);
                     self.waiting.push(order, item_of(twin, lowered))?;
                 }
                 Ok(())
@@ -169,10 +186,8 @@ impl Labels {
     fn relax_face<W: FaceGraph, F: PriceFn>(
         &mut self,
         priced: &PricedGraph<W, F>,
-        other: &StampedArray,
-        guide: Option<&Guide>,
+        ends: &Ends<'_>,
         least: &mut u64,
-        v: u32,
         dart: u32,
         height: u64,
     ) -> Result<(), AllocError>
@@ -180,7 +195,7 @@ impl Labels {
             (W.named priced.now.graph.now) priced.now.prices.items }
         requires costs { AreFaceCosts (prices_of (F.may_return priced.now.tariff.now))
             (W.named priced.now.graph.now) (W.face_of priced.now.graph.now)
-            (W.face_bound priced.now.graph.now) v self.old.heights self.old.names.items }
+            (W.face_bound priced.now.graph.now) ends.now.v self.old.heights self.old.names.items }
         requires in_hand { IsReached (W.named priced.now.graph.now)
             (dart_heights (W.named priced.now.graph.now)
             (W.face_of priced.now.graph.now) self.old.heights) dart }
@@ -189,17 +204,22 @@ impl Labels {
         requires sums { AreSums (W.named priced.now.graph.now)
             (dart_heights (W.named priced.now.graph.now) (W.face_of priced.now.graph.now)
             self.old.heights) (dart_heights (W.named priced.now.graph.now)
-            (W.face_of priced.now.graph.now) other.now) least.old }
+            (W.face_of priced.now.graph.now) ends.now.other.now) least.old }
         ensures { IfOk result (λ _. Relaxes (prices_of (F.may_return priced.now.tariff.now))
             (W.named priced.now.graph.now) (W.face_of priced.now.graph.now)
-            (W.face_bound priced.now.graph.now) v other.now self.old.heights self.old.names.items
-            self.old.waiting least.old dart self.new.heights self.new.names.items self.new.waiting
+            (W.face_bound priced.now.graph.now) ends.now.v ends.now.other.now
+            self.old.heights self.old.names.items self.old.waiting least.old dart self.new.heights self.new.names.items self.new.waiting
             least.new (W.named priced.now.graph.now).size) }
     {
         let mut at = dart;
         for _steps in 0..priced.graph.size() {
             let (next, face) = step(priced.graph, at);
-            self.relax_twin(priced, other, guide, least, v, at, face, height)?;
+            let crossing = Crossing {
+                dart: at,
+                beyond: face,
+                height,
+            };
+            self.relax_twin(priced, ends, least, crossing)?;
             at = next;
             if at == dart {
                 return Ok(());
@@ -213,9 +233,8 @@ impl Labels {
     pub(crate) fn spread<W: FaceGraph, F: PriceFn>(
         &mut self,
         priced: &PricedGraph<W, F>,
-        other: &StampedArray,
+        ends: &Ends<'_>,
         least: &mut u64,
-        v: u32,
         level: u64,
         most: u64,
     ) -> Result<(), AllocError>
@@ -223,23 +242,25 @@ impl Labels {
             (W.named priced.now.graph.now) priced.now.prices.items }
         requires spreads { Spreads (prices_of (F.may_return priced.now.tariff.now))
             (W.named priced.now.graph.now) (W.face_of priced.now.graph.now)
-            (W.face_bound priced.now.graph.now) v
+            (W.face_bound priced.now.graph.now) ends.now.v
             (top_of level (min most least.old)
             (dart_heights (W.named priced.now.graph.now) (W.face_of priced.now.graph.now)
-            other.now)) (reach_of least.old) self.old.heights self.old.names.items self.old.waiting
+            ends.now.other.now)) (reach_of least.old)
+            self.old.heights self.old.names.items self.old.waiting
             (W.named priced.now.graph.now).size }
         requires sums { AreSums (W.named priced.now.graph.now)
             (dart_heights (W.named priced.now.graph.now) (W.face_of priced.now.graph.now)
             self.old.heights) (dart_heights (W.named priced.now.graph.now)
-            (W.face_of priced.now.graph.now) other.now) least.old }
+            (W.face_of priced.now.graph.now) ends.now.other.now) least.old }
         ensures costs { IfOk result
             (λ _. AreFaceCosts (prices_of (F.may_return priced.now.tariff.now))
             (W.named priced.now.graph.now) (W.face_of priced.now.graph.now)
-            (W.face_bound priced.now.graph.now) v self.new.heights self.new.names.items) }
+            (W.face_bound priced.now.graph.now) ends.now.v self.new.heights self.new.names.items) }
         ensures settled { IfOk result (λ _. (k : ℕ) → IsName (W.named priced.now.graph.now) k
             → slice_index (dart_heights (W.named priced.now.graph.now)
             (W.face_of priced.now.graph.now) self.new.heights) k < top_of level (min most least.new)
-            (dart_heights (W.named priced.now.graph.now) (W.face_of priced.now.graph.now) other.now)
+            (dart_heights (W.named priced.now.graph.now) (W.face_of priced.now.graph.now)
+            ends.now.other.now)
             k → IsSettled (prices_of (F.may_return priced.now.tariff.now))
             (W.named priced.now.graph.now) (reach_of least.new)
             (dart_heights (W.named priced.now.graph.now)
@@ -248,7 +269,7 @@ impl Labels {
             (λ _. AreSums (W.named priced.now.graph.now)
             (dart_heights (W.named priced.now.graph.now) (W.face_of priced.now.graph.now)
             self.new.heights) (dart_heights (W.named priced.now.graph.now)
-            (W.face_of priced.now.graph.now) other.now) least.new) }
+            (W.face_of priced.now.graph.now) ends.now.other.now) least.new) }
         ensures less { IfOk result (λ _. least.new ≤ least.old) }
         ensures lower { IfOk result
             (λ _. AreLowered (dart_heights (W.named priced.now.graph.now)
@@ -262,11 +283,11 @@ impl Labels {
             priced.graph,
             &self.heights,
             &mut self.waiting,
-            other,
+            ends.other,
             level,
             most.min(*least),
         ) {
-            self.relax_face(priced, other, None, least, v, dart, height)?;
+            self.relax_face(priced, ends, least, dart, height)?;
         }
         Ok(())
     }
@@ -318,6 +339,11 @@ impl Labels {
     {
         // For the proof: what the type keeps.
         let _darts = priced.graph.size();
+        let ends = Ends {
+            v,
+            other,
+            guide: Some(guide),
+        };
         while let Some((dart, height)) = next_toward(
             priced.graph,
             &self.heights,
@@ -325,7 +351,7 @@ impl Labels {
             guide,
             *least,
         ) {
-            self.relax_face(priced, other, Some(guide), least, v, dart, height)?;
+            self.relax_face(priced, &ends, least, dart, height)?;
         }
         Ok(())
     }
@@ -371,6 +397,11 @@ impl Labels {
     {
         // For the proof: what the type keeps.
         let _darts = priced.graph.size();
+        let ends = Ends {
+            v,
+            other,
+            guide: None,
+        };
         let reach = (*least).saturating_add(1);
         match next_pending(
             priced.graph,
@@ -381,7 +412,7 @@ impl Labels {
             0,
         ) {
             Some((dart, height)) => {
-                self.relax_face(priced, other, None, least, v, dart, height)?;
+                self.relax_face(priced, &ends, least, dart, height)?;
                 Ok(Some(height))
             }
             None => Ok(None),

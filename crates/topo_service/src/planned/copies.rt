@@ -3,7 +3,7 @@
 use std::sync::atomic::{AtomicU32, Ordering};
 
 /// So many passes of a service have a picture of their own at most.
-const MAX_COPIES: u32 = 4;
+const MAX_COPIES: u32 = 3;
 
 /// How many passes have a picture of their own, on which they look for routes. It bounds memory
 /// alone: no answer depends on it.
@@ -29,7 +29,7 @@ impl Copies {
         false
     }
 
-    /// One pass less has a picture of its own.
+    /// Lets a pass go that had a picture of its own.
     pub(crate) fn give_back(&self) {
         let _ = self.taken.fetch_sub(1, Ordering::SeqCst);
     }

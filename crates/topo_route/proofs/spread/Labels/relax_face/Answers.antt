@@ -21,7 +21,7 @@ loop-steps-init g c =
     let faces = g.W.FaceGraph.face_bound graph in
     let has_faces = g.met.W.FaceGraph.has_faces graph in
     record {
-      relaxes = no_step price named lawful has face faces has_faces c.args.v c.args.other.now c.args.self.now.heights c.args.self.now.names.items
+      relaxes = no_step price named lawful has face faces has_faces c.args.ends.now.v c.args.ends.now.other.now c.args.self.now.heights c.args.self.now.names.items
           c.args.self.now.waiting c.args.least.now c.args.dart c.requires.costs c.requires.sums;
       place = refl;
       name = c.requires.in_hand.0;
@@ -42,7 +42,7 @@ relax_twin-requires-clause-in_hand g c =
     let was = c.loop-steps.invariant in (
       was.name,
       λ e. c.requires.in_hand.1 (sym c.requires.height
-          ∙ sym (at_height price named lawful has face faces has_faces c.args.v c.args.other.now c.loop-steps.self.heights c.loop-steps._steps c.args.dart
+          ∙ sym (at_height price named lawful has face faces has_faces c.args.ends.now.v c.args.ends.now.other.now c.loop-steps.self.heights c.loop-steps._steps c.args.dart
           c.loop-steps.at c.args.height c.requires.in_hand.0 was.name was.place was.same) ∙ e),
     )
 
@@ -57,7 +57,7 @@ relax_twin-requires-clause-height g c =
     let faces = g.W.FaceGraph.face_bound graph in
     let has_faces = g.met.W.FaceGraph.has_faces graph in
     let was = c.loop-steps.invariant in
-    sym (at_height price named lawful has face faces has_faces c.args.v c.args.other.now c.loop-steps.self.heights c.loop-steps._steps c.args.dart
+    sym (at_height price named lawful has face faces has_faces c.args.ends.now.v c.args.ends.now.other.now c.loop-steps.self.heights c.loop-steps._steps c.args.dart
     c.loop-steps.at c.args.height c.requires.in_hand.0 was.name was.place was.same)
 
 pub loop-steps-preserved : goal.loop-steps-preserved
@@ -70,8 +70,8 @@ loop-steps-preserved g c =
     let face = g.W.FaceGraph.face_of graph in
     let faces = g.W.FaceGraph.face_bound graph in
     let has_faces = g.met.W.FaceGraph.has_faces graph in
-    let v = c.args.v in
-    let others = c.args.other.now in
+    let v = c.args.ends.now.v in
+    let others = c.args.ends.now.other.now in
     let dart = c.args.dart in
     let there = c.requires.in_hand.0 in
     let i = c.loop-steps._steps in
@@ -107,8 +107,8 @@ returns-then-at-dart g c =
     let face = g.W.FaceGraph.face_of graph in
     let faces = g.W.FaceGraph.face_bound graph in
     let has_faces = g.met.W.FaceGraph.has_faces graph in
-    let v = c.args.v in
-    let others = c.args.other.now in
+    let v = c.args.ends.now.v in
+    let others = c.args.ends.now.other.now in
     let dart = c.args.dart in
     let there = c.requires.in_hand.0 in
     let i = c.loop-steps._steps in
@@ -143,8 +143,8 @@ returns g c =
     let face = g.W.FaceGraph.face_of graph in
     let faces = g.W.FaceGraph.face_bound graph in
     let has_faces = g.met.W.FaceGraph.has_faces graph in
-    let v = c.args.v in
-    let others = c.args.other.now in
+    let v = c.args.ends.now.v in
+    let others = c.args.ends.now.other.now in
     let dart = c.args.dart in
     let was = c.loop-steps.invariant in
     let hs = c.loop-steps.self.heights in

@@ -16,7 +16,7 @@ invariant-loop-steps g l =
     let face = g.W.FaceGraph.face_of graph in
     let faces = g.W.FaceGraph.face_bound graph in
     record {
-      relaxes : Relaxes price named face faces l.v l.other l.initial.self.heights l.initial.self.names.items l.initial.self.waiting l.initial.least l.dart
+      relaxes : Relaxes price named face faces l.ends.v l.ends.other.now l.initial.self.heights l.initial.self.names.items l.initial.self.waiting l.initial.least l.dart
           l.self.heights l.self.names.items l.self.waiting l.least l.dart;
       place : l.at ≡ after (next_name named) l._steps l.dart;
       name : IsName named l.at;

@@ -20,27 +20,27 @@ returns-in_ok-push-in-Some g c =
     let face = g.W.FaceGraph.face_of graph in
     let faces = g.W.FaceGraph.face_bound graph in
     let has_faces = g.met.W.FaceGraph.has_faces graph in
-    let v = c.args.v in
-    let others = c.args.other.now in
+    let v = c.args.ends.now.v in
+    let others = c.args.ends.now.other.now in
     let heights = c.args.self.now.heights in
     let names = c.args.self.now.names.items in
     let waiting = c.args.self.now.waiting in
-    let dart = c.args.dart in
+    let dart = c.args.crossing.dart in
     let twin = c.across-twin.result in
     let there = c.across-twin.ensures.name in
-    let label : c.args.face ≡ face twin = c.requires.beyond ∙ ap face (sym c.across-twin.ensures.twin) in
+    let label : c.args.crossing.beyond ≡ face twin = c.requires.beyond ∙ ap face (sym c.across-twin.ensures.twin) in
     let x : ℕ = slice_index (dart_heights named face heights) dart + c.in-Some.price in
-    let at : slice_index (dart_heights named face heights) twin ≡ slice_index heights c.args.face =
+    let at : slice_index (dart_heights named face heights) twin ≡ slice_index heights c.args.crossing.beyond =
     of_face price named has face faces has_faces v heights names c.requires.costs twin there ∙ ap (slice_index heights) (sym label) in
     let hs : c.lower.new.self.heights ≡ set heights (face twin) x =
-    c.in_ok-lower-in-Some.ensures.heights ∙ ap (λ (h : ℕ). set heights c.args.face (h + c.in-Some.price)) c.requires.height
+    c.in_ok-lower-in-Some.ensures.heights ∙ ap (λ (h : ℕ). set heights c.args.crossing.beyond (h + c.in-Some.price)) c.requires.height
     ∙ ap (λ (f : ℕ). set heights f x) label in
     let ns : c.lower.new.self.names.items ≡ with_name heights (face twin) twin names = c.in_ok-lower-in-Some.ensures.names ∙ ap
     (λ (f : ℕ). with_name heights f twin names) label in
     let item : c.item_of.result ≡ item_of twin x = c.item_of.ensures ∙ ap (λ (h : ℕ). item_of twin (h + c.in-Some.price)) c.requires.height in
     let longer : length c.push.new.self ≡ length waiting + 1 = c.in_ok-push-in-Some.ensures.len
     ∙ ap (λ (ws : List ℕ). length ws + 1) c.in_ok-lower-in-Some.ensures.waiting in
-    let number : number_at others c.args.face ≡ number_at others (face twin) = ap (number_at others) label in
+    let number : number_at others c.args.crossing.beyond ≡ number_at others (face twin) = ap (number_at others) label in
     record {
       relaxes = subst (λ (xs : List ℕ). Relaxes price named face faces v others heights names waiting c.args.least.now dart xs c.lower.new.self.names.items
           c.push.new.self c.lower.new.least dart) (sym hs)
@@ -57,7 +57,7 @@ returns-in_ok-push-in-Some g c =
           (is_crossed price named lawful has face faces has_faces v (reach_of c.args.least.now)
           heights names waiting dart twin c.in-Some.price c.requires.costs c.requires.in_hand c.in-Some.ensures.promise c.in-Some.ensures.price
           c.across-twin.ensures.twin there (omega arith) (reach_of c.lower.new.least));
-      same = subst (λ (xs : List ℕ). slice_index (dart_heights named face xs) dart ≡ c.args.height) (sym hs)
+      same = subst (λ (xs : List ℕ). slice_index (dart_heights named face xs) dart ≡ c.args.crossing.height) (sym hs)
           (twin_same price named lawful has face faces has_faces v (reach_of c.args.least.now)
           heights names waiting dart twin c.in-Some.price c.requires.costs c.requires.in_hand c.in-Some.ensures.promise c.in-Some.ensures.price
           c.across-twin.ensures.twin there (omega arith) ∙ sym c.requires.height);
@@ -75,11 +75,11 @@ returns-else-is_lowered_by-clause-crossed g c =
     let has_faces = g.met.W.FaceGraph.has_faces graph in
     let heights = c.args.self.now.heights in
     let twin = c.across-twin.result in
-    let at : slice_index (dart_heights named face heights) twin ≡ slice_index heights c.args.face =
-    of_face price named has face faces has_faces c.args.v heights c.args.self.now.names.items c.requires.costs twin c.across-twin.ensures.name
+    let at : slice_index (dart_heights named face heights) twin ≡ slice_index heights c.args.crossing.beyond =
+    of_face price named has face faces has_faces c.args.ends.now.v heights c.args.self.now.names.items c.requires.costs twin c.across-twin.ensures.name
     ∙ ap (slice_index heights) (sym (c.requires.beyond ∙ ap face (sym c.across-twin.ensures.twin))) in
-    let low : min (slice_index heights c.args.face) (reach_of c.args.least.now) ≤ c.args.height + c.in-Some.price = grind arith in
-    crossed_low named (reach_of c.args.least.now) (dart_heights named face heights) c.args.dart c.in-Some.ensures.promise c.in-Some.ensures.price
+    let low : min (slice_index heights c.args.crossing.beyond) (reach_of c.args.least.now) ≤ c.args.crossing.height + c.in-Some.price = grind arith in
+    crossed_low named (reach_of c.args.least.now) (dart_heights named face heights) c.args.crossing.dart c.in-Some.ensures.promise c.in-Some.ensures.price
     c.across-twin.ensures.twin (omega (arith, low))
 
 pub returns-in-None-clause-crossed : goal.returns-in-None-clause-crossed
@@ -97,9 +97,9 @@ returns-then-not-is_lowered_by-clause-crossed g c =
     let has_faces = g.met.W.FaceGraph.has_faces graph in
     let heights = c.args.self.now.heights in
     let twin = c.across-twin.result in
-    let at : slice_index (dart_heights named face heights) twin ≡ slice_index heights c.args.face =
-    of_face price named has face faces has_faces c.args.v heights c.args.self.now.names.items c.requires.costs twin c.across-twin.ensures.name
+    let at : slice_index (dart_heights named face heights) twin ≡ slice_index heights c.args.crossing.beyond =
+    of_face price named has face faces has_faces c.args.ends.now.v heights c.args.self.now.names.items c.requires.costs twin c.across-twin.ensures.name
     ∙ ap (slice_index heights) (sym (c.requires.beyond ∙ ap face (sym c.across-twin.ensures.twin))) in
-    let low : min (slice_index heights c.args.face) (reach_of c.args.least.now) ≤ c.args.height + 1 = grind arith in
-    crossed_already price named (reach_of c.args.least.now) (dart_heights named face heights) c.args.dart twin
-    (c.requires.right.promise (name_some named c.args.dart c.requires.in_hand.0)) c.across-twin.ensures.twin (omega (arith, low))
+    let low : min (slice_index heights c.args.crossing.beyond) (reach_of c.args.least.now) ≤ c.args.crossing.height + 1 = grind arith in
+    crossed_already price named (reach_of c.args.least.now) (dart_heights named face heights) c.args.crossing.dart twin
+    (c.requires.right.promise (name_some named c.args.crossing.dart c.requires.in_hand.0)) c.across-twin.ensures.twin (omega (arith, low))

@@ -22,8 +22,8 @@ next_pending-requires g c =
     let now = c.loop-dart.self in
     record {
       one_each = c.loop-dart.invariant.spreads.costs.labelled.one_each;
-      names = waits_named price named face faces c.args.v now.heights now.names.items now.waiting
-          (top_of c.args.level (min c.args.most c.loop-dart.least) (dart_heights named face c.args.other.now)) (reach_of c.loop-dart.least) named.size
+      names = waits_named price named face faces c.args.ends.now.v now.heights now.names.items now.waiting
+          (top_of c.args.level (min c.args.most c.loop-dart.least) (dart_heights named face c.args.ends.now.other.now)) (reach_of c.loop-dart.least) named.size
           c.loop-dart.invariant.spreads;
     }
 
@@ -40,8 +40,8 @@ relax_face-requires-clause-in_hand g c =
     let now = c.loop-dart.self in
     let short : c.in-Some.dart < 2 ^ 32 =
     omega (arith, c.size-darts.ensures, c.size-darts.type_inv, name_below named has c.in-Some.dart c.in-Some.ensures.name) in
-    taken_reached price named face faces c.args.v now.heights now.names.items now.waiting (top_of c.args.level (min c.args.most c.loop-dart.least)
-    (dart_heights named face c.args.other.now)) (reach_of c.loop-dart.least) named.size c.in-Some.dart short
+    taken_reached price named face faces c.args.ends.now.v now.heights now.names.items now.waiting (top_of c.args.level (min c.args.most c.loop-dart.least)
+    (dart_heights named face c.args.ends.now.other.now)) (reach_of c.loop-dart.least) named.size c.in-Some.dart short
     c.loop-dart.invariant.spreads c.in-Some.ensures.pending
 
 pub loop-dart-preserved : goal.loop-dart-preserved
@@ -59,10 +59,10 @@ loop-dart-preserved g c =
     let relaxes = c.in_ok-relax_face.ensures in
     let short : c.in-Some.dart < 2 ^ 32 =
     omega (arith, c.size-darts.ensures, c.size-darts.type_inv, name_below named has c.in-Some.dart c.in-Some.ensures.name) in
-    let top = λ (least : ℕ). top_of c.args.level (min c.args.most least) (dart_heights named face c.args.other.now) in
+    let top = λ (least : ℕ). top_of c.args.level (min c.args.most least) (dart_heights named face c.args.ends.now.other.now) in
     record {
-      spreads = taken_relaxes price named lawful has face faces has_faces c.args.v c.args.other.now (top c.loop-dart.least) (top c.relax_face.new.least) small
-          (even_top has face c.args.other.now c.args.level (min c.args.most c.loop-dart.least)) c.loop-dart.invariant.spreads c.in-Some.ensures.name
+      spreads = taken_relaxes price named lawful has face faces has_faces c.args.ends.now.v c.args.ends.now.other.now (top c.loop-dart.least) (top c.relax_face.new.least) small
+          (even_top has face c.args.ends.now.other.now c.args.level (min c.args.most c.loop-dart.least)) c.loop-dart.invariant.spreads c.in-Some.ensures.name
           (λ k s l less. c.in-Some.ensures.others k s l (omega (arith, c.min.ensures))) c.in-Some.ensures.fewer relaxes
           (λ k. omega (arith, relaxes.less));
       sums = relaxes.sums;
@@ -82,11 +82,11 @@ returns g c =
     let has_faces = g.met.W.FaceGraph.has_faces graph in
     let now = c.loop-dart.self in
     let small : named.size < 2 ^ 32 = omega (arith, c.size-darts.ensures, c.size-darts.type_inv) in
-    let top = top_of c.args.level (min c.args.most c.loop-dart.least) (dart_heights named face c.args.other.now) in
+    let top = top_of c.args.level (min c.args.most c.loop-dart.least) (dart_heights named face c.args.ends.now.other.now) in
     record {
       costs = c.loop-dart.invariant.spreads.costs;
-      settled = all_settled price named face faces c.args.v now.heights now.names.items now.waiting has small top (reach_of c.loop-dart.least)
-          (even_top has face c.args.other.now c.args.level (min c.args.most c.loop-dart.least))
+      settled = all_settled price named face faces c.args.ends.now.v now.heights now.names.items now.waiting has small top (reach_of c.loop-dart.least)
+          (even_top has face c.args.ends.now.other.now c.args.level (min c.args.most c.loop-dart.least))
           c.loop-dart.invariant.spreads (λ k s l less. c.in_default.ensures.others k s l (omega (arith, c.min.ensures)));
       sums = c.loop-dart.invariant.sums;
       less = c.loop-dart.invariant.less;

@@ -11,10 +11,10 @@ invariant-loop-dart g l =
     let face = g.W.FaceGraph.face_of l.priced.graph.now in
     let faces = g.W.FaceGraph.face_bound l.priced.graph.now in
     record {
-      spreads : Spreads (prices_of (g.F.PriceFn.may_return l.priced.tariff.now)) named face faces l.v
-          (top_of l.level (min l.most l.least) (dart_heights named face l.other))
+      spreads : Spreads (prices_of (g.F.PriceFn.may_return l.priced.tariff.now)) named face faces l.ends.v
+          (top_of l.level (min l.most l.least) (dart_heights named face l.ends.other.now))
           (reach_of l.least) l.self.heights l.self.names.items l.self.waiting named.size;
-      sums : AreSums named (dart_heights named face l.self.heights) (dart_heights named face l.other) l.least;
+      sums : AreSums named (dart_heights named face l.self.heights) (dart_heights named face l.ends.other.now) l.least;
       less : l.least ≤ l.initial.least;
       lower : AreLowered (dart_heights named face l.initial.self.heights) (dart_heights named face l.self.heights);
     }
