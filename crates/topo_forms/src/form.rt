@@ -290,12 +290,45 @@ fn check_required(path: Path, required: &[Key], value: &Value) -> Result<(), Scr
     Ok(())
 }
 
-/// The value that at most `limit` bytes spell.
+/// So many bytes the value of a text may take for each of its own.
+const VALUE_BYTES: u64 = 40;
+
+/// And so many more.
+const SMALL_VALUE_BYTES: u64 = 16_777_216;
+
+/// About so many bytes an object of a value takes, a list, and each further item of either.
+const OBJECT_BYTES: u64 = 1_000;
+
+const LIST_BYTES: u64 = 150;
+
+const ITEM_BYTES: u64 = 36;
+
+/// Whether the value of a text would take much more memory than the text: about so much as what
+/// begins an object, a list or an item in it. It bounds memory alone: no contract rests on it.
+fn takes_much(bytes: &[u8]) -> bool {
+    let mut needed = 0u64;
+    for byte in bytes {
+        needed = needed.saturating_add(match *byte {
+            b'{' => OBJECT_BYTES,
+            b'[' => LIST_BYTES,
+            b',' => ITEM_BYTES,
+            _ => 0,
+        });
+    }
+    let most = (bytes.len() as u64).saturating_mul(VALUE_BYTES);
+    needed > most.saturating_add(SMALL_VALUE_BYTES)
+}
+
+/// The value that at most `limit` bytes spell. One that would take much more memory than they do
+/// is answered as out of memory.
 pub fn parse(alloc: Global, limit: usize, bytes: &[u8]) -> Result<Value, ScriptFault>
     ensures { Gives (read_map view result) (value_of limit bytes.now) }
 {
     if bytes.len() > limit {
         return Err(ScriptFault::TooLong);
+    }
+    if takes_much(bytes) {
+        return Err(ScriptFault::Memory);
     }
     match Value::from_slice(alloc, bytes) {
         Ok(value) => Ok(value),
