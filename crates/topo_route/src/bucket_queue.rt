@@ -43,7 +43,8 @@ impl Model for BucketQueue {
     ghost view = { λ w. all_chained w.entries.items w.heads.items };
 
     ghost invariant = { λ w. (length w.heads.items ≡ 2001) × (w.first < 2001)
-        × GoesDown w.entries.items × StaysBelow w.entries.items w.heads.items };
+        × GoesDown w.entries.items × StaysBelow w.entries.items w.heads.items
+        × (w.count ≡ length (all_chained w.entries.items w.heads.items)) };
 }
 
 impl BucketQueue {
@@ -61,18 +62,22 @@ impl BucketQueue {
         })
     }
 
-    /// Takes all items out.
+    /// Takes all items out. Where none waits, as mostly behind a search, that takes no time.
     pub(crate) fn clear(&mut self)
         ensures { self.new ≡ [] }
     {
+        if self.count > 0 {
+            self.heads.fill(0);
+        }
         self.entries.clear();
-        self.heads.fill(0);
         self.first = 0;
         self.count = 0;
     }
 
-    /// How many items wait. No contract rests on it: it says which end of a search goes on.
-    pub(crate) fn count(&self) -> usize {
+    /// How many items wait.
+    pub(crate) fn count(&self) -> usize
+        ensures { result ≡ length self.now }
+    {
         self.count
     }
 
@@ -82,11 +87,14 @@ impl BucketQueue {
             (λ _. (k : ℕ) → is_waiting self.new k ≡ (item == k || is_waiting self.old k)) }
         ensures len { IfOk result (λ _. length self.new ≡ length self.old + 1) }
     {
+        let Some(count) = self.count.checked_add(1) else {
+            return Err(AllocError);
+        };
         let bucket = (order % BUCKET_COUNT as u64) as usize;
         let below = self.heads[bucket];
         self.entries.push(Entry { item, below })?;
         self.heads[bucket] = self.entries.len();
-        self.count = self.count.wrapping_add(1);
+        self.count = count;
         Ok(())
     }
 
@@ -97,12 +105,15 @@ impl BucketQueue {
         ensures len { MatchOption result (self.new ≡ [])
             (λ _. length self.new + 1 ≡ length self.old) }
     {
+        if self.count == 0 {
+            return None;
+        }
         match full_bucket(self.heads.as_slice(), self.first) {
             Some(bucket) => {
                 let entry = self.entries[self.heads[bucket] - 1];
                 self.first = bucket;
                 self.heads[bucket] = entry.below;
-                self.count = self.count.wrapping_sub(1);
+                self.count = self.count.saturating_sub(1);
                 Some(entry.item)
             }
             None => None,

@@ -156,7 +156,7 @@ impl<F: PriceFn> Board<F> {
             Err(LoadFault::TooMany) => return Err(SearchFault::TooLarge),
             Err(why) => return Err(SearchFault::NotLoaded(why)),
         }
-        self.ids.note_all(edges);
+        self.ids.note_all(edges)?;
         self.cost = cost;
         Ok(())
     }

@@ -18,7 +18,7 @@ impl Ids {
     pub(crate) fn new(alloc: Global, edges: usize) -> Result<Self, AllocError> {
         Ok(Ids {
             of_edges: equal_numbers(alloc, edges, NONE)?,
-            edges: equal_numbers(alloc, MAX_EDGE_IDS as usize, NONE)?,
+            edges: Vec::new(alloc),
         })
     }
 
@@ -35,9 +35,13 @@ impl Ids {
     }
 
     /// Notes that an edge has this id.
-    pub(crate) fn note(&mut self, edge: u32, id: u32) {
+    pub(crate) fn note(&mut self, edge: u32, id: u32) -> Result<(), AllocError> {
+        for _ in self.edges.len()..=id as usize {
+            self.edges.push(NONE)?;
+        }
         set(&mut self.of_edges, edge, id);
         set(&mut self.edges, id, edge);
+        Ok(())
     }
 
     /// Notes that an edge has no id.
@@ -53,12 +57,13 @@ impl Ids {
     }
 
     /// Notes that the edges in the list have the ids from 0 on.
-    pub(crate) fn note_all(&mut self, edges: &[u32]) {
+    pub(crate) fn note_all(&mut self, edges: &[u32]) -> Result<(), AllocError> {
         self.clear();
         let mut id = 0;
         for edge in edges {
-            self.note(*edge, id);
+            self.note(*edge, id)?;
             id = id.wrapping_add(1);
         }
+        Ok(())
     }
 }

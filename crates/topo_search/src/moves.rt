@@ -111,7 +111,7 @@ pub(crate) fn put_in<F: PriceFn>(
     }
     match made {
         Ok(made) => {
-            note_made(board, edge, &made);
+            note_made(board, edge, &made)?;
             Ok(())
         }
         Err(Refusal::Memory) => Err(SearchFault::Memory),
@@ -121,13 +121,14 @@ pub(crate) fn put_in<F: PriceFn>(
 }
 
 /// Notes an edge that was put in.
-fn note_made<F: PriceFn>(board: &mut Board<F>, edge: u32, made: &Made) {
+fn note_made<F: PriceFn>(board: &mut Board<F>, edge: u32, made: &Made) -> Result<(), AllocError> {
     let price = board.graph.price(edge).unwrap_or(1) as u64;
     let added = price.saturating_mul(made.price);
     let faces = made.faces as u64;
-    board.ids.note(edge, made.id);
+    board.ids.note(edge, made.id)?;
     board.cost = board.cost.saturating_add(added);
     board.spent = board.spent.saturating_add(faces).saturating_add(MOVE_COST);
+    Ok(())
 }
 
 /// How many crossings an edge has, and 0 where it is not in the picture.

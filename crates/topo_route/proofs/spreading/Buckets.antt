@@ -144,8 +144,26 @@ all_empty entries [] h = refl
 all_empty entries (x ∷ heads) h = ap (λ y. chained entries y ++ all_chained entries heads) (h 0 (omega arith))
     ∙ all_empty entries heads (λ i l. h (suc i) (omega arith))
 
+-- and no chain in any bucket
+pub none_chained : (entries : List Entry) (heads : List ℕ) → length (all_chained entries heads) ≡ 0 → (b : ℕ) → slice_index heads b ≡ 0
+none_chained entries [] none b = grind (arith, get_or_past)
+none_chained entries (zero ∷ heads) none zero = refl
+none_chained entries (suc i ∷ heads) none zero = absurd (omega arith)
+none_chained entries (x ∷ heads) none (suc b) =
+    none_chained entries heads (omega (arith, length-append (chained entries x) (all_chained entries heads))) b
+
 pub all_zero : (n b : ℕ) → slice_index (replicate n 0) b ≡ 0
 all_zero n b = grind (arith, cases_lt, get_or-replicate, get_or_past, replicate, length-replicate)
+
+-- what lies below an entry that is taken is an entry too
+pub popped_stays : (entries : List Entry) (heads : List ℕ) → GoesDown entries → StaysBelow entries heads → (b below : ℕ) → b < length heads
+    → 0 < slice_index heads b → below ≡ (slice_index_or entries (slice_index heads b - 1) no_entry).below → StaysBelow entries (set heads b below)
+popped_stays entries heads down stay b below within some is_below a =
+    let low = down (slice_index heads b - 1) in
+    elim (cases_eq a b) [
+      | inl here ↦ omega (arith, get_or-set_at heads b a below 0 here within, stay b, is_below, low)
+      | inr other ↦ omega (arith, get_or-set_other heads b a below 0 other, stay a)
+    ]
 
 -- an entry is taken from the top of a chain
 module _ (entries : List Entry) (heads whole : List ℕ) (down : GoesDown entries) (b item below : ℕ) (within : b < length heads) (some : 0 < slice_index heads b)
