@@ -278,7 +278,7 @@ class Pages(Served):
             patch = mock.patch.object(editors, name, 1000 if name == "SETTLE" else 0)
             patch.start()
             self.addCleanup(patch.stop)
-        start = planarize(short_edges(150), effort="quick")
+        start = planarize(short_edges(60), effort="quick")
         await self.serve(start)
         browsers = [Browser(self, self.web) for _ in range(2)]
         for browser in browsers:
@@ -287,7 +287,7 @@ class Pages(Served):
         await first.send("Page.navigate", url=self.server.address)
         await first.until("document.documentElement?.dataset.number === '0'")
         elements = await first.value(f"{WATCH} document.querySelectorAll('svg *').length")
-        self.assertGreater(elements, 1000)
+        self.assertGreater(elements, 500)
         talk, edge = await self.talk(), start.picture.next_edge
         with start.session() as session:
             pairs = sorted(nx.non_edges(start.graph), key=str)
