@@ -14,6 +14,7 @@ from fezdrok.edit import editors
 from fezdrok.edit.folders import Folder
 
 from .edit_support import Browser, Served, needs_browser, needs_server
+from .test_large_drawings import short_edges
 
 NAME = "<script>window.alerted = true</script>"
 
@@ -56,6 +57,16 @@ window.makeCalls = async count => {
   }
   window.isDone = true;
 };
+"""
+
+
+#: Counts which elements of the drawing were changed, put in or taken out since it was asked last.
+WATCH = """
+window.isTouched = new Set();
+const note = records => records.forEach(it => [it.target, ...it.addedNodes, ...it.removedNodes].forEach(one => isTouched.add(one)));
+const watcher = new MutationObserver(note);
+watcher.observe(document.getElementById("picture"), {subtree: true, childList: true, attributes: true});
+window.touched = () => { note(watcher.takeRecords()); const count = isTouched.size; isTouched.clear(); return count; };
 """
 
 
@@ -225,9 +236,11 @@ class Pages(Served):
         await self.shows(4, 0, 10)
         await self.a_node_is_new(u)
         other = await self.talk()
-        await other.ask("insert", u, v, 0)
-        await self.shows(6, 1, 12, 7)
-        await self.pointers_are_shown(other)
+        with mock.patch.object(editors, "SETTLE", 1000):  # pointers stay where they are, and nodes do not
+            await other.ask("insert", u, v, 0)
+            await self.shows(6, 1, 12, 7)
+            await self.browser.until("!document.documentElement.dataset.moving")
+            await self.pointers_are_shown(other)
         await self.browser.send("Page.reload")
         await self.browser.until("document.title === 'fezdrok edit: tab 3' || document.title === 'fezdrok edit: tab 1'")
         await self.shows(6, 1, 12, 7)
@@ -258,6 +271,43 @@ class Pages(Served):
             paths = await browser.value("[...document.querySelectorAll('.thin')].map(it => it.getAttribute('d'))")
             self.assertEqual(sorted(paths), sorted(row["d"] for row in settled["edges"]))
 
+    async def test_what_a_change_touches(self):
+        """A few elements, however many there are, and none is made anew that is there; what is shown then is what a
+        page shows that comes later."""
+        for name in ("SETTLE", "REST"):
+            patch = mock.patch.object(editors, name, 1000 if name == "SETTLE" else 0)
+            patch.start()
+            self.addCleanup(patch.stop)
+        start = planarize(short_edges(60), effort="quick")
+        await self.serve(start)
+        browsers = [Browser(self, self.web) for _ in range(2)]
+        for browser in browsers:
+            await browser.begin()
+        first, late = browsers
+        await first.send("Page.navigate", url=self.server.address)
+        await first.until("document.documentElement?.dataset.number === '0'")
+        elements = await first.value(f"{WATCH} document.querySelectorAll('svg *').length")
+        self.assertGreater(elements, 500)
+        talk, edge = await self.talk(), start.picture.next_edge
+        with start.session() as session:
+            pairs = sorted(nx.non_edges(start.graph), key=str)
+            u, v = next(
+                (start.vertex_of[u], start.vertex_of[v]) for u, v in pairs
+                if len(session._session.route(start.vertex_of[u], start.vertex_of[v]).crossed) == 3
+            )
+        calls = (("insert", u, v, 0), ("undo",), ("redo",), ("delete", edge), ("grow", u, 1, 1, "new", 0), ("undo",))
+        for number, call in enumerate(calls, 1):
+            self.assertEqual((await talk.ask(*call))["number"], number)
+            await first.until(f"document.documentElement.dataset.number === '{number}' && !document.documentElement.dataset.moving")
+            self.assertLess(await first.value("touched()"), 40, call)
+        await late.send("Page.navigate", url=self.server.address)
+        await late.until("document.documentElement?.dataset.number === '6'")
+        shown = [
+            await browser.value("[...document.querySelectorAll('g > g > g')].map(it => it.outerHTML)") for browser in browsers
+        ]
+        self.assertEqual(shown[0], shown[1])
+        self.assertEqual(await first.value("faults"), [])
+
     async def test_two_browsers(self):
         """Each makes so many calls; both show the same picture then, and the report has each one's calls in order."""
         for name, seconds in (("REST", 0.1), ("SETTLE", 1000)):
@@ -286,8 +336,9 @@ class Pages(Served):
             made = [entry.call.to_json() for entry in report.history if entry.caller == caller]
             self.assertEqual((made, len(made)), (await browser.value("came()"), CALLS))
             await browser.until(f"document.documentElement.dataset.number === '{self.editor.number}'")
-            shown = "[...document.querySelectorAll('svg [d], svg rect')].map(it => it.outerHTML)"
-            pictures.append(await browser.value(shown))
+            shown = "[...document.querySelectorAll('svg [d], svg rect, svg text')].map(it => it.outerHTML)"
+            places = "[...document.querySelectorAll('.node')].map(it => it.getAttribute('transform'))"
+            pictures.append([await browser.value(shown), await browser.value(places)])
             self.assertEqual(await browser.value("faults"), [])
         self.assertEqual(pictures[0], pictures[1])
         counts = [await browser.value("document.getElementById('counts').textContent") for browser in browsers]

@@ -19,7 +19,9 @@ import networkx as nx
 
 from fezdrok import Planarizer, Progress, Refused, Report, from_positions, load, planarize
 from fezdrok.__main__ import main
-from fezdrok.edit import editors, tabs
+from fezdrok.drawing.drawings import drawing_settled
+from fezdrok.drawing.giving_way import go_on
+from fezdrok.edit import editors, tabs, views
 from fezdrok.edit.boards import Board, NotDoneError
 from fezdrok.edit.forms import LONGEST, MOST, BadMessageError, Pace, read_message
 from fezdrok.edit.servers import aiohttp_web
@@ -227,6 +229,34 @@ class Views(unittest.TestCase):
                 view = settled_view(serial, view, lambda: False)
                 self.assertEqual((view.drawing.verify(), view.judge.judged), ([], len(view.judge.lines)))
 
+    def test_what_settles_gives_way(self):
+        """At each of its steps: what moves the points, makes the nodes, and judges; then nothing is shown."""
+        board = Board(planarize(short_edges(60), effort="quick"))
+        self.addCleanup(board.close)
+        before = board.session.snapshot()
+        u, v = (before.vertex_of[it] for it in min(nx.non_edges(before.graph), key=str))
+        view, asked = view_of(0, 1, before, None), []
+        board.call(1, "insert", (u, v, 0))
+        view = view_of(1, 2, board.session.snapshot(), view)
+
+        def is_over():
+            step = sys._getframe(2).f_code
+            asked.append(Path(step.co_filename).stem)
+            return len(asked) == last
+
+        last = 0
+        self.assertIsNotNone(settled_view(3, view, is_over))
+        places, lines = len(view.drawing.result.node_of), len(view.judge.drawn)
+        for name, least in (
+            ("wider_angles", places), ("straight_scenes", 2 * places), ("pages", lines), ("verification", 2 * lines + places),
+            ("views", lines),
+        ):
+            self.assertGreaterEqual(asked.count(name), least, name)
+        for last in range(1, len(asked), len(asked) // 9):
+            asked.clear()
+            self.assertIsNone(settled_view(3, view, is_over))
+            self.assertEqual(len(asked), last)
+
     def test_corners(self):
         result = k5_without_an_edge()
         view = view_of(0, 1, result, None)
@@ -433,6 +463,35 @@ class Servers(Served):
         with mock.patch.object(editors, "view_of", failing):
             await talk.ask("delete", 0)
             await talk.drawn(1)
+
+    async def test_a_call_while_a_drawing_settles(self):
+        """It is answered and drawn before the settling would end, which then shows nothing."""
+        begun, ended = [], []
+
+        def slow(before):
+            begun.append(before)
+            late = time.monotonic() + PATIENCE
+            try:
+                while time.monotonic() < late:
+                    go_on()
+            finally:
+                ended.append(time.monotonic() >= late)
+            return drawing_settled(before)
+
+        await self.serve(k5_without_an_edge())
+        talk = await self.talk()
+        await talk.drawn(0)
+        with mock.patch.object(views, "drawing_settled", slow), mock.patch.object(editors, "SETTLE", 0):
+            for number, call in enumerate((("delete", 0), ("undo",), ("route", 0, 1, 0), ("delete", 0)), 1):
+                count = len(begun)
+                answer = await talk.ask(*call)
+                if call[0] == "route":  # which changes nothing
+                    self.assertEqual((answer["price"], len(ended), len(begun)), (1, number - 2, number - 1))
+                    continue
+                self.assertEqual((await talk.drawn(answer["number"]))["number"], answer["number"])
+                while len(begun) == count:
+                    await asyncio.sleep(0.01)
+                self.assertEqual(ended, [False] * count)
 
     async def test_a_search_that_is_ended(self):
         """By a word, and by a change."""

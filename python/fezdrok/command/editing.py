@@ -28,6 +28,8 @@ from .streams import FAILED, NO_MEMORY, WELL, complain, say
 
 #: How many seconds a graph is planarized before it is shown.
 SECONDS = 5.0
+#: How many objects are made before garbage is looked for: a drawing makes many, and hardly any of it.
+NEW_OBJECTS = 20_000
 
 
 def edit_file(words: argparse.Namespace) -> int:
@@ -82,6 +84,7 @@ async def _edit(words: argparse.Namespace, result: Planarization) -> int:
     try:
         await server.begin(words.port)
         gc.freeze()  # what is there by now stays, so no collection of garbage has to look at it again
+        gc.set_threshold(NEW_OBJECTS)
         say(f"{server.address}  (Ctrl-C ends it)\n")
         if not words.no_browser:
             Thread(target=webbrowser.open, args=[server.address], daemon=True).start()

@@ -8,7 +8,7 @@ planarization alone, as they stand in the file (see `verification`), but where `
 from __future__ import annotations
 
 import warnings
-from collections.abc import Callable, Mapping
+from collections.abc import Mapping
 from dataclasses import dataclass, replace
 from typing import TYPE_CHECKING, Any
 
@@ -233,16 +233,14 @@ def drawing_beside(result: Planarization, before: Drawing, judge: Judge) -> tupl
     return None
 
 
-def drawing_settled(before: Drawing, is_over: Callable[[], bool]) -> tuple[Drawing, Judge] | None:
+def drawing_settled(before: Drawing) -> tuple[Drawing, Judge] | None:
     """A drawing with straight lines whose points are moved a little so that fewer angles are small, and whose nodes are
-    as large as there is room, and its judge. None where that is not true, or where it `is_over` before."""
+    as large as there is room, and its judge. None where that is not true. It gives way (see `giving_way`)."""
     result = before.result
     chains = near_chains(result, result, before.scene)
     if chains is None:
         return None
-    chains = settled(chains, SLOW._replace(is_over=is_over))
-    if is_over():
-        return None
+    chains = settled(chains, SLOW)
     return judged(Drawing(result, before.style, with_arrows(result, straight_scene(chains, names_of(result, True)))))
 
 

@@ -13,6 +13,7 @@ from typing import NamedTuple
 
 from ..engine.graph_edges import Node
 from ..engine.pictures import Point
+from .giving_way import go_on
 from .scenes import NodeShape, Position, Scene, Stroke, pieces_of
 
 PagePoint = tuple[int, int]
@@ -86,6 +87,7 @@ class Page:
 
     def line(self, stroke: Stroke) -> PageLine:
         """A stroke as it would stand on this page."""
+        go_on()
         pieces, marks = pieces_of(stroke)
         return PageLine(stroke.edge_id, tuple(tuple(map(self.at, piece)) for piece in pieces), marks)
 

@@ -17,6 +17,7 @@ from ..engine.graph_edges import Node
 from ..engine.pictures import Point
 from ..engine.results import Planarization
 from .curves import crossing_ways, is_as_good_as_straight, passing_ways, smooth
+from .giving_way import go_on
 from .labels import label_of, label_size
 from .pages import Page
 from .scenes import MANY, PLAIN, NodeShape, Position, Scene, Stroke, looks, with_arrows
@@ -201,6 +202,7 @@ def _scales(chains: Chains, sizes: Sequence[tuple[float, float]], unit: float) -
     boxes = [(x - w, y - h, x + w, y + h) for (x, y), (w, h) in zip(middles, sizes)]
     near = SegmentGrid.of_rectangles(boxes)
     for place, ((x, y), (width, height)) in enumerate(zip(middles, sizes)):
+        go_on()
         scale = scales[place]
         for other in near.near(*boxes[place]):
             (u, v), (w, h) = middles[other], sizes[other]
@@ -225,6 +227,7 @@ def _scales_beside_lines(
     extents = [(min(p, r), min(q, s), max(p, r), max(q, s)) for p, q, r, s, *_ in lines]
     scales = []
     for node, (width, height) in zip(nodes, sizes):
+        go_on()
         x, y = (unit * it for it in chains.places[node])
         right, up = width / 2 + GAP, height / 2 + GAP
         scale = min([1.0, *(_reach(way, way, right, up) for way in far.get(node, ()))])

@@ -13,6 +13,7 @@ from typing import NamedTuple
 
 from ..engine.pictures import Dart, Point
 from ..engine.results import Planarization
+from .giving_way import go_on
 from .pages import FINE, Page, PageLine, PageNode, PagePoint, flattened
 from .segment_grid import SegmentGrid
 
@@ -85,6 +86,7 @@ class Judge:
         self.judged += len(self.lines)
         hubs = {place: self._hub(line) for place, line in self.lines.items()}
         for places in self.grid.squares.values():
+            go_on()
             if self.wrong:
                 places = [place for place in places if self.lines[place].piece not in self.wrong]
             for one, other in _pairs(places, hubs, self.extents):
@@ -185,6 +187,7 @@ class Judge:
 
     def _add(self, line: PageLine) -> range:
         """The straight lines of an edge, and their places. It has to pass the points of its path in their order."""
+        go_on()
         path = self.picture.path(line.edge_id)
         if tuple(mark for mark in line.marks if mark is not None) != path:
             self._tell(f"{self._name(line.edge_id)} does not pass its crossings in their order", (0, 0))
@@ -263,6 +266,7 @@ class Judge:
         """The edges leave each node, and pass each crossing, in the clockwise order of the picture: by the straight
         lines that stand for them, and by the tangents of their curves."""
         for point in points:
+            go_on()
             darts = [dart for dart in self.picture.around(point) if dart in self.leaving]
             left = [self.leaving[dart] for dart in darts]
             at = left[0][0] if point.is_crossing and left else (0, 0)
@@ -302,6 +306,7 @@ class Judge:
     def _judge_shapes(self, vertices: Collection[int]) -> None:
         """None of these nodes lies on a line that is not its own, or on another node."""
         for vertex in vertices:
+            go_on()
             shape = self.shapes[vertex]
             self._judge_ends(Point(False, vertex))
             for place in self.grid.near(*shape.bounds):

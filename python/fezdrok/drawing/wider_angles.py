@@ -8,10 +8,11 @@ A point goes a step in the first of some directions in which its energy gets les
 from __future__ import annotations
 
 from cmath import phase, rect
-from collections.abc import Callable, Collection, Container, Iterable, Mapping, Sequence
+from collections.abc import Collection, Container, Iterable, Mapping, Sequence
 from math import inf, pi, radians, sqrt
 from typing import Any, NamedTuple
 
+from .giving_way import go_on
 from .relaxation import FAR, turn_along
 from .scenes import Position
 
@@ -36,13 +37,12 @@ LOOKS = 40_000
 
 
 class Effort(NamedTuple):
-    """What is done to widen angles: which nodes are moved, where not all are; their step at first; how many lines may
-    be looked at in all moves; and what says that it is to end at once."""
+    """What is done to widen angles: which nodes are moved, where not all are; their step at first; and how many lines
+    may be looked at in all moves."""
 
     nodes: Collection[Any] | None = None
     first: float = FIRST
     looks: int = LOOKS
-    is_over: Callable[[], bool] = lambda: False
 
 
 def widened(
@@ -105,6 +105,7 @@ class _Points:
 
     def _look_round(self, node: int) -> None:
         """Find the faces round a point, their lines, and how far its edges may turn."""
+        go_on()
         self.faces[node] = faces = [self._face(node, first) for first in self.around[node]]
         self.walls[node] = [pair for face in faces for pair in zip(face, face[1:])]
         self.most.update((it, max(FAR, self._turn(it))) for it in self.passing[node])
@@ -128,7 +129,8 @@ class _Points:
         while are_left:
             are_left = False
             for node, step in steps.items():
-                if step < LAST or looks < 0 or effort.is_over() or not any(map(self.strain, (node, *self.around[node]))):
+                go_on()
+                if step < LAST or looks < 0 or not any(map(self.strain, (node, *self.around[node]))):
                     continue
                 looks -= 1 + len(self.walls[node])
                 steps[node] *= LONGER if self.move(node, step) else SHORTER

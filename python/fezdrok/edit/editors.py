@@ -220,7 +220,6 @@ class Editor:
                 await self._draw()
             except FAILURES as failed:
                 self.tabs.tell(json_text({"told": f"the picture cannot be drawn: {failed}"}))
-            await asyncio.sleep(REST)
 
     async def _draw(self) -> None:
         """Draws the picture with what has changed, soon, and if nothing changes then has the rest settle."""
@@ -233,6 +232,7 @@ class Editor:
         except FAILURES:
             view = await aside(lambda: view_of(number, serial, result, None))
         self._show(session, view)
+        await asyncio.sleep(REST)
         if view.chain != serial:
             with suppress(*FAILURES):
                 await self._settle(session, view)

@@ -8,11 +8,13 @@ from __future__ import annotations
 
 from collections import Counter
 from collections.abc import Callable
+from contextlib import suppress
 from dataclasses import dataclass, field, replace
 from math import atan2, tau
 from typing import Any
 
 from ..drawing.drawings import Drawing, drawing_beside, drawing_of, drawing_settled, judged
+from ..drawing.giving_way import OverError, go_on, until
 from ..drawing.labels import LETTER_HEIGHT, LINE, clean
 from ..drawing.pages import Page, PageLine, PageNode
 from ..drawing.scenes import NodeShape, Position, Stroke, looks
@@ -60,6 +62,7 @@ class View:
         """The view with what the page shows; what is as in the view before is written there already."""
         scene, vertex_of, paint = self.drawing.scene, self.drawing.result.vertex_of, Paint(background=None)
         for stroke, line in zip(scene.strokes, self.page.lines):
+            go_on()
             old = None if before is None or before.judge.drawn.get(line.edge_id) is not line else before.edges
             self.edges[line.edge_id] = old[line.edge_id] if old else self._edge(stroke, line, paint)
         for shape, node in zip(scene.nodes, self.page.nodes):
@@ -172,8 +175,10 @@ def view_of(number: int, serial: int, result: Planarization, before: View | None
 
 def settled_view(serial: int, before: View, is_over: Callable[[], bool]) -> View | None:
     """The same picture drawn with wider angles, by moving all a little; None where it `is_over` before, or fails."""
-    found = drawing_settled(before.drawing, is_over)
-    return None if found is None else View(before.number, *found, before.unit, serial, before.chain).written()
+    with suppress(OverError), until(is_over):
+        found = drawing_settled(before.drawing)
+        return None if found is None else View(before.number, *found, before.unit, serial, before.chain).written()
+    return None
 
 
 def _lies_as(drawing: Drawing, before: Drawing) -> bool:
