@@ -7,9 +7,9 @@ from the definitions, without the program. It expects a picture that the program
 from __future__ import annotations
 
 import json
-from collections.abc import Iterator
+from collections.abc import Callable, Iterator
 from dataclasses import dataclass, field
-from functools import cached_property
+from functools import cached_property, partial
 from itertools import chain
 from typing import Any, NamedTuple
 
@@ -192,22 +192,32 @@ class Picture:
     @staticmethod
     def of_text(text: str) -> "Picture":
         """The picture of a text that the program wrote, which is kept, and read when a row is first asked for."""
-        picture = object.__new__(Picture)
+        next_crossing, next_edge, _ = text.rpartition('"next_crossing":')[2].split(",", 2)
+        numbers = int(next_edge.removeprefix('"next_edge":')), int(next_crossing), text.count('"newcomer":')
+        picture = Picture.later(partial(Picture.from_text, text), *numbers)
         picture.__dict__["_text"] = text
         return picture
 
+    @staticmethod
+    def later(make: Callable[[], "Picture"], next_edge: int, next_crossing: int, crossing_count: int) -> "Picture":
+        """The picture that this makes when a row is first asked for, with these numbers."""
+        picture = object.__new__(Picture)
+        picture.__dict__.update(
+            next_edge=next_edge, next_crossing=next_crossing, crossing_count=crossing_count, _make=make
+        )
+        return picture
+
     def __getattr__(self, name: str) -> Any:
-        """The rows of a picture of which the text alone was known."""
-        if name not in Picture.__dataclass_fields__ or "_text" not in self.__dict__:
+        """The rows of a picture that was not made yet."""
+        if name not in Picture.__dataclass_fields__ or "_make" not in self.__dict__:
             raise AttributeError(f"a Picture has no {name!r}")
-        self.__dict__.update(Picture.from_text(self._text).__dict__)
+        self.__dict__.update(self._make().__dict__)
         return self.__dict__[name]
 
-    @property
+    @cached_property
     def crossing_count(self) -> int:
         """How many crossings there are, for which no row is read."""
-        rows = self.__dict__.get("crossings")
-        return self._text.count('"newcomer":') if rows is None else len(rows)
+        return len(self.crossings)
 
     def to_json(self) -> dict[str, Any]:
         """The picture as a JSON object in the form of docs/FORMATS.md."""
