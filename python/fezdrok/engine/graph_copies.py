@@ -12,8 +12,8 @@ class GraphCopy:
     """What the method `copy` of a graph of networkx gives, kept as rows until `graph` is first asked for, which takes a
     fifth of the time. What is done to the graph itself does not change it.
 
-    `node_rows` has each node with its attributes, `edge_rows` each edge as the graph's `edges` gives it, in a multigraph
-    with its key, and with its attributes. Both are empty once there is a graph.
+    `node_rows` has each node with its attributes, `edge_rows` each edge as the graph's `edges` gives it, in a
+    multigraph with its key, and with its attributes. Both are empty once there is a graph.
     """
 
     def __init__(self, graph: Any):

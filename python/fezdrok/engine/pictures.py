@@ -14,6 +14,7 @@ from itertools import chain
 from typing import Any, NamedTuple
 
 from .faults import read_as
+from .graph_edges import KINDS
 
 
 _encode = json.JSONEncoder(separators=(",", ":"), sort_keys=True).encode
@@ -142,6 +143,8 @@ class _Lists(dict[int, str]):
 _small_digits = {number: str(number) for number in range(1024)}
 _digits = _Digits(_small_digits)
 _lists = _Lists((length, _Lists()[length]) for length in range(32))
+#: How the row of an edge of each kind ends.
+_kinds = {kind: f',"kind":{kind}}}' for kind in range(KINDS)}
 
 
 @dataclass(frozen=True)
@@ -251,9 +254,10 @@ class Picture:
             for it in self.crossings
         ]
         edges = [
-            f'{{"a":{digits[it.a]},"b":{digits[it.b]},'
-            f'"crossings":[{",".join(map(spelled, it.crossings)) if it.crossings else ""}],'
-            f'"id":{digits[it.id]},"kind":{digits[it.kind]}}}'
+            f'{{"a":{digits[it.a]},"b":{digits[it.b]},"crossings":[],"id":{digits[it.id]}{_kinds[it.kind]}'
+            if not it.crossings
+            else f'{{"a":{digits[it.a]},"b":{digits[it.b]},"crossings":[{",".join(map(spelled, it.crossings))}],'
+            f'"id":{digits[it.id]}{_kinds[it.kind]}'
             for it in self.edges
         ]
         lists = ",".join(map(_lists.__getitem__, map(len, self.rotations)))
