@@ -233,15 +233,15 @@ class Picture:
         }
 
     def to_text(self) -> str:
-        """The picture as the program writes it."""
-        return self._text
-
-    @cached_property
-    def _text(self) -> str:
-        try:
-            return self._text_of_numbers()
-        except (KeyError, TypeError):
-            return json_text(self.to_json())
+        """The picture as the program writes it. The text is kept."""
+        text: str | None = self.__dict__.get("_text")
+        if text is None:
+            try:
+                text = self._text_of_numbers()
+            except (KeyError, TypeError):
+                text = json_text(self.to_json())
+            self.__dict__["_text"] = text
+        return text
 
     def _text_of_numbers(self) -> str:
         """The same in less time. An exception where a row has what is no number, or no sign."""

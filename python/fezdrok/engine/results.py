@@ -250,7 +250,8 @@ def joined_parts(
     pictures = [part.picture for part in parts]
     make = partial(_joined, pictures, offsets, next_edge, next_crossing)
     picture = Picture.later(make, next_edge, next_crossing, sum([it.crossing_count for it in pictures]))
-    nodes, edge_of = [], {}
+    nodes: list[Node] = []
+    edge_of: dict[int, GraphEdge] = {}
     for part, (_, edge, _) in zip(parts, offsets):
         nodes += part.node_of
         edge_of.update([(edge + edge_id, it) for edge_id, it in part.edge_of.items()])
