@@ -214,6 +214,22 @@ class Values(unittest.TestCase):
             session.grow_edge(0, 5)
             session.result().verify(graph)
 
+    def test_what_is_made_when_it_is_first_asked_for(self):
+        graph = nx.disjoint_union(nx.complete_graph(5), nx.complete_graph(6))
+        graph.add_node("alone", color="red")
+        result, again = planarize(graph), planarize(graph)
+        fresh = pickle.loads(pickle.dumps(again))
+        graph.remove_node("alone")
+        result.verify()
+        for other in (fresh, again, pickle.loads(pickle.dumps(result))):
+            self.assertEqual((other, hash(other), other.offsets), (result, hash(result), result.offsets))
+            self.assertEqual(other.graph.nodes["alone"], {"color": "red"})
+        self.assertEqual(result.offsets, [(0, 0, 0), (5, 10, 1), (11, 25, 4)])
+        self.assertIs(result.graph, result.graph)
+        result.graph.nodes[7]["color"] = "blue"
+        self.assertEqual([dict(part.graph.nodes(data="color")).get(7) for part in result.parts], [None, "blue", None])
+        self.assertFalse(hasattr(result, "crossing"))
+
     def test_graphs_without_edges(self):
         with warnings.catch_warnings():
             warnings.simplefilter("error")

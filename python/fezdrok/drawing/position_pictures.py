@@ -76,7 +76,7 @@ def from_positions(graph: Any, pos: Mapping[Node, Any], *, price: Pricing = None
     pairs = list(drawn.crossing_pairs())
     groups = drawn.groups(pairs)
     parts = [drawn.part(nodes, pairs) for nodes in groups]
-    result = parts[0] if len(parts) == 1 else joined_parts(source.graph, source.prices, parts)
+    result = joined_parts(source.copy, source.prices, parts)
     for row in result.picture.edges:
         if row.crossings and result.prices[row.kind] is None:
             raise ValueError(f"the edge {result.edge_of[row.id]!r} must not be crossed, and is crossed in this drawing")
@@ -187,10 +187,9 @@ class _Straight:
     def part(self, nodes: Sequence[Node], pairs: Iterable[tuple[int, int]]) -> Planarization:
         """The planarization of some nodes that hang together."""
         source, vertex_of = self.source, {node: vertex for vertex, node in enumerate(nodes)}
-        graph = source.graph if len(nodes) == len(source.nodes) else source.graph.subgraph(nodes)
         own = [place for place, edge in enumerate(source.edges) if edge[0] in vertex_of]
         if not own:
-            return single(graph, nodes[0], source.prices)
+            return single(source.part(nodes), nodes[0], source.prices)
         id_of = {place: edge_id for edge_id, place in enumerate(own)}
         here = sorted((id_of[one], id_of[other]) for one, other in pairs if one in id_of)
         ends = [self.ends[place] for place in own]
@@ -210,7 +209,7 @@ class _Straight:
         rotations = tuple(map(_clockwise, around))
         picture = Picture(rotations, edges, crossings, len(edges), len(crossings))
         edge_of = {edge_id: source.edges[place] for place, edge_id in id_of.items()}
-        return Planarization(graph, picture, tuple(nodes), edge_of, source.prices, ())
+        return Planarization(source.part(nodes), picture, tuple(nodes), edge_of, source.prices, ())
 
 
 def _is_between(start: Place, end: Place, point: Place) -> bool:

@@ -5,8 +5,9 @@ from __future__ import annotations
 from collections.abc import Sequence
 from dataclasses import dataclass
 from functools import cached_property
-from typing import Any, NamedTuple
+from typing import TYPE_CHECKING, Any, NamedTuple
 
+from .graph_copies import GraphCopy, GraphPart
 from .graph_edges import GraphEdge, Node, Price, name_among
 from .pictures import Dart, Picture, Point
 from .reports import Report
@@ -48,7 +49,8 @@ class Segment(NamedTuple):
 
 @dataclass(frozen=True, eq=False, repr=False)
 class GraphPicture:
-    """A graph with a picture of it. The fields are those of Planarization, which is what users have of it."""
+    """A graph with a picture of it. The fields are those of Planarization, which is what users have of it. Where it is
+    made with a GraphCopy or a GraphPart, it has the graph of that."""
 
     graph: Any
     picture: Picture
@@ -58,6 +60,18 @@ class GraphPicture:
     reports: Sequence[Report]
     tries: tuple[int, ...] = ()
     parts: tuple["GraphPicture", ...] = ()
+
+    def __post_init__(self) -> None:
+        if isinstance(self.graph, (GraphCopy, GraphPart)):
+            self.__dict__["_copy"] = self.__dict__.pop("graph")
+
+    if not TYPE_CHECKING:  # which would take any name for an attribute
+
+        def __getattr__(self, name: str) -> Any:
+            """The graph of a copy or of a part, when it is first asked for."""
+            if name != "graph" or "_copy" not in self.__dict__:
+                raise AttributeError(f"a {type(self).__name__} has no {name!r}")
+            return self.__dict__.setdefault("graph", self._copy.graph)
 
     def __eq__(self, other: object) -> bool:
         """Whether both are the same picture of the same graph, with the same names and prices. Reports, and what each

@@ -5,12 +5,12 @@ from __future__ import annotations
 import os
 from collections.abc import Sequence
 from ctypes import (
-    CDLL, POINTER, Structure, byref, c_char_p, c_size_t, c_uint8, c_void_p, create_string_buffer, string_at,
+    CDLL, POINTER, Structure, byref, c_char, c_char_p, c_size_t, c_uint8, c_void_p, create_string_buffer,
 )
 from typing import Any
 
 from .faults import MemoryFault, ProgramNotFound, SessionClosed, SessionInUse
-from .typed_calls import READERS, Reply, read
+from .typed_calls import NUMBERS, NUMBERS_AT, READERS, Reply, refused
 
 VARIABLE = "FEZDROK_LIBRARY"
 NAME = "libfezdrok.so"
@@ -24,7 +24,7 @@ _ROOM = 128
 class _Text(Structure):
     """Where a text lies in a session, and its length in bytes."""
 
-    _fields_ = [("at", c_void_p), ("length", c_size_t)]
+    _fields_ = [("at", POINTER(c_char)), ("length", c_size_t)]
 
 
 class Library:
@@ -126,7 +126,8 @@ class InProcess:
 
     def _told(self) -> bytes:
         """The text of the last answer."""
-        return string_at(self._text.at, self._text.length)
+        told: bytes = self._text.at[: self._text.length]  # which is faster than `string_at`
+        return told
 
     def end(self, patience: float = 0.0) -> tuple[int, str]:
         """Gives the memory back. There is no status, and nothing is told."""
@@ -163,7 +164,12 @@ class LibrarySession(InProcess):
         """
         if self.is_over:
             raise SessionClosed("the session is closed")
-        self._expect(self._call(line) if self._handle else self._begin(line))
+        if self._handle:
+            status = self._ask(self._handle, line, len(line), self._answer)
+        else:
+            status = self._begin(line)
+            self._held = c_void_p.from_param(self._handle.value)
+        self._expect(status)
         return self._told()
 
     def make(self, call: str, numbers: tuple[int, ...]) -> Any:
@@ -171,12 +177,8 @@ class LibrarySession(InProcess):
         where so many entries are not there."""
         if self._expect(self._typed[call](self._held, *numbers, self._at_reply)):
             raise SessionClosed("the session was opened by settings at fault")
-        return read(call, self._reply, numbers)
-
-    def _begin(self, line: bytes) -> int:
-        status = super()._begin(line)
-        self._held = c_void_p.from_param(self._handle.value)
-        return status
+        told = NUMBERS.unpack_from(self._reply, NUMBERS_AT)
+        return refused(told[2], told[3]) if told[2] else READERS[call](self._reply, told, numbers)
 
     def ask(self, line: str) -> bytes:
         """The same of a text."""

@@ -7,13 +7,14 @@ from the definitions, without the program. It expects a picture that the program
 from __future__ import annotations
 
 import json
-from collections.abc import Iterator
+from collections.abc import Callable, Iterator
 from dataclasses import dataclass, field
-from functools import cached_property
+from functools import cached_property, partial
 from itertools import chain
 from typing import Any, NamedTuple
 
 from .faults import read_as
+from .graph_edges import KINDS
 
 
 _encode = json.JSONEncoder(separators=(",", ":"), sort_keys=True).encode
@@ -142,6 +143,8 @@ class _Lists(dict[int, str]):
 _small_digits = {number: str(number) for number in range(1024)}
 _digits = _Digits(_small_digits)
 _lists = _Lists((length, _Lists()[length]) for length in range(32))
+#: How the row of an edge of each kind ends.
+_kinds = {kind: f',"kind":{kind}}}' for kind in range(KINDS)}
 
 
 @dataclass(frozen=True)
@@ -192,22 +195,32 @@ class Picture:
     @staticmethod
     def of_text(text: str) -> "Picture":
         """The picture of a text that the program wrote, which is kept, and read when a row is first asked for."""
-        picture = object.__new__(Picture)
+        next_crossing, next_edge, _ = text.rpartition('"next_crossing":')[2].split(",", 2)
+        numbers = int(next_edge.removeprefix('"next_edge":')), int(next_crossing), text.count('"newcomer":')
+        picture = Picture.later(partial(Picture.from_text, text), *numbers)
         picture.__dict__["_text"] = text
         return picture
 
+    @staticmethod
+    def later(make: Callable[[], "Picture"], next_edge: int, next_crossing: int, crossing_count: int) -> "Picture":
+        """The picture that this makes when a row is first asked for, with these numbers."""
+        picture = object.__new__(Picture)
+        picture.__dict__.update(
+            next_edge=next_edge, next_crossing=next_crossing, crossing_count=crossing_count, _make=make
+        )
+        return picture
+
     def __getattr__(self, name: str) -> Any:
-        """The rows of a picture of which the text alone was known."""
-        if name not in Picture.__dataclass_fields__ or "_text" not in self.__dict__:
+        """The rows of a picture that was not made yet."""
+        if name not in Picture.__dataclass_fields__ or "_make" not in self.__dict__:
             raise AttributeError(f"a Picture has no {name!r}")
-        self.__dict__.update(Picture.from_text(self._text).__dict__)
+        self.__dict__.update(self._make().__dict__)
         return self.__dict__[name]
 
-    @property
+    @cached_property
     def crossing_count(self) -> int:
         """How many crossings there are, for which no row is read."""
-        rows = self.__dict__.get("crossings")
-        return self._text.count('"newcomer":') if rows is None else len(rows)
+        return len(self.crossings)
 
     def to_json(self) -> dict[str, Any]:
         """The picture as a JSON object in the form of docs/FORMATS.md."""
@@ -220,15 +233,15 @@ class Picture:
         }
 
     def to_text(self) -> str:
-        """The picture as the program writes it."""
-        return self._text
-
-    @cached_property
-    def _text(self) -> str:
-        try:
-            return self._text_of_numbers()
-        except (KeyError, TypeError):
-            return json_text(self.to_json())
+        """The picture as the program writes it. The text is kept."""
+        text: str | None = self.__dict__.get("_text")
+        if text is None:
+            try:
+                text = self._text_of_numbers()
+            except (KeyError, TypeError):
+                text = json_text(self.to_json())
+            self.__dict__["_text"] = text
+        return text
 
     def _text_of_numbers(self) -> str:
         """The same in less time. An exception where a row has what is no number, or no sign."""
@@ -241,9 +254,10 @@ class Picture:
             for it in self.crossings
         ]
         edges = [
-            f'{{"a":{digits[it.a]},"b":{digits[it.b]},'
-            f'"crossings":[{",".join(map(spelled, it.crossings)) if it.crossings else ""}],'
-            f'"id":{digits[it.id]},"kind":{digits[it.kind]}}}'
+            f'{{"a":{digits[it.a]},"b":{digits[it.b]},"crossings":[],"id":{digits[it.id]}{_kinds[it.kind]}'
+            if not it.crossings
+            else f'{{"a":{digits[it.a]},"b":{digits[it.b]},"crossings":[{",".join(map(spelled, it.crossings))}],'
+            f'"id":{digits[it.id]}{_kinds[it.kind]}'
             for it in self.edges
         ]
         lists = ",".join(map(_lists.__getitem__, map(len, self.rotations)))

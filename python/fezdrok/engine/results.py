@@ -4,6 +4,7 @@ from __future__ import annotations
 
 from collections.abc import Callable, Sequence
 from dataclasses import dataclass
+from functools import partial
 from pathlib import Path
 from typing import Any, ClassVar
 
@@ -229,34 +230,51 @@ def _plain(value: Any) -> Any:
 # ---- Parts
 
 
+#: The picture of a node without edges, which the program does not know.
+LONELY = Picture(((),), ())
+
+
 def single(graph: Any, node: Node, prices: tuple[Price, ...]) -> Planarization:
-    """The picture of a node without edges, which the program does not know."""
-    return Planarization(graph, Picture(((),), ()), (node,), {}, prices, ())
+    """The planarization of such a node."""
+    return Planarization(graph, LONELY, (node,), {}, prices, ())
 
 
 def joined_parts(
     graph: Any, prices: tuple[Price, ...], parts: Sequence[Planarization], tries: tuple[int, ...] = ()
 ) -> Planarization:
-    """One planarization of a graph from those of its parts, whose rows come one after another."""
+    """One planarization of a graph from those of its parts: the only one, or one whose rows come one after another, and
+    are made when one is first looked at."""
+    if len(parts) == 1:
+        return parts[0]
+    *offsets, (_, next_edge, next_crossing) = _offsets([*parts, parts[0]])
+    pictures = [part.picture for part in parts]
+    make = partial(_joined, pictures, offsets, next_edge, next_crossing)
+    picture = Picture.later(make, next_edge, next_crossing, sum([it.crossing_count for it in pictures]))
+    nodes: list[Node] = []
+    edge_of: dict[int, GraphEdge] = {}
+    for part, (_, edge, _) in zip(parts, offsets):
+        nodes += part.node_of
+        edge_of.update([(edge + edge_id, it) for edge_id, it in part.edge_of.items()])
+    return Planarization(graph, picture, tuple(nodes), edge_of, prices, (), tries, tuple(parts))
+
+
+def _joined(
+    pictures: Sequence[Picture], offsets: Sequence[tuple[int, int, int]], next_edge: int, next_crossing: int
+) -> Picture:
+    """The picture of the whole."""
     rotations: list[tuple[int, ...]] = []
     edges: list[Edge] = []
     crossings: list[Crossing] = []
-    edge_of: dict[int, GraphEdge] = {}
-    for part, (vertex, edge, crossing) in zip(parts, _offsets(parts)):
-        rotations += [tuple(edge + it for it in around) for around in part.picture.rotations]
+    for picture, (vertex, edge, crossing) in zip(pictures, offsets):
+        rotations += [tuple(edge + it for it in around) for around in picture.rotations]
         edges += [
             Edge(edge + row.id, vertex + row.a, vertex + row.b, row.kind, tuple(crossing + it for it in row.crossings))
-            for row in part.picture.edges
+            for row in picture.edges
         ]
         crossings += [
-            Crossing(crossing + row.id, edge + row.crossed, edge + row.newcomer, row.sign)
-            for row in part.picture.crossings
+            Crossing(crossing + row.id, edge + row.crossed, edge + row.newcomer, row.sign) for row in picture.crossings
         ]
-        edge_of.update((edge + edge_id, it) for edge_id, it in part.edge_of.items())
-    _, next_edge, next_crossing = _offsets([*parts, parts[0]])[-1]
-    picture = Picture(tuple(rotations), tuple(edges), tuple(crossings), next_edge, next_crossing)
-    nodes = tuple(node for part in parts for node in part.node_of)
-    return Planarization(graph, picture, nodes, edge_of, prices, (), tries, tuple(parts))
+    return Picture(tuple(rotations), tuple(edges), tuple(crossings), next_edge, next_crossing)
 
 
 def _offsets(parts: Sequence[Planarization]) -> list[tuple[int, int, int]]:
@@ -265,9 +283,7 @@ def _offsets(parts: Sequence[Planarization]) -> list[tuple[int, int, int]]:
     for part in parts[:-1]:
         vertex, edge, crossing = found[-1]
         picture = part.picture
-        found.append(
-            (vertex + len(picture.rotations), edge + picture.next_edge, crossing + picture.next_crossing)
-        )
+        found.append((vertex + len(part.node_of), edge + picture.next_edge, crossing + picture.next_crossing))
     return found
 
 
@@ -324,7 +340,7 @@ def _from_saved(value: dict[str, Any]) -> Planarization:
         part_graph = graph if len(value["parts"]) == 1 else graph.subgraph(node_of)
         picture = Picture.from_json(row["picture"])
         parts.append(Planarization(part_graph, picture, node_of, edge_of, prices, (), tuple(row["tries"])))
-    result = parts[0] if len(parts) == 1 else joined_parts(graph, prices, parts, tuple(value["tries"]))
+    result = joined_parts(graph, prices, parts, tuple(value["tries"]))
     for name, number in (("crossings", result.crossings), ("cost", result.cost)):
         if value[name] != number:
             raise ValueError(f"its {name} are {value[name]!r}, and those of its pictures {number}")

@@ -54,7 +54,7 @@ class LibrarySearch(InProcess):
 
     def _way(self, request: bytes) -> Way:
         """How far the search has come with what is asked for."""
-        told = json.loads(self._asked(request))
+        told = json.loads(self._asked(request).decode())  # which is faster than to let it find the coding
         self.has_ended = told["ended"]
         return Way(told["component"], told["components"], told["crossings"])
 

@@ -39,12 +39,13 @@ class Reply(Structure):
 
 
 #: All its numbers from the length on, which are read at once.
-_NUMBERS, _AT = Struct("NQ6I"), Reply.length.offset
+NUMBERS, NUMBERS_AT = Struct("NQ6I"), Reply.length.offset
 #: These: the length, the price, the refusal and five more.
 Numbers = tuple[int, ...]
 
 
-def _refused(number: int, first: int) -> Refused:
+def refused(number: int, first: int) -> Refused:
+    """The refusal with this number, and the first of the five numbers; Fault where so many entries are not there."""
     if number == _NOTHING_TO_UNDO:
         raise Fault(number, "NothingToUndo", first)
     return Refused(number, _NAMES[number], first) if number == _CUT else _REFUSALS[number]
@@ -115,9 +116,3 @@ def fit(call: str, numbers: Numbers) -> bool:
         if not 0 <= number <= _GREATEST:
             return False
     return call not in COMMANDS or numbers[0] <= _LAST_CALLER
-
-
-def read(call: str, reply: Reply, asked: Numbers) -> Any:
-    """The answer to a call, or its refusal; Fault where so many entries are not there."""
-    told = _NUMBERS.unpack_from(reply, _AT)
-    return _refused(told[2], told[3]) if told[2] else READERS[call](reply, told, asked)

@@ -12,8 +12,8 @@ from numbers import Real
 from operator import index
 from typing import Any, Literal
 
+from ..engine.graph_copies import GraphCopy, GraphPart
 from ..engine.graph_edges import GREATEST_PRICE, KINDS, GraphEdge, Node, Price, judge_kinds
-from ..engine.saved_graphs import edges_of
 
 #: How prices are given: the name of an edge attribute, a mapping from edges, or a function of both nodes and the data.
 Pricing = None | str | Mapping[GraphEdge, Price] | Callable[[Any, Any, dict[str, Any]], Price]
@@ -30,7 +30,7 @@ class PricedGraph:
     """A graph whose edges have kinds: `kinds[i]` belongs to `edges[i]`, and `prices[k]` is what crossing an edge of
     kind k costs. `objective` says what is less in a better picture."""
 
-    graph: Any
+    copy: GraphCopy
     nodes: tuple[Node, ...]
     edges: tuple[GraphEdge, ...]
     kinds: tuple[int, ...]
@@ -40,6 +40,10 @@ class PricedGraph:
     def score(self, crossings: int, cost: int) -> tuple[int, int]:
         """What is less in a better picture: first what the objective says, then the other."""
         return (cost, crossings) if self.objective == "cost" else (crossings, cost)
+
+    def part(self, nodes: Sequence[Node]) -> GraphCopy | GraphPart:
+        """The copy, or the part of it that these nodes have."""
+        return self.copy if len(nodes) == len(self.nodes) else GraphPart(self.copy, nodes)
 
     def price(self, place: int) -> Price:
         """The price of the edge at this place of `edges`."""
@@ -58,13 +62,14 @@ def read_graph(
     other share one. Without an objective it is the cost where a price is not 1, and else the crossings."""
     if not isinstance(round_prices, bool):
         raise ValueError(f"round_prices is {round_prices!r}: it must be True or False")
-    graph = copied(graph)
-    nodes, edges = tuple(graph), tuple(edges_of(graph))
+    graph = _graph_of(graph)
+    copy = GraphCopy(graph)
+    nodes, edges = tuple([row[0] for row in copy.node_rows]), tuple([row[:-1] for row in copy.edge_rows])
     _judge_form(nodes, edges)
     if price is None and forbidden is None:
         table: tuple[Price, ...] = (1,) if edges else ()
-        return PricedGraph(graph, nodes, edges, (0,) * len(edges), table, objective or "crossings")
-    rows = [data for *_, data in graph.edges(data=True)]
+        return PricedGraph(copy, nodes, edges, (0,) * len(edges), table, objective or "crossings")
+    rows = [row[-1] for row in copy.edge_rows]
     if isinstance(price, str):
         _judge_attribute(price, rows)
     price_of = _price_function(price, graph.is_directed())
@@ -77,7 +82,7 @@ def read_graph(
     table = _price_table(edges, prices)
     kind_of = {price: kind for kind, price in enumerate(table)}
     kinds = tuple(kind_of[price] for price in prices)
-    return PricedGraph(graph, nodes, edges, kinds, table, objective or objective_for(table))
+    return PricedGraph(copy, nodes, edges, kinds, table, objective or objective_for(table))
 
 
 def objective_for(prices: Iterable[Price]) -> Objective:
@@ -85,12 +90,12 @@ def objective_for(prices: Iterable[Price]) -> Objective:
     return "cost" if any(price not in (1, None) for price in prices) else "crossings"
 
 
-def copied(graph: Any) -> Any:
-    """A copy of a networkx graph, or the graph of pairs of nodes; ValueError where it is neither."""
+def _graph_of(graph: Any) -> Any:
+    """A networkx graph itself, or the graph of pairs of nodes; ValueError where it is neither."""
     import networkx
 
     if isinstance(graph, networkx.Graph):
-        return _copy_of(graph)
+        return graph
     try:
         pairs = [tuple(pair) for pair in graph]
         if not isinstance(graph, (str, bytes)) and all(len(pair) == 2 for pair in pairs):
@@ -98,16 +103,6 @@ def copied(graph: Any) -> Any:
     except (TypeError, ValueError, networkx.NetworkXException):
         pass
     raise ValueError(f"{graph!r:.80} is no graph of networkx, and no list of pairs of nodes")
-
-
-def _copy_of(graph: Any) -> Any:
-    """What the method `copy` of a graph gives, in half the time: each edge is added once."""
-    keys = {"keys": True} if graph.is_multigraph() else {}
-    copy = graph.__class__()
-    copy.graph.update(graph.graph)
-    copy.add_nodes_from(graph.nodes(data=True))
-    copy.add_edges_from(graph.edges(data=True, **keys))
-    return copy
 
 
 def _judge_form(nodes: Sequence[Node], edges: Sequence[GraphEdge]) -> None:

@@ -12,11 +12,12 @@ from dataclasses import dataclass, replace
 from typing import Any
 
 from ..engine.faults import Fault, NotPlanarized, OtherReport, PlanarError, PlanarWarning, VerificationError, read_as
+from ..engine.graph_copies import GraphCopy, GraphPart
 from ..engine.graph_edges import GraphEdge, Node
 from ..engine.pictures import Picture, json_text
 from ..engine.program import PathLike, Program
 from ..engine.reports import Refused, version_of
-from ..engine.results import Planarization, joined_parts
+from ..engine.results import LONELY, Planarization, joined_parts
 from ..engine.searches import LibrarySearch, ProcessSearch, Way, begin_search
 from ..files.graphs import Objective, PricedGraph, Pricing, objective_for, read_graph
 from .options import SEEDS, EffortName, judge_old, judge_program, judged_seconds, one_of, whole
@@ -120,7 +121,7 @@ def planarization_of(source: PricedGraph, answer: str) -> Planarization:
     its keys in order; the pictures are read when they are first looked at."""
     nodes, edges = source.nodes, source.edges
     head, *rows = answer.split('{"edges":[')
-    found: dict[int, tuple[tuple[Node, ...], dict[int, GraphEdge], Picture]] = {}
+    found: dict[int, tuple[Picture, tuple[Node, ...], dict[int, GraphEdge]]] = {}
     end = ""
     for row in rows:
         places, row = row.split('],"picture":', 1)
@@ -128,20 +129,21 @@ def planarization_of(source: PricedGraph, answer: str) -> Planarization:
         vertices, end = row.split("]}", 1)
         numbers = list(map(int, vertices.split(",")))
         edge_of = {edge_id: edges[int(place)] for edge_id, place in enumerate(places.split(","))}
-        found[min(numbers)] = tuple([nodes[number] for number in numbers]), edge_of, Picture.of_text(picture)
+        node_of = tuple([nodes[number] for number in numbers])
+        found[min(numbers)] = Picture.of_text(picture), node_of, edge_of
     rest = json.loads(head + end)
     if rest["parts"]:
         raise ValueError("a part is of another form")
-    found.update((number, ((nodes[number],), {}, Picture(((),), ()))) for number in rest["lonely"])
+    found.update([(number, (LONELY, (nodes[number],), {})) for number in rest["lonely"]])
     tries = tuple(rest["tries"])
     if len(found) == 1:
-        ((node_of, edge_of, drawn),) = found.values()
-        return Planarization(source.graph, drawn, node_of, edge_of, source.prices, (), tries)
+        ((drawn, node_of, edge_of),) = found.values()
+        return Planarization(source.copy, drawn, node_of, edge_of, source.prices, (), tries)
     parts = [
-        Planarization(source.graph.subgraph(node_of), drawn, node_of, edge_of, source.prices, ())
-        for node_of, edge_of, drawn in (found[number] for number in sorted(found))
+        Planarization(GraphPart(source.copy, node_of), drawn, node_of, edge_of, source.prices, ())
+        for drawn, node_of, edge_of in (found[number] for number in sorted(found))
     ]
-    return joined_parts(source.graph, source.prices, parts, tries)
+    return joined_parts(source.copy, source.prices, parts, tries)
 
 
 class _Searches:
@@ -161,7 +163,7 @@ class _Searches:
         self._spare: Planarization | None = None
         if prepared.starts:
             source, starts = prepared.source, prepared.starts
-            self._spare = starts[0] if len(starts) == 1 else joined_parts(source.graph, source.prices, starts)
+            self._spare = joined_parts(source.copy, source.prices, starts)
 
     def result(self) -> Planarization:
         """The best planarization. Where not all was done there is a warning, and where there is none the first failure
@@ -498,6 +500,6 @@ def reinsert(
     rows = result.picture.edges
     edges, kinds = tuple(result.edge_of[row.id] for row in rows), tuple(row.kind for row in rows)
     wanted = objective or objective_for(result.prices)
-    source = PricedGraph(result.graph, result.node_of, edges, kinds, result.prices, wanted)
+    source = PricedGraph(GraphCopy.of_itself(result.graph), result.node_of, edges, kinds, result.prices, wanted)
     found = _Searches(Prepared(source, *options, start_parts(result, source), program), 1, tell).result()
     return min(result, found, key=lambda it: source.score(it.crossings, it.cost))

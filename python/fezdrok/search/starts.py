@@ -41,7 +41,7 @@ def start_parts(start: Any, source: PricedGraph) -> tuple[Planarization, ...]:
 def _id_in(start: Planarization, source: PricedGraph, edge: GraphEdge) -> int:
     """The id that an edge of the graph has in a start; ValueError where it has none."""
     try:
-        return start.id_of[name_among(start.id_of, source.graph, edge)]
+        return start.id_of[name_among(start.id_of, source.copy.graph, edge)]
     except KeyError:
         raise ValueError(f"start is of another graph: it has no edge {edge!r}") from None
 
@@ -49,9 +49,8 @@ def _id_in(start: Planarization, source: PricedGraph, edge: GraphEdge) -> int:
 def _part(start: Planarization, source: PricedGraph, nodes: list[Any], id_of: dict[int, int]) -> Planarization:
     """What a start has of these nodes and of the edges at these places, which have these ids there: without the edges
     of other parts, with the kinds and prices of now, and with ids from 0 on in the order of the graph's edges."""
-    graph = source.graph if len(nodes) == len(source.nodes) else source.graph.subgraph(nodes)
     if not id_of:
-        return single(graph, nodes[0], source.prices)
+        return single(source.part(nodes), nodes[0], source.prices)
     edge_id = {old: number for number, old in enumerate(id_of.values())}
     rows = [row for row in start.picture.crossings if row.crossed in edge_id and row.newcomer in edge_id]
     crossing_id = {row.id: number for number, row in enumerate(rows)}
@@ -73,4 +72,4 @@ def _part(start: Planarization, source: PricedGraph, nodes: list[Any], id_of: di
     around = tuple(from_least([edge_id[it] for it in rotation]) for rotation in rotations)
     edge_of = {number: source.edges[place] for number, place in enumerate(id_of)}
     picture = Picture(around, edges, crossings, len(edges), len(crossings))
-    return Planarization(graph, picture, tuple(nodes), edge_of, source.prices, ())
+    return Planarization(source.part(nodes), picture, tuple(nodes), edge_of, source.prices, ())
