@@ -130,9 +130,7 @@ def _sources_of(built: Path) -> str | None:
 
 
 #: The libraries that were found, by what the program and they are looked for by.
-_libraries: dict[tuple[str | bytes | None, ...], Library] = {}
-#: The variables among this, as bytes, in which the environment has them: so it is read sooner.
-_NAMED = tuple(map(os.fsencode, (VARIABLE, LIBRARY_VARIABLE, "PATH")))
+_libraries: dict[tuple[str | None, ...], Library] = {}
 
 
 class Program:
@@ -162,7 +160,7 @@ class Program:
         program, or in `../lib`; None where there is none that this system loads. One that was found is looked for
         no more."""
         wanted = None if self._wanted is None else os.fspath(self._wanted)
-        place = (wanted, *map(os.environb.get, _NAMED))
+        place = (wanted, *map(os.environ.get, (VARIABLE, LIBRARY_VARIABLE, "PATH")))
         found = _libraries.get(place) or named_library() or library_of(self.path)
         if found is not None:
             _libraries[place] = found
