@@ -1,72 +1,72 @@
-//! An embedding in its store: each call that takes memory is made once more if it is out of memory,
-//! and what the embedding shows is printed.
+//! Calls of an embedding.
 
-use crate::retry::{BOOKKEEPING, Console, refused, retried, twice};
-use anyhow::Result;
+use crate::judge::{Case, Done, Runtime};
 use std::alloc::{AllocError, Global};
 use topo_map::{Embedding, Half};
 
-/// For how many more segments room is made.
-const MORE: usize = 1000;
+/// A call of an embedding. With what a call makes the next ones go on.
+#[derive(Clone, Copy)]
+pub(crate) enum EmbeddingRow {
+    Seed,
+    /// Two segments, whose four halves lie round one point.
+    FromTurns,
+    Reserve(usize),
+    Copy,
+}
 
-/// For each half its number, the edge that it is on and the next one at its point.
-fn text_of(alloc: Global, embedding: &Embedding, halves: &[Half]) -> Result<String, AllocError> {
-    let mut text = String::with_capacity(alloc, 200)?;
-    for half in halves {
-        if embedding.contains(*half) {
-            let (number, edge) = (half.number(), embedding.edge(*half));
-            let turn = embedding.turn(*half).number();
-            write!(text, "\n  half {number} on edge {edge}, before {turn}")?;
+/// An embedding of at most two segments.
+#[derive(Drop)]
+pub(crate) struct EmbeddingCase {
+    pub embedding: Embedding,
+}
+
+impl Case for EmbeddingCase {
+    type Row = EmbeddingRow;
+
+    /// For each half its number, the edge that it is on and the next one at its point.
+    fn look(&mut self, alloc: Global) -> Result<String, AllocError> {
+        let mut text = String::with_capacity(alloc, 200)?;
+        for number in 0..4u32 {
+            let half = Half::numbered(number);
+            if self.embedding.contains(half) {
+                let edge = self.embedding.edge(half);
+                let turn = self.embedding.turn(half).number();
+                write!(text, "half {number} on edge {edge} before {turn}; ")?;
+            }
+        }
+        Ok(text)
+    }
+
+    fn make<R: Runtime>(&mut self, rt: &R, row: &EmbeddingRow, told: &mut String) -> Done {
+        match *row {
+            EmbeddingRow::Seed => {
+                told.push_str("Embedding::seed")?;
+                let (embedding, half) = Embedding::seed(rt.alloc(), 7)?;
+                self.embedding = embedding;
+                write!(told, ": {half:?}")
+            }
+            EmbeddingRow::FromTurns => {
+                told.push_str("Embedding::from_turns")?;
+                let made = Embedding::from_turns(rt.alloc(), &[2, 3, 1, 0], &[3, 4])?;
+                let (embedding, halves) = made;
+                self.embedding = embedding;
+                write!(told, ": {:?}", halves.as_slice())
+            }
+            EmbeddingRow::Reserve(more) => {
+                told.push_str("Embedding::reserve")?;
+                self.embedding.reserve(more)?;
+                write!(told, ": {}", self.embedding.room() >= more)
+            }
+            EmbeddingRow::Copy => {
+                told.push_str("Embedding::copy")?;
+                let (room, copy) = (self.embedding.room(), self.embedding.copy()?);
+                self.embedding = copy;
+                write!(
+                    told,
+                    " with as much room: {}",
+                    self.embedding.room() >= room
+                )
+            }
         }
     }
-    Ok(text)
-}
-
-/// What an embedding shows.
-fn state<R: Eprint + AllocGlobal>(
-    rt: &R,
-    embedding: &Embedding,
-    halves: &[Half],
-) -> Result<String, AllocError> {
-    twice(rt, BOOKKEEPING, |alloc| text_of(alloc, embedding, halves))
-}
-
-/// A copy of an embedding.
-fn copy<R: Console>(rt: &R, embedding: &Embedding, halves: &[Half], before: &str) -> Result<()> {
-    let look = |rt: &R| state(rt, embedding, halves);
-    let copy = retried(rt, "Embedding::copy", before, look, |_| embedding.copy())?;
-    let (as_many, given) = (copy.room() >= embedding.room(), state(rt, &copy, halves));
-    drop(copy);
-    let given = given?;
-    println!(rt; "copy with as much room: {as_many}{given}")?;
-    Ok(())
-}
-
-/// Makes room for more segments in an embedding, and copies it.
-fn use_store<R: Console>(rt: &R, embedding: &mut Embedding, halves: &[Half]) -> Result<()> {
-    let before = state(rt, embedding, halves)?;
-    println!(rt; "embedding:{before}")?;
-    if embedding.reserve(MORE).is_err() {
-        let after = state(rt, embedding, halves)?;
-        refused(rt, "Embedding::reserve", before.as_str(), after)?;
-        embedding.reserve(MORE)?;
-    }
-    let enough = embedding.room() >= MORE;
-    let after = state(rt, embedding, halves)?;
-    println!(rt; "reserve: {enough}{after}")?;
-    copy(rt, embedding, halves, before.as_str())
-}
-
-/// An embedding of one segment, and one of two whose four halves lie round one point.
-pub(crate) fn embed<R: Console>(rt: &R) -> Result<()> {
-    let (mut embedding, half) = twice(rt, "Embedding::seed", |alloc| Embedding::seed(alloc, 7))?;
-    let told = use_store(rt, &mut embedding, &[half, half.twin()]);
-    drop(embedding);
-    told?;
-    let (mut embedding, halves) = twice(rt, "Embedding::from_turns", |alloc| {
-        Embedding::from_turns(alloc, &[2, 3, 1, 0], &[3, 4])
-    })?;
-    let told = use_store(rt, &mut embedding, halves.as_slice());
-    drop(embedding);
-    told
 }

@@ -1,7 +1,7 @@
 use Rattle.topo_core.proofs.Interface.{least_is_simple}
 use Rattle.topo_rows.specs.Recovering.{lawful_again}
 use Rattle.topo_price.specs.Prices.{prices_of}
-use Rattle.topo_refusals.proofs.picture_changes.pass.Goals as goal
+use Rattle.topo_refusals.proofs.pictures.pass.Goals as goal
 
 -- a first route is a least one, which meets no face twice
 pub returns : goal.returns

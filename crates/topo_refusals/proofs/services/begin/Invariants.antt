@@ -1,6 +1,6 @@
 use Rattle.std.proofs.Common.{Some}
 use Rattle.std.specs.Arc.{arc_value}
-use Rattle.topo_refusals.proofs.services.begun.Given as goal
+use Rattle.topo_refusals.proofs.services.begin.Given as goal
 
 abbrev pub ghosts-named-K-ServiceBrand : goal.ghosts-named-K-ServiceBrand
 ghosts-named-K-ServiceBrand g a = record { start = a.start; closure = Some (arc_value a.tariff) }
