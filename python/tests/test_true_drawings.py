@@ -4,16 +4,17 @@ import os
 import random
 import unittest
 from collections import Counter
+from math import dist
 
 import networkx as nx
 
 from fezdrok import Crossing, Edge, Picture, Planarization, Point, drawing_of, planarize
 from fezdrok.drawing.drawings import STYLES
-from fezdrok.drawing.pages import Page
+from fezdrok.drawing.pages import FINE, Page, flattened
 from fezdrok.drawing.scenes import Look, NodeShape, Scene, Stroke
 from fezdrok.drawing.verification import defects, is_clockwise
 
-from .drawn_lines import nodes_on_edges, shown_crossings
+from .drawn_lines import nodes_on_edges, on_curve, shown_crossings
 from .support import needs_program
 
 #: How many random graphs are drawn; with 500, which take over half an hour, all named ones are too.
@@ -97,6 +98,75 @@ class TrueDrawings(DrawnTest):
             for style in STYLES:
                 with self.subTest(name=name, style=style):
                     self.check(result, style, name != "k12")
+
+
+class BrokenCurves(unittest.TestCase):
+    """Curves that are broken into straight lines: these are on them, in their order, and nowhere farther from them than
+    they may be."""
+
+    SHAPES = {
+        "an arc": ((0, 0), (30, 40), (70, 40), (100, 0)),
+        "an S": ((0, 0), (30, 60), (70, -60), (100, 0)),
+        "a steep S": ((0, 0), (150, 90), (-50, -90), (100, 0)),
+        "a loop": ((0, 0), (200, 100), (-100, 100), (100, 0)),
+        "a loop to where it began": ((0, 0), (100, 20), (20, 100), (0, 0)),
+        "an eight": ((0, 0), (100, 60), (-100, -60), (0, 0)),
+        "a cusp": ((0, 0), (100, 100), (0, 100), (100, 0)),
+        "nearly straight": ((0, 0), (33, 0.2), (66, -0.1), (100, 0)),
+        "one arm": ((0, 0), (0, 0), (40, 60), (100, 0)),
+        "on its chord": ((0, 0), (20, 0), (90, 0), (100, 0)),
+        "on its chord and back": ((0, 0), (300, 0), (-200, 0), (100, 0)),
+        "behind its chord": ((0, 0), (-60, 0), (50, 0), (100, 0)),
+        "arms that are too long": ((0, 0), (4000, 9000), (-7000, 5000), (100, 0)),
+    }
+
+    def curves(self):
+        """Each shape, turned, scaled and moved at random, and curves at random."""
+        source = random.Random(1)
+        for name, shape in self.SHAPES.items():
+            for steps in (10, 1000):
+                scale = steps * source.choice((0.02, 0.3, 1))
+                turn = complex(source.uniform(-scale, scale), source.uniform(-scale, scale))
+                corner = complex(source.uniform(0, 1000 * steps), source.uniform(0, 1000 * steps))
+                places = [corner + turn * complex(*point) for point in shape]
+                yield f"{name}, {steps} units", steps, tuple((round(it.real), round(it.imag)) for it in places)
+        for number in range(20):
+            points = ((source.randint(0, 10**5), source.randint(0, 10**5)) for _ in range(4))
+            yield f"random, {number}", 1000, tuple(points)
+
+    def test_that_no_point_is_far_from_the_lines(self):
+        for name, steps, piece in self.curves():
+            with self.subTest(name, piece=piece):
+                chain = flattened(piece, steps // 10)
+                ends = [(x * FINE, y * FINE) for x, y in piece]
+                self.assertEqual((chain[0], chain[-1]), (ends[0], ends[-1]))
+                along = (on_curve(ends, step / 1024) for step in range(1025))
+                for point in chain:
+                    self.assertTrue(any(dist(point, it) <= 2 for it in along), "not on the curve, or not in order")
+                lines = list(zip(chain, chain[1:]))
+                for step in range(201):
+                    point = on_curve(ends, step / 200)
+                    while lines and distance(point, *lines[0]) > steps // 10 * FINE + 2:
+                        del lines[0]
+                    self.assertTrue(lines, f"far from all lines at {step / 200}")
+
+    def test_that_few_lines_are_enough(self):
+        for piece, lines in (
+            (((0, 0), (90, 30)), 1),
+            (((0, 0), (0, 0), (90, 30), (90, 30)), 1),
+            (((0, 0), (10, 0), (50, 0), (90, 0)), 1),
+            (((0, 0), (3000, 100), (6000, -100), (9000, 0)), 1),
+            (((0, 0), (3000, 250), (6000, -250), (9000, 0)), 2),
+        ):
+            self.assertEqual(len(flattened(piece, 100)), lines + 1, piece)
+
+
+def distance(point, start, end):
+    """How far a point is from a straight line between two others."""
+    at, chord = complex(*point) - complex(*start), complex(*end) - complex(*start)
+    part = (at * chord.conjugate()).real / abs(chord) ** 2 if chord else 0
+    return abs(at - min(1, max(0, part)) * chord)
+
 
 class Defects(unittest.TestCase):
     """Each way of being false is told, with its place."""

@@ -20,9 +20,11 @@ PagePoint = tuple[int, int]
 
 #: The width of the margin, in pixels.
 MARGIN = 10
-#: Into how many straight lines a curve is broken at most, and how much larger its points then are.
-MOST_STEPS = 64
-FINE = MOST_STEPS**3
+#: How much larger the points of broken curves are, so that they are whole numbers: six cuts in halves lose nothing.
+FINE = 64**3
+#: How often a curve is cut in halves at most. With a tenth of a pixel as the tolerance it is enough for all whose way
+#: over their control points is no longer than a hundred thousand pixels.
+MOST_CUTS = 10
 
 
 class PageNode(NamedTuple):
@@ -95,21 +97,30 @@ class Page:
 def flattened(piece: tuple[PagePoint, ...], tolerance: int) -> list[PagePoint]:
     """The points of a piece as a renderer breaks it into straight lines, FINE times as large, and so whole numbers.
 
-    A curve is cut at 2, 4, .. 64 equal steps of its parameter, as many as leave it nearer to the chords than the
-    `tolerance`, which is in units of the page (Wang, The Subdivision Method for Finding the Intersection Between Two
-    Bezier Curves, 1984, has the bound).
+    A curve is cut in the middle of its parameter (de Casteljau's construction), and so are its halves, until each is at
+    most the `tolerance` from its chord, in units of the page, or MOST_CUTS cuts led to it. A point of a curve is a mean
+    of its ends and its control points, in which these weigh three quarters at most (Bernstein's polynomials), and
+    distances from a chord are convex. So a curve is at most three quarters as far from its chord as one of its control
+    points, also where it runs back, or ends where it began.
     """
-    if len(piece) == 2 or piece[0] == piece[1] and piece[2] == piece[3]:  # a curve that does not reach aside
-        return [(x * FINE, y * FINE) for x, y in (piece[0], piece[-1])]
-    (x0, y0), (x1, y1), (x2, y2), (x3, y3) = piece
-    bend = max(abs(x0 - 2 * x1 + x2), abs(y0 - 2 * y1 + y2), abs(x1 - 2 * x2 + x3), abs(y1 - 2 * y2 + y3))
-    steps = 1
-    while steps < MOST_STEPS and steps * steps * tolerance < bend:
-        steps *= 2
-    factor = FINE // steps**3
-    points = []
-    for step in range(steps + 1):
-        left = steps - step
-        a, b, c, d = left**3, 3 * left * left * step, 3 * left * step * step, step**3
-        points.append((factor * (a * x0 + b * x1 + c * x2 + d * x3), factor * (a * y0 + b * y1 + c * y2 + d * y3)))
-    return points
+    start, one, two, end = (complex(*piece[place]) for place in (0, 1, -2, -1))
+    points, left, far = [start], [(MOST_CUTS, one, two, end)], 4 / 3 * tolerance
+    while left:
+        cuts, one, two, end = left.pop()
+        start = points[-1]
+        chord = end - start
+        if not cuts or _is_near(one - start, chord, far) and _is_near(two - start, chord, far):
+            points.append(end)
+            continue
+        first, middle, last = (start + one) / 2, (one + two) / 2, (two + end) / 2
+        before, after = (first + middle) / 2, (middle + last) / 2
+        left += (cuts - 1, after, last, end), (cuts - 1, first, before, (before + after) / 2)
+    return [(round(point.real * FINE), round(point.imag * FINE)) for point in points]
+
+
+def _is_near(point: complex, end: complex, far: float) -> bool:
+    """Whether a point is at most so far from the straight line from 0 to an end."""
+    turned, length = point * end.conjugate(), abs(end)
+    if 0 < turned.real < length * length:
+        return abs(turned.imag) <= far * length
+    return min(abs(point), abs(point - end)) <= far

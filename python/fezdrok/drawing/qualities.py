@@ -9,18 +9,20 @@ from statistics import fmean, median
 
 from ..engine.pictures import Point
 from .drawings import Drawing
-from .pages import FINE, Page, PageLine, PagePoint, flattened
+from .pages import Page, PageLine, PagePoint
+from .scenes import Position, stepped
 
 #: A direction on the page.
-Way = tuple[int, int]
+Way = tuple[float, float]
 
 #: What angles are small, in degrees, and what turns are large.
 SMALL_ANGLE = 8.0
 LARGE_TURN = 180.0
 #: Below how many degrees a change of direction is no bend.
 STRAIGHT = 1.0
-#: How far, in pixels, a curve may be from the straight lines by which it is measured.
+#: How far, in pixels, a curve may be from the straight lines by which it is measured, and how many these are at most.
 TOLERANCE = 0.02
+MOST_STEPS = 64
 
 
 @dataclass(frozen=True)
@@ -72,7 +74,7 @@ def quality(drawing: Drawing) -> Quality:
     angles = [*at_nodes, *at_crossings]
     chains = [_chain(line, page.steps) for line in page.lines]
     turns = [round(sum(_turns(chain)), 6) for chain in chains] or [0.0]
-    lengths = [sum(map(dist, chain, chain[1:])) / (FINE * page.steps) for chain in chains] or [1.0]
+    lengths = [sum(map(dist, chain, chain[1:])) / page.steps for chain in chains] or [1.0]
     width, height = page.size
     covered = sum(
         pi * node.right * node.right if node.is_round else 4 * node.right * node.down for node in page.nodes
@@ -133,14 +135,27 @@ def _between(ways: Sequence[Way]) -> list[float]:
 # ---- Turns and bends
 
 
-def _chain(line: PageLine, steps: int) -> list[PagePoint]:
-    """The points of an edge as a chain of straight lines, FINE times as large."""
+def _chain(line: PageLine, steps: int) -> list[Position]:
+    """The points of an edge as a chain of straight lines. A curve has 1, 2, 4, .. 64 of them at equal steps, by which
+    its turns are measured more closely than by the few that would be near enough to it."""
     tolerance = max(1, int(TOLERANCE * steps))
-    points = [point for piece in line.pieces for point in flattened(piece, tolerance)]
+    points: list[Position] = [line.pieces[0][0]]
+    for piece in line.pieces:
+        points += piece[1:] if len(piece) == 2 else stepped(piece, _steps(piece, tolerance))
     return [point for place, point in enumerate(points) if place == 0 or point != points[place - 1]]
 
 
-def _turns(chain: Sequence[PagePoint]) -> list[float]:
+def _steps(piece: Sequence[PagePoint], tolerance: int) -> int:
+    """At how many equal steps a curve is nearer to its chords than the tolerance, in units of the page (Wang, The
+    Subdivision Method for Finding the Intersection Between Two Bezier Curves, 1984, has the bound)."""
+    bend = max(abs(a - 2 * b + c) for its in zip(*piece) for a, b, c in zip(its, its[1:], its[2:]))
+    steps = 1
+    while steps < MOST_STEPS and steps * steps * tolerance < bend:
+        steps *= 2
+    return steps
+
+
+def _turns(chain: Sequence[Position]) -> list[float]:
     """By how many degrees a chain turns at each of its points."""
     ways = [(u - x, v - y) for (x, y), (u, v) in zip(chain, chain[1:])]
     return [_turn(one, other) for one, other in zip(ways, ways[1:])]

@@ -9,6 +9,7 @@ from __future__ import annotations
 from collections.abc import Mapping, Sequence
 from dataclasses import dataclass, replace
 from math import ceil, hypot
+from operator import mul
 from typing import NamedTuple
 
 from ..engine.graph_edges import Node, Price
@@ -240,15 +241,17 @@ def flat(stroke: Stroke, steps: int = 16) -> list[Position]:
     """The points of a stroke as a chain of short straight lines, for what knows no curves."""
     points = [stroke.points[0]]
     for piece in pieces_of(stroke)[0]:
-        if len(piece) == 2:
-            points.append(piece[1])
-            continue
-        for step in range(1, steps + 1):
-            part = step / steps
-            weights = ((1 - part) ** 3, 3 * part * (1 - part) ** 2, 3 * part**2 * (1 - part), part**3)
-            points.append(
-                (sum(w * x for w, (x, _) in zip(weights, piece)), sum(w * y for w, (_, y) in zip(weights, piece)))
-            )
+        points += piece[1:] if len(piece) == 2 else stepped(piece, steps)
+    return points
+
+
+def stepped(piece: Sequence[Position], steps: int) -> list[Position]:
+    """The points of a cubic curve at the ends of so many equal steps of its parameter."""
+    points = []
+    for part in (step / steps for step in range(1, steps + 1)):
+        weights = ((1 - part) ** 3, 3 * part * (1 - part) ** 2, 3 * part**2 * (1 - part), part**3)
+        x, y = (sum(map(mul, weights, values)) for values in zip(*piece))
+        points.append((x, y))
     return points
 
 
