@@ -37,8 +37,8 @@ LOOKS = 40_000
 
 
 class Effort(NamedTuple):
-    """What is done to widen angles: which nodes are moved, where not all are; their step at first; how many lines may be
-    looked at in all moves; and how much the square of a turn counts."""
+    """What is done to widen angles: which nodes are moved, where not all are; their step at first; how many lines may
+    be looked at in all moves; and how much the square of a turn counts."""
 
     nodes: Collection[Any] | None = None
     first: float = FIRST
@@ -86,7 +86,7 @@ class _Around(dict[int, list[int]]):
 class _Points:
     """The points, and what is round each of them: its neighbours, clockwise; `faces`, the other nodes of each face from
     a neighbour to the next; `walls`, the lines of these faces that do not end at it; and `passing`, the edges that turn
-    otherwise where it is moved. `most` is how far each edge may turn, and `turn` how much the square of a turn counts."""
+    otherwise where it is moved. `most` is how far each edge may turn, and `turn` what the square of a turn counts."""
 
     def __init__(
         self,
