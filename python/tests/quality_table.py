@@ -11,9 +11,8 @@ from fezdrok.drawing.drawings import STYLES
 
 from .drawing_support import grid_with_chords
 
-#: The seed of the searches for their pictures. With 1 and 4, of seven, K8 has a picture that is drawn worse: one of its curves
-#: turns by 217 degrees, or two of its angles are below 8.
-SEED = 2
+#: The seed of the searches for their pictures.
+SEED = 1
 
 
 def ten_graphs() -> dict[str, Any]:

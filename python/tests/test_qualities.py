@@ -58,14 +58,17 @@ class Bounds(unittest.TestCase):
     """What ten graphs come to has a little room to the worse."""
 
     def test_ten_graphs(self):
+        """With several seeds of the search, but for the graph that is drawn slowest."""
         found = {
-            (name, style): quality(drawing_of(result, style=style))
-            for name, result in ((name, planarize(graph, seed=SEED)) for name, graph in ten_graphs().items())
+            (name, seed, style): quality(drawing_of(result, style=style))
+            for name, graph in ten_graphs().items()
+            for seed in ((SEED,) if name.startswith("scale-free") else (SEED, 2, 3))
+            for result in (planarize(graph, seed=seed),)
             for style in STYLES
         }
         dense = {"K8", "scale-free, 60 nodes"}
-        for (name, style), its in found.items():
-            with self.subTest(name=name, style=style):
+        for (name, seed, style), its in found.items():
+            with self.subTest(name=name, seed=seed, style=style):
                 self.assertLessEqual(its.turning_edges, 0.02)
                 if style == "orthogonal":
                     self.assertTrue(its.node_angle in (None, 90) and its.crossing_angle in (None, 90))

@@ -7,12 +7,15 @@ import sys
 import tempfile
 import unittest
 from pathlib import Path
+from unittest import mock
 
 import networkx as nx
 
 from fezdrok import drawing_of, orthogonal_drawing, planarize, quality
-from fezdrok.drawing.doglegs import MOST_TURNS, shape_with_small_boxes
+from fezdrok.drawing.bends import MOST_TURNS, least_bends
+from fezdrok.drawing.doglegs import shape_with_small_boxes
 from fezdrok.drawing.orthogonal_layout import LINE, STEP
+from fezdrok.engine.pictures import Dart
 
 from .drawing_support import pictured, planar_result
 from .support import ROOT, needs_program
@@ -99,6 +102,17 @@ class Crossed(BoxTest):
             self.assertEqual((found.turning_edges, found.node_angle, found.crossing_angle), (0, None, 90))
             self.assertLess(found.node_share, 0.1)
             self.assertLessEqual(found.greatest_turn, 90 * MOST_TURNS + 1e-6)
+
+    def test_hypercubes_turn_little(self):
+        """Soon, though with the fewest bends alone there is an edge that turns by three right angles."""
+        for seed in range(4):
+            result = planarize(nx.hypercube_graph(4), seed=seed)
+            with mock.patch("fezdrok.drawing.doglegs.least_bends", side_effect=least_bends) as call:
+                shape = shape_with_small_boxes(result.picture)
+            self.assertLessEqual(call.call_count, 4)
+            for row in result.picture.edges:
+                darts = [Dart(row.id, segment) for segment in range(row.segments)]
+                self.assertLessEqual(sum(len(shape.turns(dart)) for dart in darts), MOST_TURNS)
 
     def test_both_sizes_are_true(self):
         source = random.Random(7)

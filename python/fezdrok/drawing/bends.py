@@ -15,6 +15,8 @@ from typing import Any
 from ..engine.pictures import Dart, Picture, Point
 from .flows import Arc, least_cost_flow
 
+#: By how many right angles an edge may turn.
+MOST_TURNS = 2
 #: The four directions, counterclockwise.
 EAST, NORTH, WEST, SOUTH = range(4)
 
@@ -118,7 +120,10 @@ def _arcs(picture: Picture, are_small: bool, dear: Mapping[int, int]) -> Iterato
     for dart in picture.darts:
         left, right = picture.face_of(dart), picture.face_of(dart.twin)
         if left != right:
-            yield ("face", left), ("face", right), ("bend", dart), room, bend + bend * dear.get(dart.edge, 0) // 4
+            cost, few = bend + bend * dear.get(dart.edge, 0) // 4, MOST_TURNS if dear else room
+            yield ("face", left), ("face", right), ("bend", dart), few, cost
+            if dear:
+                yield ("face", left), ("face", right), ("bend", dart), room, cost + 2 * bend
 
 
 def _headings(picture: Picture, angles: dict[Dart, int], bends: dict[Dart, int]) -> dict[Dart, int]:

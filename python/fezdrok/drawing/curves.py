@@ -44,9 +44,25 @@ def crossing_ways(
     return found
 
 
+def edge_ways(
+    result: Planarization,
+    chains: Mapping[int, Sequence[Any]],
+    places: Mapping[Any, Position],
+    turns_least: bool = True,
+) -> dict[int, list[Position]]:
+    """The directions in which each edge passes the nodes of its chain; none of edges that are as good as straight."""
+    ways = crossing_ways(result, chains, places)
+    passing = {}
+    for edge_id, chain in chains.items():
+        points = [places[node] for node in chain]
+        if not is_as_good_as_straight(points):
+            passing[edge_id] = passing_ways(points, [ways.get((edge_id, node)) for node in chain], turns_least)
+    return passing
+
+
 def is_as_good_as_straight(chain: Sequence[Position]) -> bool:
     """Whether all lines of a chain of points have very nearly one direction."""
-    lines = [toward(start, end) for start, end in zip(chain, chain[1:])]
+    lines = _lines(chain)
     return all(
         _cross(lines[0], line) ** 2 < 1e-4 and lines[0][0] * line[0] + lines[0][1] * line[1] > 0 for line in lines
     )
@@ -61,7 +77,7 @@ def passing_ways(
     more, the sharper the corner is. A curve that would turn by more than half a circle takes those directions with
     which it turns least, if it `turns_least` and then does not.
     """
-    lines = [toward(start, end) for start, end in zip(chain, chain[1:])]
+    lines = _lines(chain)
     passing = _passing(lines, ways)
     if turns_least and sum(map(_turned, passing, passing[1:], lines)) > MOST:
         for weight in WEIGHTS:
@@ -69,6 +85,12 @@ def passing_ways(
             if sum(map(_turned, other, other[1:], lines)) <= MOST:
                 return other
     return passing
+
+
+def turn_of(chain: Sequence[Position], passing: Sequence[Position]) -> float:
+    """By how many radians a curve turns that passes the points of a chain in these directions, where nothing is in its
+    way; at least as far as the straight lines between them."""
+    return sum(map(_turned, passing, passing[1:], _lines(chain)))
 
 
 def smooth(
@@ -86,6 +108,11 @@ def smooth(
             end,
         ]
     return tuple(curve)
+
+
+def _lines(chain: Sequence[Position]) -> list[Position]:
+    """The directions from each point of a chain to the next."""
+    return [toward(start, end) for start, end in zip(chain, chain[1:])]
 
 
 def _passing(lines: Sequence[Position], ways: Sequence[Position | None]) -> list[Position]:

@@ -16,10 +16,9 @@ from itertools import product
 from typing import NamedTuple
 
 from ..engine.pictures import Dart, Picture, Point
-from .bends import Shape, is_box, least_bends
+from .bends import MOST_TURNS, Shape, is_box, least_bends
 
-#: By how many right angles an edge may turn, and what each one more counts beside others.
-MOST_TURNS = 2
+#: What each right angle counts, beside others, by which an edge turns farther than by MOST_TURNS.
 FAR = 20
 #: Of how many edges a box stays as wide as straight edges make it, and how often each other one is looked at.
 LARGE = 400

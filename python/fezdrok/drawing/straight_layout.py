@@ -13,23 +13,25 @@ from ..engine.graph_edges import GraphEdge
 from ..engine.graph_pictures import Dummy
 from ..engine.results import Planarization
 from ..files.embeddings import to_networkx_embedding
+from .curves import edge_ways, turn_of
 from .orthogonal_layout import SHORT, path_order
-from .relaxation import SWEEPS, between, spread, turn_along
+from .relaxation import between, spread
 from .scenes import Position, toward
 from .shelf_packing import shelf_packing
-from .wider_angles import widened
+from .wider_angles import Effort, widened
 
 if TYPE_CHECKING:
     import networkx
 
 #: Above which shares of edges that turn by more than half a circle, and of small angles, other faces are tried outside;
-#: how many points there may be in all tries, and how often these are moved at first.
+#: how many points there may be in all tries; and how much turns count where edges turn too far when angles are wider.
 MOST_TURNING = 0.02
-MOST_SMALL = 0.1
+MOST_SMALL = 0.02
 MOST_TRIED = 300
-FEW_SWEEPS = 60
-#: Below what an angle is small, and how far from its neighbours a node should be at least, in a disk of radius 1.
-SMALL = radians(8)
+STRAIGHTER = 0.012
+#: Below what an angle is small, 8 degrees with a little room since lines are rounded when they are drawn; and how far
+#: from its neighbours a node should be at least, in a disk of radius 1.
+SMALL = radians(8.1)
 LEAST = 0.05
 
 
@@ -49,15 +51,10 @@ def positions(result: Planarization, embedding: "networkx.PlanarEmbedding | None
     embedding = to_networkx_embedding(result) if embedding is None else embedding
     if not result.picture.edges:
         return dict.fromkeys(embedding, (0.0, 0.0))
-    faces = _Faces(result, embedding)
-    found = faces.spread(result.outer_face)
-    if found is not None and (faces.turning(found) > MOST_TURNING or faces.small(found) > MOST_SMALL):
-        found = faces.best(found)
+    found = _Faces(result, embedding).best()
     if found is None:
         warnings.warn("no drawing was found in which faces are of like size: its points lie on a grid", PlanarWarning)
         return grid_positions(result, embedding)
-    if len(found) <= MOST_TRIED and faces.small(found):
-        return widened(faces.rotations, faces.crossings, faces.chains.values(), found)
     return found
 
 
@@ -70,18 +67,19 @@ class _Faces:
         self.crossings = frozenset(result.name_of(point) for point in result.picture.points if point.is_crossing)
         self.chains = {row.id: chain(result, embedding, row.id) for row in result.picture.edges}
 
-    def spread(self, face: int, sweeps: int = SWEEPS) -> dict[Any, Position] | None:
-        """The points with a face outside, moved so many times."""
+    def spread(self, face: int) -> dict[Any, Position] | None:
+        """The points with a face outside."""
         first = self.result.picture.faces[face][0]
         nodes = self.chains[first.edge]
         place = nodes.index(self.result.name_of(self.result.picture.start(first)))
         outer = (nodes[place], nodes[place - 1 if first.back else place + 1])
-        return spread(self.rotations, self.crossings, outer, sweeps)
+        return spread(self.rotations, self.crossings, outer)
 
     def turning(self, places: Mapping[Any, Position]) -> float:
-        """The share of edges that turn by more than half a circle."""
-        turns = [turn_along([complex(*places[node]) for node in nodes]) for nodes in self.chains.values()]
-        return sum(turn > pi for turn in turns) / len(turns)
+        """The share of edges that turn by more than half a circle as curves, which turn farther than straight lines."""
+        ways = edge_ways(self.result, self.chains, places)
+        turns = [turn_of([places[node] for node in self.chains[edge_id]], its) for edge_id, its in ways.items()]
+        return sum(turn > pi for turn in turns) / len(self.chains)
 
     def small(self, places: Mapping[Any, Position]) -> float:
         """The share of small angles between edges at nodes and crossings."""
@@ -98,25 +96,35 @@ class _Faces:
             dist(places[node], places[other]) for node in self.result.node_of for other in self.rotations[node]
         )
 
-    def cost(self, places: Mapping[Any, Position] | None) -> tuple[bool, float]:
+    def cost(self, places: Mapping[Any, Position]) -> tuple[bool, float]:
         """How badly points can be read, where False comes before True: that is what can be read well."""
-        if places is None:
-            return True, 9.0
-        turning, small, least = self.turning(places), self.small(places), self.least(places)
-        return turning > MOST_TURNING or small > MOST_SMALL or least < LEAST, turning + small + max(0.0, LEAST - least)
+        turning, small, lack = self.turning(places), self.small(places), max(0.0, LEAST - self.least(places))
+        return turning > MOST_TURNING or small > MOST_SMALL, turning + small + lack
 
-    def best(self, before: dict[Any, Position]) -> dict[Any, Position]:
-        """The best of some points and those with other faces outside that have no more crossings, in order, until one
-        can be read well; of large planarizations no other is tried."""
-        found, picture = before, self.result.picture
+    def wide(self, face: int) -> dict[Any, Position] | None:
+        """The points with a face outside, moved where an angle is small so that it gets wider; where edges then turn
+        too far, so that they turn less, if that is better."""
+        found = self.spread(face)
+        if found is None or len(found) > MOST_TRIED or not self.small(found):
+            return found
+        words = self.rotations, self.crossings, self.chains.values(), found
+        wide = widened(*words)
+        if self.turning(wide) > MOST_TURNING:
+            wide = min(wide, widened(*words, Effort(turn=STRAIGHTER)), key=self.cost)
+        return wide
+
+    def best(self) -> dict[Any, Position] | None:
+        """The points with the outer face outside, or with others that have no more crossings, in order: the first that
+        can be read well, or else the best; of large planarizations no other is tried. None where there are none."""
+        picture, outer = self.result.picture, self.result.outer_face
+        best = self.wide(outer)
         crossed = [sum(picture.start(dart).is_crossing for dart in face) for face in picture.faces]
-        others = [face for face, its in enumerate(crossed) if its <= crossed[self.result.outer_face]]
+        others = [face for face, its in enumerate(crossed) if its <= crossed[outer] and face != outer]
         for face in others[: MOST_TRIED // len(self.rotations)]:
-            if self.cost(self.spread(face, FEW_SWEEPS)) < self.cost(found):
-                found = min(found, self.spread(face) or found, key=self.cost)
-                if not self.cost(found)[0]:
-                    break
-        return found
+            if best is None or not self.cost(best)[0]:
+                break
+            best = min(best, self.wide(face) or best, key=self.cost)
+        return best
 
 
 def _spiral(count: int) -> list[Position]:

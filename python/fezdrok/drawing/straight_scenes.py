@@ -16,7 +16,7 @@ from typing import Any
 from ..engine.graph_edges import Node
 from ..engine.pictures import Point
 from ..engine.results import Planarization
-from .curves import crossing_ways, is_as_good_as_straight, passing_ways, smooth
+from .curves import edge_ways, smooth
 from .giving_way import go_on
 from .labels import label_of, label_size
 from .pages import Page
@@ -270,7 +270,7 @@ def _curved(chains: Chains, scene: Scene, false: list[Defect]) -> tuple[Scene, l
     """The scene with its straight lines made curves, of which those that meet what they must not reach less far; and
     what stays false. What is false with straight lines, which may be as the points are the caller's, is let be."""
     allowed = {(it.words, it.pieces) for it in false}
-    passing = _passing(chains, len(scene.nodes) <= MANY)
+    passing = edge_ways(chains.result, chains.nodes, chains.places, len(scene.nodes) <= MANY)
     reaches: dict[Piece, float] = {}
     less_reach = LESS_REACH if len(scene.nodes) <= MANY else LESS_REACH_OF_MANY
     strokes = {it.edge_id: _curve(chains, it, passing, reaches) for it in scene.strokes}
@@ -294,17 +294,6 @@ def _curved(chains: Chains, scene: Scene, false: list[Defect]) -> tuple[Scene, l
         changed = {edge_id: _curve(chains, strokes[edge_id], passing, reaches) for edge_id, _ in less}
         strokes.update(changed)
         found = judge.drawn_otherwise([page.line(stroke) for stroke in changed.values()], less)
-
-
-def _passing(chains: Chains, turns_least: bool) -> dict[int, list[Position]]:
-    """The directions in which each edge passes the nodes of its chain; none of edges that are as good as straight."""
-    ways = crossing_ways(chains.result, chains.nodes, chains.places)
-    passing = {}
-    for edge_id, chain in chains.nodes.items():
-        points = [chains.places[node] for node in chain]
-        if not is_as_good_as_straight(points):
-            passing[edge_id] = passing_ways(points, [ways.get((edge_id, node)) for node in chain], turns_least)
-    return passing
 
 
 def _curve(

@@ -37,12 +37,13 @@ LOOKS = 40_000
 
 
 class Effort(NamedTuple):
-    """What is done to widen angles: which nodes are moved, where not all are; their step at first; and how many lines
-    may be looked at in all moves."""
+    """What is done to widen angles: which nodes are moved, where not all are; their step at first; how many lines may
+    be looked at in all moves; and how much the square of a turn counts."""
 
     nodes: Collection[Any] | None = None
     first: float = FIRST
     looks: int = LOOKS
+    turn: float = TURN
 
 
 def widened(
@@ -63,6 +64,7 @@ def widened(
         _Around(rotations, list(places), number),
         [node in crossings for node in places],
         [[number[node] for node in chain] for chain in chains if not moved.keys().isdisjoint(chain)],
+        effort.turn,
     )
     drawing.settle([number[node] for node in moved], effort)
     points = [drawing.points[number[node]] for node in moved]
@@ -84,7 +86,7 @@ class _Around(dict[int, list[int]]):
 class _Points:
     """The points, and what is round each of them: its neighbours, clockwise; `faces`, the other nodes of each face from
     a neighbour to the next; `walls`, the lines of these faces that do not end at it; and `passing`, the edges that turn
-    otherwise where it is moved. `most` is how far each edge may turn."""
+    otherwise where it is moved. `most` is how far each edge may turn, and `turn` what the square of a turn counts."""
 
     def __init__(
         self,
@@ -92,8 +94,10 @@ class _Points:
         around: Mapping[int, Sequence[int]],
         is_crossing: Sequence[bool],
         chains: Sequence[Sequence[int]],
+        turn: float,
     ):
         self.points, self.around, self.is_crossing, self.chains = points, around, is_crossing, chains
+        self.turn = turn
         self.faces: dict[int, list[list[int]]] = {}
         self.walls: dict[int, list[tuple[int, int]]] = {}
         self.passing: list[list[int]] = [[] for _ in points]
@@ -167,7 +171,7 @@ class _Points:
                 energy += weight * (wide - angle) ** 2
         if self.is_crossing[node]:
             for one, two in zip(ways, ways[2:]):
-                energy += TURN * phase(-two * one.conjugate()) ** 2
+                energy += self.turn * phase(-two * one.conjugate()) ** 2
         return energy if whole < 3 * pi else inf
 
     def crowding(self, node: int) -> float:
