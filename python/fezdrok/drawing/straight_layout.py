@@ -24,10 +24,12 @@ if TYPE_CHECKING:
     import networkx
 
 #: Above which shares of edges that turn by more than half a circle, and of small angles, other faces are tried outside;
-#: how many points there may be in all tries; and how much turns count where edges turn too far when angles are wider.
+#: how many points there may be in all tries, and up to how many more than one is made; and how much turns count where
+#: edges turn too far when angles are wider.
 MOST_TURNING = 0.02
 MOST_SMALL = 0.02
 MOST_TRIED = 300
+FEW_POINTS = 60
 STRAIGHTER = 0.012
 #: Below what an angle is small, 8 degrees with a little room since lines are rounded when they are drawn; and how far
 #: from its neighbours a node should be at least, in a disk of radius 1.
@@ -115,12 +117,14 @@ class _Faces:
 
     def best(self) -> dict[Any, Position] | None:
         """The points with the outer face outside, or with others that have no more crossings, in order: the first that
-        can be read well, or else the best; of large planarizations no other is tried. None where there are none."""
+        can be read well, or else the best; the larger the planarization, the fewer are tried. None where there are
+        none."""
         picture, outer = self.result.picture, self.result.outer_face
         best = self.wide(outer)
         crossed = [sum(picture.start(dart).is_crossing for dart in face) for face in picture.faces]
         others = [face for face, its in enumerate(crossed) if its <= crossed[outer] and face != outer]
-        for face in others[: MOST_TRIED // len(self.rotations)]:
+        tried = MOST_TRIED // len(self.rotations)
+        for face in others[: tried if len(self.rotations) <= FEW_POINTS else 1]:
             if best is None or not self.cost(best)[0]:
                 break
             best = min(best, self.wide(face) or best, key=self.cost)
