@@ -124,7 +124,7 @@ class _Faces:
         crossed = [sum(picture.start(dart).is_crossing for dart in face) for face in picture.faces]
         others = [face for face, its in enumerate(crossed) if its <= crossed[outer] and face != outer]
         tried = MOST_TRIED // len(self.rotations)
-        for face in others[: tried if len(self.rotations) <= FEW_POINTS else 1]:
+        for face in others[: tried if len(self.rotations) <= FEW_POINTS else min(tried, 1)]:
             if best is None or not self.cost(best)[0]:
                 break
             best = min(best, self.wide(face) or best, key=self.cost)
