@@ -56,7 +56,7 @@ fn shared<F: PriceFn + Drop, R: Runtime>(rt: &R, ask: F) -> Result<Arc<Tariff<F>
     }
 }
 
-/// A named picture.
+/// A picture that is known by its name.
 fn loaded(alloc: Global, named: &Named) -> Result<Picture, AllocError> {
     match picture_of(alloc, named) {
         Ok(picture) => Ok(picture),
