@@ -9,7 +9,7 @@ pub use Rattle.topo_core.proofs.numbering.Members.{counted_at, found, in_joined,
 pub use Rattle.topo_core.proofs.numbering.NumberOrder.{either, not_later, number_order, order_number}
 pub use Rattle.topo_core.proofs.numbering.Numbering.{dart_at, distinct_system, even_images, get_index, get_place, has_at, image_of, images_length, index_apart, index_forward, index_less, index_of_get}
 pub use Rattle.topo_core.proofs.numbering.Numbering.{index_twin, place_in, place_less, turn_permutes, turn_stays, twin_in}
-pub use Rattle.topo_core.proofs.numbering.Renumbering.{after_carried, darts_connected, face_carried, face_darts, face_numbers, face_permutes, numbers_connected, turn_carried}
+pub use Rattle.topo_core.proofs.numbering.Renumbering.{after_carried, darts_connected, face_carried, face_darts, face_numbers, numbers_connected, turn_carried}
 pub use Rattle.topo_core.proofs.numbering.Standing.{GoodRotation, end_dart_edge, good_crossing, good_rotation, is_dart_of_rows, listed_test, of_rows_is_dart, one_of_both, some_or_none, stands_once}
 pub use Rattle.topo_core.proofs.numbering.Standing.{system_test}
 -- Rotation systems: their turn, their points, and what is joined.
@@ -49,13 +49,12 @@ pub use Rattle.topo_core.proofs.deleting.WithoutRows.{IsRotated, filter_passes, 
 pub use Rattle.topo_core.proofs.deleting.WithoutRows.{without_known, without_rotated, without_rotation, without_row, without_rows, without_vertices}
 pub use Rattle.topo_core.proofs.deleting.WithoutTurns.{hides_turns, two_orders}
 -- Routes, their order, and certificates.
-pub use Rattle.topo_core.proofs.routing.Certificates.{face_height, face_in, first_by_heights, height_bounds, length-le-cost, not_above, one_cost, one_facts, route_bound, same_some, single_price, start_before}
-pub use Rattle.topo_core.proofs.routing.Existence.{no_route}
+pub use Rattle.topo_core.proofs.routing.Certificates.{face_height, face_in, first_by_heights, height_bounds, not_above, one_facts, route_bound, same_some, single_price, start_before}
+pub use Rattle.topo_core.proofs.routing.FirstRoutes.{priced_firsts_exist}
 pub use Rattle.topo_core.proofs.routing.LeastRoutes.{least_is_simple}
-pub use Rattle.topo_core.proofs.routing.Reaching.{routes_exist}
 pub use Rattle.topo_core.proofs.routing.RouteDarts.{certified, corner_in, has_item, item_at}
 pub use Rattle.topo_core.proofs.routing.RouteOrder.{one_least}
-pub use Rattle.topo_core.proofs.routing.SimpleRoutes.{crossed_in, face_back, face_stays, same_or_twins, simple_is_insertable}
+pub use Rattle.topo_core.proofs.routing.SimpleRoutes.{face_back, same_or_twins, simple_is_insertable}
 -- Steps and replays, and the tools of the evidence.
 pub use Rattle.topo_core.proofs.stepping.Computed.{Passes, Planned, certificate_by_tests, connected_by_tests, first_by_tests, other_face}
 pub use Rattle.topo_core.proofs.stepping.Determined.{one_step}

@@ -26,7 +26,7 @@ use Rattle.topo_core.specs.declared.rows.Rows.{Rows}
 use Rattle.topo_core.specs.Changes.{grown, shown, without}
 use Rattle.topo_core.specs.Darts.{dart_cmp, way_cmp}
 use Rattle.topo_core.specs.Picture.{edge_row}
-use Rattle.topo_core.specs.Routes.{HasNoRoute, IsFirst, IsLeast, IsPricedRoute, KeepsPromise, Pricing, route_cmp}
+use Rattle.topo_core.specs.Routes.{HasNoRoute, IsFirst, IsPricedRoute, KeepsPromise, Pricing, route_cmp}
 use Rattle.topo_core.specs.Steps.{Step, grow_refusal, insert_refusal}
 use Rattle.topo_core.proofs.routing.Certificates.{length-le-cost}
 use Rattle.topo_core.proofs.numbering.DartOrder.{dart_cmp_equal}
