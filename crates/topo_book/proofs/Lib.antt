@@ -1,7 +1,9 @@
 pub mod Interface
 mod Due
+mod FullPictures
 mod Histories
 mod Outliving
 mod ReplicaLaws
 mod SourceLaws
+mod UncrossedRoutes
 mod Wrong

@@ -1,6 +1,7 @@
 pub mod Books
 pub mod FaultTexts
 pub mod Faults
+pub mod Fullness
 pub mod Replicas
 pub mod RouteSources
 pub mod Sparing

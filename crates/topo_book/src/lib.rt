@@ -27,6 +27,7 @@
 
 mod book;
 mod following;
+mod fullness;
 mod next;
 mod replaying;
 mod replicas;
@@ -37,6 +38,7 @@ mod sparing;
 mod steps;
 
 pub use book::Book;
+pub use fullness::has_no_crossing_left;
 pub use next::Next;
 pub use replaying::{ReplayFault, replay};
 pub use route_source::RouteSource;

@@ -1,11 +1,11 @@
 //! One step of a picture, in two parts: `decide` gives the reply, `apply_entry` then makes its
 //! change.
 
-ghost use Rattle.std.specs.Prelude.{◌≡◌, ◌≢◌, ◌<◌, IfOk, MatchOption};
+ghost use Rattle.std.specs.Prelude.{◌≡◌, ◌≢◌, ◌<◌, IfOk, MatchOption, MatchResult};
 ghost use Rattle.std.specs.Prelude.{OnErr, OnOk, None, length, true};
 ghost use Rattle.std.specs.Arc.{arc_value};
 ghost use Rattle.topo_core.specs.Routes.{HasNoRoute, IsFirst};
-ghost use Rattle.topo_core.specs.Steps.{Step};
+ghost use Rattle.topo_core.specs.Steps.{IsRefused, Step, insert_refusal};
 ghost use Rattle.topo_core.specs.declared.calls.Call.TheVariants.{Insert};
 ghost use Rattle.topo_core.specs.declared.calls.Refusal.TheVariants.{Memory};
 ghost use Rattle.topo_core.specs.declared.calls.Reply.TheVariants.{Refused};
@@ -14,6 +14,7 @@ ghost use Rattle.topo_rows.specs.Shown.{IsPicture};
 ghost use Rattle.topo_book.specs.Books.{IsDue};
 ghost use Rattle.topo_book.specs.RouteSources.{IsSourceFor, IsTrueOf};
 
+use crate::fullness::{are_all_priced, find_direct, has_no_crossing_left};
 use crate::route_source::RouteSource;
 use crate::scratch::Scratch;
 use crate::search_cost::measure_if_due;
@@ -106,6 +107,46 @@ fn find_first<F: PriceFn>(
     first_route(alloc, &picture.embedded(), tariff, u, v, &mut scratch.work)
 }
 
+/// The first route, or why the insertion is refused that admits its ends and its kind: there is no
+/// route, or the first needs more crossing ids than are left. Where none is left and every edge has
+/// a price, a route that crosses nothing is looked for and no other, since there is some route.
+fn find_or_refuse<F: PriceFn>(
+    alloc: Global,
+    picture: &Picture,
+    tariff: &Tariff<F>,
+    edge: (u32, u32, u32),
+    source: RouteSource<PricedRoute>,
+    scratch: &mut Scratch,
+) -> Result<Result<PricedRoute, Refusal>, AllocError>
+    requires known { IsTrueOf (prices_of (F.may_return tariff.now))
+        picture.now.rows edge.0 edge.1 source }
+    requires admitted { insert_refusal picture.now.limits
+        picture.now.rows edge.0 edge.1 edge.2 ≡ None }
+    ensures { IfOk result (λ found. MatchResult found
+        (λ r. IsFirst (prices_of (F.may_return tariff.now))
+        picture.now.rows edge.0 edge.1 r.route r.price)
+        (IsRefused (prices_of (F.may_return tariff.now))
+        picture.now.limits picture.now.rows (Insert edge.0 edge.1 edge.2))) }
+{
+    let (u, v, _) = edge;
+    if matches!(source, RouteSource::Search)
+        && has_no_crossing_left(picture)
+        && are_all_priced(tariff)
+    {
+        // For the proof: what the types keep.
+        tariff.keeps_promise();
+        picture.kept_rows();
+        let ends = (u, v);
+        let direct = find_direct(alloc, &picture.embedded(), tariff, ends, &mut scratch.work)?;
+        return match direct {
+            Some(first) => Ok(Ok(first)),
+            None => Ok(Err(Refusal::Full)),
+        };
+    }
+    let found = find_first(alloc, picture, tariff, (u, v), source, scratch)?;
+    Ok(found.ok_or(Refusal::NoRoute))
+}
+
 /// The reply that is due to an insertion of an edge with these ends and of this kind, for which
 /// what it brings along may spare the search.
 fn decide_insertion<F: PriceFn>(
@@ -125,8 +166,9 @@ fn decide_insertion<F: PriceFn>(
     if let Err(why) = picture.admit(u, v, kind) {
         return Ok(Reply::Refused(why));
     }
-    let Some(first) = find_first(alloc, picture, tariff, (u, v), source, scratch)? else {
-        return Ok(Reply::Refused(Refusal::NoRoute));
+    let first = match find_or_refuse(alloc, picture, tariff, edge, source, scratch)? {
+        Ok(first) => first,
+        Err(why) => return Ok(Reply::Refused(why)),
     };
     match picture.admit_route(&first.route) {
         Ok(id) => Ok(Reply::Inserted(Inserted {

@@ -162,7 +162,7 @@ impl<F: PriceFn + Drop, K: ServiceBrand<F>> Service<F, K> {
             pool: SharePool::new(rest),
             nothing,
             places,
-            copies: Copies::new(),
+            copies: Copies::new(places),
         })
     }
 }

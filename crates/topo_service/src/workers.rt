@@ -19,8 +19,8 @@ use std::alloc::{AllocError, Global};
 use std::sync::Wait;
 use std::thread;
 use std::thread::Threads;
-use topo_book::RouteSource;
-use topo_core::calls::{Call, Command};
+use topo_book::{RouteSource, has_no_crossing_left};
+use topo_core::calls::{Call, Command, Refusal};
 use topo_price::tariff::PriceFn;
 use topo_versions::{ServiceBrand, VersionWriter};
 
@@ -82,7 +82,8 @@ fn enter<'a, F: PriceFn, K: ServiceBrand<F>, W: VersionWriter<F, K>, R: Wait>(
 }
 
 /// The first of the cheapest routes on the pass's own version, looked for without the lock; none if
-/// there is none, or it may have no such version, or it is out of memory.
+/// there is none, or it may have no such version, or it is out of memory. Where no crossing id is
+/// left it is not looked for, since a book needs no whole search there.
 fn find_ahead<F: PriceFn, K: ServiceBrand<F>, W: VersionWriter<F, K>>(
     service: &ServiceOver<F, K, W>,
     pass: &mut Pass<F, K>,
@@ -102,7 +103,12 @@ fn find_ahead<F: PriceFn, K: ServiceBrand<F>, W: VersionWriter<F, K>>(
     let Ok(own) = pass.take_own(alloc, service.tariff()) else {
         return None;
     };
-    match first_on(alloc, own.picture(), service.tariff(), u, v, &mut pass.work) {
+    let found = if has_no_crossing_left(own.picture()) {
+        Err(Refusal::Full)
+    } else {
+        first_on(alloc, own.picture(), service.tariff(), u, v, &mut pass.work)
+    };
+    match found {
         Ok(seen) => Some(FoundRoute::of(own, (u, v), seen)),
         Err(_) => {
             pass.own = Some(own);

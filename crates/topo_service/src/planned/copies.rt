@@ -2,7 +2,10 @@
 
 use std::sync::atomic::{AtomicU32, Ordering};
 
-/// So many passes of a service have a picture of their own at most.
+/// Of so many passes each may have a picture of its own.
+const FEW_PASSES: u32 = 4;
+
+/// Of more passes so many have one at most.
 const MAX_COPIES: u32 = 3;
 
 /// How many passes have a picture of their own, on which they look for routes. It bounds memory
@@ -10,19 +13,26 @@ const MAX_COPIES: u32 = 3;
 #[derive(Drop)]
 pub(crate) struct Copies {
     taken: AtomicU32,
+    most: u32,
 }
 
 impl Copies {
-    /// No pass has a picture of its own.
-    pub(crate) fn new() -> Self {
+    /// Of a service of so many passes at most, none of which has a picture of its own.
+    pub(crate) fn new(passes: u32) -> Self {
+        let most = if passes <= FEW_PASSES {
+            passes
+        } else {
+            MAX_COPIES
+        };
         Copies {
             taken: AtomicU32::new(0),
+            most,
         }
     }
 
     /// Whether one more pass may have a picture of its own: from now on it has one.
     pub(crate) fn take(&self) -> bool {
-        if self.taken.fetch_add(1, Ordering::SeqCst) < MAX_COPIES {
+        if self.taken.fetch_add(1, Ordering::SeqCst) < self.most {
             return true;
         }
         self.give_back();
