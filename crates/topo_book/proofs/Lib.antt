@@ -3,6 +3,7 @@ mod Due
 mod FullPictures
 mod Histories
 mod Outliving
+mod RefusedCalls
 mod ReplicaLaws
 mod SourceLaws
 mod UncrossedRoutes

@@ -26,6 +26,14 @@ use Rattle.topo_book.proofs.ReplicaLaws.{one_replay}
 
 -- ---- Entries one by one, from the last
 
+-- the last one apart
+pub last_apart : (entries : List Entry) (entry : Entry) → 1 ≤ length entries → entry ≡ slice_index_or entries (length entries - 1) entry
+    → entries ≡ take (length entries - 1) entries ++ entry ∷ []
+last_apart entries entry some last = ends (length entries - 1) (omega (arith, some)) last where
+  ends : (i : ℕ) → length entries ≡ i + 1 → entry ≡ slice_index_or entries i entry → entries ≡ take i entries ++ entry ∷ []
+  ends i is at = sym (take-length entries) ∙ ap (λ n. take n entries) is ∙ take_more entries i entry (omega (arith, is))
+      ∙ ap (λ e. take i entries ++ e ∷ []) (sym at)
+
 -- darts that all pass the test lie on no edge of the region
 pub crosses_none : (region : RegionState) (crossed : List Dart) → list_all (λ d. not (holds_edge region d.edge)) crossed ≡ true
     → All (λ d. holds_edge region d.edge ≡ false) crossed
@@ -68,13 +76,7 @@ module _ (before : Rows) (region : RegionState) where
       → HaveSpared before region (take (length entries - 1) entries) left
       → HaveSpared before region entries accepted
   ended_spared entries entry accepted {left} {b} some last more kind less one others =
-      subst (HaveSpared before region entries) (counts b kind less) (last_spared entries (take (length entries - 1) entries) entry left parts one others) where
-        parts : entries ≡ take (length entries - 1) entries ++ entry ∷ []
-        parts = ends (length entries - 1) (omega (arith, some)) last where
-          ends : (i : ℕ) → length entries ≡ i + 1 → entry ≡ slice_index_or entries i entry → entries ≡ take i entries ++ entry ∷ []
-          ends i is at = sym (take-length entries) ∙ ap (λ n. take n entries) is ∙ take_more entries i entry (omega (arith, is))
-              ∙ ap (λ e. take i entries ++ e ∷ []) (sym at)
-
+      subst (HaveSpared before region entries) (counts b kind less) (last_spared entries (take (length entries - 1) entries) entry left (last_apart entries entry some last) one others) where
         counts : (b : Bool) → b ≡ is_accepted entry.reply → left ≡ (if b then accepted - 1 else accepted)
             → (if is_accepted entry.reply then left + 1 else left) ≡ accepted
         counts true kind less = rw (← kind) (omega (arith, less, more))
@@ -84,7 +86,7 @@ module _ (before : Rows) (region : RegionState) where
 
 module _ (price : Pricing) (limits : Limits) where
   -- a lawful replay in two parts
-  parted : (older recent : List Entry) (p q : Rows) → ReplaysLawfully price limits p (older ++ recent) q
+  pub parted : (older recent : List Entry) (p q : Rows) → ReplaysLawfully price limits p (older ++ recent) q
       → (middle : Rows) × ReplaysLawfully price limits p older middle × ReplaysLawfully price limits middle recent q
   parted [] recent p q way = (p, (refl, first_lawful recent p q way), way) where
     first_lawful : (entries : List Entry) (p q : Rows) → ReplaysLawfully price limits p entries q → IsPicture limits p

@@ -577,6 +577,9 @@ impl<F: PriceFn> Book<F> {
         ensures same_book { IsSameBook self.old self.new }
         ensures same_room { self.new.spare ≡ self.old.spare }
     {
+        if let Some(why) = self.known_refusal(call) {
+            return Ok(Reply::Refused(why));
+        }
         if self.search_on_replica && is_search(call, source) {
             if let Some(first) = self.take_current_replica(alloc)? {
                 return self.decide_on_replica(alloc, first, call, source);
@@ -709,6 +712,11 @@ impl<F: PriceFn> Book<F> {
         ensures unchanged { OnErr result (IsUnchanged self.old self.new) }
         ensures same_book { IsSameBook self.old self.new }
     {
+        // A call that is refused again leaves the picture to its readers, too.
+        if self.known_refusal(call).is_some() {
+            let reply = self.call_on_copy(alloc, caller, call, source)?;
+            return Ok(Some(reply));
+        }
         let Some(picture) = Arc::get_mut(&mut self.picture) else {
             let reply = self.call_on_copy(alloc, caller, call, source)?;
             return Ok(Some(reply));

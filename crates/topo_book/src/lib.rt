@@ -29,6 +29,7 @@ mod book;
 mod following;
 mod fullness;
 mod next;
+mod refused;
 mod replaying;
 mod replicas;
 mod route_source;

@@ -18,6 +18,9 @@ use topo_test_support::prices::table_of;
 /// Pictures with crossings and without.
 const PICTURES: &[&Named] = &[&BIPYRAMID, &JOINED, &BARRIER, &HEXAGON, &PARALLEL];
 
+/// The reply where a route needs more crossing ids than are left.
+const FULL: &str = "Refused(Full)";
+
 /// The picture with these rows, and no crossing id left.
 fn full_picture(alloc: Global, rows: &Rows) -> Result<Picture, Fail> {
     let limits = Limits::new(65_536, 65_536, rows.next_crossing)?;
@@ -36,7 +39,8 @@ fn text_of_insertion<F: PriceFn>(
     text
 }
 
-/// The reply to an insertion into such a picture at these prices, as a text.
+/// The reply to an insertion into such a picture at these prices, as a text. One that is refused is
+/// refused again.
 fn told<F: PriceFn + Drop>(
     rt: &impl Abort,
     alloc: Global,
@@ -50,8 +54,14 @@ fn told<F: PriceFn + Drop>(
     let mut book = book_of(alloc, full_picture(alloc, rows)?, ask)?;
     assert!(rt; has_no_crossing_left(book.picture()));
     let text = text_of_insertion(alloc, &mut book, ends);
+    let again = text_of_insertion(alloc, &mut book, ends);
     drop(book);
-    Ok(text?)
+    let (text, again) = (text?, again?);
+    assert!(rt;
+        text.as_str() != FULL || again.as_str() == FULL,
+        "{ends:?}: {again}"
+    );
+    Ok(text)
 }
 
 /// Whether an insertion is answered alike where its prices are known by the kind, so that no whole
@@ -75,7 +85,7 @@ fn is_refused<R: Abort>(
         searched.as_str() == direct.as_str(),
         "{ends:?}: {direct}, not {searched}"
     );
-    Ok(direct.as_str() == "Refused(Full)")
+    Ok(direct.as_str() == FULL)
 }
 
 /// How many of the insertions between any two vertices are refused.

@@ -17,7 +17,7 @@ apply_entry-requires-clause-lawful g c =
 pub invariant_of-self-2 : goal.invariant_of-self-2
 invariant_of-self-2 g c =
     let f = c.self.inside in
-    let entry : Entry = record { caller = c.args.caller; call = c.args.call; reply = c.in_ok-reply-2.reply } in
+    let entry : Entry = record { caller = c.args.caller; call = c.args.call; reply = c.in_ok-reply-3.reply } in
     let before = arc_value f.picture in
     let next = c.apply_entry.new.picture in
     let same : c.deref-2.result.now ≡ arc_value f.tariff = c.deref-2.ensures in
