@@ -10,7 +10,6 @@ import json
 from collections.abc import Callable, Iterator
 from dataclasses import dataclass, field
 from functools import cached_property, partial
-from itertools import chain
 from typing import Any, NamedTuple
 
 from .faults import read_as
@@ -124,25 +123,21 @@ class Counts(NamedTuple):
         return self.vertices + self.crossings - self.segments + self.faces
 
 
-class _Digits(dict[int, str]):
-    """The digits of each number."""
-
-    def __missing__(self, number: int) -> str:
-        return int.__repr__(number)
+#: Below it, numbers are kept as they stand in a text: this saves most of the time.
+_KEPT = 1024
 
 
-class _Lists(dict[int, str]):
-    """The form of a list of so many numbers."""
+def _spelled(form: str) -> dict[int, str]:
+    """Each number as it stands in a form. What is not kept is made without a function of Python."""
+    kind = type("Spelled", (dict,), {"__missing__": form.format})
+    spelled: dict[int, str] = kind((number, form.format(number)) for number in range(_KEPT))
+    return spelled
 
-    def __missing__(self, length: int) -> str:
-        return f"[{','.join(['%s'] * length)}]"
 
-
-#: The digits of small numbers, and the forms of short lists, are kept: this saves most of the time of a text. A plain
-#: dict is faster still.
-_small_digits = {number: str(number) for number in range(1024)}
-_digits = _Digits(_small_digits)
-_lists = _Lists((length, _Lists()[length]) for length in range(32))
+#: A number alone, the ends `a` and `b` and the id of an edge, and in the list round a vertex the first and each further.
+_all_numbers = tuple(map(_spelled, ("{:d}", '{{"a":{:d},"b":', '{:d},"crossings":[', '],"id":{:d}', "],[{:d}", ",{:d}")))
+#: Those that are kept alone. A plain dict is faster still.
+_small_numbers = tuple(dict(spelled) for spelled in _all_numbers)
 #: How the row of an edge of each kind ends.
 _kinds = {kind: f',"kind":{kind}}}' for kind in range(KINDS)}
 
@@ -238,15 +233,15 @@ class Picture:
         if text is None:
             try:
                 text = self._text_of_numbers()
-            except (KeyError, TypeError):
+            except (KeyError, TypeError, ValueError):
                 text = json_text(self.to_json())
             self.__dict__["_text"] = text
         return text
 
     def _text_of_numbers(self) -> str:
         """The same in less time. An exception where a row has what is no number, or no sign."""
-        is_small = max(len(self.rotations), self.next_edge, self.next_crossing) <= len(_small_digits)
-        digits = _small_digits if is_small else _digits
+        is_small = max(len(self.rotations), self.next_edge, self.next_crossing) <= _KEPT
+        digits, ends_a, ends_b, ids, firsts, others = _small_numbers if is_small else _all_numbers
         spelled = digits.__getitem__
         crossings = [
             f'{{"crossed":{digits[it.crossed]},"id":{digits[it.id]},"newcomer":{digits[it.newcomer]},'
@@ -254,17 +249,22 @@ class Picture:
             for it in self.crossings
         ]
         edges = [
-            f'{{"a":{digits[it.a]},"b":{digits[it.b]},"crossings":[],"id":{digits[it.id]}{_kinds[it.kind]}'
-            if not it.crossings
-            else f'{{"a":{digits[it.a]},"b":{digits[it.b]},"crossings":[{",".join(map(spelled, it.crossings))}],'
-            f'"id":{digits[it.id]}{_kinds[it.kind]}'
+            f"{ends_a[it.a]}{ends_b[it.b]}{','.join(map(spelled, it.crossings)) if it.crossings else ''}"
+            f"{ids[it.id]}{_kinds[it.kind]}"
             for it in self.edges
         ]
-        lists = ",".join(map(_lists.__getitem__, map(len, self.rotations)))
-        rotations = lists % tuple(map(spelled, chain.from_iterable(self.rotations)))
+        lists = []
+        for around in self.rotations:
+            numbers = firsts
+            for edge in around:
+                lists.append(numbers[edge])
+                numbers = others
+            if numbers is firsts:
+                lists.append("],[")
+        rotations = f"{''.join(lists)[2:]}]" if lists else ""
         return (
             f'{{"crossings":[{",".join(crossings)}],"edges":[{",".join(edges)}],'
-            f'"next_crossing":{_digits[self.next_crossing]},"next_edge":{_digits[self.next_edge]},'
+            f'"next_crossing":{_all_numbers[0][self.next_crossing]},"next_edge":{_all_numbers[0][self.next_edge]},'
             f'"rotations":[{rotations}]}}'
         )
 
