@@ -71,7 +71,8 @@ def _deleted(reply: Reply, told: Numbers, asked: Numbers) -> Deleted:
 
 
 def _route(reply: Reply, told: Numbers, asked: Numbers) -> Route:
-    return Route(_items(reply, told[0], Dart, _BACK), told[4], told[5], told[1])
+    route: Route = _named(Route, (_items(reply, told[0], Dart, _BACK), told[4], told[5], told[1]))
+    return route
 
 
 def _undone(reply: Reply, told: Numbers, asked: Numbers) -> Undone:
@@ -85,7 +86,9 @@ def _counts(reply: Reply, told: Numbers, asked: Numbers) -> Counts:
 
 
 def _edge(reply: Reply, told: Numbers, asked: Numbers) -> EdgeAnswer:
-    return EdgeAnswer(asked[0], told[3], told[4], told[5], told[1] or None, _items(reply, told[0], Meeting, _SIGNS))
+    crossings = _items(reply, told[0], Meeting, _SIGNS)
+    edge: EdgeAnswer = _named(EdgeAnswer, (asked[0], *told[3:6], told[1] or None, crossings))
+    return edge
 
 
 def _vertex(reply: Reply, told: Numbers, asked: Numbers) -> VertexAnswer:
