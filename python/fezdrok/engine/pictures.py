@@ -9,7 +9,7 @@ from __future__ import annotations
 import json
 from collections.abc import Callable, Iterator
 from dataclasses import dataclass, field
-from functools import cached_property, partial
+from functools import cache, cached_property, partial
 from typing import Any, NamedTuple
 
 from .faults import read_as
@@ -123,23 +123,20 @@ class Counts(NamedTuple):
         return self.vertices + self.crossings - self.segments + self.faces
 
 
-#: Below it, numbers are kept as they stand in a text: this saves most of the time.
-_KEPT = 1024
-
-
-def _spelled(form: str) -> dict[int, str]:
-    """Each number as it stands in a form. What is not kept is made without a function of Python."""
-    kind = type("Spelled", (dict,), {"__missing__": form.format})
-    spelled: dict[int, str] = kind((number, form.format(number)) for number in range(_KEPT))
-    return spelled
-
-
 #: A number alone, the ends `a` and `b` and the id of an edge, and in the list round a vertex the first and each further.
-_all_numbers = tuple(map(_spelled, ("{:d}", '{{"a":{:d},"b":', '{:d},"crossings":[', '],"id":{:d}', "],[{:d}", ",{:d}")))
-#: Those that are kept alone. A plain dict is faster still.
-_small_numbers = tuple(dict(spelled) for spelled in _all_numbers)
+_FORMS = "{:d}", '{{"a":{:d},"b":', '{:d},"crossings":[', '],"id":{:d}', "],[{:d}", ",{:d}"
+#: Numbers below it are kept as they stand in a text: this saves most of the time.
+_KEPT = 1024
 #: How the row of an edge of each kind ends.
 _kinds = {kind: f',"kind":{kind}}}' for kind in range(KINDS)}
+
+
+@cache
+def _numbers(is_small: bool) -> tuple[dict[int, str], ...]:
+    """Numbers in each of the forms, small ones in a plain dict, which is the fastest, or all. What is not kept is made
+    without a function of Python."""
+    kinds = [dict if is_small else type("Numbers", (dict,), {"__missing__": form.format}) for form in _FORMS]
+    return tuple(kind((it, form.format(it)) for it in range(_KEPT)) for kind, form in zip(kinds, _FORMS))
 
 
 @dataclass(frozen=True)
@@ -240,8 +237,8 @@ class Picture:
 
     def _text_of_numbers(self) -> str:
         """The same in less time. An exception where a row has what is no number, or no sign."""
-        is_small = max(len(self.rotations), self.next_edge, self.next_crossing) <= _KEPT
-        digits, ends_a, ends_b, ids, firsts, others = _small_numbers if is_small else _all_numbers
+        is_small = max(len(self.rotations), self.next_edge, self.next_crossing) < _KEPT
+        digits, ends_a, ends_b, ids, firsts, others = _numbers(is_small)
         spelled = digits.__getitem__
         crossings = [
             f'{{"crossed":{digits[it.crossed]},"id":{digits[it.id]},"newcomer":{digits[it.newcomer]},'
@@ -253,20 +250,24 @@ class Picture:
             f"{ids[it.id]}{_kinds[it.kind]}"
             for it in self.edges
         ]
-        lists = []
+        rotations = self._small_rotations(firsts, others) if is_small else json_text(self.rotations)
+        return (
+            f'{{"crossings":[{",".join(crossings)}],"edges":[{",".join(edges)}],'
+            f'"next_crossing":{digits[self.next_crossing]},"next_edge":{digits[self.next_edge]},'
+            f'"rotations":{rotations}}}'
+        )
+
+    def _small_rotations(self, firsts: dict[int, str], others: dict[int, str]) -> str:
+        """The lists round the vertices: where numbers are kept this is faster than a JSON encoder."""
+        parts = []
         for around in self.rotations:
             numbers = firsts
             for edge in around:
-                lists.append(numbers[edge])
+                parts.append(numbers[edge])
                 numbers = others
             if numbers is firsts:
-                lists.append("],[")
-        rotations = f"{''.join(lists)[2:]}]" if lists else ""
-        return (
-            f'{{"crossings":[{",".join(crossings)}],"edges":[{",".join(edges)}],'
-            f'"next_crossing":{_all_numbers[0][self.next_crossing]},"next_edge":{_all_numbers[0][self.next_edge]},'
-            f'"rotations":[{rotations}]}}'
-        )
+                parts.append("],[")
+        return f"[{''.join(parts)[2:]}]]" if parts else "[]"
 
     # ---- Rows by their ids
 
