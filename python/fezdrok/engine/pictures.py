@@ -123,7 +123,7 @@ class Counts(NamedTuple):
         return self.vertices + self.crossings - self.segments + self.faces
 
 
-#: A number alone, the ends `a` and `b` and the id of an edge, and in the list round a vertex the first and each further.
+#: A number alone, the ends `a` and `b` and the id of an edge, and the first and each further edge round a vertex.
 _FORMS = "{:d}", '{{"a":{:d},"b":', '{:d},"crossings":[', '],"id":{:d}', "],[{:d}", ",{:d}"
 #: Numbers below it are kept as they stand in a text: this saves most of the time.
 _KEPT = 1024

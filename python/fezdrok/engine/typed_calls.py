@@ -86,9 +86,7 @@ def _counts(reply: Reply, told: Numbers, asked: Numbers) -> Counts:
 
 
 def _edge(reply: Reply, told: Numbers, asked: Numbers) -> EdgeAnswer:
-    crossings = _items(reply, told[0], Meeting, _SIGNS)
-    edge: EdgeAnswer = _named(EdgeAnswer, (asked[0], *told[3:6], told[1] or None, crossings))
-    return edge
+    return EdgeAnswer(asked[0], told[3], told[4], told[5], told[1] or None, _items(reply, told[0], Meeting, _SIGNS))
 
 
 def _vertex(reply: Reply, told: Numbers, asked: Numbers) -> VertexAnswer:
