@@ -9,8 +9,7 @@ from __future__ import annotations
 import json
 from collections.abc import Callable, Iterator
 from dataclasses import dataclass, field
-from functools import cached_property, partial
-from itertools import chain
+from functools import cache, cached_property, partial
 from typing import Any, NamedTuple
 
 from .faults import read_as
@@ -124,27 +123,20 @@ class Counts(NamedTuple):
         return self.vertices + self.crossings - self.segments + self.faces
 
 
-class _Digits(dict[int, str]):
-    """The digits of each number."""
-
-    def __missing__(self, number: int) -> str:
-        return int.__repr__(number)
-
-
-class _Lists(dict[int, str]):
-    """The form of a list of so many numbers."""
-
-    def __missing__(self, length: int) -> str:
-        return f"[{','.join(['%s'] * length)}]"
-
-
-#: The digits of small numbers, and the forms of short lists, are kept: this saves most of the time of a text. A plain
-#: dict is faster still.
-_small_digits = {number: str(number) for number in range(1024)}
-_digits = _Digits(_small_digits)
-_lists = _Lists((length, _Lists()[length]) for length in range(32))
+#: A number alone, the ends `a` and `b` and the id of an edge, and the first and each further edge round a vertex.
+_FORMS = "{:d}", '{{"a":{:d},"b":', '{:d},"crossings":[', '],"id":{:d}', "],[{:d}", ",{:d}"
+#: Numbers below it are kept as they stand in a text: this saves most of the time.
+_KEPT = 1024
 #: How the row of an edge of each kind ends.
 _kinds = {kind: f',"kind":{kind}}}' for kind in range(KINDS)}
+
+
+@cache
+def _numbers(is_small: bool) -> tuple[dict[int, str], ...]:
+    """Numbers in each of the forms, small ones in a plain dict, which is the fastest, or all. What is not kept is made
+    without a function of Python."""
+    kinds = [dict if is_small else type("Numbers", (dict,), {"__missing__": form.format}) for form in _FORMS]
+    return tuple(kind((it, form.format(it)) for it in range(_KEPT)) for kind, form in zip(kinds, _FORMS))
 
 
 @dataclass(frozen=True)
@@ -238,15 +230,15 @@ class Picture:
         if text is None:
             try:
                 text = self._text_of_numbers()
-            except (KeyError, TypeError):
+            except (KeyError, TypeError, ValueError):
                 text = json_text(self.to_json())
             self.__dict__["_text"] = text
         return text
 
     def _text_of_numbers(self) -> str:
         """The same in less time. An exception where a row has what is no number, or no sign."""
-        is_small = max(len(self.rotations), self.next_edge, self.next_crossing) <= len(_small_digits)
-        digits = _small_digits if is_small else _digits
+        is_small = max(len(self.rotations), self.next_edge, self.next_crossing) < _KEPT
+        digits, ends_a, ends_b, ids, firsts, others = _numbers(is_small)
         spelled = digits.__getitem__
         crossings = [
             f'{{"crossed":{digits[it.crossed]},"id":{digits[it.id]},"newcomer":{digits[it.newcomer]},'
@@ -254,19 +246,28 @@ class Picture:
             for it in self.crossings
         ]
         edges = [
-            f'{{"a":{digits[it.a]},"b":{digits[it.b]},"crossings":[],"id":{digits[it.id]}{_kinds[it.kind]}'
-            if not it.crossings
-            else f'{{"a":{digits[it.a]},"b":{digits[it.b]},"crossings":[{",".join(map(spelled, it.crossings))}],'
-            f'"id":{digits[it.id]}{_kinds[it.kind]}'
+            f"{ends_a[it.a]}{ends_b[it.b]}{','.join(map(spelled, it.crossings)) if it.crossings else ''}"
+            f"{ids[it.id]}{_kinds[it.kind]}"
             for it in self.edges
         ]
-        lists = ",".join(map(_lists.__getitem__, map(len, self.rotations)))
-        rotations = lists % tuple(map(spelled, chain.from_iterable(self.rotations)))
+        rotations = self._small_rotations(firsts, others) if is_small else json_text(self.rotations)
         return (
             f'{{"crossings":[{",".join(crossings)}],"edges":[{",".join(edges)}],'
-            f'"next_crossing":{_digits[self.next_crossing]},"next_edge":{_digits[self.next_edge]},'
-            f'"rotations":[{rotations}]}}'
+            f'"next_crossing":{digits[self.next_crossing]},"next_edge":{digits[self.next_edge]},'
+            f'"rotations":{rotations}}}'
         )
+
+    def _small_rotations(self, firsts: dict[int, str], others: dict[int, str]) -> str:
+        """The lists round the vertices: where numbers are kept this is faster than a JSON encoder."""
+        parts = []
+        for around in self.rotations:
+            numbers = firsts
+            for edge in around:
+                parts.append(numbers[edge])
+                numbers = others
+            if numbers is firsts:
+                parts.append("],[")
+        return f"[{''.join(parts)[2:]}]]" if parts else "[]"
 
     # ---- Rows by their ids
 

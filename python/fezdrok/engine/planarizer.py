@@ -98,14 +98,10 @@ class Planarizer:
 
     def opening_text(self) -> str:
         """The script without its lists as one line of JSON, as `planar serve` reads it first."""
-        parts = []
-        if self.limits is not None:
-            parts.append(f'"limits":{json_text(self.limits.to_json())},')
-        if self.prices is not None:
-            parts.append(f'"prices":{json_text(self.prices)},')
-        if self.start is not None:
-            parts.append(f'"start":{self.start.to_text()},')
-        return f'{{{"".join(parts)}"version":{version_of(self.prices or ())}}}'
+        limits = "" if self.limits is None else f'"limits":{json_text(self.limits.to_json())},'
+        prices = "" if self.prices is None else f'"prices":{json_text(self.prices)},'
+        start = "" if self.start is None else f'"start":{self.start.to_text()},'
+        return f'{{{limits}{prices}{start}"version":{version_of(self.prices or ())}}}'
 
     def run(self) -> Report:
         """Carry out all commands from the start picture on. The commands stay, so a second run does the same."""

@@ -161,9 +161,11 @@ class Program:
         no more."""
         wanted = None if self._wanted is None else os.fspath(self._wanted)
         place = (wanted, *map(os.environ.get, (VARIABLE, LIBRARY_VARIABLE, "PATH")))
-        found = _libraries.get(place) or named_library() or library_of(self.path)
-        if found is not None:
-            _libraries[place] = found
+        found = _libraries.get(place)
+        if found is None:
+            found = named_library() or library_of(self.path)
+            if found is not None:
+                _libraries[place] = found
         return found
 
     def run(self, script: Text) -> str:

@@ -2,9 +2,8 @@
 
 from __future__ import annotations
 
-from collections.abc import Callable
+from collections.abc import Callable, Sequence
 from ctypes import POINTER, Structure, c_size_t, c_uint32, c_uint64
-from itertools import repeat
 from struct import Struct
 from typing import Any
 
@@ -19,8 +18,8 @@ _NOTHING_TO_UNDO, _CUT = 70, 6
 #: The names of refusals by their numbers.
 _NAMES = "", "NoVertex", "SameEnds", "NoPosition", "NoEdge", "BadKind", "Cut", "Full", "Memory", "NoRoute"
 _REFUSALS = [Refused(number, name) for number, name in enumerate(_NAMES)]
-#: What the side of an item is called.
-_sign, _end = ("ltr", "rtl").__getitem__, ("a", "b").__getitem__
+#: What the side of an item is called: of a dart, of a crossing, of an edge at a vertex.
+_BACK, _SIGNS, _end = (False, True), ("ltr", "rtl"), ("a", "b").__getitem__
 #: Makes a named tuple of a tuple, which is faster than to call its class.
 _named: Callable[..., Any] = tuple.__new__
 
@@ -55,16 +54,16 @@ def _grown(reply: Reply, told: Numbers, asked: Numbers) -> Grown:
     return Grown(told[3], told[4])
 
 
-def _items(reply: Reply, length: int, kind: type, side: Callable[[int], Any]) -> tuple[Any, ...]:
-    """So many items, each as a named tuple of this kind, whose last field this function makes of the side."""
+def _items(reply: Reply, length: int, kind: type, sides: Sequence[Any]) -> tuple[Any, ...]:
+    """So many items, each as a named tuple of this kind, whose last field is the one of these that the side names."""
     if not length:
         return ()
-    words = reply.items[: 3 * length]
-    return tuple(map(_named, repeat(kind), zip(words[::3], words[1::3], map(side, words[2::3]))))
+    words = iter(reply.items[: 3 * length])
+    return tuple([_named(kind, (number, at, sides[side])) for number, at, side in zip(words, words, words)])
 
 
 def _inserted(reply: Reply, told: Numbers, asked: Numbers) -> Inserted:
-    return Inserted(told[3], _items(reply, told[0], Dart, bool), told[4], told[5], told[1])
+    return Inserted(told[3], _items(reply, told[0], Dart, _BACK), told[4], told[5], told[1])
 
 
 def _deleted(reply: Reply, told: Numbers, asked: Numbers) -> Deleted:
@@ -72,7 +71,8 @@ def _deleted(reply: Reply, told: Numbers, asked: Numbers) -> Deleted:
 
 
 def _route(reply: Reply, told: Numbers, asked: Numbers) -> Route:
-    return Route(_items(reply, told[0], Dart, bool), told[4], told[5], told[1])
+    route: Route = _named(Route, (_items(reply, told[0], Dart, _BACK), told[4], told[5], told[1]))
+    return route
 
 
 def _undone(reply: Reply, told: Numbers, asked: Numbers) -> Undone:
@@ -86,7 +86,7 @@ def _counts(reply: Reply, told: Numbers, asked: Numbers) -> Counts:
 
 
 def _edge(reply: Reply, told: Numbers, asked: Numbers) -> EdgeAnswer:
-    return EdgeAnswer(asked[0], told[3], told[4], told[5], told[1] or None, _items(reply, told[0], Meeting, _sign))
+    return EdgeAnswer(asked[0], told[3], told[4], told[5], told[1] or None, _items(reply, told[0], Meeting, _SIGNS))
 
 
 def _vertex(reply: Reply, told: Numbers, asked: Numbers) -> VertexAnswer:
