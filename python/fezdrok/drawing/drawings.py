@@ -24,6 +24,7 @@ from .scenes import PLAIN, Position, Scene, flat, grid_of, middle_of, orthogonal
 from .straight_layout import chain, grid_positions, places_between, positions
 from .straight_scenes import Chains, scene_beside, straight_scene, true_scene
 from .svg import NODE_COLOR, RIM_WIDTH, Paint, svg_of
+from .uncollected import uncollected
 from .verification import Defect, Judge, defects
 from .wider_angles import Effort
 
@@ -102,6 +103,7 @@ class Drawing:
         return data
 
 
+@uncollected()
 def drawing_of(
     result: Planarization,
     *,
