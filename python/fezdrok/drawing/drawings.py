@@ -14,16 +14,17 @@ from typing import TYPE_CHECKING, Any
 
 from ..engine.faults import PlanarError, PlanarWarning, wanted
 from ..engine.results import Planarization
-from ..files.embeddings import to_networkx_embedding
+from ..files.embeddings import chains_of, to_networkx_embedding
 from .appearance import is_for_all, names_of, node_values, plain_color, with_edges, with_nodes
 from .labels import LETTER_HEIGHT
 from .near_lines import near_chains, settled
 from .orthogonal_layout import orthogonal_drawing
 from .pages import Page
 from .scenes import PLAIN, Position, Scene, flat, grid_of, middle_of, orthogonal_scene, with_arrows
-from .straight_layout import chain, grid_positions, places_between, positions
+from .straight_layout import grid_positions, places_between, positions
 from .straight_scenes import Chains, scene_beside, straight_scene, true_scene
 from .svg import NODE_COLOR, RIM_WIDTH, Paint, svg_of
+from .uncollected import uncollected
 from .verification import Defect, Judge, defects
 from .wider_angles import Effort
 
@@ -102,6 +103,7 @@ class Drawing:
         return data
 
 
+@uncollected()
 def drawing_of(
     result: Planarization,
     *,
@@ -191,13 +193,12 @@ def _scene(
         if same is not None:
             return same
         warnings.warn("too much is otherwise than in the drawing before: this one begins anew", PlanarWarning)
-    embedding = to_networkx_embedding(result)
-    places = positions(result, embedding) if pos is None else places_between(embedding, pos)
-    chains = Chains(result, {edge_id: chain(result, embedding, edge_id) for edge_id in result.edge_of}, places)
+    places = positions(result) if pos is None else places_between(to_networkx_embedding(result), pos)
+    chains = Chains(result, chains_of(result), places)
     scene, false = true_scene(chains, is_curved, names, color)
     if false and pos is None:
         warnings.warn("the points of the drawing lie too near to each other: it is drawn on a grid", PlanarWarning)
-        scene, false = true_scene(replace(chains, places=grid_positions(result, embedding)), is_curved, names, color)
+        scene, false = true_scene(replace(chains, places=grid_positions(result)), is_curved, names, color)
     if false and not keep_pos:
         raise FalseDrawing(false)
     if false:

@@ -58,16 +58,18 @@ def fill(
     """A connected plane graph without parallel edges with its faces filled, and with the ring in the face on the left
     of the dart `outer`. It is given by the neighbours of each node, clockwise, and its nodes are numbered in their
     order there."""
-    number = {node: place for place, node in enumerate(rotations)}
+    nodes = list(rotations)
+    number = {node: place for place, node in enumerate(nodes)}
     around = [[number[other] for other in others] for others in rotations.values()]
     filled = FilledGraph([[] for _ in around])
     for node, others in enumerate(around):
         for other in others:
             if node < other:
                 filled.link(node, other, 1.0)
-    for node in crossings:
-        first, second, third, fourth = around[number[node]]
-        filled.crossed.append((number[node], (first, second, third, fourth)))
+    for node, four in enumerate(around):
+        if nodes[node] in crossings:
+            first, second, third, fourth = four
+            filled.crossed.append((node, (first, second, third, fourth)))
     outside = (number[outer[0]], number[outer[1]])
     for face in _faces(around):
         if outside in zip(face, face[1:] + face[:1]):

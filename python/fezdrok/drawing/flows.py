@@ -2,9 +2,13 @@
 
 from __future__ import annotations
 
+from bisect import insort
 from collections.abc import Sequence
 from heapq import heappop, heappush
 from typing import NamedTuple
+
+#: Farther than any way: a whole number, as those are compared with each other sooner.
+FAR = 1 << 200
 
 
 class Arc(NamedTuple):
@@ -35,57 +39,71 @@ def least_cost_flow(demand: Sequence[int], arcs: Sequence[Arc]) -> tuple[list[in
 
 
 class _Residual:
-    """What is left of a network: arc 2i is the arc i, and 2i + 1 leads back."""
+    """What is left of a network: arc 2i is the arc i, and 2i + 1 leads back. `open` has for each node the arcs that can
+    carry more from there, in order, each with its end and its cost. Between searches no node is `reached`."""
 
     def __init__(self, demand: Sequence[int], arcs: Sequence[Arc]):
         self.left = [-number for number in demand]
         self.potential = [0] * len(demand)
-        self.head = [it for arc in arcs for it in (arc.end, arc.start)]
-        self.room = [it for arc in arcs for it in (arc.capacity, 0)]
-        self.cost = [it for arc in arcs for it in (arc.cost, -arc.cost)]
-        self.out: list[list[int]] = [[] for _ in demand]
-        for place, arc in enumerate(arcs):
-            self.out[arc.start].append(2 * place)
-            self.out[arc.end].append(2 * place + 1)
+        self.room: list[int] = []
+        self.halves: list[tuple[int, int, int]] = []
+        self.open: list[list[tuple[int, int, int]]] = [[] for _ in demand]
+        self.reached = [FAR] * len(demand)
+        self.last = [0] * len(demand)
+        for place, (start, end, capacity, cost) in enumerate(arcs):
+            self.room += (capacity, 0)
+            self.halves += ((2 * place, end, cost), (2 * place + 1, start, -cost))
+            if capacity:
+                self.open[start].append(self.halves[-2])
 
     def send(self, source: int) -> None:
         """Send as much as can be from a node to the nearest that wants something, and change the potentials of all
         nodes that are nearer."""
-        head, room, cost, potential, left = self.head, self.room, self.cost, self.potential, self.left
-        far: dict[int, int] = {}
-        reached = {source: 0}
-        last: dict[int, int] = {}
-        count = len(left)
+        potential, left, reached, last, count = self.potential, self.left, self.reached, self.last, len(self.left)
+        reached[source] = 0
+        seen, far = [source], []
         waiting = [source]  # a number for a way to a node, the shortest first
         end = None
         while end is None:
             if not waiting:
                 raise ValueError("the network takes no such flow")
             way, node = divmod(heappop(waiting), count)
-            if node in far:
+            if way > reached[node]:
                 continue
-            far[node] = way
+            if left[node] < 0:
+                end = node
+                break
+            far.append((node, way))
             base = way + potential[node]
-            end = node if left[node] < 0 else None
-            for arc in self.out[node] if end is None else ():
-                other = head[arc]
-                if room[arc] and other not in far:
-                    there = base + cost[arc] - potential[other]
-                    if other not in reached or there < reached[other]:
-                        reached[other], last[other] = there, arc
-                        if there == way and left[other] < 0:
-                            end = other
-                            break
-                        heappush(waiting, there * count + other)
-        for it, there in far.items():
-            potential[it] += there - way
+            for arc, other, cost in self.open[node]:
+                there = base + cost - potential[other]
+                if there < reached[other]:
+                    reached[other], last[other] = there, arc
+                    seen.append(other)
+                    if there == way and left[other] < 0:
+                        end = other
+                        break
+                    heappush(waiting, there * count + other)
+        for node, there in far:
+            potential[node] += there - way
+        for node in seen:
+            reached[node] = FAR
+        self._carry(source, end)
+
+    def _carry(self, source: int, end: int) -> None:
+        """Send as much as can be along the way that was found."""
         path, node = [], end
         while node != source:
-            path.append(last[node])
-            node = head[last[node] ^ 1]
-        amount = min(left[source], -left[end], *(room[arc] for arc in path))
-        left[source] -= amount
-        left[end] += amount
+            path.append(self.last[node])
+            node = self.halves[path[-1] ^ 1][1]
+        amount = min(self.left[source], -self.left[end], *(self.room[arc] for arc in path))
+        self.left[source] -= amount
+        self.left[end] += amount
         for arc in path:
-            room[arc] -= amount
-            room[arc ^ 1] += amount
+            back = self.halves[arc ^ 1]
+            if not self.room[arc ^ 1]:
+                insort(self.open[self.halves[arc][1]], back)
+            self.room[arc] -= amount
+            self.room[arc ^ 1] += amount
+            if not self.room[arc]:
+                self.open[back[1]].remove(self.halves[arc])

@@ -104,10 +104,7 @@ def _from_few_to_many(filled: FilledGraph) -> list[Position] | None:
             there.append(step.node)
         if len(there) >= GROWTH * moved:
             moved = len(there)
-            forces = _Forces.of_few(mesh, there)
-            for _ in range(max(1, min(ROUND_SWEEPS, 2 * FEW // moved))):
-                for node in there:
-                    forces.move(node, points)
+            _move_few(mesh, there, points, max(1, min(ROUND_SWEEPS, 2 * FEW // moved)))
     return points if rounds is not None and _is_plane(filled, points) else None
 
 
@@ -143,23 +140,6 @@ class _Forces:
         self.ends: list[Sequence[tuple[int, int, float]]] = [()] * count
         self.squared: list[Sequence[Position]] = [()] * count
         self.crossed: list[tuple[int, tuple[int, int, int, int]]] = []
-
-    @staticmethod
-    def of_few(mesh: Triangulation, there: Sequence[int]) -> "_Forces":
-        """What acts where only some nodes are there, each of which stands for several: a triangle pushes as much as
-        those that it will be. A node's weight is shared among the triangles at it."""
-        share = [weight / max(1, len(others)) for weight, others in zip(mesh.weight, mesh.around)]
-        count = 2 * len(there) + len(mesh.fixed) - 2
-        whole = sum(mesh.weight[node] for node in (*there, *mesh.fixed))
-        forces = _Forces(len(mesh.around), SHAPE / count)
-        for node in there:
-            others = mesh.around[node]
-            forces.links[node] = [(other, 1.0) for other in others]
-            forces.triangles[node] = [
-                (first, second, PUSH * ((share[node] + share[first] + share[second]) / whole) ** 2)
-                for first, second in zip(others, others[1:] + others[:1])
-            ]
-        return forces
 
     @staticmethod
     def of_all(filled: FilledGraph, weights: Mapping[tuple[int, int], float]) -> "_Forces":
@@ -222,35 +202,70 @@ class _Forces:
         return across / total, up / total, total
 
     def move(self, node: int, points: list[Position]) -> float:
-        """Move a node to where its energy would be least, by its slope and an estimate of its curvature, or a part of
-        that way, if that makes its energy less; how far it went."""
-        x, y = points[node]
-        middle_x, middle_y, total = pull = self.pull(node, points)
-        slope_x, slope_y, curvature = total * (x - middle_x), total * (y - middle_y), total
-        energy = (slope_x * slope_x + slope_y * slope_y) / total / 2
-        shape = self.shape
-        corners = []
-        for first, second, push in self.triangles[node]:
-            u, v = points[first]
-            r, s = points[second]
-            across, up = v - s, r - u
-            push += shape * (across * across + up * up)  # whatever the place of the node is
-            corners.append((u, v, r, s, push))
-            p, q, m, n = u - x, v - y, r - x, s - y
-            area = p * n - q * m
-            term = (push + shape * (p * p + q * q + m * m + n * n)) / area
-            force, thin = term / area, 2 * shape / area
-            slope_x -= force * across + thin * (p + m)
-            slope_y -= force * up + thin * (q + n)
-            curvature += force * (across * across + up * up) / area + 2 * thin
-            energy += term
-        way_x, way_y = -slope_x / curvature, -slope_y / curvature
-        for _ in range(5):
-            if _energy(x + way_x, y + way_y, pull, corners, shape) < energy:
-                points[node] = (x + way_x, y + way_y)
-                return max(abs(way_x), abs(way_y))
-            way_x, way_y = 0.35 * way_x, 0.35 * way_y
-        return 0.0
+        """Move a node to where its energy gets less; how far it went."""
+        return _move(node, points, self.pull(node, points), self.triangles[node], self.shape)
+
+
+def _move_few(mesh: Triangulation, there: Sequence[int], points: list[Position], sweeps: int) -> None:
+    """Move the nodes that are there, each of which stands for several, so many times: each pulls its neighbours alike,
+    and a triangle pushes as much as those that it will be. A node's weight is shared among the triangles at it."""
+    share = [weight / max(1, len(others)) for weight, others in zip(mesh.weight, mesh.around)]
+    whole = sum(mesh.weight[node] for node in (*there, *mesh.fixed))
+    shape = SHAPE / (2 * len(there) + len(mesh.fixed) - 2)
+    triangles = []
+    for node in there:
+        own, others = share[node], mesh.around[node]
+        behind = others[1:] + others[:1]
+        pushes = [PUSH * ((own + share[one] + share[two]) / whole) ** 2 for one, two in zip(others, behind)]
+        triangles.append((node, others, behind, pushes))
+    for _ in range(sweeps):
+        for node, others, behind, pushes in triangles:
+            across = up = 0.0
+            for other in others:
+                x, y = points[other]
+                across += x
+                up += y
+            total = float(len(others))
+            _move(node, points, (across / total, up / total, total), zip(others, behind, pushes), shape)
+
+
+def _move(
+    node: int,
+    points: list[Position],
+    pull: tuple[float, float, float],
+    triangles: Iterable[tuple[int, int, float]],
+    shape: float,
+) -> float:
+    """Move a node to where its energy would be least, by its slope and an estimate of its curvature, or a part of that
+    way, if that makes its energy less; how far it went. The triangles are as in _Forces."""
+    x, y = points[node]
+    middle_x, middle_y, total = pull
+    slope_x, slope_y, curvature = total * (x - middle_x), total * (y - middle_y), total
+    energy = (slope_x * slope_x + slope_y * slope_y) / total / 2
+    twice = 2 * shape
+    corners = []
+    for first, second, push in triangles:
+        u, v = points[first]
+        r, s = points[second]
+        across, up = v - s, r - u
+        length = across * across + up * up
+        push += shape * length  # whatever the place of the node is
+        corners.append((u, v, r, s, push))
+        p, q, m, n = u - x, v - y, r - x, s - y
+        area = p * n - q * m
+        term = (push + shape * (p * p + q * q + m * m + n * n)) / area
+        force, thin = term / area, twice / area
+        slope_x -= force * across + thin * (p + m)
+        slope_y -= force * up + thin * (q + n)
+        curvature += force * length / area + 2 * thin
+        energy += term
+    way_x, way_y = -slope_x / curvature, -slope_y / curvature
+    for _ in range(5):
+        if _energy(x + way_x, y + way_y, pull, corners, shape) < energy:
+            points[node] = (x + way_x, y + way_y)
+            return max(abs(way_x), abs(way_y))
+        way_x, way_y = 0.35 * way_x, 0.35 * way_y
+    return 0.0
 
 
 def _lines_through(crossed: Sequence[tuple[int, tuple[int, int, int, int]]]) -> list[_Line]:

@@ -3,7 +3,7 @@ all pairs."""
 
 from __future__ import annotations
 
-from collections.abc import Container, Iterable, Iterator, Sequence
+from collections.abc import Iterable, Iterator, Sequence
 from copy import copy
 from math import sqrt
 from typing import Any
@@ -32,12 +32,15 @@ class SegmentGrid:
         for square in self.passed(segment):
             self.squares.setdefault(square, []).append(place)
 
-    def without(self, gone: Container[int]) -> "SegmentGrid":
-        """A grid of the other segments, to be changed without this one."""
+    def remove(self, place: int, squares: Iterable[Square]) -> None:
+        """What is at this place less, which is in these squares."""
+        for square in squares:
+            self.squares[square].remove(place)
+
+    def copy(self) -> "SegmentGrid":
+        """The same grid, to be changed without this one."""
         other = copy(self)
-        other.squares = {
-            square: [place for place in places if place not in gone] for square, places in self.squares.items()
-        }
+        other.squares = {square: places[:] for square, places in self.squares.items()}
         return other
 
     @staticmethod
@@ -56,23 +59,27 @@ class SegmentGrid:
             for row in range(int(bottom // self.size), int(top // self.size) + 1):
                 yield column, row
 
-    def passed(self, segment: Segment) -> Iterator[Square]:
+    def passed(self, segment: Segment) -> list[Square]:
         """The squares that a segment passes, column by column."""
         x, y, u, v = segment[:4]
         if x > u:
             x, y, u, v = u, v, x, y
         size, spare = self.size, 1e-3 * self.size
         first, last = int((x - spare) // size), int((u + spare) // size)
+        if first == last:
+            low, high = (y, v) if y < v else (v, y)
+            return [(first, row) for row in range(int((low - spare) // size), int((high + spare) // size) + 1)]
+        found = []
         slope = (v - y) / (u - x) if u > x else 0.0
         for column in range(first, last + 1):
             low, high = y, v
-            if first < last and slope:
+            if slope:
                 low = y + slope * (min(max(x, column * size - spare), u) - x)
                 high = y + slope * (max(min(u, (column + 1) * size + spare), x) - x)
             if low > high:
                 low, high = high, low
-            for row in range(int((low - spare) // size), int((high + spare) // size) + 1):
-                yield column, row
+            found += [(column, row) for row in range(int((low - spare) // size), int((high + spare) // size) + 1)]
+        return found
 
     def along(self, segment: Segment) -> set[int]:
         """The places of all that are in the squares that a segment passes."""

@@ -14,10 +14,10 @@ from math import dist
 
 from ..engine.pictures import Crossing, Dart, Edge, Picture
 from ..engine.results import Planarization
-from ..files.embeddings import to_networkx_embedding
+from ..files.embeddings import chains_of
 from .face_routes import Position, route, spot_in_sight
 from .step_histories import History
-from .straight_layout import chain, positions
+from .straight_layout import positions
 
 
 @dataclass
@@ -86,12 +86,11 @@ def put_edge(drawn: StepLines, picture: Picture, row: Edge) -> None:
 
 def _last_lines(last: Planarization) -> StepLines:
     """The lines of a planarization that is drawn straight."""
-    embedding = to_networkx_embedding(last)
-    places = positions(last, embedding)
+    places, chains = positions(last), chains_of(last)
     drawn = StepLines([places[node] for node in last.node_of])
     crossing_of = {last.name_of(point): point.id for point in last.picture.points if point.is_crossing}
     for row in last.picture.edges:
-        nodes = chain(last, embedding, row.id)
+        nodes = chains[row.id]
         drawn.lines[row.id] = Line([places[node] for node in nodes], [crossing_of.get(node) for node in nodes])
     return drawn
 

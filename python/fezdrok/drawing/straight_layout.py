@@ -12,7 +12,7 @@ from ..engine.faults import PlanarWarning
 from ..engine.graph_edges import GraphEdge
 from ..engine.graph_pictures import Dummy
 from ..engine.results import Planarization
-from ..files.embeddings import to_networkx_embedding
+from ..files.embeddings import chains_of, rotations_of, to_networkx_embedding
 from .curves import edge_ways, turn_of
 from .orthogonal_layout import SHORT, path_order
 from .relaxation import between, spread
@@ -50,9 +50,8 @@ def positions(result: Planarization, embedding: "networkx.PlanarEmbedding | None
     order = path_order(result.picture)
     if order is not None and len(order) > SHORT:
         return {result.node_of[vertex]: place for vertex, place in zip(order, _spiral(len(order)))}
-    embedding = to_networkx_embedding(result) if embedding is None else embedding
     if not result.picture.edges:
-        return dict.fromkeys(embedding, (0.0, 0.0))
+        return dict.fromkeys(result.node_of, (0.0, 0.0))
     found = _Faces(result, embedding).best()
     if found is None:
         warnings.warn("no drawing was found in which faces are of like size: its points lie on a grid", PlanarWarning)
@@ -63,11 +62,11 @@ def positions(result: Planarization, embedding: "networkx.PlanarEmbedding | None
 class _Faces:
     """A planarization that is spread over a disk with one face or another outside."""
 
-    def __init__(self, result: Planarization, embedding: "networkx.PlanarEmbedding"):
-        self.result = result
-        self.rotations = {node: list(embedding.neighbors_cw_order(node)) for node in embedding}
+    def __init__(self, result: Planarization, embedding: "networkx.PlanarEmbedding | None"):
+        self.result, self.rotations, self.chains = result, rotations_of(result), chains_of(result)
+        if embedding is not None:
+            self.rotations = {node: list(embedding.neighbors_cw_order(node)) for node in embedding}
         self.crossings = frozenset(result.name_of(point) for point in result.picture.points if point.is_crossing)
-        self.chains = {row.id: chain(result, embedding, row.id) for row in result.picture.edges}
 
     def spread(self, face: int) -> dict[Any, Position] | None:
         """The points with a face outside."""

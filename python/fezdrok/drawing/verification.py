@@ -119,6 +119,7 @@ class Judge:
         judge.found, judge.yielding, judge.wrong = [], set(), set()
         for name in ("lines", "extents", "drawn", "places_of", "leaving", "tangents", "degree", "shapes"):
             setattr(judge, name, getattr(self, name).copy())
+        judge.grid, judge.boxes = self.grid.copy(), self.boxes.copy()
         there = {line.edge_id: line for line in page.lines}
         judge._take_out([edge_id for edge_id, line in self.drawn.items() if there.get(edge_id) is not line])
         fresh = [line for line in page.lines if line.edge_id not in judge.drawn]
@@ -138,8 +139,7 @@ class Judge:
         there = {self.result.vertex_of[node.node]: node for node in page.nodes}
         gone = {vertex for vertex, it in self.shapes.items() if there.get(vertex) is not it.page_node}
         for vertex in gone:
-            del self.shapes[vertex]
-        self.boxes = self.boxes.without(gone)
+            self.boxes.remove(vertex, self.boxes.covered(*self.shapes.pop(vertex).bounds))
         fresh = there.keys() - self.shapes.keys()
         for vertex in fresh:
             shape = self.shapes[vertex] = _Shape(there[vertex])
@@ -150,11 +150,10 @@ class Judge:
     def _judge_lines(self, judged: Sequence[int], edge_ids: Iterable[int]) -> None:
         """These lines, which come into the grid, beside all lines and nodes, and how these edges pass their points."""
         for place in judged:
-            if self.lines[place].piece in self.wrong:
-                continue  # it is drawn otherwise, and then judged
-            self.judged += 1
             squares = [self.grid.squares.setdefault(square, []) for square in self.grid.passed(self.lines[place])]
-            self._judge_line(place, squares)
+            if self.lines[place].piece not in self.wrong:  # or else it is drawn otherwise, and then judged
+                self.judged += 1
+                self._judge_line(place, squares)
             for others in squares:
                 others.append(place)
         points = {point for edge_id in edge_ids for point in self.picture.path(edge_id)}
@@ -223,10 +222,9 @@ class Judge:
 
     def _take_out(self, edge_ids: Sequence[int]) -> None:
         """The straight lines of these edges are there no more."""
-        gone = {place for edge_id in edge_ids for place in self.places_of.pop(edge_id)}
-        for place in gone:
-            del self.lines[place], self.extents[place]
-        self.grid = self.grid.without(gone)
+        for place in (place for edge_id in edge_ids for place in self.places_of.pop(edge_id)):
+            self.grid.remove(place, self.grid.passed(self.lines.pop(place)))
+            del self.extents[place]
         for edge_id in edge_ids:
             marks = [mark for mark in self.drawn.pop(edge_id).marks if mark is not None]
             for dart in (Dart(edge_id, segment, back) for segment in range(len(marks) - 1) for back in (False, True)):

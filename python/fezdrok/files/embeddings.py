@@ -65,6 +65,28 @@ def to_networkx_embedding(result: Planarization) -> PlanarEmbedding:
     return embedding
 
 
+def rotations_of(result: Planarization) -> dict[Any, list[Any]]:
+    """The neighbours of each node of that embedding, clockwise, without one: of a planarization with an edge whose
+    graph is connected."""
+    picture = result.picture
+    data = _neighbours(picture, _names(result), _bends(picture, result.layer))
+    order = dict.fromkeys(it for node, others in data.items() for it in (node, *reversed(others)))
+    return {node: data[node] for node in order}
+
+
+def chains_of(result: Planarization) -> dict[int, list[Any]]:
+    """The nodes of that embedding along each edge, from its end `a` to its end `b`, by edge ids."""
+    picture, names, bends = result.picture, _names(result), _bends(result.picture, result.layer)
+    chains: dict[int, list[Any]] = {}
+    for edge_id in result.edge_of:
+        first, *others = picture.path(edge_id)
+        chains[edge_id] = [names[first]]
+        for segment, point in enumerate(others):
+            bend = bends.get(Dart(edge_id, segment))
+            chains[edge_id] += [names[point]] if bend is None else [bend, names[point]]
+    return chains
+
+
 def _names(result: Planarization) -> dict[Point, Any]:
     """The node of the embedding for each point of the picture."""
     return {point: result.name_of(point) for point in result.picture.points}
