@@ -6,7 +6,7 @@ use std::sync::atomic::{AtomicU32, Ordering};
 const FEW_PASSES: u32 = 4;
 
 /// Of more passes so many have one at most.
-const MAX_COPIES: u32 = 3;
+const MAX_COPIES: u32 = 2;
 
 /// How many passes have a picture of their own, on which they look for routes. It bounds memory
 /// alone: no answer depends on it.
