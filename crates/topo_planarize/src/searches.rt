@@ -334,7 +334,7 @@ impl<F: PriceFn> Searches<F> {
         self.found.tries.extend_from_slice(search.tries())?;
         self.way.crossings = None;
         self.way.orders = 0;
-        let Some((rows, own)) = search.into_best() else {
+        let Some((rows, own)) = search.into_best(alloc)? else {
             return Ok(());
         };
         let edges = places_of(alloc, &edges, &own)?;

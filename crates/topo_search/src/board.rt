@@ -87,6 +87,11 @@ fn ids_before_renumbering(used: u32, limit: u32) -> u32 {
     used.saturating_add(spare.min(left))
 }
 
+/// Whether there are more vertices or edges than a picture may have.
+pub(crate) fn is_too_large(vertices: usize, edges: usize) -> bool {
+    vertices > LIMITS.vertices as usize || edges > LIMITS.edges as usize
+}
+
 /// How many there are, as a number of 32 bits.
 fn narrow(count: usize) -> u32 {
     u32::try_from(count).unwrap_or(u32::MAX)
@@ -115,12 +120,6 @@ impl<F: PriceFn> Board<F> {
             marks: Marks::new(alloc, edges)?,
             spent: 0,
         })
-    }
-
-    /// Whether the graph has more vertices or edges than a picture may have.
-    pub(crate) fn is_too_large(&self) -> bool {
-        self.graph.vertices > LIMITS.vertices as usize
-            || self.graph.edges.len() > LIMITS.edges as usize
     }
 
     /// How many crossings the picture has.

@@ -77,7 +77,7 @@ pub(crate) fn cost_of_rows(graph: &Graph, rows: &Rows) -> u64 {
 }
 
 /// So many empty lists.
-fn empty_lists(alloc: Global, count: usize) -> Result<Vec<Vec<u32>>, AllocError> {
+pub(crate) fn empty_lists(alloc: Global, count: usize) -> Result<Vec<Vec<u32>>, AllocError> {
     let mut lists = Vec::with_capacity(alloc, count)?;
     for _ in 0..count {
         lists.push(Vec::new(alloc))?;
@@ -86,7 +86,7 @@ fn empty_lists(alloc: Global, count: usize) -> Result<Vec<Vec<u32>>, AllocError>
 }
 
 /// Puts an edge into the list of a vertex.
-fn list_at(lists: &mut [Vec<u32>], vertex: u32, edge: u32) -> Result<(), AllocError> {
+pub(crate) fn list_at(lists: &mut [Vec<u32>], vertex: u32, edge: u32) -> Result<(), AllocError> {
     let place = vertex as usize;
     if place < lists.len() {
         lists[place].push(edge)?;

@@ -1,6 +1,6 @@
 //! The beginning of an order: a picture of a planar part of the graph.
 
-use crate::board::Board;
+use crate::board::{Board, is_too_large};
 use crate::graph::Graph;
 use crate::lists::{at, first_numbers, is_set, key_of, length_of, ordered_by};
 use crate::search::SearchFault;
@@ -59,7 +59,7 @@ fn begin_with_least(list: &mut Vec<u32>) {
 }
 
 /// Lists round vertices, each from its least edge on.
-fn rotations_of(alloc: Global, lists: Vec<Vec<u32>>) -> Result<Listed<Listed<u32>>, AllocError> {
+pub(crate) fn rotations_of(alloc: Global, lists: Vec<Vec<u32>>) -> Result<Listed<Listed<u32>>, AllocError> {
     let mut rotations = Vec::with_capacity(alloc, lists.len())?;
     for mut list in lists {
         begin_with_least(&mut list);
@@ -128,7 +128,7 @@ pub(crate) fn begin_order<F: PriceFn>(
     board: &mut Board<F>,
     is_random: bool,
 ) -> Result<Vec<u32>, SearchFault> {
-    if board.is_too_large() {
+    if is_too_large(board.graph.vertices, board.graph.edges.len()) {
         return Err(SearchFault::TooLarge);
     }
     let order = order_of(alloc, board, is_random)?;

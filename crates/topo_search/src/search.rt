@@ -2,10 +2,12 @@
 
 use crate::best::{Best, keep};
 use crate::board::{Board, Score};
+use crate::expansion::expanded;
 use crate::graph::{Graph, cost_of_rows};
 use crate::lists::{append, first_numbers, length_of};
 use crate::moves::{add_crossed, put_in};
 use crate::orders::{begin_order, first_forbidden};
+use crate::reduction::{Reduction, reduced};
 use crate::repair::Repair;
 use crate::shakes::{Shaken, about_shaken, shake};
 use std::alloc::{AllocError, Global};
@@ -105,6 +107,8 @@ const CROSSINGS_FOR_EACH: u64 = 10;
 /// A search for a picture of a graph with few crossings.
 pub struct Search<F: PriceFn> {
     board: Board<F>,
+    // How the graph of the board came of the whole one, where it is smaller.
+    reduction: Option<Reduction>,
     options: Options,
     stage: Stage,
     repair: Repair,
@@ -125,6 +129,7 @@ impl<F: PriceFn + Drop> Drop for Search<F> {
     fn drop(self) {
         let Search {
             board,
+            reduction,
             options: _,
             stage: _,
             repair,
@@ -137,6 +142,7 @@ impl<F: PriceFn + Drop> Drop for Search<F> {
             is_hurried: _,
         } = self;
         drop(board);
+        drop(reduction);
         drop(repair);
         drop(waiting);
         drop(shaken);
@@ -159,9 +165,11 @@ impl<F: PriceFn> Search<F> {
     where
         F: Drop,
     {
+        let (vertices, edges, reduction) = reduced(alloc, vertices, edges)?;
         let graph = Graph::new(alloc, vertices, edges, &tariff)?;
         Ok(Search {
             board: Board::new(alloc, graph, tariff, options.seed)?,
+            reduction,
             options,
             stage: Stage::Order,
             repair: Repair::none(alloc),
@@ -180,7 +188,11 @@ impl<F: PriceFn> Search<F> {
 
     /// Begins with a picture in place of an order: its rows, whose edges are those of the graph, in
     /// their order and with ids from 0 on. A picture that is none is a fault.
-    pub fn begin_from(&mut self, alloc: Global, rows: &Rows) -> Result<(), SearchFault> {
+    pub fn begin_from(&mut self, alloc: Global, rows: &Rows) -> Result<(), SearchFault>
+    where
+        F: Drop,
+    {
+        self.take_whole_graph(alloc)?;
         let edges = first_numbers(alloc, self.board.graph.edge_count())?;
         let cost = cost_of_rows(&self.board.graph, rows);
         self.board.load(alloc, rows, &edges, cost)?;
@@ -197,7 +209,9 @@ impl<F: PriceFn> Search<F> {
                 break;
             }
             if let Err(why) = self.advance(alloc) {
-                self.note_fault(alloc, why)?;
+                if let Err(fault) = self.note_fault(alloc, why) {
+                    return Err(self.in_whole_graph(fault));
+                }
             }
         }
         Ok(self.progress())
@@ -205,20 +219,13 @@ impl<F: PriceFn> Search<F> {
 
     /// The rows of the best picture so far, with ids from 0 on, and for each row of an edge the
     /// place of its edge in the graph. Each edge leads from its `a` to its `b`.
-    pub fn best(&self) -> Option<(&Rows, &[u32])> {
-        match &self.best {
-            Some(best) => Some((&best.rows, best.edges.as_slice())),
-            None => None,
-        }
-    }
-
-    /// As `best`, in place of the search.
-    pub fn into_best(self) -> Option<(Rows, Vec<u32>)>
+    pub fn into_best(self, alloc: Global) -> Result<Option<(Rows, Vec<u32>)>, AllocError>
     where
         F: Drop,
     {
         let Search {
             board,
+            reduction,
             options: _,
             stage: _,
             repair,
@@ -235,8 +242,13 @@ impl<F: PriceFn> Search<F> {
         drop(waiting);
         drop(shaken);
         drop(tries);
-        let Best { rows, edges, .. } = best?;
-        Some((rows, edges))
+        let Some(Best { rows, edges, .. }) = best else {
+            return Ok(None);
+        };
+        match reduction {
+            Some(reduction) => Ok(Some(expanded(alloc, &reduction, &rows, &edges)?)),
+            None => Ok(Some((rows, edges))),
+        }
     }
 
     /// The crossings at the end of each order.
@@ -247,6 +259,33 @@ impl<F: PriceFn> Search<F> {
     /// Leaves repair out until there is a picture.
     pub fn hurry(&mut self) {
         self.is_hurried = true;
+    }
+
+    /// Puts the whole graph on the board in place of the smaller one.
+    fn take_whole_graph(&mut self, alloc: Global) -> Result<(), AllocError>
+    where
+        F: Drop,
+    {
+        let Some(Reduction {
+            vertices, edges, ..
+        }) = self.reduction.take()
+        else {
+            return Ok(());
+        };
+        let tariff = Arc::clone(&self.board.tariff)?;
+        let graph = Graph::new(alloc, vertices, edges, &tariff)?;
+        self.board = Board::new(alloc, graph, tariff, self.options.seed)?;
+        Ok(())
+    }
+
+    /// A fault with the place of its edge in the whole graph.
+    fn in_whole_graph(&self, fault: SearchFault) -> SearchFault {
+        match (fault, &self.reduction) {
+            (SearchFault::NotPlanarized(edge), Some(reduction)) => {
+                SearchFault::NotPlanarized(reduction.paths.first(edge))
+            }
+            _ => fault,
+        }
     }
 
     /// Whether it has ended.

@@ -67,7 +67,7 @@ fn crossings_of(
     rt: &impl Abort,
     alloc: Global,
     edges: &[GraphEdge],
-    found: Option<(&Rows, &[u32])>,
+    found: Option<(Rows, Vec<u32>)>,
 ) -> Result<usize, Fail> {
     let (rows, places) = found.expect(rt, "a picture");
     let limits = Limits {
@@ -75,7 +75,7 @@ fn crossings_of(
         edges: 65_536,
         crossings: 1_048_576,
     };
-    let _picture = Picture::load(alloc, limits, rows)?;
+    let _picture = Picture::load(alloc, limits, &rows)?;
     assert_eq!(rt; rows.edges.len(), edges.len());
     let mut seen = Vec::new(alloc);
     for row in rows.edges.iter() {
@@ -119,7 +119,8 @@ fn outcome_of<F: PriceFn + Drop>(
             Err(why) => return Ok(Outcome::Fault(why)),
         }
     }
-    Ok(Outcome::Crossings(crossings_of(rt, alloc, edges, search.best())?))
+    let best = search.into_best(alloc)?;
+    Ok(Outcome::Crossings(crossings_of(rt, alloc, edges, best)?))
 }
 
 /// What a search comes to where kind 0 costs 1, kind 1 must not be crossed, and all others cost 10.
@@ -184,5 +185,143 @@ fn not_connected(rt: HostRuntime) -> Result<(), Fail> {
     };
     let found = outcome_at_prices(&rt, alloc, 3, &[edge], Effort::Quick)?;
     assert!(rt; matches!(found, Outcome::Fault(SearchFault::NotLoaded(_))));
+    Ok(())
+}
+
+/// A graph whose edges are paths of so many edges, each, and whose vertices have so many leaves.
+fn lengthened(
+    alloc: Global,
+    vertices: u32,
+    edges: &[GraphEdge],
+    length: u32,
+    leaves: u32,
+) -> Result<(u32, Vec<GraphEdge>), Fail> {
+    let mut long = Vec::new(alloc);
+    let mut next = vertices;
+    for edge in edges {
+        let mut from = edge.a;
+        for i in 0..length {
+            let is_last = i.wrapping_add(1) == length;
+            let to = if is_last { edge.b } else { next };
+            if !is_last {
+                next = next.wrapping_add(1);
+            }
+            // Every other one leads back.
+            let (a, b) = if i % 2 == 0 { (from, to) } else { (to, from) };
+            long.push(GraphEdge {
+                a,
+                b,
+                kind: edge.kind,
+            })?;
+            from = to;
+        }
+    }
+    for vertex in 0..vertices {
+        for _ in 0..leaves {
+            long.push(GraphEdge {
+                a: next,
+                b: vertex,
+                kind: 0,
+            })?;
+            next = next.wrapping_add(1);
+        }
+    }
+    Ok((next, long))
+}
+
+/// Leaves and paths of one kind change no crossings.
+#[test]
+fn leaves_and_paths(rt: HostRuntime) -> Result<(), Fail> {
+    let alloc = rt.alloc();
+    let edges = complete(alloc, 6, 0)?;
+    for (length, leaves) in [(1, 2), (3, 0), (2, 1)] {
+        let (vertices, long) = lengthened(alloc, 6, &edges, length, leaves)?;
+        let found = outcome_at_prices(&rt, alloc, vertices, &long, Effort::Default)?;
+        assert_eq!(rt; found, Outcome::Crossings(3));
+    }
+    Ok(())
+}
+
+/// Edges of a vertex of two that are of different kinds stay two.
+#[test]
+fn paths_of_two_kinds(rt: HostRuntime) -> Result<(), Fail> {
+    let alloc = rt.alloc();
+    let (vertices, mut edges) = lengthened(alloc, 6, &complete(alloc, 6, 0)?, 2, 0)?;
+    for i in 0..edges.len() {
+        edges[i].kind = (i % 2) as u32;
+    }
+    let found = outcome_at_prices(&rt, alloc, vertices, &edges, Effort::Default)?;
+    assert_eq!(rt; found, Outcome::Crossings(3));
+    Ok(())
+}
+
+/// Graphs of which little is left: trees, cycles, a cycle on a stem, parallel edges.
+#[test]
+fn small_remains(rt: HostRuntime) -> Result<(), Fail> {
+    let alloc = rt.alloc();
+    for ends in [
+        [(0, 1), (0, 2), (3, 0), (1, 4), (5, 4)].as_slice(),
+        &[(0, 1), (1, 2), (3, 2), (3, 0)],
+        &[(0, 1), (1, 2), (2, 3), (3, 4), (4, 2)],
+        &[(0, 1), (1, 0), (1, 0), (1, 2)],
+        &[(0, 1), (1, 0)],
+        &[(0, 1)],
+        &[(0, 1), (1, 2), (2, 0), (0, 3), (3, 4), (4, 0)],
+    ] {
+        let mut edges = Vec::new(alloc);
+        let mut vertices = 0;
+        for ends in ends {
+            let (a, b) = *ends;
+            edges.push(GraphEdge { a, b, kind: 0 })?;
+            vertices = vertices.max(a.max(b).wrapping_add(1));
+        }
+        let found = outcome_at_prices(&rt, alloc, vertices, &edges, Effort::Default)?;
+        assert_eq!(rt; found, Outcome::Crossings(0));
+    }
+    Ok(())
+}
+
+/// A search at price 1 for everything.
+fn begun(
+    alloc: Global,
+    vertices: u32,
+    edges: &[GraphEdge],
+    effort: Effort,
+) -> Result<Search<PriceTable>, Fail> {
+    let table = PriceTable::new([Some(1); KINDS])?;
+    table.laws();
+    let tariff = Arc::new(alloc, Tariff::new(table))?;
+    let options = Options { seed: 1, effort };
+    let copy = Vec::from_slice(alloc, edges)?;
+    Ok(Search::new(alloc, vertices as usize, copy, tariff, options)?)
+}
+
+/// Goes on to the end of a search.
+fn end<F: PriceFn>(alloc: Global, search: &mut Search<F>) -> Result<(), Fail> {
+    for _ in 0..1000 {
+        if search.step(alloc)? == Progress::Done {
+            break;
+        }
+    }
+    Ok(())
+}
+
+/// A search that begins with a picture that has leaves and paths.
+#[test]
+fn begun_from_a_picture(rt: HostRuntime) -> Result<(), Fail> {
+    let alloc = rt.alloc();
+    let (vertices, edges) = lengthened(alloc, 6, &complete(alloc, 6, 0)?, 2, 1)?;
+    let mut first = begun(alloc, vertices, &edges, Effort::Quick)?;
+    end(alloc, &mut first)?;
+    let (rows, places) = first.into_best(alloc)?.expect(&rt, "a picture");
+    let mut sorted = Vec::new(alloc);
+    for place in &places {
+        sorted.push(*edges.get(*place as usize).expect(&rt, "an edge"))?;
+    }
+    let mut second = begun(alloc, vertices, &sorted, Effort::Default)?;
+    second.begin_from(alloc, &rows)?;
+    end(alloc, &mut second)?;
+    let best = second.into_best(alloc)?;
+    assert_eq!(rt; crossings_of(&rt, alloc, &sorted, best)?, 3);
     Ok(())
 }
