@@ -1,6 +1,6 @@
 //! Which edge of the picture is which edge of the graph.
 
-use crate::lists::{NONE, at, equal_numbers, set};
+use crate::lists::{NONE, at, equal_items, set};
 use std::alloc::{AllocError, Global};
 
 /// Edge ids of pictures are below this number.
@@ -17,7 +17,7 @@ impl Ids {
     /// No id, for a graph with so many edges.
     pub(crate) fn new(alloc: Global, edges: usize) -> Result<Self, AllocError> {
         Ok(Ids {
-            of_edges: equal_numbers(alloc, edges, NONE)?,
+            of_edges: equal_items(alloc, edges, NONE)?,
             edges: Vec::new(alloc),
         })
     }

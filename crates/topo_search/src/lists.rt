@@ -13,11 +13,11 @@ pub(crate) fn at(list: &[u32], place: u32) -> u32 {
     }
 }
 
-/// Puts a number at a place, where there is one.
-pub(crate) fn set(list: &mut [u32], place: u32, number: u32) {
+/// Puts an item at a place, where there is one.
+pub(crate) fn set<T: Copy>(list: &mut [T], place: u32, item: T) {
     let place = place as usize;
     if place < list.len() {
-        list[place] = number;
+        list[place] = item;
     }
 }
 
@@ -29,15 +29,15 @@ pub(crate) fn is_set(list: &[bool], place: u32) -> bool {
     }
 }
 
-/// So many equal numbers.
-pub(crate) fn equal_numbers(
+/// So many equal items.
+pub(crate) fn equal_items<T: Copy>(
     alloc: Global,
     count: usize,
-    number: u32,
-) -> Result<Vec<u32>, AllocError> {
+    item: T,
+) -> Result<Vec<T>, AllocError> {
     let mut list = Vec::with_capacity(alloc, count)?;
     for _ in 0..count {
-        list.push(number)?;
+        list.push(item)?;
     }
     Ok(list)
 }
@@ -93,7 +93,7 @@ impl Marks {
     /// Marks on the numbers below a bound, none of which has one.
     pub(crate) fn new(alloc: Global, bound: usize) -> Result<Self, AllocError> {
         Ok(Marks {
-            rounds: equal_numbers(alloc, bound, 0)?,
+            rounds: equal_items(alloc, bound, 0)?,
             round: 1,
         })
     }

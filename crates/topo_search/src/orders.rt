@@ -2,7 +2,7 @@
 
 use crate::board::{Board, is_too_large};
 use crate::graph::Graph;
-use crate::lists::{at, first_numbers, is_set, key_of, length_of, ordered_by};
+use crate::lists::{at, equal_items, first_numbers, is_set, key_of, length_of, ordered_by, set};
 use crate::search::SearchFault;
 use std::alloc::{AllocError, Global};
 use topo_core::listed::Listed;
@@ -59,7 +59,10 @@ fn begin_with_least(list: &mut Vec<u32>) {
 }
 
 /// Lists round vertices, each from its least edge on.
-pub(crate) fn rotations_of(alloc: Global, lists: Vec<Vec<u32>>) -> Result<Listed<Listed<u32>>, AllocError> {
+pub(crate) fn rotations_of(
+    alloc: Global,
+    lists: Vec<Vec<u32>>,
+) -> Result<Listed<Listed<u32>>, AllocError> {
     let mut rotations = Vec::with_capacity(alloc, lists.len())?;
     for mut list in lists {
         begin_with_least(&mut list);
@@ -70,15 +73,9 @@ pub(crate) fn rotations_of(alloc: Global, lists: Vec<Vec<u32>>) -> Result<Listed
 
 /// Whether each edge is in a list.
 fn are_in(alloc: Global, edges: u32, list: &[u32]) -> Result<Vec<bool>, AllocError> {
-    let mut are = Vec::with_capacity(alloc, edges as usize)?;
-    for _ in 0..edges {
-        are.push(false)?;
-    }
+    let mut are = equal_items(alloc, edges as usize, false)?;
     for edge in list {
-        let place = *edge as usize;
-        if place < are.len() {
-            are[place] = true;
-        }
+        set(&mut are, *edge, true);
     }
     Ok(are)
 }

@@ -5,7 +5,7 @@
 
 use crate::board::is_too_large;
 use crate::groups::Groups;
-use crate::lists::{NONE, append, at, equal_numbers, is_set, length_of, set};
+use crate::lists::{NONE, append, at, equal_items, is_set, length_of, set};
 use std::alloc::{AllocError, Global};
 use topo_graph::GraphEdge;
 
@@ -38,6 +38,13 @@ struct Left {
     places: u32,
 }
 
+impl Left {
+    const NONE: Left = Left {
+        count: 0,
+        places: 0,
+    };
+}
+
 /// A graph while it is made smaller.
 #[derive(Drop)]
 struct Rest {
@@ -60,64 +67,29 @@ pub(crate) fn other_end(edge: GraphEdge, vertex: u32) -> u32 {
     if edge.a == vertex { edge.b } else { edge.a }
 }
 
-/// So many values that are false.
-fn falsehoods(alloc: Global, count: usize) -> Result<Vec<bool>, AllocError> {
-    let mut list = Vec::with_capacity(alloc, count)?;
-    for _ in 0..count {
-        list.push(false)?;
-    }
-    Ok(list)
-}
-
-/// Puts a truth value at a place, where there is one.
-fn mark(list: &mut [bool], place: u32, value: bool) {
-    let place = place as usize;
-    if place < list.len() {
-        list[place] = value;
-    }
-}
-
-/// Adds an edge to those left at a vertex.
-fn add_at(left: &mut [Left], vertex: u32, edge: u32) {
+/// Adds an edge to those left at a vertex, or takes it from them.
+fn note_at(left: &mut [Left], vertex: u32, edge: u32, is_left: bool) {
     let vertex = vertex as usize;
     if vertex < left.len() {
         let Left { count, places } = left[vertex];
         left[vertex] = Left {
-            count: count.saturating_add(1),
-            places: places ^ edge,
-        };
-    }
-}
-
-/// Takes an edge from those left at a vertex.
-fn take_at(left: &mut [Left], vertex: u32, edge: u32) {
-    let vertex = vertex as usize;
-    if vertex < left.len() {
-        let Left { count, places } = left[vertex];
-        left[vertex] = Left {
-            count: count.saturating_sub(1),
+            count: if is_left {
+                count.saturating_add(1)
+            } else {
+                count.saturating_sub(1)
+            },
             places: places ^ edge,
         };
     }
 }
 
 /// The edges at each vertex.
-fn all_left(
-    alloc: Global,
-    vertices: usize,
-    edges: &[GraphEdge],
-) -> Result<Vec<Left>, AllocError> {
-    let mut left = Vec::with_capacity(alloc, vertices)?;
-    for _ in 0..vertices {
-        left.push(Left {
-            count: 0,
-            places: 0,
-        })?;
-    }
+fn all_left(alloc: Global, vertices: usize, edges: &[GraphEdge]) -> Result<Vec<Left>, AllocError> {
+    let mut left = equal_items(alloc, vertices, Left::NONE)?;
     for place in 0..length_of(edges) {
         if let Some(edge) = edges.get(place as usize) {
-            add_at(&mut left, edge.a, place);
-            add_at(&mut left, edge.b, place);
+            note_at(&mut left, edge.a, place, true);
+            note_at(&mut left, edge.b, place, true);
         }
     }
     Ok(left)
@@ -127,13 +99,13 @@ impl Rest {
     /// A graph of which nothing was left out.
     fn new(alloc: Global, vertices: usize, edges: Vec<GraphEdge>) -> Result<Self, AllocError> {
         let left = all_left(alloc, vertices, &edges)?;
-        let is_done = falsehoods(alloc, edges.len())?;
+        let is_done = equal_items(alloc, edges.len(), false)?;
         Ok(Rest {
             count: length_of(&edges),
             edges,
             left,
             is_done,
-            is_inner: falsehoods(alloc, vertices)?,
+            is_inner: equal_items(alloc, vertices, false)?,
             leaves: Vec::new(alloc),
             paths: Groups::new(alloc)?,
             ends: Vec::new(alloc),
@@ -144,11 +116,16 @@ impl Rest {
     fn left_at(&self, vertex: u32) -> Left {
         match self.left.get(vertex as usize) {
             Some(left) => *left,
-            None => Left {
-                count: 0,
-                places: 0,
-            },
+            None => Left::NONE,
         }
+    }
+
+    /// An edge that was neither left out nor is on a path yet.
+    fn edge_left(&self, place: u32) -> Option<GraphEdge> {
+        if is_set(&self.is_done, place) {
+            return None;
+        }
+        self.edges.get(place as usize).copied()
     }
 
     /// The vertices with one edge.
@@ -164,7 +141,10 @@ impl Rest {
 
     /// Leaves a vertex out that has one edge, and answers the other end of that.
     fn leave_out(&mut self, vertex: u32) -> Result<Option<u32>, AllocError> {
-        let Left { count, places: place } = self.left_at(vertex);
+        let Left {
+            count,
+            places: place,
+        } = self.left_at(vertex);
         let Some(edge) = self.edges.get(place as usize).copied() else {
             return Ok(None);
         };
@@ -172,9 +152,9 @@ impl Rest {
             return Ok(None);
         }
         let other = other_end(edge, vertex);
-        take_at(&mut self.left, vertex, place);
-        take_at(&mut self.left, other, place);
-        mark(&mut self.is_done, place, true);
+        note_at(&mut self.left, vertex, place, false);
+        note_at(&mut self.left, other, place, false);
+        set(&mut self.is_done, place, true);
         self.count = self.count.saturating_sub(1);
         self.leaves.push(Leaf {
             vertex,
@@ -205,7 +185,7 @@ impl Rest {
         if count == 2 {
             if let Some(other) = self.edges.get((places ^ place) as usize) {
                 let is_inner = other.kind == kind;
-                mark(&mut self.is_inner, vertex, is_inner);
+                set(&mut self.is_inner, vertex, is_inner);
             }
         }
     }
@@ -213,10 +193,7 @@ impl Rest {
     /// Notes which vertices are inside paths, and says whether some are.
     fn note_inners(&mut self) -> bool {
         for place in 0..length_of(&self.edges) {
-            if let (false, Some(edge)) = (
-                is_set(&self.is_done, place),
-                self.edges.get(place as usize).copied(),
-            ) {
+            if let Some(edge) = self.edge_left(place) {
                 self.note_inner(edge.a, place, edge.kind);
                 self.note_inner(edge.b, place, edge.kind);
             }
@@ -257,7 +234,7 @@ impl Rest {
         let (mut end, mut last) = (other_end(edge, vertex), place);
         for _ in 0..self.edges.len() {
             self.paths.push(last)?;
-            mark(&mut self.is_done, last, true);
+            set(&mut self.is_done, last, true);
             let Some((behind, next)) = self.next_on_path(end, last) else {
                 break;
             };
@@ -271,13 +248,13 @@ impl Rest {
     /// makes two edges of it, for an edge has two ends.
     fn take_path(&mut self, vertex: u32, place: u32, edge: GraphEdge) -> Result<(), AllocError> {
         // It ends there, also where it runs round.
-        mark(&mut self.is_inner, vertex, false);
+        set(&mut self.is_inner, vertex, false);
         let kind = edge.kind;
         let mut begin = vertex;
         let end = self.follow(vertex, place, edge)?;
         if begin == end {
             let second = other_end(edge, vertex);
-            mark(&mut self.is_inner, second, false);
+            set(&mut self.is_inner, second, false);
             self.paths.close_first()?;
             self.ends.push(GraphEdge {
                 a: begin,
@@ -299,10 +276,7 @@ impl Rest {
     /// Makes each path an edge, in the order of their first edges.
     fn take_paths(&mut self) -> Result<(), AllocError> {
         for place in 0..length_of(&self.edges) {
-            if let (false, Some(edge)) = (
-                is_set(&self.is_done, place),
-                self.edges.get(place as usize).copied(),
-            ) {
+            if let Some(edge) = self.edge_left(place) {
                 let (vertex, first) = self.begin_of(place, edge);
                 if let Some(edge) = self.edges.get(first as usize).copied() {
                     self.take_path(vertex, first, edge)?;
@@ -314,9 +288,9 @@ impl Rest {
 
     /// The vertices that are neither left out nor inside a path.
     fn kept(&self, alloc: Global) -> Result<Vec<u32>, AllocError> {
-        let mut is_out = falsehoods(alloc, self.left.len())?;
+        let mut is_out = equal_items(alloc, self.left.len(), false)?;
         for leaf in &self.leaves {
-            mark(&mut is_out, leaf.vertex, true);
+            set(&mut is_out, leaf.vertex, true);
         }
         let mut kept = Vec::new(alloc);
         for vertex in 0..length_of(&self.left) {
@@ -335,7 +309,7 @@ fn renumber(
     kept: &[u32],
     edges: &mut [GraphEdge],
 ) -> Result<(), AllocError> {
-    let mut places = equal_numbers(alloc, vertices, NONE)?;
+    let mut places = equal_items(alloc, vertices, NONE)?;
     for place in 0..length_of(kept) {
         set(&mut places, at(kept, place), place);
     }

@@ -266,9 +266,13 @@ impl<F: PriceFn> Search<F> {
     where
         F: Drop,
     {
-        let Some(Reduction {
-            vertices, edges, ..
-        }) = self.reduction.take()
+        let Some(
+            Reduction {
+                vertices,
+                edges,
+                ..
+            },
+        ) = self.reduction.take()
         else {
             return Ok(());
         };
