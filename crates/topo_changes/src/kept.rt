@@ -13,7 +13,6 @@ ghost use Rattle.topo_changes.specs.Keeping.{body_of, crossing_row, edge_of, edg
 ghost use Rattle.topo_changes.specs.Keeping.{rows_of, viewed_row};
 ghost use Rattle.topo_table.specs.Places.{AreBelow, entry_at};
 
-use crate::copies::copy_path;
 use crate::rotation::{
     Rotation, copied_rotations, listed_rotations, rotations_as_lists, rotations_of,
 };
@@ -52,6 +51,17 @@ pub(crate) struct EdgeBody {
     pub(crate) b: u32,
     pub(crate) kind: u32,
     pub(crate) crossings: Listed<u32>,
+}
+
+/// A copy of a path.
+fn copy_path(alloc: Global, path: &[u32]) -> Result<Listed<u32>, AllocError>
+    ensures { IfOk result (λ copy. copy ≡ path.now) }
+{
+    if path.is_empty() {
+        return Ok(Listed::new(alloc));
+    }
+    let crossings = Vec::from_slice(alloc, path)?;
+    Ok(Listed::from_vec(crossings))
 }
 
 impl TryCopy for EdgeBody {
@@ -122,13 +132,22 @@ impl Model for KeptRows {
 }
 
 impl KeptRows {
-    /// Keeps rows whose edges and crossings have ids that rise.
-    pub fn of(alloc: Global, rows: Rows) -> Result<Self, AllocError>
-        requires crossings { has_good_crossings rows ≡ true }
-        requires edges { has_good_paths rows ≡ true }
-        ensures { IfOk result (λ kept. kept ≡ rows) }
+    /// Equal rows as they are kept, in memory of their own. The ids of edges and of crossings rise.
+    pub fn of(alloc: Global, rows: &Rows) -> Result<Self, AllocError>
+        requires crossings { has_good_crossings rows.now ≡ true }
+        requires edges { has_good_paths rows.now ≡ true }
+        ensures { IfOk result (λ kept. kept ≡ rows.now) }
     {
-        kept_copy(alloc, &rows)
+        let edges = edge_table(alloc, rows.edges.as_slice(), rows.next_edge)?;
+        let crossings = table_of(alloc, rows.crossings.as_slice(), rows.next_crossing)?;
+        let rotations = rotations_of(alloc, rows.rotations.as_slice())?;
+        Ok(KeptRows {
+            rotations: Listed::from_vec(rotations),
+            edges,
+            crossings,
+            next_edge: rows.next_edge,
+            next_crossing: rows.next_crossing,
+        })
     }
 
     /// A copy of them as plain rows.
@@ -261,24 +280,6 @@ impl KeptRows {
     {
         self.next_crossing
     }
-}
-
-/// Equal rows as they are kept, in memory of their own.
-fn kept_copy(alloc: Global, rows: &Rows) -> Result<KeptRows, AllocError>
-    requires crossings { has_good_crossings rows.now ≡ true }
-    requires edges { has_good_paths rows.now ≡ true }
-    ensures { IfOk result (λ kept. kept ≡ rows.now) }
-{
-    let edges = edge_table(alloc, rows.edges.as_slice(), rows.next_edge)?;
-    let crossings = table_of(alloc, rows.crossings.as_slice(), rows.next_crossing)?;
-    let rotations = rotations_of(alloc, rows.rotations.as_slice())?;
-    Ok(KeptRows {
-        rotations: Listed::from_vec(rotations),
-        edges,
-        crossings,
-        next_edge: rows.next_edge,
-        next_crossing: rows.next_crossing,
-    })
 }
 
 /// A crossing with its id.

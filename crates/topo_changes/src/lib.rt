@@ -8,7 +8,6 @@
 //! edit. The crates above cite these laws, whatever they keep beside the rows.
 #![tactic(auto)]
 
-pub mod copies;
 pub mod deletion;
 pub mod growth;
 pub mod insertion;

@@ -86,13 +86,13 @@ impl Model for Embedded {
 impl Embedded {
     /// The embedding of well-formed rows, few enough for numbers of 32 bits, whose darts turn as
     /// said.
-    pub fn of(alloc: Global, rows: Rows, turns: Turns) -> Result<Self, AllocError>
-        requires well_formed { IsWellFormed rows }
-        requires few { 2 * sum_by segment_count rows.edges < 2 ^ 32 }
-        requires turns { AreTurnsOf rows turns.begins.items turns.images.items }
-        ensures { IfOk result (λ e. e.rows ≡ rows) }
+    pub fn of(alloc: Global, rows: &Rows, turns: Turns) -> Result<Self, AllocError>
+        requires well_formed { IsWellFormed rows.now }
+        requires few { 2 * sum_by segment_count rows.now.edges < 2 ^ 32 }
+        requires turns { AreTurnsOf rows.now turns.begins.items turns.images.items }
+        ensures { IfOk result (λ e. e.rows ≡ rows.now) }
     {
-        let (segments, paths) = embedding_of(alloc, &rows, &turns)?;
+        let (segments, paths) = embedding_of(alloc, rows, &turns)?;
         let rows = KeptRows::of(alloc, rows)?;
         let kinds = Kinds::of(alloc, &rows)?;
         let parts = Parts {

@@ -6,7 +6,6 @@ use crate::faces::face_from;
 use std::alloc::{AllocError, Global};
 use std::marker::Model;
 use topo_changes::KeptRows;
-use topo_changes::copies::copy_rows;
 use topo_changes::growth::one_listed;
 use topo_core::calls::Refusal;
 use topo_core::darts::Dart;
@@ -56,7 +55,7 @@ impl Model for Picture {
 
 impl Picture {
     ghost use Rattle.std.specs.Prelude.{◌≡◌, ◌≢◌, ◌⊎◌, ◌↔◌, ◌+◌, ◌<◌, ℕ, true, IfOk, IfErr};
-    ghost use Rattle.std.specs.Prelude.{IfSome, IsTrue, OnErr, OnOk, length, is_some, Some, None};
+    ghost use Rattle.std.specs.Prelude.{IfSome, IsTrue, OnErr, OnOk, length, is_some, nat_le, Some, None};
     ghost use Rattle.topo_core.specs.Pictures.{seed};
     ghost use Rattle.topo_core.specs.Routes.{IsSimpleRoute};
     ghost use Rattle.topo_core.specs.Changes.{IsCut, grown, shown, without};
@@ -78,7 +77,7 @@ impl Picture {
     {
         let rows = seed_rows(alloc)?;
         let turns = turns_of(alloc, &rows)?;
-        let embedded = Embedded::of(alloc, rows, turns)?;
+        let embedded = Embedded::of(alloc, &rows, turns)?;
         Ok(Picture { limits, embedded })
     }
 
@@ -102,6 +101,13 @@ impl Picture {
         ensures { result ≡ self.now.limits }
     {
         self.limits
+    }
+
+    /// Whether no crossing id is left.
+    pub fn has_no_crossing_left(&self) -> bool
+        ensures { result ≡ nat_le self.now.limits.crossings self.now.rows.next_crossing }
+    {
+        self.limits.crossings <= self.embedded.rows().next_crossing()
     }
 
     /// How large the picture with these rows and limits is, which is not made. Rows that are none
@@ -498,7 +504,7 @@ fn judged(alloc: Global, limits: &Limits, rows: &Rows) -> Result<Turns, LoadFaul
     }
 }
 
-/// The picture with a copy of these rows, which are lawful and whose darts turn as said.
+/// The picture with these rows, which are lawful and whose darts turn as said.
 fn new_picture(
     alloc: Global,
     limits: Limits,
@@ -510,8 +516,7 @@ fn new_picture(
     ensures rows { IfOk result (λ p. p.rows ≡ rows.now) }
     ensures limits { IfOk result (λ p. p.limits ≡ limits) }
 {
-    let copy = copy_rows(alloc, rows)?;
-    let embedded = Embedded::of(alloc, copy, turns)?;
+    let embedded = Embedded::of(alloc, rows, turns)?;
     Ok(Picture { limits, embedded })
 }
 

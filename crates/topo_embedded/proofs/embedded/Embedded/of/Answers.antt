@@ -25,6 +25,6 @@ invariant_of-result c =
       c.requires.well_formed,
       c.in_ok-segments.ensures.shows,
       c.in_ok-segments.ensures.kept,
-      searches_none (now c.args.rows) c.none.ensures.0
+      searches_none (now c.args.rows.now) c.none.ensures.0
           (subst (λ (rows : Rows). AreKindsOf rows c.in_ok-kinds.kinds) c.in_ok-rows.ensures c.in_ok-kinds.ensures),
     )
