@@ -4,12 +4,19 @@ use Rattle.std.specs.Ordering.{nat_cmp, ordering_then, is_gt}
 use Rattle.std.specs.declared.cmp.Ordering.{Ordering}
 use Rattle.std.specs.declared.cmp.Ordering.TheVariants.{Less, Equal, Greater}
 use Rattle.topo_core.specs.declared.darts.Dart.{Dart}
+use Rattle.topo_core.specs.declared.darts.Sign.{Sign}
+use Rattle.topo_core.specs.declared.darts.Sign.TheVariants.{LeftToRight, RightToLeft}
 use Rattle.topo_core.specs.declared.darts.Way.{Way}
 use Rattle.topo_core.specs.declared.darts.Way.TheVariants.{Forward, Back}
 
 abbrev pub reversed : Way → Way
 reversed Forward = Back
 reversed Back = Forward
+
+-- the sign of a crossing as it is seen once one of its two edges is turned round, or along the other one
+abbrev pub opposite : Sign → Sign
+opposite LeftToRight = RightToLeft
+opposite RightToLeft = LeftToRight
 
 -- the twin: the same segment, the other way
 abbrev pub dart_twin : Dart → Dart

@@ -33,3 +33,18 @@ pub enum Sign {
     LeftToRight,
     RightToLeft,
 }
+
+impl Sign {
+    ghost use Rattle.std.specs.Prelude.{◌≡◌};
+    ghost use Rattle.topo_core.specs.Darts.{opposite};
+
+    /// The sign that is seen once one of the two edges is turned round, or along the other one.
+    pub fn opposite(self) -> Self
+        ensures { result ≡ opposite self }
+    {
+        match self {
+            Sign::LeftToRight => Sign::RightToLeft,
+            Sign::RightToLeft => Sign::LeftToRight,
+        }
+    }
+}

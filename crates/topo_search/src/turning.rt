@@ -2,7 +2,6 @@
 
 use crate::lists::{at, is_set};
 use std::alloc::{AllocError, Global};
-use topo_core::darts::Sign;
 use topo_core::rows::{CrossRow, EdgeRow, Rows};
 use topo_graph::GraphEdge;
 
@@ -41,20 +40,12 @@ fn turn_edges(rows: &mut [EdgeRow], turned: &[bool]) {
     }
 }
 
-/// The sign seen from the other end of one of the two edges.
-fn opposite(sign: Sign) -> Sign {
-    match sign {
-        Sign::LeftToRight => Sign::RightToLeft,
-        Sign::RightToLeft => Sign::LeftToRight,
-    }
-}
-
 /// Changes the signs of the crossings of which one of the two edges was turned round.
 fn turn_crossings(rows: &mut [CrossRow], turned: &[bool]) {
     for i in 0..rows.len() {
         let row = rows[i];
         if is_set(turned, row.crossed) != is_set(turned, row.newcomer) {
-            rows[i].sign = opposite(row.sign);
+            rows[i].sign = row.sign.opposite();
         }
     }
 }

@@ -1,7 +1,7 @@
 -- What is answered about edges and vertices.
 use Rattle.std.specs.Prelude.{ℕ, ◌==◌, nat_lt, List, [], ◌∷◌, map, length, Option, None, Some, option_map, if◌then◌else◌}
 use Rattle.topo_core.specs.declared.darts.Sign.{Sign}
-use Rattle.topo_core.specs.declared.darts.Sign.TheVariants.{LeftToRight, RightToLeft}
+use Rattle.topo_core.specs.Darts.{opposite}
 use Rattle.topo_core.specs.declared.rows.CrossRow.{CrossRow}
 use Rattle.topo_core.specs.declared.rows.EdgeRow.{EdgeRow}
 use Rattle.topo_core.specs.declared.rows.Rows.{Rows}
@@ -14,10 +14,6 @@ use Rattle.topo_session.specs.declared.vertices.End.TheVariants.{A, B}
 use Rattle.topo_session.specs.declared.vertices.VertexAnswer.{VertexAnswer}
 
 -- ---- Edges
-
-abbrev pub opposite : Sign → Sign
-opposite LeftToRight = RightToLeft
-opposite RightToLeft = LeftToRight
 
 -- the edge of a crossing that is not e
 abbrev pub other_edge : ℕ → CrossRow → ℕ

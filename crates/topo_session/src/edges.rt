@@ -4,7 +4,7 @@ ghost use Rattle.std.specs.Prelude.{◌≡◌, ℕ, IfOk, List, Option};
 ghost use Rattle.topo_changes.specs.Keeping.{viewed_row};
 ghost use Rattle.topo_core.specs.Picture.{cross_row};
 ghost use Rattle.topo_settings.specs.Settings.{price_of_kind};
-ghost use Rattle.topo_session.specs.Questions.{edge_found, meeting_of, meetings_on, opposite};
+ghost use Rattle.topo_session.specs.Questions.{edge_found, meeting_of, meetings_on};
 ghost use Rattle.topo_session.specs.Questions.{other_edge, sign_along};
 
 use std::alloc::{AllocError, Global};
@@ -36,16 +36,6 @@ pub struct EdgeAnswer {
     pub price: Option<u32>,
 }
 
-/// The sign of a crossing as the other edge sees it.
-fn opposite(sign: Sign) -> Sign
-    ensures { result ≡ opposite sign }
-{
-    match sign {
-        Sign::LeftToRight => Sign::RightToLeft,
-        Sign::RightToLeft => Sign::LeftToRight,
-    }
-}
-
 /// A crossing as it is met along edge `e`.
 fn meeting_of(e: u32, row: CrossRow) -> Meeting
     ensures { result ≡ meeting_of e row }
@@ -60,7 +50,7 @@ fn meeting_of(e: u32, row: CrossRow) -> Meeting
         Meeting {
             crossing: row.id,
             other: row.crossed,
-            sign: opposite(row.sign),
+            sign: row.sign.opposite(),
         }
     }
 }
