@@ -28,6 +28,20 @@ pub enum ReplayFault {
     Memory,
 }
 
+impl ReplayFault {
+    ghost use Rattle.topo_book.specs.FaultTexts.{fault_of};
+
+    /// The fault that it is.
+    pub fn fault(&self) -> Fault
+        ensures { result ≡ fault_of self.now }
+    {
+        match self {
+            ReplayFault::WrongReply(_) => Fault::WrongReply,
+            ReplayFault::Memory => Fault::Memory,
+        }
+    }
+}
+
 impl fmt::Display for ReplayFault {
     ghost use Rattle.std.specs.Prelude.{Some};
     ghost use Rattle.topo_book.specs.FaultTexts.{fault_text};
@@ -35,9 +49,10 @@ impl fmt::Display for ReplayFault {
     ghost output = { λ fault. Some (fault_text fault) };
 
     fn fmt<W: fmt::Write>(&self, f: &mut fmt::Formatter<W>) -> fmt::Result {
+        let fault = self.fault();
         match self {
-            ReplayFault::WrongReply(place) => write!(f, "{} {place}", Fault::WrongReply),
-            ReplayFault::Memory => write!(f, "{}", Fault::Memory),
+            ReplayFault::WrongReply(place) => write!(f, "{fault} {place}"),
+            ReplayFault::Memory => write!(f, "{fault}"),
         }
     }
 }

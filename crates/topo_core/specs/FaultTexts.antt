@@ -1,12 +1,10 @@
--- Which fault a refusal is, and its text; the text of limits out of range.
+-- Which fault a refusal is, and its text.
 use Rattle.std.specs.Prelude.{ℕ, List, decimal}
 use Rattle.topo_faults.specs.declared.Fault.{Fault}
 use Rattle.topo_faults.specs.declared.Fault.TheVariants as known
 use Rattle.topo_faults.specs.Faults.{number, told, told_with}
 use Rattle.topo_core.specs.declared.calls.Refusal.{Refusal}
 use Rattle.topo_core.specs.declared.calls.Refusal.TheVariants.{NoVertex, SameEnds, NoPosition, NoEdge, BadKind, Cut, Full, Memory, NoRoute}
-use Rattle.topo_core.specs.declared.limits.LimitsFault.{LimitsFault}
-use Rattle.topo_core.specs.declared.limits.LimitsFault.TheVariants.{BadLimits}
 
 abbrev pub refusal_fault : Refusal → Fault
 refusal_fault NoVertex = known.NoVertex
@@ -26,6 +24,3 @@ refusal_number why = number (refusal_fault why)
 abbrev pub refusal_text : Refusal → List ℕ
 refusal_text (Cut segment) = told_with known.Cut (decimal segment)
 refusal_text why = told (refusal_fault why)
-
-abbrev pub limits_text : LimitsFault → List ℕ
-limits_text BadLimits = told known.BadLimits

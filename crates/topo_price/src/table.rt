@@ -18,14 +18,26 @@ pub enum PriceFault {
     BadPrice(u8),
 }
 
+impl PriceFault {
+    /// The fault that it is.
+    pub fn fault(&self) -> Fault
+        ensures { result ≡ Fault.BadPrice }
+    {
+        match self {
+            PriceFault::BadPrice(_) => Fault::BadPrice,
+        }
+    }
+}
+
 impl fmt::Display for PriceFault {
     ghost use Rattle.topo_price.specs.FaultTexts.{fault_text};
 
     ghost output = { λ fault. Some (fault_text fault) };
 
     fn fmt<W: fmt::Write>(&self, f: &mut fmt::Formatter<W>) -> fmt::Result {
+        let fault = self.fault();
         match self {
-            PriceFault::BadPrice(kind) => write!(f, "{} {kind}", Fault::BadPrice),
+            PriceFault::BadPrice(kind) => write!(f, "{fault} {kind}"),
         }
     }
 }

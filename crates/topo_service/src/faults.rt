@@ -1,7 +1,9 @@
 //! What refuses a pass, a view, a plan, or the end of a service.
 
-ghost use Rattle.std.specs.Prelude.{Some};
-ghost use Rattle.topo_service.specs.FaultTexts.{end_text, pass_text, service_text};
+ghost use Rattle.std.specs.Prelude.{◌≡◌, Some};
+ghost use Rattle.topo_faults.specs.Faults.{told};
+ghost use Rattle.topo_faults.specs.declared.Fault.TheVariants.{NoSeat};
+ghost use Rattle.topo_service.specs.FaultTexts.{end_fault, end_text, pass_fault, pass_text};
 
 use std::fmt;
 use thiserror::Error;
@@ -14,13 +16,23 @@ pub enum ServiceFault {
     NoSeat,
 }
 
+impl ServiceFault {
+    /// The fault that it is.
+    pub fn fault(self) -> Fault
+        ensures { result ≡ Fault.NoSeat }
+    {
+        match self {
+            ServiceFault::NoSeat => Fault::NoSeat,
+        }
+    }
+}
+
 impl fmt::Display for ServiceFault {
-    ghost output = { λ fault. Some (service_text fault) };
+    ghost output = { λ _. Some (told NoSeat) };
 
     fn fmt<W: fmt::Write>(&self, f: &mut fmt::Formatter<W>) -> fmt::Result {
-        match self {
-            ServiceFault::NoSeat => write!(f, "{}", Fault::NoSeat),
-        }
+        let fault = self.fault();
+        write!(f, "{fault}")
     }
 }
 
@@ -32,12 +44,25 @@ pub enum PassFault {
     Refused(Refusal),
 }
 
+impl PassFault {
+    /// The fault that it is.
+    pub fn fault(self) -> Fault
+        ensures { result ≡ pass_fault self }
+    {
+        match self {
+            PassFault::NoView => Fault::NoView,
+            PassFault::Refused(why) => why.fault(),
+        }
+    }
+}
+
 impl fmt::Display for PassFault {
     ghost output = { λ fault. Some (pass_text fault) };
 
     fn fmt<W: fmt::Write>(&self, f: &mut fmt::Formatter<W>) -> fmt::Result {
+        let fault = self.fault();
         match self {
-            PassFault::NoView => write!(f, "{}", Fault::NoView),
+            PassFault::NoView => write!(f, "{fault}"),
             PassFault::Refused(why) => write!(f, "{why}"),
         }
     }
@@ -53,13 +78,26 @@ pub enum EndFault {
     Mismatch(u32, usize),
 }
 
+impl EndFault {
+    /// The fault that it is.
+    pub fn fault(self) -> Fault
+        ensures { result ≡ end_fault self }
+    {
+        match self {
+            EndFault::PassMissing(_) => Fault::PassMissing,
+            EndFault::Mismatch(_, _) => Fault::Mismatch,
+        }
+    }
+}
+
 impl fmt::Display for EndFault {
     ghost output = { λ fault. Some (end_text fault) };
 
     fn fmt<W: fmt::Write>(&self, f: &mut fmt::Formatter<W>) -> fmt::Result {
+        let fault = self.fault();
         match self {
-            EndFault::PassMissing(pass) => write!(f, "{} {pass}", Fault::PassMissing),
-            EndFault::Mismatch(pass, place) => write!(f, "{} {pass} {place}", Fault::Mismatch),
+            EndFault::PassMissing(pass) => write!(f, "{fault} {pass}"),
+            EndFault::Mismatch(pass, place) => write!(f, "{fault} {pass} {place}"),
         }
     }
 }

@@ -5,7 +5,6 @@ use Rattle.topo_faults.specs.declared.Fault.TheVariants as known
 use Rattle.topo_faults.specs.Faults.{number, told, told_with}
 use Rattle.topo_forms.specs.FaultTexts.{fault_of as script_fault, fault_text as script_text}
 use Rattle.topo_rows.specs.FaultTexts.{fault_of as load_fault}
-use Rattle.topo_price.specs.declared.table.PriceFault.TheVariants.{BadPrice}
 use Rattle.topo_price.specs.FaultTexts.{fault_text as price_text}
 use Rattle.topo_graph.specs.FaultTexts.{fault_of as graph_fault, fault_text as graph_text}
 use Rattle.topo_settings.specs.declared.fault.RunFault.{RunFault}
@@ -16,7 +15,7 @@ abbrev pub fault_of : RunFault → Fault
 fault_of Memory = known.Memory
 fault_of (Script fault) = script_fault fault
 fault_of BadLimits = known.BadLimits
-fault_of (Price (BadPrice kind)) = known.BadPrice
+fault_of (Price fault) = known.BadPrice
 fault_of (Load fault) = load_fault fault
 fault_of (Graph fault) = graph_fault fault
 fault_of NoSeat = known.NoSeat

@@ -46,7 +46,7 @@ impl RunFault {
             RunFault::Memory => Fault::Memory,
             RunFault::Script(script) => script.fault(),
             RunFault::BadLimits => Fault::BadLimits,
-            RunFault::Price(PriceFault::BadPrice(_)) => Fault::BadPrice,
+            RunFault::Price(price) => price.fault(),
             RunFault::Load(load) => load.fault(),
             RunFault::Graph(graph) => graph.fault(),
             RunFault::NoSeat => Fault::NoSeat,
