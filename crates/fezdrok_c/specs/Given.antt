@@ -10,7 +10,10 @@ use Rattle.topo_core.specs.declared.darts.Sign.{Sign}
 use Rattle.topo_core.specs.declared.darts.Sign.TheVariants.{LeftToRight, RightToLeft}
 use Rattle.topo_core.specs.declared.darts.Way.{Way}
 use Rattle.topo_core.specs.declared.darts.Way.TheVariants.{Back, Forward}
-use Rattle.topo_core.specs.Steps.{refusal_number}
+use Rattle.topo_core.specs.FaultTexts.{refusal_fault}
+use Rattle.topo_faults.specs.declared.Fault.{Fault}
+use Rattle.topo_faults.specs.declared.Fault.TheVariants as known
+use Rattle.topo_faults.specs.Faults.{number}
 use Rattle.topo_picture.specs.declared.counts.Counts.{Counts}
 use Rattle.topo_session.specs.declared.edges.EdgeAnswer.{EdgeAnswer}
 use Rattle.topo_session.specs.declared.edges.Meeting.{Meeting}
@@ -56,9 +59,9 @@ abbrev pub gives : ℕ → ℕ → ℕ → ℕ → ℕ → ℕ → List Item →
 gives a b c d e price list =
     record { refusal = 0; first = a; second = b; third = c; fourth = d; fifth = e; price = price; list = list }
 
--- a refusal of this number, with what stands behind its name
-abbrev pub refuses : ℕ → ℕ → Given
-refuses number a = record { refusal = number; first = a; second = 0; third = 0; fourth = 0; fifth = 0; price = 0; list = [] }
+-- the number of a fault, with what stands behind its name
+abbrev pub refuses : Fault → ℕ → Given
+refuses fault a = record { refusal = number fault; first = a; second = 0; third = 0; fourth = 0; fifth = 0; price = 0; list = [] }
 
 abbrev pub cut_segment : Refusal → ℕ
 cut_segment (Cut segment) = segment
@@ -68,21 +71,21 @@ abbrev pub reply_given : Reply → Given
 reply_given (Grown vertex edge) = gives vertex edge 0 0 0 0 []
 reply_given (Inserted made) = gives made.id made.route.start made.route.end 0 0 made.price (map dart_item made.route.crossed)
 reply_given (Deleted edge) = gives edge 0 0 0 0 0 []
-reply_given (Refused why) = refuses (refusal_number why) (cut_segment why)
+reply_given (Refused why) = refuses (refusal_fault why) (cut_segment why)
 
 abbrev pub counts_given : Counts → Given
 counts_given c = gives c.vertices c.crossings c.edges c.segments c.faces 0 []
 
 -- where there were not so many entries, that is told by the number of NothingToUndo
 abbrev pub undone_given : ℕ → Option Undone → Given
-undone_given entries None = refuses 70 entries
+undone_given entries None = refuses known.NothingToUndo entries
 undone_given entries (Some told) = gives told.undone told.vertices told.edges told.crossings 0 0 []
 
 -- no price is told as 0
 abbrev pub edge_given : Option EdgeAnswer → Given
-edge_given None = refuses 4 0
+edge_given None = refuses known.NoEdge 0
 edge_given (Some e) = gives e.a e.b e.kind 0 0 (unwrap_or e.price 0) (map meeting_item e.crossings)
 
 abbrev pub vertex_given : Option VertexAnswer → Given
-vertex_given None = refuses 1 0
+vertex_given None = refuses known.NoVertex 0
 vertex_given (Some v) = gives 0 0 0 0 0 0 (end_items v.edges v.ends)

@@ -6,6 +6,7 @@ use Rattle.std.specs.declared.vec.Vec.{Vec}
 use Rattle.topo_core.specs.declared.calls.Call.{Call}
 use Rattle.topo_core.specs.declared.calls.Call.TheVariants.{Delete, Grow, Insert}
 use Rattle.topo_core.specs.declared.calls.Reply.{Reply}
+use Rattle.topo_faults.specs.declared.Fault.TheVariants as known
 use Rattle.topo_picture.specs.declared.counts.Counts.{Counts}
 use Rattle.topo_picture.specs.Totals.{AreCountsOf}
 use Rattle.topo_session.specs.declared.session.Undone.{Undone}
@@ -68,11 +69,11 @@ Gives caller (Undo entries) given old new = GivesUndone entries given old new
 Gives caller AskCounts given old new = GivesCounts given old × (new ≡ old)
 Gives caller (Edge e) given old new = (given ≡ edge_given (edge_asked old.prices old.picture e)) × (new ≡ old)
 Gives caller (Vertex v) given old new = (given ≡ vertex_given (vertex_asked old.picture v)) × (new ≡ old)
-Gives caller Nothing given old new = (given ≡ refuses 54 0) × (new ≡ old)
+Gives caller Nothing given old new = (given ≡ refuses known.BadNumber 0) × (new ≡ old)
 
 -- where no session is open, that is told by the number of NotOpen
 abbrev pub GivesIn : ℕ → Asked → Given → Option Standing → Option Standing → Type 0
-GivesIn caller asked given None new = (given ≡ refuses 72 0) × (new ≡ None)
+GivesIn caller asked given None new = (given ≡ refuses known.NotOpen 0) × (new ≡ None)
 GivesIn caller asked given (Some s) new = (t : Standing) × (new ≡ Some t) × Gives caller asked given s t
 
 -- ---- What is lost where there is no memory

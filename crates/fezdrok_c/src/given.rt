@@ -1,7 +1,7 @@
 //! What a typed call tells: numbers, and a list of items.
 
 ghost use Rattle.std.specs.Prelude.{◌≡◌, [], IfOk, map, slice_index_or};
-ghost use Rattle.topo_core.specs.Steps.{refusal_number};
+ghost use Rattle.topo_core.specs.FaultTexts.{refusal_fault};
 ghost use Rattle.fezdrok_c.specs.Given.{counts_given, cut_segment, dart_item, edge_given};
 ghost use Rattle.topo_session.specs.declared.vertices.End.TheVariants.{B};
 ghost use Rattle.fezdrok_c.specs.Given.{end_item, end_items, end_side, gives, meeting_item};
@@ -12,17 +12,11 @@ use topo_core::calls::{Refusal, Reply};
 use topo_core::darts::{Dart, Sign, Way};
 use topo_core::listed::Listed;
 use topo_core::routes::Inserted;
+use topo_faults::Fault;
 use topo_picture::Counts;
 use topo_session::edges::{EdgeAnswer, Meeting};
 use topo_session::session::Undone;
 use topo_session::vertices::{End, VertexAnswer};
-
-/// The numbers of what is told where an edge, a vertex or so many entries are not there.
-const NO_VERTEX: u32 = 1;
-
-const NO_EDGE: u32 = 4;
-
-const NOTHING_TO_UNDO: u32 = 70;
 
 /// An item of a list: a dart, a crossing that is met along an edge, or an edge at a vertex.
 #[repr(C)]
@@ -72,12 +66,12 @@ pub(crate) fn counted(alloc: Global, numbers: (u32, u32, u32, u32, u32)) -> Give
     gives(numbers, 0, Listed::new(alloc))
 }
 
-/// A refusal of this number, with what stands behind its name.
-pub(crate) fn refuses(alloc: Global, number: u32, first: u32) -> Given
-    ensures { result ≡ refuses number first }
+/// The number of a fault, with what stands behind its name.
+pub(crate) fn refuses(alloc: Global, fault: Fault, first: u32) -> Given
+    ensures { result ≡ refuses fault first }
 {
     Given {
-        refusal: number,
+        refusal: fault.number(),
         first,
         second: 0,
         third: 0,
@@ -182,13 +176,13 @@ fn inserted_given(alloc: Global, made: Inserted) -> Result<Given, AllocError>
 
 /// What a refusal tells.
 fn refusal_given(alloc: Global, why: Refusal) -> Given
-    ensures { result ≡ refuses (refusal_number why) (cut_segment why) }
+    ensures { result ≡ refuses (refusal_fault why) (cut_segment why) }
 {
     let segment = match why {
         Refusal::Cut(segment) => segment,
         _ => 0,
     };
-    refuses(alloc, why.number(), segment)
+    refuses(alloc, why.fault(), segment)
 }
 
 /// What a reply tells. Only the darts of a route take memory.
@@ -228,7 +222,7 @@ pub(crate) fn undone_given(alloc: Global, entries: u32, undone: Option<Undone>) 
             alloc,
             (told.undone, told.vertices, told.edges, told.crossings, 0),
         ),
-        None => refuses(alloc, NOTHING_TO_UNDO, entries),
+        None => refuses(alloc, Fault::NothingToUndo, entries),
     }
 }
 
@@ -237,7 +231,7 @@ pub(crate) fn edge_given(alloc: Global, edge: Option<EdgeAnswer>) -> Result<Give
     ensures { IfOk result (λ given. given ≡ edge_given edge) }
 {
     let Some(edge) = edge else {
-        return Ok(refuses(alloc, NO_EDGE, 0));
+        return Ok(refuses(alloc, Fault::NoEdge, 0));
     };
     let list = meeting_items(alloc, edge.crossings.as_slice())?;
     let price = u64::from(edge.price.unwrap_or(0));
@@ -249,7 +243,7 @@ pub(crate) fn vertex_given(alloc: Global, vertex: Option<VertexAnswer>) -> Resul
     ensures { IfOk result (λ given. given ≡ vertex_given vertex) }
 {
     let Some(vertex) = vertex else {
-        return Ok(refuses(alloc, NO_VERTEX, 0));
+        return Ok(refuses(alloc, Fault::NoVertex, 0));
     };
     let list = end_items(alloc, vertex.edges.as_slice(), vertex.ends.as_slice())?;
     Ok(gives((0, 0, 0, 0, 0), 0, list))

@@ -7,13 +7,13 @@ ghost use Rattle.fezdrok_c.specs.Searches.{search_request_of};
 
 use crate::handle::{DONE, NO_MEMORY, Text, place, tell};
 use std::alloc::{AllocError, Global};
+use topo_faults::Fault;
 use topo_forms::path::Path;
 use topo_forms::{ScriptFault, read_graph};
 use topo_planarize::{Planarizer, Way};
 use topo_price::tariff::PriceFn;
 use topo_script::written::write_after;
-use topo_session::lines::NOT_OPEN;
-use topo_session::texts::{fault_text, text_of};
+use topo_session::texts::{fault_text, numbered_text, text_of};
 use topo_settings::{FromTable, RunFault};
 
 /// A search, until its pictures are taken, with the text of its last answer.
@@ -133,7 +133,7 @@ fn reply<F: PriceFn + Drop>(
 {
     // The pictures were taken, or there was no graph.
     let Some(mut found) = planarizer.take() else {
-        return String::from_str(heap, NOT_OPEN);
+        return numbered_text(heap, Fault::NotOpen);
     };
     if request == SearchRequest::Pictures {
         return pictures_text(heap, found);

@@ -13,14 +13,10 @@ use crate::given::{
 use crate::handle::{DONE, Handle, NO_MEMORY};
 use std::alloc::{AllocError, Global};
 use topo_core::calls::{Call, Reply};
+use topo_faults::Fault;
 use topo_price::tariff::PriceFn;
 use topo_session::Session;
 use topo_settings::FromTable;
-
-/// The numbers of what is told where no session is open, and where a number is out of its bounds.
-const NOT_OPEN: u32 = 72;
-
-const BAD_NUMBER: u32 = 54;
 
 /// The greatest number of a caller.
 const LAST_CALLER: u32 = 15;
@@ -175,7 +171,7 @@ fn perform<F: PriceFn + Drop>(
         Asked::Counts => Ok(counts_given(heap, session.counts())),
         Asked::Edge(edge) => edge_given(heap, session.edge(heap, edge)?),
         Asked::Vertex(vertex) => vertex_given(heap, session.vertex(heap, vertex)?),
-        Asked::Nothing => Ok(refuses(heap, BAD_NUMBER, 0)),
+        Asked::Nothing => Ok(refuses(heap, Fault::BadNumber, 0)),
     }
 }
 
@@ -191,7 +187,7 @@ fn perform_in<F: PriceFn + Drop>(
 {
     match session {
         Some(session) => perform(session, heap, caller, asked),
-        None => Ok(refuses(heap, NOT_OPEN, 0)),
+        None => Ok(refuses(heap, Fault::NotOpen, 0)),
     }
 }
 

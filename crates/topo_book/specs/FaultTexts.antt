@@ -1,20 +1,16 @@
--- The number, the name and the text of a fault of a replay.
-use Rattle.std.specs.Prelude.{ℕ, List, ◌++◌, codes, decimal}
+-- Which fault each of a replay's is, and its text.
+use Rattle.std.specs.Prelude.{ℕ, List, decimal}
+use Rattle.topo_faults.specs.declared.Fault.{Fault}
+use Rattle.topo_faults.specs.declared.Fault.TheVariants as known
+use Rattle.topo_faults.specs.Faults.{told, told_with}
 use Rattle.topo_book.specs.declared.replaying.ReplayFault.{ReplayFault}
 use Rattle.topo_book.specs.declared.replaying.ReplayFault.TheVariants.{WrongReply, Memory}
 
-abbrev pub fault_number : ReplayFault → ℕ
-fault_number (WrongReply place) = 60
-fault_number Memory = 8
+abbrev pub fault_of : ReplayFault → Fault
+fault_of (WrongReply place) = known.WrongReply
+fault_of Memory = known.Memory
 
-abbrev pub fault_name : ReplayFault → List ℕ
-fault_name (WrongReply place) = codes "WrongReply"
-fault_name Memory = codes "Memory"
-
-abbrev pub numbered : ReplayFault → List ℕ
-numbered fault = decimal (fault_number fault) ++ (codes " " ++ fault_name fault)
-
--- the number, the name, and the place of a wrong reply
+-- a wrong reply is told with its place
 abbrev pub fault_text : ReplayFault → List ℕ
-fault_text (WrongReply place) = numbered (WrongReply place) ++ (codes " " ++ decimal place)
-fault_text Memory = numbered Memory
+fault_text (WrongReply place) = told_with known.WrongReply (decimal place)
+fault_text Memory = told known.Memory

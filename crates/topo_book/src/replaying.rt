@@ -15,39 +15,29 @@ use std::alloc::{AllocError, Global};
 use std::fmt;
 use thiserror::Error;
 use topo_core::calls::{Entry, Reply};
+use topo_faults::Fault;
 use topo_picture::Picture;
 use topo_price::tariff::{PriceFn, Tariff};
 
-/// Why a list of entries has no replay.
+/// Why a list of entries has no replay: the fault of the same name. It is printed as that and its
+/// place.
 #[derive(Clone, Copy, Debug, Drop, PartialEq, Eq, Error)]
 pub enum ReplayFault {
     /// The entry at this place, counted from 0, is the first whose reply is not the one due.
     WrongReply(usize),
-    /// A growth of memory was refused.
     Memory,
 }
 
 impl ReplayFault {
-    ghost use Rattle.std.specs.Prelude.{◌≡◌};
-    ghost use Rattle.topo_book.specs.FaultTexts.{fault_name, fault_number};
+    ghost use Rattle.topo_book.specs.FaultTexts.{fault_of};
 
-    /// The number that is written before the name of the fault.
-    pub fn number(&self) -> u32
-        ensures { result ≡ fault_number self.now }
+    /// The fault that it is.
+    pub fn fault(&self) -> Fault
+        ensures { result ≡ fault_of self.now }
     {
         match self {
-            ReplayFault::WrongReply(_) => 60,
-            ReplayFault::Memory => 8,
-        }
-    }
-
-    /// The name of the fault.
-    pub fn name(&self) -> &'static str
-        ensures { result.now ≡ fault_name self.now }
-    {
-        match self {
-            ReplayFault::WrongReply(_) => "WrongReply",
-            ReplayFault::Memory => "Memory",
+            ReplayFault::WrongReply(_) => Fault::WrongReply,
+            ReplayFault::Memory => Fault::Memory,
         }
     }
 }
@@ -59,11 +49,10 @@ impl fmt::Display for ReplayFault {
     ghost output = { λ fault. Some (fault_text fault) };
 
     fn fmt<W: fmt::Write>(&self, f: &mut fmt::Formatter<W>) -> fmt::Result {
-        let number = self.number();
-        let name = self.name();
+        let fault = self.fault();
         match self {
-            ReplayFault::WrongReply(place) => write!(f, "{number} {name} {place}"),
-            ReplayFault::Memory => write!(f, "{number} {name}"),
+            ReplayFault::WrongReply(place) => write!(f, "{fault} {place}"),
+            ReplayFault::Memory => write!(f, "{fault}"),
         }
     }
 }

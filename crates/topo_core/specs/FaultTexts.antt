@@ -1,42 +1,26 @@
--- The number, the name and the text of a refusal, and of limits out of range.
-use Rattle.std.specs.Prelude.{ℕ, List, ◌++◌, codes, decimal}
+-- Which fault a refusal is, and its text.
+use Rattle.std.specs.Prelude.{ℕ, List, decimal}
+use Rattle.topo_faults.specs.declared.Fault.{Fault}
+use Rattle.topo_faults.specs.declared.Fault.TheVariants as known
+use Rattle.topo_faults.specs.Faults.{number, told, told_with}
 use Rattle.topo_core.specs.declared.calls.Refusal.{Refusal}
 use Rattle.topo_core.specs.declared.calls.Refusal.TheVariants.{NoVertex, SameEnds, NoPosition, NoEdge, BadKind, Cut, Full, Memory, NoRoute}
-use Rattle.topo_core.specs.declared.limits.LimitsFault.{LimitsFault}
-use Rattle.topo_core.specs.declared.limits.LimitsFault.TheVariants.{BadLimits}
-use Rattle.topo_core.specs.Steps.{refusal_number}
 
-abbrev pub refusal_name : Refusal → List ℕ
-refusal_name NoVertex = codes "NoVertex"
-refusal_name SameEnds = codes "SameEnds"
-refusal_name NoPosition = codes "NoPosition"
-refusal_name NoEdge = codes "NoEdge"
-refusal_name BadKind = codes "BadKind"
-refusal_name (Cut segment) = codes "Cut"
-refusal_name Full = codes "Full"
-refusal_name Memory = codes "Memory"
-refusal_name NoRoute = codes "NoRoute"
+abbrev pub refusal_fault : Refusal → Fault
+refusal_fault NoVertex = known.NoVertex
+refusal_fault SameEnds = known.SameEnds
+refusal_fault NoPosition = known.NoPosition
+refusal_fault NoEdge = known.NoEdge
+refusal_fault BadKind = known.BadKind
+refusal_fault (Cut segment) = known.Cut
+refusal_fault Full = known.Full
+refusal_fault Memory = known.Memory
+refusal_fault NoRoute = known.NoRoute
 
-abbrev pub numbered : Refusal → List ℕ
-numbered why = decimal (refusal_number why) ++ (codes " " ++ refusal_name why)
+abbrev pub refusal_number : Refusal → ℕ
+refusal_number why = number (refusal_fault why)
 
--- the number, the name, and the segment of a cut
+-- a cut is told with its segment
 abbrev pub refusal_text : Refusal → List ℕ
-refusal_text NoVertex = numbered NoVertex
-refusal_text SameEnds = numbered SameEnds
-refusal_text NoPosition = numbered NoPosition
-refusal_text NoEdge = numbered NoEdge
-refusal_text BadKind = numbered BadKind
-refusal_text (Cut segment) = decimal (refusal_number (Cut segment)) ++ (codes " " ++ (refusal_name (Cut segment) ++ (codes " " ++ decimal segment)))
-refusal_text Full = numbered Full
-refusal_text Memory = numbered Memory
-refusal_text NoRoute = numbered NoRoute
-
-abbrev pub limits_number : LimitsFault → ℕ
-limits_number BadLimits = 11
-
-abbrev pub limits_name : LimitsFault → List ℕ
-limits_name BadLimits = codes "BadLimits"
-
-abbrev pub limits_text : LimitsFault → List ℕ
-limits_text fault = decimal (limits_number fault) ++ (codes " " ++ limits_name fault)
+refusal_text (Cut segment) = told_with known.Cut (decimal segment)
+refusal_text why = told (refusal_fault why)

@@ -8,25 +8,13 @@ use Rattle.topo_core.specs.declared.calls.Call.TheVariants.{Grow, Insert, Delete
 use Rattle.topo_core.specs.declared.calls.Reply.{Reply}
 use Rattle.topo_core.specs.declared.calls.Reply.TheVariants.{Grown, Inserted as Put, Deleted, Refused}
 use Rattle.topo_core.specs.declared.calls.Refusal.{Refusal}
-use Rattle.topo_core.specs.declared.calls.Refusal.TheVariants.{NoVertex, SameEnds, NoPosition, NoEdge, BadKind, Cut, Full, Memory, NoRoute}
+use Rattle.topo_core.specs.declared.calls.Refusal.TheVariants.{NoVertex, SameEnds, NoPosition, NoEdge, BadKind, Cut, Full, NoRoute}
 use Rattle.topo_core.specs.Picture.{rotation, edge_row}
 use Rattle.topo_core.specs.Routes.{Pricing, IsFirst, HasNoRoute}
 use Rattle.topo_core.specs.Changes.{shown, grown, without, IsCut}
 use Rattle.topo_core.specs.declared.rows.TheConstants.{KINDS}
 
 -- ---- The order of refusals
-
--- the number of a refusal in reports and faults
-abbrev pub refusal_number : Refusal → ℕ
-refusal_number NoVertex = 1
-refusal_number SameEnds = 2
-refusal_number NoPosition = 3
-refusal_number NoEdge = 4
-refusal_number BadKind = 5
-refusal_number (Cut segment) = 6
-refusal_number Full = 7
-refusal_number Memory = 8
-refusal_number NoRoute = 9
 
 -- the first refusal whose cause holds
 abbrev pub first_cause : List (Bool × Refusal) → Option Refusal

@@ -7,6 +7,7 @@ use crate::routes::Inserted;
 use std::alloc::{AllocError, Global};
 use std::fmt;
 use thiserror::Error;
+use topo_faults::Fault;
 
 /// A change that is asked for, with the numbers as they were handed in.
 #[derive(Clone, Copy, Debug, PartialEq, Eq)]
@@ -27,65 +28,38 @@ pub enum Command {
     Planned { u: u32, v: u32, kind: u32 },
 }
 
-/// Why a call changes nothing. It is printed as its number, its name and its segment.
+/// Why a call changes nothing: the fault of the same name. It is printed as that and its segment.
 #[derive(Clone, Copy, Debug, PartialEq, Eq, Error)]
 pub enum Refusal {
-    /// 1: a number names no vertex.
     NoVertex,
-    /// 2: the two ends of an edge are one vertex.
     SameEnds,
-    /// 3: the vertex has no corner at this position.
     NoPosition,
-    /// 4: a number names no edge.
     NoEdge,
-    /// 5: the kind is above 63.
     BadKind,
-    /// 6: taking the edge out would disconnect the picture, first at this segment.
+    /// The segment is the first at which the picture would fall apart.
     Cut(u32),
-    /// 7: the call would pass a limit.
     Full,
-    /// 8: a growth of memory was refused.
     Memory,
-    /// 9: no route crosses only edges that have a price.
     NoRoute,
 }
 
 impl Refusal {
-    ghost use Rattle.topo_core.specs.Steps.{refusal_number};
+    ghost use Rattle.topo_core.specs.FaultTexts.{refusal_fault};
 
-    /// The number by which reports and faults name the refusal.
-    pub fn number(self) -> u32
-        ensures { result ≡ refusal_number self }
+    /// The fault that the refusal is.
+    pub fn fault(self) -> Fault
+        ensures { result ≡ refusal_fault self }
     {
         match self {
-            Refusal::NoVertex => 1,
-            Refusal::SameEnds => 2,
-            Refusal::NoPosition => 3,
-            Refusal::NoEdge => 4,
-            Refusal::BadKind => 5,
-            Refusal::Cut(_) => 6,
-            Refusal::Full => 7,
-            Refusal::Memory => 8,
-            Refusal::NoRoute => 9,
-        }
-    }
-
-    ghost use Rattle.topo_core.specs.FaultTexts.{refusal_name};
-
-    /// The name of the refusal.
-    pub fn name(self) -> &'static str
-        ensures { result.now ≡ refusal_name self }
-    {
-        match self {
-            Refusal::NoVertex => "NoVertex",
-            Refusal::SameEnds => "SameEnds",
-            Refusal::NoPosition => "NoPosition",
-            Refusal::NoEdge => "NoEdge",
-            Refusal::BadKind => "BadKind",
-            Refusal::Cut(_) => "Cut",
-            Refusal::Full => "Full",
-            Refusal::Memory => "Memory",
-            Refusal::NoRoute => "NoRoute",
+            Refusal::NoVertex => Fault::NoVertex,
+            Refusal::SameEnds => Fault::SameEnds,
+            Refusal::NoPosition => Fault::NoPosition,
+            Refusal::NoEdge => Fault::NoEdge,
+            Refusal::BadKind => Fault::BadKind,
+            Refusal::Cut(_) => Fault::Cut,
+            Refusal::Full => Fault::Full,
+            Refusal::Memory => Fault::Memory,
+            Refusal::NoRoute => Fault::NoRoute,
         }
     }
 }
@@ -97,11 +71,10 @@ impl fmt::Display for Refusal {
     ghost output = { λ refusal. Some (refusal_text refusal) };
 
     fn fmt<W: fmt::Write>(&self, f: &mut fmt::Formatter<W>) -> fmt::Result {
-        let number = self.number();
-        let name = self.name();
+        let fault = self.fault();
         match self {
-            Refusal::Cut(segment) => write!(f, "{number} {name} {segment}"),
-            _ => write!(f, "{number} {name}"),
+            Refusal::Cut(segment) => write!(f, "{fault} {segment}"),
+            _ => write!(f, "{fault}"),
         }
     }
 }

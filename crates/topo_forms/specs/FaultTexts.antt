@@ -1,36 +1,22 @@
--- The number, the name and the text of a fault of a text.
-use Rattle.std.specs.Prelude.{ℕ, List, ◌++◌, codes, decimal}
+-- Which fault each of a text's is, and its text.
+use Rattle.std.specs.Prelude.{ℕ, List}
+use Rattle.topo_faults.specs.declared.Fault.{Fault}
+use Rattle.topo_faults.specs.declared.Fault.TheVariants as known
+use Rattle.topo_faults.specs.Faults.{told, told_with}
 use Rattle.topo_forms.specs.declared.fault.ScriptFault.{ScriptFault}
 use Rattle.topo_forms.specs.declared.fault.ScriptFault.TheVariants.{Memory, NotJson, TooLong, BadShape, BadVersion, BadNumber}
 use Rattle.topo_forms.specs.Paths.{path_text}
 
-abbrev pub fault_number : ScriptFault → ℕ
-fault_number Memory = 8
-fault_number NotJson = 50
-fault_number TooLong = 51
-fault_number (BadShape path) = 52
-fault_number BadVersion = 53
-fault_number (BadNumber path) = 54
+abbrev pub fault_of : ScriptFault → Fault
+fault_of Memory = known.Memory
+fault_of NotJson = known.NotJson
+fault_of TooLong = known.TooLong
+fault_of (BadShape path) = known.BadShape
+fault_of BadVersion = known.BadVersion
+fault_of (BadNumber path) = known.BadNumber
 
-abbrev pub fault_name : ScriptFault → List ℕ
-fault_name Memory = codes "Memory"
-fault_name NotJson = codes "NotJson"
-fault_name TooLong = codes "TooLong"
-fault_name (BadShape path) = codes "BadShape"
-fault_name BadVersion = codes "BadVersion"
-fault_name (BadNumber path) = codes "BadNumber"
-
-abbrev pub numbered : ScriptFault → List ℕ
-numbered fault = decimal (fault_number fault) ++ (codes " " ++ fault_name fault)
-
-abbrev pub placed : ScriptFault → List ℕ → List ℕ
-placed fault place = decimal (fault_number fault) ++ (codes " " ++ (fault_name fault ++ (codes " " ++ place)))
-
--- the number, the name, and where the fault has a place, its path
+-- where it has a place, it is told with its path
 abbrev pub fault_text : ScriptFault → List ℕ
-fault_text Memory = numbered Memory
-fault_text NotJson = numbered NotJson
-fault_text TooLong = numbered TooLong
-fault_text (BadShape path) = placed (BadShape path) (path_text path)
-fault_text BadVersion = numbered BadVersion
-fault_text (BadNumber path) = placed (BadNumber path) (path_text path)
+fault_text (BadShape path) = told_with known.BadShape (path_text path)
+fault_text (BadNumber path) = told_with known.BadNumber (path_text path)
+fault_text fault = told (fault_of fault)

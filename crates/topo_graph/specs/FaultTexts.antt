@@ -1,35 +1,22 @@
--- How the faults of graphs are told.
-use Rattle.std.specs.Prelude.{ℕ, List, ◌++◌, codes, decimal}
+-- Which fault each of the crate's is, and its text.
+use Rattle.std.specs.Prelude.{ℕ, List, decimal}
+use Rattle.topo_faults.specs.declared.Fault.{Fault}
+use Rattle.topo_faults.specs.declared.Fault.TheVariants as known
+use Rattle.topo_faults.specs.Faults.{told, told_with}
 use Rattle.topo_graph.specs.declared.GraphFault.{GraphFault}
 use Rattle.topo_graph.specs.declared.GraphFault.TheVariants.{Loop, NoEnd, TooLarge, NotPlanarized, OtherGraph, NotShown}
 
-abbrev pub fault_number : GraphFault → ℕ
-fault_number (Loop place) = 80
-fault_number (NoEnd place) = 81
-fault_number TooLarge = 82
-fault_number (NotPlanarized place) = 83
-fault_number OtherGraph = 84
-fault_number NotShown = 85
+abbrev pub fault_of : GraphFault → Fault
+fault_of (Loop place) = known.Loop
+fault_of (NoEnd place) = known.NoEnd
+fault_of TooLarge = known.TooLarge
+fault_of (NotPlanarized place) = known.NotPlanarized
+fault_of OtherGraph = known.OtherGraph
+fault_of NotShown = known.NotShown
 
-abbrev pub fault_name : GraphFault → List ℕ
-fault_name (Loop place) = codes "Loop"
-fault_name (NoEnd place) = codes "NoEnd"
-fault_name TooLarge = codes "TooLarge"
-fault_name (NotPlanarized place) = codes "NotPlanarized"
-fault_name OtherGraph = codes "OtherGraph"
-fault_name NotShown = codes "NotShown"
-
--- the number, the name, and the place of the edge where there is one
-abbrev pub numbered : GraphFault → List ℕ
-numbered fault = decimal (fault_number fault) ++ (codes " " ++ fault_name fault)
-
-abbrev pub placed : GraphFault → ℕ → List ℕ
-placed fault place = decimal (fault_number fault) ++ (codes " " ++ (fault_name fault ++ (codes " " ++ decimal place)))
-
+-- that of an edge is told with the place of the edge
 abbrev pub fault_text : GraphFault → List ℕ
-fault_text (Loop place) = placed (Loop place) place
-fault_text (NoEnd place) = placed (NoEnd place) place
-fault_text TooLarge = numbered TooLarge
-fault_text (NotPlanarized place) = placed (NotPlanarized place) place
-fault_text OtherGraph = numbered OtherGraph
-fault_text NotShown = numbered NotShown
+fault_text (Loop place) = told_with known.Loop (decimal place)
+fault_text (NoEnd place) = told_with known.NoEnd (decimal place)
+fault_text (NotPlanarized place) = told_with known.NotPlanarized (decimal place)
+fault_text fault = told (fault_of fault)

@@ -22,6 +22,7 @@ pub use parts::Part;
 use std::fmt;
 use std::marker::Model;
 use thiserror::Error;
+use topo_faults::Fault;
 
 /// An edge of a graph, from one vertex to another, with its kind.
 #[derive(Clone, Copy, Debug, PartialEq, Eq)]
@@ -42,53 +43,35 @@ pub enum Effort {
     Thorough,
 }
 
-/// Why a graph has no answer. It is printed as its number, its name and its value.
+/// Why a graph has no answer: the fault of the same name. It is printed as that and its value, the
+/// place of an edge, counted from 0.
 #[derive(Clone, Copy, Debug, Drop, PartialEq, Eq, Error)]
 pub enum GraphFault {
-    /// The edge at this place, counted from 0, is the first that cannot be: its ends are one vertex.
+    /// The edge at this place is the first that cannot be.
     Loop(usize),
-    /// The edge at this place is the first that cannot be: it ends at no vertex.
+    /// The edge at this place is the first that cannot be.
     NoEnd(usize),
-    /// A component has more vertices or edges than a picture may have, or its picture would have
-    /// more crossings.
     TooLarge,
-    /// No picture was found in which the edge at this place, which must not be crossed, has no
-    /// crossing.
+    /// The edge at this place must not be crossed.
     NotPlanarized(usize),
-    /// The pictures that a search is to begin with show another graph.
     OtherGraph,
-    /// The pictures that were found do not show the graph. No run has this.
     NotShown,
 }
 
 impl GraphFault {
-    ghost use Rattle.topo_graph.specs.FaultTexts.{fault_name, fault_number};
+    ghost use Rattle.topo_graph.specs.FaultTexts.{fault_of};
 
-    /// The number that is written before the name of the fault.
-    pub fn number(&self) -> u32
-        ensures { result ≡ fault_number self.now }
+    /// The fault that it is.
+    pub fn fault(&self) -> Fault
+        ensures { result ≡ fault_of self.now }
     {
         match self {
-            GraphFault::Loop(_) => 80,
-            GraphFault::NoEnd(_) => 81,
-            GraphFault::TooLarge => 82,
-            GraphFault::NotPlanarized(_) => 83,
-            GraphFault::OtherGraph => 84,
-            GraphFault::NotShown => 85,
-        }
-    }
-
-    /// The name of the fault.
-    pub fn name(&self) -> &'static str
-        ensures { result.now ≡ fault_name self.now }
-    {
-        match self {
-            GraphFault::Loop(_) => "Loop",
-            GraphFault::NoEnd(_) => "NoEnd",
-            GraphFault::TooLarge => "TooLarge",
-            GraphFault::NotPlanarized(_) => "NotPlanarized",
-            GraphFault::OtherGraph => "OtherGraph",
-            GraphFault::NotShown => "NotShown",
+            GraphFault::Loop(_) => Fault::Loop,
+            GraphFault::NoEnd(_) => Fault::NoEnd,
+            GraphFault::TooLarge => Fault::TooLarge,
+            GraphFault::NotPlanarized(_) => Fault::NotPlanarized,
+            GraphFault::OtherGraph => Fault::OtherGraph,
+            GraphFault::NotShown => Fault::NotShown,
         }
     }
 }
@@ -100,15 +83,12 @@ impl fmt::Display for GraphFault {
     ghost output = { λ fault. Some (fault_text fault) };
 
     fn fmt<W: fmt::Write>(&self, f: &mut fmt::Formatter<W>) -> fmt::Result {
-        let number = self.number();
-        let name = self.name();
+        let fault = self.fault();
         match self {
-            GraphFault::Loop(edge) => write!(f, "{number} {name} {edge}"),
-            GraphFault::NoEnd(edge) => write!(f, "{number} {name} {edge}"),
-            GraphFault::TooLarge => write!(f, "{number} {name}"),
-            GraphFault::NotPlanarized(edge) => write!(f, "{number} {name} {edge}"),
-            GraphFault::OtherGraph => write!(f, "{number} {name}"),
-            GraphFault::NotShown => write!(f, "{number} {name}"),
+            GraphFault::Loop(place) => write!(f, "{fault} {place}"),
+            GraphFault::NoEnd(place) => write!(f, "{fault} {place}"),
+            GraphFault::NotPlanarized(place) => write!(f, "{fault} {place}"),
+            _ => write!(f, "{fault}"),
         }
     }
 }

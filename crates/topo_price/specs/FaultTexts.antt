@@ -1,14 +1,10 @@
--- The number, the name and the text of a fault.
-use Rattle.std.specs.Prelude.{ℕ, List, ◌++◌, codes, decimal}
+-- The text of a fault.
+use Rattle.std.specs.Prelude.{ℕ, List, decimal}
+use Rattle.topo_faults.specs.declared.Fault.TheVariants as known
+use Rattle.topo_faults.specs.Faults.{told_with}
 use Rattle.topo_price.specs.declared.table.PriceFault.{PriceFault}
 use Rattle.topo_price.specs.declared.table.PriceFault.TheVariants.{BadPrice}
 
-abbrev pub fault_number : PriceFault → ℕ
-fault_number (BadPrice kind) = 10
-
-abbrev pub fault_name : PriceFault → List ℕ
-fault_name (BadPrice kind) = codes "BadPrice"
-
--- the number, the name and the kind
+-- it is told with its kind
 abbrev pub fault_text : PriceFault → List ℕ
-fault_text (BadPrice kind) = decimal (fault_number (BadPrice kind)) ++ (codes " " ++ (fault_name (BadPrice kind) ++ (codes " " ++ decimal kind)))
+fault_text (BadPrice kind) = told_with known.BadPrice (decimal kind)

@@ -9,31 +9,22 @@ use std::fmt;
 use std::marker::Model;
 use thiserror::Error;
 use topo_core::rows::{KINDS, MAX_PRICE};
+use topo_faults::Fault;
 
+/// Why there is no table: the fault of the same name. It is printed as that and its kind.
 #[derive(Clone, Copy, Debug, Drop, PartialEq, Eq, Error)]
 pub enum PriceFault {
-    /// The least kind whose price is 0 or above `MAX_PRICE`.
+    /// The kind is the least whose price is 0 or above `MAX_PRICE`.
     BadPrice(u8),
 }
 
 impl PriceFault {
-    ghost use Rattle.topo_price.specs.FaultTexts.{fault_name, fault_number};
-
-    /// The number that is written before the name of the fault.
-    pub fn number(&self) -> u32
-        ensures { result ≡ fault_number self.now }
+    /// The fault that it is.
+    pub fn fault(&self) -> Fault
+        ensures { result ≡ Fault.BadPrice }
     {
         match self {
-            PriceFault::BadPrice(_) => 10,
-        }
-    }
-
-    /// The name of the fault.
-    pub fn name(&self) -> &'static str
-        ensures { result.now ≡ fault_name self.now }
-    {
-        match self {
-            PriceFault::BadPrice(_) => "BadPrice",
+            PriceFault::BadPrice(_) => Fault::BadPrice,
         }
     }
 }
@@ -44,10 +35,9 @@ impl fmt::Display for PriceFault {
     ghost output = { λ fault. Some (fault_text fault) };
 
     fn fmt<W: fmt::Write>(&self, f: &mut fmt::Formatter<W>) -> fmt::Result {
-        let number = self.number();
-        let name = self.name();
+        let fault = self.fault();
         match self {
-            PriceFault::BadPrice(kind) => write!(f, "{number} {name} {kind}"),
+            PriceFault::BadPrice(kind) => write!(f, "{fault} {kind}"),
         }
     }
 }

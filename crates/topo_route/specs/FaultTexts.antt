@@ -1,25 +1,14 @@
--- The number, the name and the text of a fault.
-use Rattle.std.specs.Prelude.{ℕ, List, ◌++◌, codes, decimal}
+-- Which fault each of the crate's is. It is told as that.
+use Rattle.topo_faults.specs.declared.Fault.{Fault}
+use Rattle.topo_faults.specs.declared.Fault.TheVariants as known
 use Rattle.topo_route.specs.declared.plan.PlanFault.{PlanFault}
 use Rattle.topo_route.specs.declared.plan.PlanFault.TheVariants.{WrongLength, UnevenFace, TooSteep, TargetNotZero, NotARoute, NotLeast, NotFirst}
 
-abbrev pub fault_number : PlanFault → ℕ
-fault_number WrongLength = 30
-fault_number UnevenFace = 31
-fault_number TooSteep = 32
-fault_number TargetNotZero = 33
-fault_number NotARoute = 34
-fault_number NotLeast = 35
-fault_number NotFirst = 36
-
-abbrev pub fault_name : PlanFault → List ℕ
-fault_name WrongLength = codes "WrongLength"
-fault_name UnevenFace = codes "UnevenFace"
-fault_name TooSteep = codes "TooSteep"
-fault_name TargetNotZero = codes "TargetNotZero"
-fault_name NotARoute = codes "NotARoute"
-fault_name NotLeast = codes "NotLeast"
-fault_name NotFirst = codes "NotFirst"
-
-abbrev pub fault_text : PlanFault → List ℕ
-fault_text fault = decimal (fault_number fault) ++ (codes " " ++ fault_name fault)
+abbrev pub fault_of : PlanFault → Fault
+fault_of WrongLength = known.WrongLength
+fault_of UnevenFace = known.UnevenFace
+fault_of TooSteep = known.TooSteep
+fault_of TargetNotZero = known.TargetNotZero
+fault_of NotARoute = known.NotARoute
+fault_of NotLeast = known.NotLeast
+fault_of NotFirst = known.NotFirst

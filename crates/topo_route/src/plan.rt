@@ -5,6 +5,7 @@ use std::fmt;
 use thiserror::Error;
 use topo_core::listed::Listed;
 use topo_core::routes::Route;
+use topo_faults::Fault;
 
 /// A route and its price: the sum of the prices of the edges that it crosses.
 #[derive(Drop, Debug)]
@@ -30,69 +31,47 @@ pub struct Plan {
     pub heights: Listed<u64>,
 }
 
-/// The first test that a plan fails.
+/// The first test that a plan fails: the fault of the same name.
 #[derive(Clone, Copy, Debug, Drop, PartialEq, Eq, Error)]
 pub enum PlanFault {
-    /// There is not one height for each dart.
     WrongLength,
-    /// A dart's height differs from that of the next along its face.
     UnevenFace,
-    /// A dart's height exceeds its price and the height of its twin together.
     TooSteep,
-    /// A corner at the target has a height other than 0.
     TargetNotZero,
-    /// The route is none from start to target, or the price is not its sum.
     NotARoute,
-    /// The price is not the least height of a corner at the start.
     NotLeast,
-    /// Another start, crossed dart or end comes before the route's own.
     NotFirst,
 }
 
 impl PlanFault {
     ghost use Rattle.std.specs.Prelude.{◌≡◌};
-    ghost use Rattle.topo_route.specs.FaultTexts.{fault_name, fault_number};
+    ghost use Rattle.topo_route.specs.FaultTexts.{fault_of};
 
-    /// The number that is written before the name of the fault.
-    pub fn number(&self) -> u32
-        ensures { result ≡ fault_number self.now }
+    /// The fault that it is.
+    pub fn fault(&self) -> Fault
+        ensures { result ≡ fault_of self.now }
     {
         match self {
-            PlanFault::WrongLength => 30,
-            PlanFault::UnevenFace => 31,
-            PlanFault::TooSteep => 32,
-            PlanFault::TargetNotZero => 33,
-            PlanFault::NotARoute => 34,
-            PlanFault::NotLeast => 35,
-            PlanFault::NotFirst => 36,
-        }
-    }
-
-    /// The name of the fault.
-    pub fn name(&self) -> &'static str
-        ensures { result.now ≡ fault_name self.now }
-    {
-        match self {
-            PlanFault::WrongLength => "WrongLength",
-            PlanFault::UnevenFace => "UnevenFace",
-            PlanFault::TooSteep => "TooSteep",
-            PlanFault::TargetNotZero => "TargetNotZero",
-            PlanFault::NotARoute => "NotARoute",
-            PlanFault::NotLeast => "NotLeast",
-            PlanFault::NotFirst => "NotFirst",
+            PlanFault::WrongLength => Fault::WrongLength,
+            PlanFault::UnevenFace => Fault::UnevenFace,
+            PlanFault::TooSteep => Fault::TooSteep,
+            PlanFault::TargetNotZero => Fault::TargetNotZero,
+            PlanFault::NotARoute => Fault::NotARoute,
+            PlanFault::NotLeast => Fault::NotLeast,
+            PlanFault::NotFirst => Fault::NotFirst,
         }
     }
 }
 
 impl fmt::Display for PlanFault {
     ghost use Rattle.std.specs.Prelude.{Some};
-    ghost use Rattle.topo_route.specs.FaultTexts.{fault_text};
+    ghost use Rattle.topo_faults.specs.Faults.{told};
+    ghost use Rattle.topo_route.specs.FaultTexts.{fault_of};
 
-    ghost output = { λ fault. Some (fault_text fault) };
+    ghost output = { λ fault. Some (told (fault_of fault)) };
 
     fn fmt<W: fmt::Write>(&self, f: &mut fmt::Formatter<W>) -> fmt::Result {
-        let number = self.number();
-        let name = self.name();
-        write!(f, "{number} {name}")
+        let fault = self.fault();
+        write!(f, "{fault}")
     }
 }

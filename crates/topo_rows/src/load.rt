@@ -9,75 +9,51 @@ use thiserror::Error;
 use topo_core::limits::Limits;
 use topo_core::listed::Listed;
 use topo_core::rows::Rows;
+use topo_faults::Fault;
 use topo_perm::{cycles, is_connected};
 
-/// Why rows are not loaded.
+/// Why rows are not loaded: the fault of the same name.
 #[derive(Clone, Copy, Debug, Drop, PartialEq, Eq, Error)]
 pub enum LoadFault {
-    /// There are more vertices than the limit, or a counter is above its limit.
     TooMany,
-    /// Edge ids do not rise or are not below the next, an end is no vertex, the ends are equal, a
-    /// kind is above 63, or a path names a crossing that is not there.
     BadPath,
-    /// Crossing ids do not rise or are not below the next, the two edges are equal or not there, or
-    /// a crossing is not once in each of their paths and in no other.
     BadCrossing,
-    /// An edge is not once in the list of each of its ends, a list has something else, or it does
-    /// not begin with its least id.
     BadRotation,
-    /// A point has no dart, or two darts are not joined.
     NotConnected,
-    /// Euler's formula does not give 2.
     NotPlanar,
-    /// A growth of memory was refused.
     Memory,
 }
 
 impl LoadFault {
     ghost use Rattle.std.specs.Prelude.{◌≡◌};
-    ghost use Rattle.topo_rows.specs.FaultTexts.{fault_name, fault_number};
+    ghost use Rattle.topo_rows.specs.FaultTexts.{fault_of};
 
-    /// The number that is written before the name of the fault.
-    pub fn number(&self) -> u32
-        ensures { result ≡ fault_number self.now }
+    /// The fault that it is.
+    pub fn fault(&self) -> Fault
+        ensures { result ≡ fault_of self.now }
     {
         match self {
-            LoadFault::TooMany => 20,
-            LoadFault::BadPath => 21,
-            LoadFault::BadCrossing => 22,
-            LoadFault::BadRotation => 23,
-            LoadFault::NotConnected => 24,
-            LoadFault::NotPlanar => 25,
-            LoadFault::Memory => 8,
-        }
-    }
-
-    /// The name of the fault.
-    pub fn name(&self) -> &'static str
-        ensures { result.now ≡ fault_name self.now }
-    {
-        match self {
-            LoadFault::TooMany => "TooMany",
-            LoadFault::BadPath => "BadPath",
-            LoadFault::BadCrossing => "BadCrossing",
-            LoadFault::BadRotation => "BadRotation",
-            LoadFault::NotConnected => "NotConnected",
-            LoadFault::NotPlanar => "NotPlanar",
-            LoadFault::Memory => "Memory",
+            LoadFault::TooMany => Fault::TooMany,
+            LoadFault::BadPath => Fault::BadPath,
+            LoadFault::BadCrossing => Fault::BadCrossing,
+            LoadFault::BadRotation => Fault::BadRotation,
+            LoadFault::NotConnected => Fault::NotConnected,
+            LoadFault::NotPlanar => Fault::NotPlanar,
+            LoadFault::Memory => Fault::Memory,
         }
     }
 }
 
 impl fmt::Display for LoadFault {
     ghost use Rattle.std.specs.Prelude.{Some};
-    ghost use Rattle.topo_rows.specs.FaultTexts.{fault_text};
+    ghost use Rattle.topo_faults.specs.Faults.{told};
+    ghost use Rattle.topo_rows.specs.FaultTexts.{fault_of};
 
-    ghost output = { λ fault. Some (fault_text fault) };
+    ghost output = { λ fault. Some (told (fault_of fault)) };
 
     fn fmt<W: fmt::Write>(&self, f: &mut fmt::Formatter<W>) -> fmt::Result {
-        let number = self.number();
-        let name = self.name();
-        write!(f, "{number} {name}")
+        let fault = self.fault();
+        write!(f, "{fault}")
     }
 }
 

@@ -6,7 +6,6 @@ use Rattle.topo_core.specs.declared.calls.Refusal.{Refusal}
 use Rattle.topo_core.specs.declared.calls.Refusal.TheVariants.{NoVertex, SameEnds, NoPosition, NoEdge, BadKind, Cut, Full, Memory, NoRoute}
 use Rattle.topo_core.specs.Items.{IsIn}
 use Rattle.topo_core.specs.Routes.{Pricing, HasNoRoute}
-use Rattle.topo_core.specs.Steps.{refusal_number}
 use Rattle.topo_rows.specs.Shown.{Shown}
 use Rattle.topo_picture.specs.Ends.{HasVertices}
 use Rattle.topo_versions.specs.Versions.{IsVersionFrom}
@@ -16,16 +15,6 @@ use Rattle.topo_service.specs.declared.faults.PassFault.{PassFault}
 use Rattle.topo_service.specs.declared.faults.PassFault.TheVariants.{NoView, Refused}
 use Rattle.topo_service.specs.Passes.{PassState}
 use Rattle.topo_service.specs.Receipts.{Differs, HasNumber}
-
--- the number of what ends a service with a fault
-abbrev pub end_number : EndFault → ℕ
-end_number (PassMissing n) = 43
-end_number (Mismatch n k) = 40
-
--- the number of what refuses a view or a plan
-abbrev pub pass_number : PassFault → ℕ
-pass_number NoView = 42
-pass_number (Refused why) = refusal_number why
 
 -- the receipt at k of a pass with this number is not its caller's entry k
 pub record HasDifference (history : List Entry) (passes : List PassState) (number k : ℕ) : Type 0 where

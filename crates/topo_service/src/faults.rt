@@ -1,77 +1,57 @@
 //! What refuses a pass, a view, a plan, or the end of a service.
 
 ghost use Rattle.std.specs.Prelude.{◌≡◌, Some};
-ghost use Rattle.topo_service.specs.FaultTexts.{end_name, end_text, pass_name};
-ghost use Rattle.topo_service.specs.FaultTexts.{pass_text, service_name, service_text};
-ghost use Rattle.topo_service.specs.Faults.{end_number, pass_number};
+ghost use Rattle.topo_faults.specs.Faults.{told};
+ghost use Rattle.topo_faults.specs.declared.Fault.TheVariants.{NoSeat};
+ghost use Rattle.topo_service.specs.FaultTexts.{end_fault, end_text, pass_fault, pass_text};
 
 use std::fmt;
 use thiserror::Error;
 use topo_core::calls::Refusal;
+use topo_faults::Fault;
 
-/// Why no pass was given out. It is printed as its number and its name.
+/// Why no pass was given out: the fault of the same name.
 #[derive(Clone, Copy, Debug, Drop, PartialEq, Eq, Error)]
 pub enum ServiceFault {
-    /// 41: all were given out, or the version store has no place for a reader.
     NoSeat,
 }
 
 impl ServiceFault {
-    /// The number that is written before the name of the fault.
-    pub fn number(self) -> u32
-        ensures { result ≡ 41 }
-    {
-        41
-    }
-
-    /// The name of the fault.
-    pub fn name(self) -> &'static str
-        ensures { result.now ≡ service_name self }
+    /// The fault that it is.
+    pub fn fault(self) -> Fault
+        ensures { result ≡ Fault.NoSeat }
     {
         match self {
-            ServiceFault::NoSeat => "NoSeat",
+            ServiceFault::NoSeat => Fault::NoSeat,
         }
     }
 }
 
 impl fmt::Display for ServiceFault {
-    ghost output = { λ fault. Some (service_text fault) };
+    ghost output = { λ _. Some (told NoSeat) };
 
     fn fmt<W: fmt::Write>(&self, f: &mut fmt::Formatter<W>) -> fmt::Result {
-        let number = self.number();
-        let name = self.name();
-        write!(f, "{number} {name}")
+        let fault = self.fault();
+        write!(f, "{fault}")
     }
 }
 
-/// Why a pass gave no view, or no plan. It is printed as its number and its name, a refusal as that
-/// itself.
+/// Why a pass gave no view, or no plan: the fault of the same name, or a refusal.
 #[derive(Clone, Copy, Debug, Drop, PartialEq, Eq, Error)]
 pub enum PassFault {
-    /// 42: the reader's call, or a further share of the version, is refused.
     NoView,
     /// Why there is no plan: NoVertex, SameEnds, NoRoute or Memory.
     Refused(Refusal),
 }
 
 impl PassFault {
-    /// The number that is written before the name of the fault.
-    pub fn number(self) -> u32
-        ensures { result ≡ pass_number self }
+    /// The fault that it is.
+    pub fn fault(self) -> Fault
+        ensures { result ≡ pass_fault self }
     {
         match self {
-            PassFault::NoView => 42,
-            PassFault::Refused(why) => why.number(),
-        }
-    }
-
-    /// The name of the fault, or of the refusal.
-    pub fn name(self) -> &'static str
-        ensures { result.now ≡ pass_name self }
-    {
-        match self {
-            PassFault::NoView => "NoView",
-            PassFault::Refused(why) => why.name(),
+            PassFault::NoView => Fault::NoView,
+            PassFault::Refused(why) => why.fault(),
         }
     }
 }
@@ -80,43 +60,32 @@ impl fmt::Display for PassFault {
     ghost output = { λ fault. Some (pass_text fault) };
 
     fn fmt<W: fmt::Write>(&self, f: &mut fmt::Formatter<W>) -> fmt::Result {
-        let number = self.number();
-        let name = self.name();
+        let fault = self.fault();
         match self {
-            PassFault::NoView => write!(f, "{number} {name}"),
+            PassFault::NoView => write!(f, "{fault}"),
             PassFault::Refused(why) => write!(f, "{why}"),
         }
     }
 }
 
-/// Why a service did not end well. It is printed as its number, its name and its values.
+/// Why a service did not end well: the fault of the same name. It is printed as that and its values.
 #[derive(Clone, Copy, Debug, Drop, PartialEq, Eq, Error)]
 pub enum EndFault {
-    /// 43: the pass of this number was given out and is not there; the least such number.
+    /// The pass of this number is missing; the least such number.
     PassMissing(u32),
-    /// 40: of the pass of this number, the receipt at this place is not its caller's entry at the
+    /// Of the pass of this number, the receipt at this place is not its caller's entry at the
     /// place.
     Mismatch(u32, usize),
 }
 
 impl EndFault {
-    /// The number that is written before the name of the fault.
-    pub fn number(self) -> u32
-        ensures { result ≡ end_number self }
+    /// The fault that it is.
+    pub fn fault(self) -> Fault
+        ensures { result ≡ end_fault self }
     {
         match self {
-            EndFault::PassMissing(_) => 43,
-            EndFault::Mismatch(_, _) => 40,
-        }
-    }
-
-    /// The name of the fault.
-    pub fn name(self) -> &'static str
-        ensures { result.now ≡ end_name self }
-    {
-        match self {
-            EndFault::PassMissing(_) => "PassMissing",
-            EndFault::Mismatch(_, _) => "Mismatch",
+            EndFault::PassMissing(_) => Fault::PassMissing,
+            EndFault::Mismatch(_, _) => Fault::Mismatch,
         }
     }
 }
@@ -125,11 +94,10 @@ impl fmt::Display for EndFault {
     ghost output = { λ fault. Some (end_text fault) };
 
     fn fmt<W: fmt::Write>(&self, f: &mut fmt::Formatter<W>) -> fmt::Result {
-        let number = self.number();
-        let name = self.name();
+        let fault = self.fault();
         match self {
-            EndFault::PassMissing(pass) => write!(f, "{number} {name} {pass}"),
-            EndFault::Mismatch(pass, place) => write!(f, "{number} {name} {pass} {place}"),
+            EndFault::PassMissing(pass) => write!(f, "{fault} {pass}"),
+            EndFault::Mismatch(pass, place) => write!(f, "{fault} {pass} {place}"),
         }
     }
 }

@@ -240,7 +240,7 @@ fn ask_for_one_more<F: PriceFn + Drop, K: ServiceBrand<F>>(
     match service.pass() {
         Ok(_pass) => format!(in alloc; "{given} given out, and one more\n"),
         Err(fault) => {
-            let number = fault.number();
+            let number = fault.fault().number();
             format!(in alloc; "{given} given out, then {number}\n")
         }
     }
@@ -266,7 +266,7 @@ fn close<F: PriceFn + Drop, K: ServiceBrand<F>, R: Wait>(
         Err(end) => {
             let (fault, left) = (end.fault, end.passes.len());
             drop(end);
-            let number = fault.number();
+            let number = fault.fault().number();
             format!(in alloc; "{number} {fault:?}, {left} passes")
         }
     }

@@ -7,17 +7,17 @@ use Rattle.topo_core.specs.declared.calls.Reply.{Reply}
 use Rattle.topo_core.specs.declared.calls.Reply.TheVariants.{Grown, Inserted, Deleted, Refused}
 use Rattle.topo_core.specs.declared.darts.Dart.{Dart}
 use Rattle.topo_core.specs.declared.routes.Inserted.{Inserted as Made}
-use Rattle.topo_forms.specs.declared.fault.ScriptFault.{ScriptFault}
-use Rattle.topo_forms.specs.declared.fault.ScriptFault.TheVariants.{Memory as NoMemory, NotJson, TooLong, BadShape, BadVersion, BadNumber}
+use Rattle.topo_faults.specs.declared.Fault.{Fault}
+use Rattle.topo_faults.specs.declared.Fault.TheVariants as known
+use Rattle.topo_faults.specs.Faults.{name, number}
+use Rattle.topo_forms.specs.declared.fault.ScriptFault.TheVariants.{BadShape, BadNumber}
 use Rattle.topo_forms.specs.declared.path.Path.{Path}
 use Rattle.topo_forms.specs.declared.lines.Frame.{Frame}
 use Rattle.topo_forms.specs.declared.lines.Frame.TheVariants.{Opening, Bare, Envelope}
 use Rattle.topo_forms.specs.declared.lines.LineId.{LineId}
 use Rattle.topo_forms.specs.declared.lines.LineId.TheVariants.{Text, Number}
-use Rattle.topo_forms.specs.FaultTexts.{fault_name as script_name, fault_number as script_number}
 use Rattle.topo_forms.specs.Paths.{path_text}
-use Rattle.topo_graph.specs.declared.GraphFault.{GraphFault}
-use Rattle.topo_graph.specs.declared.GraphFault.TheVariants.{Loop, NoEnd, TooLarge, NotPlanarized, OtherGraph, NotShown}
+use Rattle.topo_graph.specs.declared.GraphFault.TheVariants.{Loop, NoEnd, NotPlanarized}
 use Rattle.topo_picture.specs.declared.counts.Counts.{Counts}
 use Rattle.topo_price.specs.declared.table.PriceFault.TheVariants.{BadPrice}
 use Rattle.topo_script.specs.Pictures.{list_data, number_data, sign_data}
@@ -30,9 +30,8 @@ use Rattle.topo_session.specs.declared.vertices.End.{End}
 use Rattle.topo_session.specs.declared.vertices.End.TheVariants.{A, B}
 use Rattle.topo_session.specs.declared.vertices.VertexAnswer.{VertexAnswer}
 use Rattle.topo_settings.specs.declared.fault.RunFault.{RunFault}
-use Rattle.topo_settings.specs.declared.fault.RunFault.TheVariants.{Memory, Script, BadLimits, Price, Load, Graph, NoSeat, Mismatch}
-use Rattle.topo_settings.specs.declared.fault.RunFault.TheVariants.{WrongReply, WrongPicture, ReadFault, WriteFault}
-use Rattle.topo_settings.specs.Statuses.{fault_name, fault_number}
+use Rattle.topo_settings.specs.declared.fault.RunFault.TheVariants.{Script, Price, Graph, WrongReply}
+use Rattle.topo_settings.specs.Statuses.{fault_of}
 
 -- ---- Values
 
@@ -104,66 +103,42 @@ abbrev pub no_vertex_text : List ℕ
 no_vertex_text = compact_text (reply_data (Refused NoVertex))
 
 abbrev pub no_dart_text : List ℕ
-no_dart_text = codes "{\"refused\":[71,\"NoDart\"]}"
+no_dart_text = codes "{\"refused\":[" ++ (decimal (number known.NoDart) ++ (codes ",\"" ++ (name known.NoDart ++ codes "\"]}")))
+
+-- a fault
+abbrev pub numbered_text : Fault → List ℕ
+numbered_text fault = codes "{\"fault\":[" ++ (decimal (number fault) ++ (codes ",\"" ++ (name fault ++ codes "\"]}")))
+
+-- a fault with a number: a kind whose price is none, a place in a history, or a number of entries
+abbrev pub counted_text : Fault → ℕ → List ℕ
+counted_text fault count = codes "{\"fault\":[" ++ (decimal (number fault) ++ (codes ",\"" ++ (name fault ++ (codes "\"," ++ (decimal count ++ codes "]}")))))
+
+-- a fault with its path
+abbrev pub placed_text : Fault → Path → List ℕ
+placed_text fault path =
+    codes "{\"fault\":[" ++ (decimal (number fault) ++ (codes ",\"" ++ (name fault ++ (codes "\",\"" ++ (path_text path ++ codes "\"]}")))))
 
 abbrev pub not_open_text : List ℕ
-not_open_text = codes "{\"fault\":[72,\"NotOpen\"]}"
-
--- a fault with its number, its name and a number more: a kind whose price is none, a place in a history, or a number of entries
-abbrev pub counted_text : ℕ → List ℕ → ℕ → List ℕ
-counted_text number name count = codes "{\"fault\":[" ++ (decimal number ++ (codes ",\"" ++ (name ++ (codes "\"," ++ (decimal count ++ codes "]}")))))
+not_open_text = numbered_text known.NotOpen
 
 -- there are not so many entries to take back
 abbrev pub nothing_text : ℕ → List ℕ
-nothing_text entries = counted_text 70 (codes "NothingToUndo") entries
+nothing_text entries = counted_text known.NothingToUndo entries
 
 -- what the program is, and which requests it knows
 abbrev pub about_text : List ℕ
 about_text = codes "{\"limits\":{\"crossings\":1048576,\"edges\":65536,\"vertices\":65536},\"program\":\"planar\",\"requests\":[\"about\",\"counts\",\"delete\",\"edge\",\"face\",\"forget\",\"grow\",\"insert\",\"open\",\"picture\",\"planarize\",\"planned\",\"renumber\",\"reopen\",\"report\",\"route\",\"undo\",\"vertex\"],\"version\":\"0.5.0\"}"
 
--- ---- Faults
-
--- a fault with its number and its name
-abbrev pub numbered_text : ℕ → List ℕ → List ℕ
-numbered_text number name = codes "{\"fault\":[" ++ (decimal number ++ (codes ",\"" ++ (name ++ codes "\"]}")))
-
--- a fault with its number, its name and its path
-abbrev pub placed_text : ScriptFault → Path → List ℕ
-placed_text fault path =
-    codes "{\"fault\":[" ++ (decimal (script_number fault) ++ (codes ",\"" ++ (script_name fault ++ (codes "\",\"" ++ (path_text path ++ codes "\"]}")))))
-
--- what is told of a line that is of no form
-abbrev pub script_fault_text : ScriptFault → List ℕ
-script_fault_text NoMemory = numbered_text (script_number NoMemory) (script_name NoMemory)
-script_fault_text NotJson = numbered_text (script_number NotJson) (script_name NotJson)
-script_fault_text TooLong = numbered_text (script_number TooLong) (script_name TooLong)
-script_fault_text (BadShape path) = placed_text (BadShape path) path
-script_fault_text BadVersion = numbered_text (script_number BadVersion) (script_name BadVersion)
-script_fault_text (BadNumber path) = placed_text (BadNumber path) path
-
--- what is told of a fault of a graph: where it is that of an edge, also the edge's place
-abbrev pub graph_fault_text : GraphFault → List ℕ
-graph_fault_text (Loop place) = counted_text (fault_number (Graph (Loop place))) (fault_name (Graph (Loop place))) place
-graph_fault_text (NoEnd place) = counted_text (fault_number (Graph (NoEnd place))) (fault_name (Graph (NoEnd place))) place
-graph_fault_text TooLarge = numbered_text (fault_number (Graph TooLarge)) (fault_name (Graph TooLarge))
-graph_fault_text (NotPlanarized place) = counted_text (fault_number (Graph (NotPlanarized place))) (fault_name (Graph (NotPlanarized place))) place
-graph_fault_text OtherGraph = numbered_text (fault_number (Graph OtherGraph)) (fault_name (Graph OtherGraph))
-graph_fault_text NotShown = numbered_text (fault_number (Graph NotShown)) (fault_name (Graph NotShown))
-
 -- what is told of a fault, of a line or of what it opens
 abbrev pub fault_text : RunFault → List ℕ
-fault_text Memory = numbered_text (fault_number Memory) (fault_name Memory)
-fault_text (Script fault) = script_fault_text fault
-fault_text BadLimits = numbered_text (fault_number BadLimits) (fault_name BadLimits)
-fault_text (Price (BadPrice kind)) = counted_text (fault_number (Price (BadPrice kind))) (fault_name (Price (BadPrice kind))) kind
-fault_text (Load fault) = numbered_text (fault_number (Load fault)) (fault_name (Load fault))
-fault_text (Graph fault) = graph_fault_text fault
-fault_text NoSeat = numbered_text (fault_number NoSeat) (fault_name NoSeat)
-fault_text (Mismatch list place) = numbered_text (fault_number (Mismatch list place)) (fault_name (Mismatch list place))
-fault_text (WrongReply place) = counted_text (fault_number (WrongReply place)) (fault_name (WrongReply place)) place
-fault_text WrongPicture = numbered_text (fault_number WrongPicture) (fault_name WrongPicture)
-fault_text ReadFault = numbered_text (fault_number ReadFault) (fault_name ReadFault)
-fault_text WriteFault = numbered_text (fault_number WriteFault) (fault_name WriteFault)
+fault_text (Script (BadShape path)) = placed_text known.BadShape path
+fault_text (Script (BadNumber path)) = placed_text known.BadNumber path
+fault_text (Price (BadPrice kind)) = counted_text known.BadPrice kind
+fault_text (Graph (Loop place)) = counted_text known.Loop place
+fault_text (Graph (NoEnd place)) = counted_text known.NoEnd place
+fault_text (Graph (NotPlanarized place)) = counted_text known.NotPlanarized place
+fault_text (WrongReply place) = counted_text known.WrongReply place
+fault_text fault = numbered_text (fault_of fault)
 
 -- ---- Envelopes
 

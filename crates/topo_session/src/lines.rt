@@ -23,13 +23,14 @@ ghost use Rattle.topo_settings.specs.Settings.{IsUnsound};
 
 use crate::session::Session;
 use crate::texts::{
-    counts_text, face_text, fault_text, framed, nothing_text, renumbered_text, route_text,
-    text_like, text_of,
+    counts_text, face_text, fault_text, framed, no_dart_text, nothing_text, numbered_text,
+    renumbered_text, route_text, text_like, text_of,
 };
 use std::alloc::{AllocError, Global};
 use std::mem;
 use topo_core::calls::{Call, Command, Refusal, Reply};
 use topo_core::darts::Dart;
+use topo_faults::Fault;
 use topo_forms::{
     Asked, Frame, GraphAsked, Line, Opening, Report, Request, ScriptFault, read_command, read_line,
 };
@@ -42,9 +43,6 @@ use topo_settings::{FromTable, RunFault};
 /// What the program is, how large a picture may be, and which requests there are.
 const ABOUT: &str =
     "{\"limits\":{\"crossings\":1048576,\"edges\":65536,\"vertices\":65536},\"program\":\"planar\",\"requests\":[\"about\",\"counts\",\"delete\",\"edge\",\"face\",\"forget\",\"grow\",\"insert\",\"open\",\"picture\",\"planarize\",\"planned\",\"renumber\",\"reopen\",\"report\",\"route\",\"undo\",\"vertex\"],\"version\":\"0.5.0\"}";
-
-/// What each request but four is answered where no session is open.
-pub const NOT_OPEN: &str = "{\"fault\":[72,\"NotOpen\"]}";
 
 /// Carries a command out, and gives the text of its reply. A planned insertion is looked for as any
 /// other.
@@ -140,7 +138,7 @@ fn tell_face<F: PriceFn>(
     match session.face(alloc, dart)? {
         Some(darts) => face_text(alloc, &darts),
         None => if session.has_edge(edge) {
-            text_like(alloc, "{\"refused\":[71,\"NoDart\"]}")
+            no_dart_text(alloc)
         } else {
             refusal_text(alloc, Refusal::NoEdge)
         },
@@ -354,7 +352,7 @@ fn answer_closed<F: FromTable>(
             Ok(text)
         }
         Request::Planarize(asked) => tell_pictures::<F>(alloc, asked),
-        _ => or_memory(text_like(alloc, NOT_OPEN)),
+        _ => or_memory(numbered_text(alloc, Fault::NotOpen)),
     }
 }
 
@@ -408,7 +406,7 @@ fn answer_command<F: FromTable>(
     if let Some(open) = session {
         return carry(alloc, open, 0, command);
     }
-    text_like(alloc, NOT_OPEN)
+    numbered_text(alloc, Fault::NotOpen)
 }
 
 /// Answers a line, whatever it asks for.

@@ -1,14 +1,14 @@
 //! The texts of answers.
 
-ghost use Rattle.std.specs.Prelude.{◌≡◌, ◌++◌, [], IfOk, OnOk, codes, decimal, string_bytes};
+ghost use Rattle.std.specs.Prelude.{◌≡◌, ◌++◌, [], IfOk, OnOk, codes, string_bytes};
 ghost use Rattle.serde_json.specs.Data.{string};
 ghost use Rattle.serde_json.specs.Written.{compact_text};
-ghost use Rattle.topo_forms.specs.Paths.{path_text};
 ghost use Rattle.topo_session.specs.Texts.{counts_text, edge_data, end_data, face_data};
 ghost use Rattle.topo_session.specs.Texts.{fault_text, framed, id_data, meeting_data};
-ghost use Rattle.topo_session.specs.Texts.{counted_text, nothing_text, numbered_text};
+ghost use Rattle.topo_session.specs.Texts.{counted_text, no_dart_text, nothing_text, numbered_text};
+ghost use Rattle.topo_session.specs.Texts.{placed_text};
 ghost use Rattle.topo_session.specs.Texts.{renumbered_data, route_data, route_reply_data};
-ghost use Rattle.topo_session.specs.Texts.{graph_fault_text, script_fault_text, undone_data, vertex_data};
+ghost use Rattle.topo_session.specs.Texts.{undone_data, vertex_data};
 
 use crate::edges::{EdgeAnswer, Meeting};
 use crate::session::Undone;
@@ -19,6 +19,7 @@ use topo_core::calls::Reply;
 use topo_core::darts::Dart;
 use topo_core::listed::Listed;
 use topo_core::routes::Inserted;
+use topo_faults::Fault;
 use topo_forms::path::Path;
 use topo_forms::{Frame, LineId, ScriptFault};
 use topo_graph::GraphFault;
@@ -209,85 +210,59 @@ pub fn text_like(alloc: Global, letters: &str) -> Result<String, AllocError>
 pub fn nothing_text(alloc: Global, entries: u32) -> Result<String, AllocError>
     ensures { IfOk result (λ text. string_bytes text ≡ nothing_text entries) }
 {
-    counted_text(alloc, 70, "NothingToUndo", entries as usize)
+    counted_text(alloc, Fault::NothingToUndo, entries as usize)
+}
+
+/// The text that tells that the dart of an edge is not there.
+pub fn no_dart_text(alloc: Global) -> Result<String, AllocError>
+    ensures { IfOk result (λ text. string_bytes text ≡ no_dart_text) }
+{
+    let number = Fault::NoDart.number();
+    let name = Fault::NoDart.name();
+    format!(in alloc; "{{\"refused\":[{number},\"{name}\"]}}")
 }
 
 /// The text of a fault with its number and its name.
-fn numbered_text(alloc: Global, number: u32, name: &str) -> Result<String, AllocError>
-    ensures { IfOk result (λ text. string_bytes text ≡ numbered_text number name.now) }
+pub fn numbered_text(alloc: Global, fault: Fault) -> Result<String, AllocError>
+    ensures { IfOk result (λ text. string_bytes text ≡ numbered_text fault) }
 {
+    let number = fault.number();
+    let name = fault.name();
     format!(in alloc; "{{\"fault\":[{number},\"{name}\"]}}")
 }
 
 /// The text of a fault with its number, its name and its path.
-fn placed_text(alloc: Global, number: u32, name: &str, path: Path) -> Result<String, AllocError>
-    ensures { IfOk result
-        (λ text. string_bytes text ≡ codes "{\"fault\":[" ++ (decimal number
-        ++ (codes ",\"" ++ (name.now ++ (codes "\",\"" ++ (path_text path ++ codes "\"]}")))))) }
+fn placed_text(alloc: Global, fault: Fault, path: Path) -> Result<String, AllocError>
+    ensures { IfOk result (λ text. string_bytes text ≡ placed_text fault path) }
 {
+    let number = fault.number();
+    let name = fault.name();
     format!(in alloc; "{{\"fault\":[{number},\"{name}\",\"{path}\"]}}")
 }
 
 /// The text of a fault with its number, its name and a number more.
-fn counted_text(alloc: Global, number: u32, name: &str, count: usize) -> Result<String, AllocError>
-    ensures { IfOk result (λ text. string_bytes text ≡ counted_text number name.now count) }
+fn counted_text(alloc: Global, fault: Fault, count: usize) -> Result<String, AllocError>
+    ensures { IfOk result (λ text. string_bytes text ≡ counted_text fault count) }
 {
+    let number = fault.number();
+    let name = fault.name();
     format!(in alloc; "{{\"fault\":[{number},\"{name}\",{count}]}}")
-}
-
-/// The text of a fault of a line.
-fn script_fault_text(alloc: Global, fault: ScriptFault) -> Result<String, AllocError>
-    ensures { IfOk result (λ text. string_bytes text ≡ script_fault_text fault) }
-{
-    let number = fault.number();
-    let name = fault.name();
-    match fault {
-        ScriptFault::Memory => numbered_text(alloc, number, name),
-        ScriptFault::NotJson => numbered_text(alloc, number, name),
-        ScriptFault::TooLong => numbered_text(alloc, number, name),
-        ScriptFault::BadShape(path) => placed_text(alloc, number, name, path),
-        ScriptFault::BadVersion => numbered_text(alloc, number, name),
-        ScriptFault::BadNumber(path) => placed_text(alloc, number, name, path),
-    }
-}
-
-/// The text of a fault of a graph: where it is that of an edge, also the edge's place.
-fn graph_fault_text(alloc: Global, fault: &GraphFault) -> Result<String, AllocError>
-    ensures { IfOk result (λ text. string_bytes text ≡ graph_fault_text fault.now) }
-{
-    let number = fault.number();
-    let name = fault.name();
-    match fault {
-        GraphFault::Loop(place) => counted_text(alloc, number, name, *place),
-        GraphFault::NoEnd(place) => counted_text(alloc, number, name, *place),
-        GraphFault::TooLarge => numbered_text(alloc, number, name),
-        GraphFault::NotPlanarized(place) => counted_text(alloc, number, name, *place),
-        GraphFault::OtherGraph => numbered_text(alloc, number, name),
-        GraphFault::NotShown => numbered_text(alloc, number, name),
-    }
 }
 
 /// The text of a fault, of a line or of what it opens.
 pub fn fault_text(alloc: Global, fault: RunFault) -> Result<String, AllocError>
     ensures { IfOk result (λ text. string_bytes text ≡ fault_text fault) }
 {
-    let number = fault.number();
-    let name = fault.name();
+    let known = fault.fault();
     match fault {
-        RunFault::Script(fault) => script_fault_text(alloc, fault),
-        RunFault::Price(PriceFault::BadPrice(kind)) => {
-            counted_text(alloc, number, name, kind as usize)
-        }
-        RunFault::Memory => numbered_text(alloc, number, name),
-        RunFault::BadLimits => numbered_text(alloc, number, name),
-        RunFault::Load(_) => numbered_text(alloc, number, name),
-        RunFault::Graph(fault) => graph_fault_text(alloc, &fault),
-        RunFault::NoSeat => numbered_text(alloc, number, name),
-        RunFault::Mismatch(_, _) => numbered_text(alloc, number, name),
-        RunFault::WrongReply(place) => counted_text(alloc, number, name, place),
-        RunFault::WrongPicture => numbered_text(alloc, number, name),
-        RunFault::ReadFault => numbered_text(alloc, number, name),
-        RunFault::WriteFault => numbered_text(alloc, number, name),
+        RunFault::Script(ScriptFault::BadShape(path)) => placed_text(alloc, known, path),
+        RunFault::Script(ScriptFault::BadNumber(path)) => placed_text(alloc, known, path),
+        RunFault::Price(PriceFault::BadPrice(kind)) => counted_text(alloc, known, kind as usize),
+        RunFault::Graph(GraphFault::Loop(place)) => counted_text(alloc, known, place),
+        RunFault::Graph(GraphFault::NoEnd(place)) => counted_text(alloc, known, place),
+        RunFault::Graph(GraphFault::NotPlanarized(place)) => counted_text(alloc, known, place),
+        RunFault::WrongReply(place) => counted_text(alloc, known, place),
+        _ => numbered_text(alloc, known),
     }
 }
 

@@ -59,15 +59,15 @@ fn check_fault(rt: &impl Abort, alloc: Global, fault: Fault, text: &str) -> Resu
         Fault::Run(fault) => {
             let status = if text.ends_with("Memory") { 3 } else { 1 };
             assert!(rt; fault.status() == status, "{text}");
-            check_number(rt, alloc, fault, fault.number(), text)
+            check_number(rt, alloc, fault, fault.fault().number(), text)
         }
         Fault::Script(fault) => check_error(rt, alloc, fault, text),
         Fault::Load(fault) => check_error(rt, alloc, fault, text),
         Fault::Price(fault) => check_error(rt, alloc, fault, text),
         Fault::Limits(fault) => check_error(rt, alloc, fault, text),
-        Fault::Replay(fault) => check_number(rt, alloc, fault, fault.number(), text),
-        Fault::Plan(fault) => check_number(rt, alloc, fault, fault.number(), text),
-        Fault::Refused(why) => check_number(rt, alloc, why, why.number(), text),
+        Fault::Replay(fault) => check_number(rt, alloc, fault, fault.fault().number(), text),
+        Fault::Plan(fault) => check_number(rt, alloc, fault, fault.fault().number(), text),
+        Fault::Refused(why) => check_number(rt, alloc, why, why.fault().number(), text),
     }
 }
 

@@ -10,10 +10,11 @@ use Rattle.topo_core.specs.declared.rows.Rows.{Rows}
 use Rattle.topo_core.specs.Changes.{IsCut, opened, without}
 use Rattle.topo_core.specs.Evidence.{IsNoCut, route}
 use Rattle.topo_core.specs.FalseCases.{cheapest, uneven}
+use Rattle.topo_core.specs.FaultTexts.{refusal_number}
 use Rattle.topo_core.specs.Picture.{edge_row, rotation, system}
 use Rattle.topo_core.specs.Pictures.{back, barrier, bipyramid, forward, joined_apexes, seed}
 use Rattle.topo_core.specs.Routes.{IsFirst}
-use Rattle.topo_core.specs.Steps.{IsRefused, grow_refusal, insert_refusal, refusal_number}
+use Rattle.topo_core.specs.Steps.{IsRefused, grow_refusal, insert_refusal}
 use Rattle.topo_core.specs.Systems.{Connected}
 use Rattle.topo_core.proofs.routing.Certificates.{same_some}
 use Rattle.topo_core.proofs.stepping.Computed.{Passes, Planned, connected_by_tests, cut_by_tests, first_by_tests, no_cut_by_tests}
