@@ -5,7 +5,7 @@ use crate::board::{Board, Score};
 use crate::expansion::expanded;
 use crate::graph::{Graph, cost_of_rows};
 use crate::lists::{append, first_numbers, length_of};
-use crate::moves::{add_crossed, put_in};
+use crate::moves::{add_crossed, crossings_of, put_in};
 use crate::orders::{begin_order, first_forbidden};
 use crate::reduction::{Reduction, reduced};
 use crate::repair::Repair;
@@ -84,25 +84,26 @@ const STEP_MOVES: u32 = 100_000;
 /// ends with at most so many, a longer one does.
 const FEW_CROSSINGS: u64 = 30;
 
-const SOME_CROSSINGS: u64 = 300;
+const SOME_CROSSINGS: u64 = 700;
 
 /// So many orders are tried at most.
-const QUICK_ORDERS: u32 = 3;
+const ORDERS: u32 = 3;
 
-const ORDERS: u32 = 2;
+/// An edge that was put in is put in again, with those that it crosses, where it has at least so
+/// many crossings.
+const REPAIRED_FROM: u32 = 4;
 
 /// So many orders at most may fail before there is a picture.
 const FAILED_ORDERS: u32 = 8;
 
-/// So many passes go over what a shake has touched.
-const SETTLING_PASSES: u32 = 3;
+/// So many passes go at most over all edges, or over what a shake has touched.
+const PASSES: u32 = 20;
 
-/// So many shakes in a row that save nothing end the search: between these, by the crossings.
-const LEAST_IDLE: u64 = 40;
+/// So many shakes in a row that save nothing end the search.
+const IDLE: u64 = 100;
 
-const MOST_IDLE: u64 = 200;
-
-const CROSSINGS_FOR_EACH: u64 = 10;
+/// And so many end a thorough one.
+const THOROUGH_IDLE: u64 = 400;
 
 /// A search for a picture of a graph with few crossings.
 pub struct Search<F: PriceFn> {
@@ -388,8 +389,11 @@ impl<F: PriceFn> Search<F> {
         self.repair_about(alloc, edge)
     }
 
-    /// Has an edge and those that it crosses put in again.
+    /// Has an edge and those that it crosses put in again, where these are many.
     fn repair_about(&mut self, alloc: Global, edge: u32) -> Result<(), SearchFault> {
+        if crossings_of(&self.board, edge) < REPAIRED_FROM {
+            return Ok(());
+        }
         let mut about = Vec::new(alloc);
         add_crossed(&self.board, edge, &mut about)?;
         append(&mut about, edge)?;
@@ -401,7 +405,7 @@ impl<F: PriceFn> Search<F> {
     fn begin_round(&mut self, alloc: Global) -> Result<(), SearchFault> {
         let all = first_numbers(alloc, self.board.graph.edge_count())?;
         let before = self.board.score();
-        self.repair.begin(alloc, &mut self.board, all, 1)?;
+        self.repair.begin(alloc, &mut self.board, all, PASSES)?;
         self.stage = Stage::Round(before);
         Ok(())
     }
@@ -429,13 +433,13 @@ impl<F: PriceFn> Search<F> {
 
     /// Whether to try another order.
     fn wants_order(&self) -> bool {
-        let (crossings, orders) = match self.options.effort {
-            Effort::Quick => (FEW_CROSSINGS, QUICK_ORDERS),
-            _ => (SOME_CROSSINGS, ORDERS),
+        let crossings = match self.options.effort {
+            Effort::Quick => FEW_CROSSINGS,
+            _ => SOME_CROSSINGS,
         };
         match self.best_crossings() {
             Some(0) | None => false,
-            Some(best) => best <= crossings && self.orders() < orders,
+            Some(best) => best <= crossings && self.orders() < ORDERS,
         }
     }
 
@@ -455,12 +459,11 @@ impl<F: PriceFn> Search<F> {
 
     /// Whether enough shakes in a row have saved nothing, or nothing can be saved.
     fn has_shaken_enough(&self) -> bool {
-        let best = self.best_crossings().unwrap_or(0);
         let limit = match self.options.effort {
-            Effort::Thorough => MOST_IDLE,
-            _ => (best / CROSSINGS_FOR_EACH).clamp(LEAST_IDLE, MOST_IDLE),
+            Effort::Thorough => THOROUGH_IDLE,
+            _ => IDLE,
         };
-        best == 0 || self.idle >= limit
+        self.best_crossings().unwrap_or(0) == 0 || self.idle >= limit
     }
 
     /// Begins a shake: takes some edges out. Or ends the search.
@@ -482,8 +485,7 @@ impl<F: PriceFn> Search<F> {
             return self.repair_about(alloc, edge);
         }
         let about = about_shaken(alloc, &mut self.board, &mut self.shaken)?;
-        self.repair
-            .begin(alloc, &mut self.board, about, SETTLING_PASSES)?;
+        self.repair.begin(alloc, &mut self.board, about, PASSES)?;
         self.stage = Stage::Settling;
         Ok(())
     }
