@@ -1,7 +1,3 @@
-use Rattle.std.proofs.Common.{take}
-use Rattle.std.specs.Arc.{arc_value}
-use Rattle.topo_price.specs.Prices.{prices_of}
-use Rattle.topo_book.specs.Books.{BookState, IsBook}
 use Rattle.topo_book.proofs.Histories.{is_legal}
 use Rattle.topo_book.proofs.book.Book.take_back.Goals as goal
 
