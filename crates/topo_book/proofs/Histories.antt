@@ -7,8 +7,9 @@ use Rattle.topo_core.specs.declared.calls.Entry.{Entry}
 use Rattle.topo_core.specs.Routes.{Pricing}
 use Rattle.topo_core.specs.Steps.{Step}
 use Rattle.topo_core.specs.History.{Replays}
+use Rattle.topo_price.specs.Prices.{Asking, prices_of}
 use Rattle.topo_rows.specs.Shown.{Shown, IsPicture}
-use Rattle.topo_book.specs.Books.{BookState, CanFollow, IsBook, IsNext, NextState, ReplaysLawfully, picture_after}
+use Rattle.topo_book.specs.Books.{BookState, CanFollow, IsBook, IsLegalBook, IsNext, NextState, ReplaysLawfully, picture_after}
 
 module _ (price : Pricing) (limits : Limits) where
   pub replays : (entries : List Entry) (p q : Rows) → ReplaysLawfully price limits p entries q → Replays price limits p entries q
@@ -47,6 +48,16 @@ module _ (price : Pricing) (start picture : Shown) (history : List Entry) (book 
             (subst (λ (l : Limits). Step price l picture.rows entry.call entry.reply next.rows) book.same_limits step)
             (subst (λ (l : Limits). IsPicture l next.rows) same good);
       }
+
+-- so a book is legal
+pub is_legal : {F : Type 0} (answers : F → Asking) (book : BookState F)
+    → IsBook (prices_of (answers book.tariff)) book.start book.history book.picture → IsLegalBook answers book
+is_legal answers book is = record {
+  replayed = book_replays (prices_of (answers book.tariff)) book.start book.picture book.history is;
+  on_the_way = is.replayed;
+  lawful = book_lawful (prices_of (answers book.tariff)) book.start book.picture book.history is;
+  same_limits = is.same_limits;
+}
 
 -- what holds where a call does not fail
 pub on_ok : {A E P : Type 0} (r : Result A E) → is_err r ≡ false → OnOk r P → P

@@ -12,8 +12,8 @@ use Rattle.topo_core.specs.declared.rows.Rows.{Rows}
 use Rattle.topo_core.specs.History.{is_accepted, versions}
 use Rattle.topo_core.specs.Routes.{Pricing}
 use Rattle.topo_core.specs.Steps.{IsRefused, Step}
-use Rattle.topo_rows.specs.Shown.{Shown}
-use Rattle.topo_book.specs.Books.{IsDue, ReplaysLawfully}
+use Rattle.topo_price.specs.Prices.{Asking, prices_of}
+use Rattle.topo_book.specs.Books.{BookState, IsDue, IsDueIn, IsLegalBook, ReplaysLawfully}
 use Rattle.topo_book.specs.RefusedCalls.{WasRefused}
 use Rattle.topo_book.proofs.Outliving.{last_apart, parted}
 
@@ -85,10 +85,10 @@ module _ (price : Pricing) (limits : Limits) where
       (q, (subst (λ r. IsRefused price limits r call why) (sym same) step.0, refl))
 
 -- and so by a book
-pub refused_by_book : (price : Pricing) (start picture : Shown) (history : List Entry) (call : Call) (found : Option Refusal)
-    → picture.limits ≡ start.limits → ReplaysLawfully price start.limits start.rows history picture.rows → IfSome found (WasRefused history call)
-    → IfSome found (λ why. IsDue price picture.limits picture.rows call (Refused why))
-refused_by_book price start picture history call None same way was = tt
-refused_by_book price start picture history call (Some why) same way was =
-    subst (λ limits. IsDue price limits picture.rows call (Refused why)) (sym same)
-    (refused_still price start.limits history start.rows picture.rows call why way was)
+pub refused_by_book : {F : Type 0} (answers : F → Asking) (book : BookState F) (call : Call) (found : Option Refusal) → IsLegalBook answers book
+    → IfSome found (WasRefused book.history call) → IfSome found (λ why. IsDueIn answers book call (Refused why))
+refused_by_book answers book call None legal was = tt
+refused_by_book answers book call (Some why) legal was =
+    let price = prices_of (answers book.tariff) in
+    subst (λ limits. IsDue price limits book.picture.rows call (Refused why)) (sym legal.same_limits)
+    (refused_still price book.start.limits book.history book.start.rows book.picture.rows call why legal.on_the_way was)

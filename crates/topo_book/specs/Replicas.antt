@@ -3,9 +3,14 @@ use Rattle.std.specs.Prelude.{List, All, Option, IfSome}
 use Rattle.std.specs.Arc.{arc_value}
 use Rattle.topo_core.specs.declared.calls.Entry.{Entry}
 use Rattle.topo_core.specs.Routes.{Pricing}
+use Rattle.topo_price.specs.Prices.{Asking}
 use Rattle.topo_rows.specs.Shown.{Shown}
-use Rattle.topo_book.specs.Books.{IsBook, IsReplica}
+use Rattle.topo_book.specs.Books.{BookState, IsBook, IsReplica, StandsAfter}
 use Rattle.topo_book.specs.declared.replicas.Replica.{Replica}
+
+-- the replica stands after the first entries of the book's history, as many as it says
+abbrev pub IsReplicaOf : {F : Type 0} → (F → Asking) → BookState F → Replica → Type 0
+IsReplicaOf answers book replica = StandsAfter answers book replica.entries (arc_value replica.picture)
 
 -- each stands after the first entries of the history, as many as it says
 abbrev pub AreReplicas : Pricing → Shown → List Entry → List Replica → Type 0

@@ -114,9 +114,8 @@ impl<F: PriceFn> Model for Book<F> {
 
 impl<F: PriceFn> Book<F> {
     ghost use Rattle.std.specs.Prelude.{◌≡◌, ◌≢◌, ◌<◌, ◌≤◌, true, IfOk, IfSome};
-    ghost use Rattle.std.specs.Prelude.{OnOk, OnErr, [], ◌∷◌, ◌++◌, length, take};
-    ghost use Rattle.topo_core.specs.History.{Replays, is_accepted};
-    ghost use Rattle.topo_core.specs.Steps.{Step};
+    ghost use Rattle.std.specs.Prelude.{OnOk, OnErr, [], ◌∷◌, ◌++◌, length};
+    ghost use Rattle.topo_core.specs.History.{is_accepted};
     ghost use Rattle.topo_core.specs.declared.calls.Call.TheVariants.{Grow, Insert, Delete};
     ghost use Rattle.topo_core.specs.declared.calls.Refusal.TheVariants.{Memory};
     ghost use Rattle.topo_core.specs.declared.calls.Reply.TheVariants.{Refused};
@@ -124,9 +123,11 @@ impl<F: PriceFn> Book<F> {
     ghost use Rattle.topo_price.specs.Prices.{prices_of};
     ghost use Rattle.std.specs.Prelude.{Option, Some};
     ghost use Rattle.topo_core.specs.declared.calls.Reply.{Reply};
-    ghost use Rattle.topo_book.specs.Books.{CanFollow, IsAnswered, IsBook, IsDue, IsReplica, IsSameBook};
-    ghost use Rattle.topo_book.specs.Books.{IsUnchanged, ReplaysLawfully, picture_after};
-    ghost use Rattle.topo_book.specs.RouteSources.{IsSourceFor};
+    ghost use Rattle.topo_book.specs.Books.{AnswersCall, CanFollow, IsAnswered, IsBook, IsDueIn};
+    ghost use Rattle.topo_book.specs.Books.{IsLegalBook, IsSameBook, IsUnchanged, PreparesCall};
+    ghost use Rattle.topo_book.specs.Books.{StandsAfter, picture_after};
+    ghost use Rattle.topo_book.specs.Replicas.{IsReplicaOf};
+    ghost use Rattle.topo_book.specs.RouteSources.{IsSourceIn};
     ghost use Rattle.topo_book.specs.Sparing.{HaveSpared};
 
     /// The book that begins with this picture and no entry.
@@ -197,10 +198,7 @@ impl<F: PriceFn> Book<F> {
     /// The entries so far, the oldest first. Out of memory is never entered.
     pub fn history(&self) -> &[Entry]
         ensures entries { result.now ≡ self.now.history }
-        ensures legal { Replays (prices_of (F.may_return self.now.tariff))
-            self.now.start.limits self.now.start.rows self.now.history self.now.picture.rows }
-        ensures lawful { ReplaysLawfully (prices_of (F.may_return self.now.tariff))
-            self.now.start.limits self.now.start.rows self.now.history self.now.picture.rows }
+        ensures legal { IsLegalBook F.may_return self.now }
     {
         self.history.as_slice()
     }
@@ -208,10 +206,7 @@ impl<F: PriceFn> Book<F> {
     /// The picture now, the replay of the history.
     pub fn picture(&self) -> &Picture
         ensures picture { result.now ≡ self.now.picture }
-        ensures replay { Replays (prices_of (F.may_return self.now.tariff))
-            self.now.start.limits self.now.start.rows self.now.history self.now.picture.rows }
-        ensures lawful { IsPicture self.now.picture.limits self.now.picture.rows }
-        ensures same_limits { self.now.picture.limits ≡ self.now.start.limits }
+        ensures legal { IsLegalBook F.may_return self.now }
     {
         self.shared_picture()
     }
@@ -220,10 +215,7 @@ impl<F: PriceFn> Book<F> {
     /// as the share is held, and calls go on with another.
     pub fn shared_picture(&self) -> &Arc<Picture>
         ensures picture { arc_value result.now ≡ self.now.picture }
-        ensures replay { Replays (prices_of (F.may_return self.now.tariff))
-            self.now.start.limits self.now.start.rows self.now.history self.now.picture.rows }
-        ensures lawful { IsPicture self.now.picture.limits self.now.picture.rows }
-        ensures same_limits { self.now.picture.limits ≡ self.now.start.limits }
+        ensures legal { IsLegalBook F.may_return self.now }
     {
         &self.picture
     }
@@ -249,8 +241,7 @@ impl<F: PriceFn> Book<F> {
         F: Drop,
         ensures entries { IfOk result (λ made. made.0.items ≡ self.history) }
         ensures rows { IfOk result (λ made. made.1 ≡ self.picture.rows) }
-        ensures legal { Replays (prices_of (F.may_return self.tariff))
-            self.start.limits self.start.rows self.history self.picture.rows }
+        ensures legal { IsLegalBook F.may_return self }
     {
         let Book {
             tariff: _tariff,
@@ -281,14 +272,7 @@ impl<F: PriceFn> Book<F> {
         v: u32,
         kind: u32,
     ) -> Result<Reply, AllocError>
-        ensures step { IfOk result
-            (λ reply. Step (prices_of (F.may_return self.old.tariff)) self.old.picture.limits
-            self.old.picture.rows (Insert u v kind) reply self.new.picture.rows) }
-        ensures entered { IfOk result (λ reply. self.new.history ≡ self.old.history
-            ++ record { caller = caller; call = Insert u v kind; reply = reply } ∷ []) }
-        ensures no_memory { IfOk result (λ reply. reply ≢ Refused Memory) }
-        ensures unchanged { OnErr result (IsUnchanged self.old self.new) }
-        ensures same_book { IsSameBook self.old self.new }
+        ensures { AnswersCall F.may_return caller (Insert u v kind) self.old self.new result }
     {
         let source = RouteSource::Search;
         self.call_in_place(alloc, caller, Call::Insert { u, v, kind }, source)
@@ -305,14 +289,7 @@ impl<F: PriceFn> Book<F> {
         kind: u32,
         plan: &Plan,
     ) -> Result<Reply, AllocError>
-        ensures step { IfOk result
-            (λ reply. Step (prices_of (F.may_return self.old.tariff)) self.old.picture.limits
-            self.old.picture.rows (Insert u v kind) reply self.new.picture.rows) }
-        ensures entered { IfOk result (λ reply. self.new.history ≡ self.old.history
-            ++ record { caller = caller; call = Insert u v kind; reply = reply } ∷ []) }
-        ensures no_memory { IfOk result (λ reply. reply ≢ Refused Memory) }
-        ensures unchanged { OnErr result (IsUnchanged self.old self.new) }
-        ensures same_book { IsSameBook self.old self.new }
+        ensures { AnswersCall F.may_return caller (Insert u v kind) self.old self.new result }
     {
         let planned = RouteSource::Plan(plan);
         self.call_in_place(alloc, caller, Call::Insert { u, v, kind }, planned)
@@ -321,14 +298,7 @@ impl<F: PriceFn> Book<F> {
     /// Takes an edge out, or answers why not. Both are entered. Out of memory may stand in place of
     /// any answer, and leaves history and picture as they were.
     pub fn delete(&mut self, alloc: Global, caller: u32, edge: u32) -> Result<Reply, AllocError>
-        ensures step { IfOk result (λ reply. Step (prices_of (F.may_return self.old.tariff))
-            self.old.picture.limits self.old.picture.rows (Delete edge)
-            reply self.new.picture.rows) }
-        ensures entered { IfOk result (λ reply. self.new.history ≡ self.old.history
-            ++ record { caller = caller; call = Delete edge; reply = reply } ∷ []) }
-        ensures no_memory { IfOk result (λ reply. reply ≢ Refused Memory) }
-        ensures unchanged { OnErr result (IsUnchanged self.old self.new) }
-        ensures same_book { IsSameBook self.old self.new }
+        ensures { AnswersCall F.may_return caller (Delete edge) self.old self.new result }
     {
         self.call_in_place(alloc, caller, Call::Delete { edge }, RouteSource::Search)
     }
@@ -344,14 +314,7 @@ impl<F: PriceFn> Book<F> {
         position: u32,
         kind: u32,
     ) -> Result<Reply, AllocError>
-        ensures step { IfOk result
-            (λ reply. Step (prices_of (F.may_return self.old.tariff)) self.old.picture.limits
-            self.old.picture.rows (Grow u position kind) reply self.new.picture.rows) }
-        ensures entered { IfOk result (λ reply. self.new.history ≡ self.old.history
-            ++ record { caller = caller; call = Grow u position kind; reply = reply } ∷ []) }
-        ensures no_memory { IfOk result (λ reply. reply ≢ Refused Memory) }
-        ensures unchanged { OnErr result (IsUnchanged self.old self.new) }
-        ensures same_book { IsSameBook self.old self.new }
+        ensures { AnswersCall F.may_return caller (Grow u position kind) self.old self.new result }
     {
         self.call_in_place(
             alloc,
@@ -363,11 +326,9 @@ impl<F: PriceFn> Book<F> {
 
     /// The reply that a call would have now. It is not carried out, and not entered.
     pub fn due_reply(&mut self, alloc: Global, call: Call) -> Result<Reply, AllocError>
-        ensures due { IfOk result (IsDue (prices_of (F.may_return self.old.tariff))
-            self.old.picture.limits self.old.picture.rows call) }
+        ensures due { IfOk result (IsDueIn F.may_return self.old call) }
         ensures no_memory { IfOk result (λ reply. reply ≢ Refused Memory) }
-        ensures unchanged { IsUnchanged self.old self.new }
-        ensures same_book { IsSameBook self.old self.new }
+        ensures unchanged { self.new ≡ self.old }
     {
         self.decide_where_cached(alloc, call, RouteSource::Search)
     }
@@ -376,12 +337,7 @@ impl<F: PriceFn> Book<F> {
     /// reserved. The book is as it was, whatever the answer.
     #[tactic(auto, using(crate::proofs::SourceLaws::nothing_is_owed))]
     pub fn prepare(&mut self, alloc: Global, caller: u32, call: Call) -> Result<Next, AllocError>
-        ensures caller { IfOk result (λ n. n.entry.caller ≡ caller) }
-        ensures call { IfOk result (λ n. n.entry.call ≡ call) }
-        ensures ready { IfOk result
-            (CanFollow (prices_of (F.may_return self.new.tariff)) self.new) }
-        ensures unchanged { IsUnchanged self.old self.new }
-        ensures same_book { IsSameBook self.old self.new }
+        ensures { PreparesCall F.may_return caller call self.old self.new result }
     {
         self.prepare_from(alloc, caller, call, RouteSource::Search)
     }
@@ -397,12 +353,7 @@ impl<F: PriceFn> Book<F> {
         kind: u32,
         plan: &Plan,
     ) -> Result<Next, AllocError>
-        ensures caller { IfOk result (λ n. n.entry.caller ≡ caller) }
-        ensures call { IfOk result (λ n. n.entry.call ≡ Insert u v kind) }
-        ensures ready { IfOk result
-            (CanFollow (prices_of (F.may_return self.new.tariff)) self.new) }
-        ensures unchanged { IsUnchanged self.old self.new }
-        ensures same_book { IsSameBook self.old self.new }
+        ensures { PreparesCall F.may_return caller (Insert u v kind) self.old self.new result }
     {
         let planned = RouteSource::Plan(plan);
         self.prepare_from(alloc, caller, Call::Insert { u, v, kind }, planned)
@@ -451,12 +402,10 @@ impl<F: PriceFn> Book<F> {
     /// Carries entries out on a picture that stands after the first `from` of them, and answers after
     /// how many it stands then: after `to`, unless it is out of memory.
     fn replay_to(&self, alloc: Global, picture: &mut Picture, from: usize, to: usize) -> usize
-        requires stands { IsReplica (prices_of (F.may_return self.now.tariff))
-            self.now.start self.now.history from picture.old }
+        requires stands { StandsAfter F.may_return self.now from picture.old }
         requires forward { from ≤ to }
         requires there { to ≤ length self.now.history }
-        ensures stands { IsReplica (prices_of (F.may_return self.now.tariff))
-            self.now.start self.now.history result picture.new }
+        ensures stands { StandsAfter F.may_return self.now result picture.new }
         ensures within { result ≤ to }
     {
         let history = self.history();
@@ -476,12 +425,10 @@ impl<F: PriceFn> Book<F> {
         replica: &mut Replica,
         to: usize,
     ) -> Result<(), AllocError>
-        requires stands { IsReplica (prices_of (F.may_return self.now.tariff))
-            self.now.start self.now.history replica.old.entries (arc_value replica.old.picture) }
+        requires stands { IsReplicaOf F.may_return self.now replica.old }
         requires forward { replica.old.entries ≤ to }
         requires there { to ≤ length self.now.history }
-        ensures stands { IsReplica (prices_of (F.may_return self.now.tariff))
-            self.now.start self.now.history replica.new.entries (arc_value replica.new.picture) }
+        ensures stands { IsReplicaOf F.may_return self.now replica.new }
         ensures reached { OnOk result (replica.new.entries ≡ to) }
         ensures within { replica.new.entries ≤ to }
     {
@@ -498,10 +445,8 @@ impl<F: PriceFn> Book<F> {
     /// Brings a replica up to date, if nobody else holds it. Out of memory, it stands after some
     /// later entry.
     fn bring_up_to_date(&self, alloc: Global, replica: &mut Replica) -> Result<(), AllocError>
-        requires { IsReplica (prices_of (F.may_return self.now.tariff))
-            self.now.start self.now.history replica.old.entries (arc_value replica.old.picture) }
-        ensures stands { IsReplica (prices_of (F.may_return self.now.tariff))
-            self.now.start self.now.history replica.new.entries (arc_value replica.new.picture) }
+        requires { IsReplicaOf F.may_return self.now replica.old }
+        ensures stands { IsReplicaOf F.may_return self.now replica.new }
         ensures equal { OnOk result (arc_value replica.new.picture ≡ self.now.picture) }
     {
         self.carry_on(alloc, replica, self.history.len())
@@ -525,13 +470,10 @@ impl<F: PriceFn> Book<F> {
     /// longer.
     fn take_current_replica(&mut self, alloc: Global) -> Result<Option<Replica>, AllocError>
         ensures stands { IfOk result
-            (λ found. IfSome found (λ r. IsReplica (prices_of (F.may_return self.new.tariff))
-            self.new.start self.new.history r.entries (arc_value r.picture))) }
+            (λ found. IfSome found (IsReplicaOf F.may_return self.new)) }
         ensures equal { IfOk result
             (λ found. IfSome found (λ r. arc_value r.picture ≡ self.new.picture)) }
-        ensures unchanged { IsUnchanged self.old self.new }
-        ensures same_book { IsSameBook self.old self.new }
-        ensures same_room { self.new.spare ≡ self.old.spare }
+        ensures unchanged { self.new ≡ self.old }
     {
         let least = self.history.len().saturating_sub(self.reach());
         let Some(mut replica) = self.replicas.take_unshared(least) else {
@@ -550,9 +492,7 @@ impl<F: PriceFn> Book<F> {
     fn unshared_picture(&mut self, alloc: Global) -> Result<Arc<Picture>, AllocError>
         ensures equal { IfOk result (λ p. arc_value p ≡ self.new.picture) }
         ensures lawful { IfOk result (λ p. IsPicture (arc_value p).limits (arc_value p).rows) }
-        ensures unchanged { IsUnchanged self.old self.new }
-        ensures same_book { IsSameBook self.old self.new }
-        ensures same_room { self.new.spare ≡ self.old.spare }
+        ensures unchanged { self.new ≡ self.old }
     {
         match self.take_current_replica(alloc)? {
             Some(replica) => Ok(replica.picture),
@@ -568,14 +508,10 @@ impl<F: PriceFn> Book<F> {
         call: Call,
         source: RouteSource<PricedRoute>,
     ) -> Result<Reply, AllocError>
-        requires { IsSourceFor (prices_of (F.may_return self.old.tariff))
-            self.old.picture.rows call source }
-        ensures due { IfOk result (IsDue (prices_of (F.may_return self.old.tariff))
-            self.old.picture.limits self.old.picture.rows call) }
+        requires { IsSourceIn F.may_return self.old call source }
+        ensures due { IfOk result (IsDueIn F.may_return self.old call) }
         ensures no_memory { IfOk result (λ reply. reply ≢ Refused Memory) }
-        ensures unchanged { IsUnchanged self.old self.new }
-        ensures same_book { IsSameBook self.old self.new }
-        ensures same_room { self.new.spare ≡ self.old.spare }
+        ensures unchanged { self.new ≡ self.old }
     {
         if let Some(why) = self.known_refusal(call) {
             return Ok(Reply::Refused(why));
@@ -603,17 +539,12 @@ impl<F: PriceFn> Book<F> {
         call: Call,
         source: RouteSource<PricedRoute>,
     ) -> Result<Reply, AllocError>
-        requires stands { IsReplica (prices_of (F.may_return self.old.tariff))
-            self.old.start self.old.history replica.entries (arc_value replica.picture) }
+        requires stands { IsReplicaOf F.may_return self.old replica }
         requires equal { arc_value replica.picture ≡ self.old.picture }
-        requires known { IsSourceFor (prices_of (F.may_return self.old.tariff))
-            self.old.picture.rows call source }
-        ensures due { IfOk result (IsDue (prices_of (F.may_return self.old.tariff))
-            self.old.picture.limits self.old.picture.rows call) }
+        requires known { IsSourceIn F.may_return self.old call source }
+        ensures due { IfOk result (IsDueIn F.may_return self.old call) }
         ensures no_memory { IfOk result (λ reply. reply ≢ Refused Memory) }
-        ensures unchanged { IsUnchanged self.old self.new }
-        ensures same_book { IsSameBook self.old self.new }
-        ensures same_room { self.new.spare ≡ self.old.spare }
+        ensures unchanged { self.new ≡ self.old }
     {
         let reply = decide(
             alloc,
@@ -630,15 +561,13 @@ impl<F: PriceFn> Book<F> {
     /// Makes an accepted entry ready, on a picture that nobody else holds.
     fn prepare_accepted(&mut self, alloc: Global, entry: Entry) -> Result<Next, AllocError>
         requires accepted { is_accepted entry.reply ≡ true }
-        requires due { IsDue (prices_of (F.may_return self.old.tariff))
-            self.old.picture.limits self.old.picture.rows entry.call entry.reply }
+        requires due { IsDueIn F.may_return self.old entry.call entry.reply }
         requires no_memory { entry.reply ≢ Refused Memory }
         requires room { 0 < self.old.spare }
         ensures entry { IfOk result (λ n. n.entry ≡ entry) }
         ensures ready { IfOk result
             (CanFollow (prices_of (F.may_return self.new.tariff)) self.new) }
-        ensures unchanged { IsUnchanged self.old self.new }
-        ensures same_book { IsSameBook self.old self.new }
+        ensures unchanged { self.new ≡ self.old }
     {
         let mut unshared = self.unshared_picture(alloc)?;
         if apply_entry_unshared(alloc, &mut unshared, &self.tariff, &entry).is_err() {
@@ -660,14 +589,8 @@ impl<F: PriceFn> Book<F> {
         call: Call,
         source: RouteSource<PricedRoute>,
     ) -> Result<Next, AllocError>
-        requires { IsSourceFor (prices_of (F.may_return self.old.tariff))
-            self.old.picture.rows call source }
-        ensures caller { IfOk result (λ n. n.entry.caller ≡ caller) }
-        ensures call { IfOk result (λ n. n.entry.call ≡ call) }
-        ensures ready { IfOk result
-            (CanFollow (prices_of (F.may_return self.new.tariff)) self.new) }
-        ensures unchanged { IsUnchanged self.old self.new }
-        ensures same_book { IsSameBook self.old self.new }
+        requires { IsSourceIn F.may_return self.old call source }
+        ensures { PreparesCall F.may_return caller call self.old self.new result }
     {
         self.history.reserve(1)?;
         let reply = self.decide_where_cached(alloc, call, source)?;
@@ -704,8 +627,7 @@ impl<F: PriceFn> Book<F> {
         source: RouteSource<PricedRoute>,
         is_told: bool,
     ) -> Result<Option<Reply>, AllocError>
-        requires { IsSourceFor (prices_of (F.may_return self.old.tariff))
-            self.old.picture.rows call source }
+        requires { IsSourceIn F.may_return self.old call source }
         ensures answered { IfOk result (λ told. (reply : Reply)
             × IsAnswered (prices_of (F.may_return self.old.tariff))
             caller call reply self.old self.new × (is_told ≡ true → told ≡ Some reply)) }
@@ -750,15 +672,8 @@ impl<F: PriceFn> Book<F> {
         call: Call,
         source: RouteSource<PricedRoute>,
     ) -> Result<Reply, AllocError>
-        requires { IsSourceFor (prices_of (F.may_return self.old.tariff))
-            self.old.picture.rows call source }
-        ensures step { IfOk result (λ reply. Step (prices_of (F.may_return self.old.tariff))
-            self.old.picture.limits self.old.picture.rows call reply self.new.picture.rows) }
-        ensures entered { IfOk result (λ reply. self.new.history ≡ self.old.history
-            ++ record { caller = caller; call = call; reply = reply } ∷ []) }
-        ensures no_memory { IfOk result (λ reply. reply ≢ Refused Memory) }
-        ensures unchanged { OnErr result (IsUnchanged self.old self.new) }
-        ensures same_book { IsSameBook self.old self.new }
+        requires { IsSourceIn F.may_return self.old call source }
+        ensures { AnswersCall F.may_return caller call self.old self.new result }
     {
         match self.enter_from(alloc, caller, call, source, true)? {
             Some(reply) => Ok(reply),
@@ -775,15 +690,8 @@ impl<F: PriceFn> Book<F> {
         call: Call,
         source: RouteSource<PricedRoute>,
     ) -> Result<Reply, AllocError>
-        requires { IsSourceFor (prices_of (F.may_return self.old.tariff))
-            self.old.picture.rows call source }
-        ensures step { IfOk result (λ reply. Step (prices_of (F.may_return self.old.tariff))
-            self.old.picture.limits self.old.picture.rows call reply self.new.picture.rows) }
-        ensures entered { IfOk result (λ reply. self.new.history ≡ self.old.history
-            ++ record { caller = caller; call = call; reply = reply } ∷ []) }
-        ensures no_memory { IfOk result (λ reply. reply ≢ Refused Memory) }
-        ensures unchanged { OnErr result (IsUnchanged self.old self.new) }
-        ensures same_book { IsSameBook self.old self.new }
+        requires { IsSourceIn F.may_return self.old call source }
+        ensures { AnswersCall F.may_return caller call self.old self.new result }
     {
         let next = self.prepare_from(alloc, caller, call, source)?;
         let reply = next.entry().reply.copy(alloc)?;

@@ -10,14 +10,15 @@ use std::mem;
 use std::sync::Arc;
 use topo_picture::Picture;
 use topo_price::tariff::PriceFn;
+
 /// So many entries are carried out again at most to take back the last ones, once some were.
 const FOLLOWER_DISTANCE: usize = 64;
 
 impl<F: PriceFn> Book<F> {
     ghost use Rattle.std.specs.Prelude.{◌≡◌, ◌≤◌, IfOk, OnErr, OnOk, length, take};
-    ghost use Rattle.topo_core.specs.History.{Replays};
-    ghost use Rattle.topo_price.specs.Prices.{prices_of};
-    ghost use Rattle.topo_book.specs.Books.{IsReplica, IsSameBook, IsUnchanged};
+    ghost use Rattle.topo_book.specs.Books.{IsLegalBook, IsSameBook, IsUnchanged, StandsAfter};
+    ghost use Rattle.topo_book.specs.Replicas.{IsReplicaOf};
+
     /// Takes back all but the first `entries` of the history: picture, ids and counters are those
     /// after these. The first time, and where more is taken back than a picture that is kept since
     /// then is behind, the entries are carried out again from the start, each as its reply says.
@@ -25,8 +26,7 @@ impl<F: PriceFn> Book<F> {
     pub fn take_back(&mut self, alloc: Global, entries: usize) -> Result<(), AllocError>
         requires { entries ≤ length self.old.history }
         ensures history { OnOk result (self.new.history ≡ take entries self.old.history) }
-        ensures replay { OnOk result (Replays (prices_of (F.may_return self.new.tariff))
-            self.new.start.limits self.new.start.rows self.new.history self.new.picture.rows) }
+        ensures legal { OnOk result (IsLegalBook F.may_return self.new) }
         ensures unchanged { OnErr result (IsUnchanged self.old self.new) }
         ensures same_book { IsSameBook self.old self.new }
     {
@@ -47,11 +47,9 @@ impl<F: PriceFn> Book<F> {
     /// else the start. The book has none that follows then.
     fn take_follower(&mut self, alloc: Global, entries: usize) -> Result<Replica, AllocError>
         requires { entries ≤ length self.old.history }
-        ensures stands { IfOk result (λ r. IsReplica (prices_of (F.may_return self.new.tariff))
-            self.new.start self.new.history r.entries (arc_value r.picture)) }
+        ensures stands { IfOk result (IsReplicaOf F.may_return self.new) }
         ensures before { IfOk result (λ r. r.entries ≤ entries) }
-        ensures unchanged { IsUnchanged self.old self.new }
-        ensures same_book { IsSameBook self.old self.new }
+        ensures unchanged { self.new ≡ self.old }
     {
         if let Some(follower) = self.follower.take() {
             if follower.entries <= entries {
@@ -73,14 +71,12 @@ impl<F: PriceFn> Book<F> {
         follower: &mut Replica,
         entries: usize,
     ) -> Result<Arc<Picture>, AllocError>
-        requires stands { IsReplica (prices_of (F.may_return self.now.tariff))
-            self.now.start self.now.history follower.old.entries (arc_value follower.old.picture) }
+        requires stands { IsReplicaOf F.may_return self.now follower.old }
         requires forward { follower.old.entries ≤ entries }
         requires there { entries ≤ length self.now.history }
-        ensures picture { IfOk result (λ picture. IsReplica (prices_of (F.may_return self.now.tariff))
-            self.now.start self.now.history entries (arc_value picture)) }
-        ensures stands { IsReplica (prices_of (F.may_return self.now.tariff))
-            self.now.start self.now.history follower.new.entries (arc_value follower.new.picture) }
+        ensures picture { IfOk result
+            (λ picture. StandsAfter F.may_return self.now entries (arc_value picture)) }
+        ensures stands { IsReplicaOf F.may_return self.now follower.new }
         ensures before { follower.new.entries ≤ entries }
     {
         self.follow(alloc, follower, entries)?;
@@ -100,12 +96,10 @@ impl<F: PriceFn> Book<F> {
         follower: &mut Replica,
         entries: usize,
     ) -> Result<(), AllocError>
-        requires stands { IsReplica (prices_of (F.may_return self.now.tariff))
-            self.now.start self.now.history follower.old.entries (arc_value follower.old.picture) }
+        requires stands { IsReplicaOf F.may_return self.now follower.old }
         requires forward { follower.old.entries ≤ entries }
         requires there { entries ≤ length self.now.history }
-        ensures stands { IsReplica (prices_of (F.may_return self.now.tariff))
-            self.now.start self.now.history follower.new.entries (arc_value follower.new.picture) }
+        ensures stands { IsReplicaOf F.may_return self.now follower.new }
         ensures before { follower.new.entries ≤ entries }
     {
         let least = entries.saturating_sub(FOLLOWER_DISTANCE);
@@ -118,10 +112,8 @@ impl<F: PriceFn> Book<F> {
     /// Ends the history after so many entries, after which this picture stands, and which the other
     /// one follows.
     fn cut(&mut self, entries: usize, picture: Arc<Picture>, follower: Replica)
-        requires stands { IsReplica (prices_of (F.may_return self.old.tariff))
-            self.old.start self.old.history entries (arc_value picture) }
-        requires follows { IsReplica (prices_of (F.may_return self.old.tariff))
-            self.old.start self.old.history follower.entries (arc_value follower.picture) }
+        requires stands { StandsAfter F.may_return self.old entries (arc_value picture) }
+        requires follows { IsReplicaOf F.may_return self.old follower }
         requires before { follower.entries ≤ entries }
         ensures history { self.new.history ≡ take entries self.old.history }
         ensures picture { self.new.picture ≡ arc_value picture }
@@ -137,9 +129,7 @@ impl<F: PriceFn> Book<F> {
 
     /// Lets the picture that follows, if there is one, come no further behind.
     pub(crate) fn have_followed(&mut self, alloc: Global)
-        ensures unchanged { IsUnchanged self.old self.new }
-        ensures same_book { IsSameBook self.old self.new }
-        ensures same_room { self.new.spare ≡ self.old.spare }
+        ensures unchanged { self.new ≡ self.old }
     {
         let Some(mut follower) = self.follower.take() else {
             return;

@@ -1,7 +1,8 @@
 //! Insertions where no crossing id is left: only a route that crosses nothing can be taken then, so
 //! no other is looked for.
 
-ghost use Rattle.std.specs.Prelude.{◌≡◌, ◌≢◌, ◌<◌, ◌≤◌, IfOk, MatchOption, None, Option, length, true, ℕ};
+ghost use Rattle.std.specs.Prelude.{◌≡◌, ◌≢◌, ◌<◌, IfOk, MatchOption, None, Option, length, true};
+ghost use Rattle.std.specs.Prelude.{nat_le, ℕ};
 ghost use Rattle.topo_core.specs.declared.rows.Facts.{Facts};
 ghost use Rattle.topo_core.specs.Routes.{IsFirst};
 ghost use Rattle.topo_price.specs.Prices.{prices_of};
@@ -52,7 +53,7 @@ pub(crate) fn are_all_priced<F: PriceFn>(tariff: &Tariff<F>) -> bool
 
 /// Whether a picture has no crossing id left.
 pub fn has_no_crossing_left(picture: &Picture) -> bool
-    ensures { result ≡ true → picture.now.limits.crossings ≤ picture.now.rows.next_crossing }
+    ensures { result ≡ nat_le picture.now.limits.crossings picture.now.rows.next_crossing }
 {
     picture.limits().crossings <= picture.kept_rows().next_crossing()
 }

@@ -36,22 +36,16 @@ impl<F: PriceFn> Book<F> {
     ghost use Rattle.std.specs.Prelude.{◌≢◌, IfSome};
     ghost use Rattle.topo_core.specs.declared.calls.Refusal.TheVariants.{Memory};
     ghost use Rattle.topo_core.specs.declared.calls.Reply.TheVariants.{Refused};
-    ghost use Rattle.topo_price.specs.Prices.{prices_of};
-    ghost use Rattle.topo_book.specs.Books.{IsDue};
+    ghost use Rattle.topo_book.specs.Books.{IsDueIn};
 
     /// Why an insertion is refused again: it was among the last entries, none of which has changed
     /// the picture. So the same is not looked for twice.
     pub(crate) fn known_refusal(&self, call: Call) -> Option<Refusal>
-        ensures due { IfSome result (λ why. IsDue (prices_of (F.may_return self.now.tariff))
-            self.now.picture.limits self.now.picture.rows call (Refused why)) }
+        ensures due { IfSome result (λ why. IsDueIn F.may_return self.now call (Refused why)) }
         ensures no_memory { IfSome result (λ why. why ≢ Memory) }
     {
         match call {
-            Call::Insert { .. } => {
-                // For the proof: what the type keeps.
-                self.picture();
-                refused_among(self.history(), call, MAX_ENTRIES)
-            }
+            Call::Insert { .. } => { refused_among(self.history(), call, MAX_ENTRIES) }
             _ => None,
         }
     }

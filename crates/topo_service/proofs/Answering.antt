@@ -11,7 +11,7 @@ use Rattle.topo_core.specs.History.{IsPrefix, call_of}
 use Rattle.topo_core.specs.Routes.{Pricing}
 use Rattle.topo_rows.specs.Shown.{Shown}
 use Rattle.topo_service.specs.declared.pass.Receipt.{Receipt}
-use Rattle.topo_service.specs.Answers.{AreHonest, HasReceiptOf, IsHonest}
+use Rattle.topo_service.specs.Answers.{AreHonest, HasOnlySeen, HasReceiptOf, IsHonest}
 use Rattle.topo_service.specs.Commands.{HasDone}
 use Rattle.topo_service.specs.Passes.{PassState, receipt_of}
 use Rattle.topo_service.proofs.Missed.{begins_itself}
@@ -38,27 +38,14 @@ honest_since price start number less known seen receipt before is = record {
 }
 
 -- a receipt after what was seen meanwhile
-pub has_later : (price : Pricing) (start : Shown) (old mid new : PassState) (call : Call) → mid.number ≡ old.number → mid.receipts ≡ old.receipts
-    → IsPrefix old.seen mid.seen → HasReceiptOf price start mid new call → HasReceiptOf price start old new call
-has_later price start old mid new call number receipts before has = record {
+pub has_later : (price : Pricing) (start : Shown) (old mid new : PassState) (call : Call) → HasOnlySeen old mid
+    → HasReceiptOf price start mid new call → HasReceiptOf price start old new call
+has_later price start old mid new call seen has = record {
   reply = has.reply;
-  receipt = has.receipt ∙ ap (λ (rs : List Receipt). rs ++ receipt_of call has.reply ∷ []) receipts;
-  honest = honest_since price start old.number old.seen mid.seen new.seen (receipt_of call has.reply) before
-      (subst (λ (n : ℕ). IsHonest price start n mid.seen new.seen (receipt_of call has.reply)) number has.honest);
+  receipt = has.receipt ∙ ap (λ (rs : List Receipt). rs ++ receipt_of call has.reply ∷ []) seen.receipts;
+  honest = honest_since price start old.number old.seen mid.seen new.seen (receipt_of call has.reply) seen.later
+      (subst (λ (n : ℕ). IsHonest price start n mid.seen new.seen (receipt_of call has.reply)) seen.number has.honest);
 }
-
--- the same of a call that may have been out of memory
-pub may_have_later : {A E : Type 0} (price : Pricing) (start : Shown) (old mid new : PassState) (call : Call) (r : Result A E)
-    → OnOk r (HasReceiptOf price start mid new call) → mid.number ≡ old.number → mid.receipts ≡ old.receipts → IsPrefix old.seen mid.seen
-    → OnOk r (HasReceiptOf price start old new call)
-may_have_later price start old mid new call (Ok a) has number receipts before = has_later price start old mid new call number receipts before has
-may_have_later price start old mid new call (Err e) has number receipts before = tt
-
--- a pass that has only seen more
-pub record HasOnlySeen (old new : PassState) : Type 0 where
-  pub number : new.number ≡ old.number
-  pub receipts : new.receipts ≡ old.receipts
-  pub later : IsPrefix old.seen new.seen
 
 pub seen_further : (old mid new : PassState) → HasOnlySeen old mid → HasOnlySeen mid new → HasOnlySeen old new
 seen_further old mid new first second = record {
@@ -67,9 +54,11 @@ seen_further old mid new first second = record {
   later = begins_further old.seen mid.seen new.seen first.later second.later;
 }
 
+-- the same of a call that may have been out of memory
 pub then_receipt : {A E : Type 0} (price : Pricing) (start : Shown) (old mid new : PassState) (call : Call) (r : Result A E) → HasOnlySeen old mid
     → OnOk r (HasReceiptOf price start mid new call) → OnOk r (HasReceiptOf price start old new call)
-then_receipt price start old mid new call r seen has = may_have_later price start old mid new call r has seen.number seen.receipts seen.later
+then_receipt price start old mid new call (Ok a) seen has = has_later price start old mid new call seen has
+then_receipt price start old mid new call (Err e) seen has = tt
 
 -- ---- Receipts one after another
 

@@ -1,5 +1,5 @@
 -- What a pass knows after a call that was answered.
-use Rattle.std.specs.Prelude.{◌≡◌, ◌≢◌, true, false, List, [], ◌∷◌, ◌++◌, Option, IfSome, ℕ}
+use Rattle.std.specs.Prelude.{◌≡◌, ◌≢◌, true, false, List, [], ◌∷◌, ◌++◌, Option, IfSome, Result, IfOk, OnErr, ℕ}
 use Rattle.topo_core.specs.declared.rows.Rows.{Rows}
 use Rattle.topo_core.specs.declared.calls.Call.{Call}
 use Rattle.topo_core.specs.declared.calls.Entry.{Entry}
@@ -10,6 +10,7 @@ use Rattle.topo_core.specs.declared.calls.Refusal.TheVariants.{Memory}
 use Rattle.topo_core.specs.declared.calls.Reply.TheVariants.{Refused}
 use Rattle.topo_core.specs.History.{IsPrefix, IsVersion, is_accepted}
 use Rattle.topo_rows.specs.Shown.{Shown}
+use Rattle.topo_versions.specs.Versions.{AreLegal}
 use Rattle.topo_service.specs.declared.pass.Receipt.{Receipt}
 use Rattle.topo_service.specs.Passes.{PassState, entry_of, receipt_of}
 
@@ -39,12 +40,24 @@ AreHonest price start number known [] seen = IsPrefix known seen
 AreHonest price start number known (receipt ∷ receipts) seen = (after : List Entry) × IsHonest price start number known after receipt
     × AreHonest price start number after receipts seen
 
--- The pass goes on under its number, with one receipt more: of the call and this reply, and it is honest. This is what each call
--- of a service promises.
+-- The pass goes on under its number, with one receipt more: of the call and this reply, and it is honest.
 pub record HasCalled (price : Pricing) (start : Shown) (old new : PassState) (call : Call) (reply : Reply) : Type 0 where
   pub number : new.number ≡ old.number
   pub receipt : new.receipts ≡ old.receipts ++ receipt_of call reply ∷ []
   pub honest : IsHonest price start old.number old.seen new.seen (receipt_of call reply)
+
+-- What each call of a service promises: it is answered, and what the pass has seen is legal; or it is out of memory, and the pass is as
+-- it was.
+pub record AnswersCall {E : Type 0} (price : Pricing) (start : Shown) (old new : PassState) (call : Call) (result : Result Reply E) : Type 0 where
+  pub called : IfOk result (HasCalled price start old new call)
+  pub legal : AreLegal price start new.seen
+  pub unchanged : OnErr result (new ≡ old)
+
+-- a pass that has only seen more
+pub record HasOnlySeen (old new : PassState) : Type 0 where
+  pub number : new.number ≡ old.number
+  pub receipts : new.receipts ≡ old.receipts
+  pub later : IsPrefix old.seen new.seen
 
 -- the pass has one receipt more, of the call, and it is honest
 pub record HasReceiptOf (price : Pricing) (start : Shown) (old new : PassState) (call : Call) : Type 0 where

@@ -1,7 +1,6 @@
 -- What a worker has done of its list.
 use Rattle.std.specs.Global.{Vec}
 use Rattle.std.specs.Prelude.{◌≡◌, ◌<◌, ◌≤◌, ◌==◌, ℕ, List, ◌++◌, if◌then◌else◌, length, map, take}
-use Rattle.topo_core.specs.declared.calls.Call.{Call}
 use Rattle.topo_core.specs.declared.calls.Command.{Command}
 use Rattle.topo_core.specs.History.{IsPrefix, call_of}
 use Rattle.topo_core.specs.Routes.{Pricing}

@@ -3,7 +3,7 @@ use Rattle.std.specs.Prelude.{◌≡◌, ◌⊎◌, ℕ, ◌≤◌, ◌<◌, ◌
 use Rattle.std.specs.List.{sum_by}
 use Rattle.topo_core.specs.declared.calls.Entry.{Entry}
 use Rattle.topo_core.specs.Items.{IsIn}
-use Rattle.topo_core.specs.History.{Agrees, entries_of}
+use Rattle.topo_core.specs.History.{Agrees, IsPrefix, entries_of, versions}
 use Rattle.topo_service.specs.declared.pass.Receipt.{Receipt}
 use Rattle.topo_service.specs.Passes.{PassState, receipt_of}
 
@@ -39,6 +39,14 @@ receipt_count passes = sum_by (λ pass. length pass.receipts) passes
 pub record AreWhole (history : List Entry) (passes : List PassState) : Type 0 where
   pub own : All (λ pass. receipts_due pass.number history ≡ pass.receipts) passes
   pub callers : (entry : Entry) → IsIn entry history → HasNumber entry.caller passes
+
+-- What the receipts of passes that are all there are beside the history: each is its caller's entry, there are as many as entries, and
+-- they are all of it; and what a pass has seen is where its accepted entries begin.
+pub record AreReceiptsOf (history : List Entry) (passes : List PassState) : Type 0 where
+  pub agree : All (λ pass. AllAgree history pass.number pass.receipts) passes
+  pub counted : length history ≡ receipt_count passes
+  pub whole : AreWhole history passes
+  pub seen : All (λ pass. IsPrefix pass.seen (versions history)) passes
 
 -- the receipts are the first of those due
 abbrev pub AreFirst : List Entry → ℕ → List Receipt → Type 0

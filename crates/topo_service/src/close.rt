@@ -1,13 +1,11 @@
 //! How a service begins and ends.
 
-ghost use Rattle.std.specs.Prelude.{◌≡◌, ◌<◌, ◌≤◌, ℕ, [], length, All, IfOk, IfErr, OnOk, Some};
+ghost use Rattle.std.specs.Prelude.{◌≡◌, ◌<◌, ◌≤◌, ℕ, [], IfOk, IfErr, OnOk, Some};
 ghost use Rattle.std.specs.Arc.{arc_value};
-ghost use Rattle.topo_core.specs.History.{IsPrefix, Replays, versions};
-ghost use Rattle.topo_book.specs.Books.{ReplaysLawfully};
-ghost use Rattle.topo_price.specs.Prices.{prices_of};
 ghost use Rattle.topo_versions.specs.Versions.{entries_shown};
 ghost use Rattle.topo_service.specs.Faults.{IsEndFault};
-ghost use Rattle.topo_service.specs.Receipts.{AllAgree, AreWhole, HasNumber, receipt_count};
+ghost use Rattle.topo_service.specs.Passes.{IsBookOf, begun};
+ghost use Rattle.topo_service.specs.Receipts.{AreReceiptsOf, HasNumber};
 ghost use Rattle.topo_core.specs.declared.limits.TheConstants.{MAX_PASSES};
 
 use crate::checks::{first_fault, gather};
@@ -118,14 +116,12 @@ impl<F: PriceFn + Drop, K: ServiceBrand<F>> Service<F, K> {
         start: Picture,
         tariff: Arc<Tariff<F>>,
     ) -> Result<Service<F, K>, AllocError>
-        requires ledger { (fresh.blank.name ≡ K.name) × (fresh.blank.parts ≡ K.parts) }
-        requires parts { K.parts ≡ MAX_PASSES }
+        requires ledger { (fresh.blank.name ≡ K.name) × (fresh.blank.parts ≡ K.parts)
+            × (K.parts ≡ MAX_PASSES) }
         requires list { fresh.log.seen.book ≡ K.book }
         requires start { start ≡ K.start }
         requires prices { K.closure ≡ Some (arc_value tariff) }
-        ensures tariff { IfOk result (λ s. s.tariff ≡ arc_value tariff) }
-        ensures places { IfOk result (λ s. s.places ≡ MAX_PASSES) }
-        ensures no_pass { IfOk result (λ s. s.given ≡ 0) }
+        ensures { IfOk result (λ s. s ≡ begun (arc_value tariff) MAX_PASSES) }
     {
         Self::with_places(alloc, fresh, start, tariff, MAX_PASSES)
     }
@@ -139,15 +135,13 @@ impl<F: PriceFn + Drop, K: ServiceBrand<F>> Service<F, K> {
         tariff: Arc<Tariff<F>>,
         places: u32,
     ) -> Result<Service<F, K>, AllocError>
-        requires ledger { (fresh.blank.name ≡ K.name) × (fresh.blank.parts ≡ K.parts) }
-        requires parts { K.parts ≡ MAX_PASSES }
+        requires ledger { (fresh.blank.name ≡ K.name) × (fresh.blank.parts ≡ K.parts)
+            × (K.parts ≡ MAX_PASSES) }
         requires list { fresh.log.seen.book ≡ K.book }
         requires start { start ≡ K.start }
         requires prices { K.closure ≡ Some (arc_value tariff) }
         requires places { (0 < places) × (places ≤ MAX_PASSES) }
-        ensures tariff { IfOk result (λ s. s.tariff ≡ arc_value tariff) }
-        ensures places { IfOk result (λ s. s.places ≡ places) }
-        ensures no_pass { IfOk result (λ s. s.given ≡ 0) }
+        ensures { IfOk result (λ s. s ≡ begun (arc_value tariff) places) }
     {
         let FreshService { blank, log } = fresh;
         let (calls, rest) = blank.open::<K>();
@@ -178,32 +172,14 @@ impl<F: PriceFn + Drop, K: ServiceBrand<F>, W: VersionWriter<F, K>> ServiceOver<
         rt: &R,
         passes: Vec<Pass<F, K>>,
     ) -> Result<Book<F>, CloseFault<F, K>>
-        ensures tariff { IfOk result (λ b. b.tariff ≡ self.tariff) }
-        ensures start { IfOk result (λ b. b.start ≡ K.start) }
-        ensures legal { IfOk result (λ b. Replays (prices_of (F.may_return b.tariff))
-            b.start.limits b.start.rows b.history b.picture.rows) }
-        ensures lawful { IfOk result (λ b. ReplaysLawfully (prices_of (F.may_return b.tariff))
-            b.start.limits b.start.rows b.history b.picture.rows) }
-        ensures same_limits { IfOk result (λ b. b.picture.limits ≡ b.start.limits) }
-
+        ensures book { IfOk result (IsBookOf F.may_return self.tariff K.start) }
         ensures all_there { OnOk result ((n : ℕ) → n < self.given → HasNumber n passes.items) }
-        ensures agree { IfOk result
-            (λ b. All (λ p. AllAgree b.history p.number p.receipts) passes.items) }
-        ensures counted { IfOk result (λ b. length b.history ≡ receipt_count passes.items) }
-        ensures whole { IfOk result (λ b. AreWhole b.history passes.items) }
-        ensures seen { IfOk result
-            (λ b. All (λ p. IsPrefix p.seen (versions b.history)) passes.items) }
-
+        ensures receipts { IfOk result (λ b. AreReceiptsOf b.history passes.items) }
         ensures fault { IfErr result
             (λ e. IsEndFault self.given e.book.history passes.items e.fault) }
         ensures fault_passes { IfErr result (λ e. e.passes ≡ passes) }
-        ensures fault_tariff { IfErr result (λ e. e.book.tariff ≡ self.tariff) }
-        ensures fault_start { IfErr result (λ e. e.book.start ≡ K.start) }
-        ensures fault_legal { IfErr result (λ e. Replays (prices_of (F.may_return e.book.tariff))
-            e.book.start.limits e.book.start.rows e.book.history e.book.picture.rows) }
-        ensures fault_lawful { IfErr result
-            (λ e. ReplaysLawfully (prices_of (F.may_return e.book.tariff))
-            e.book.start.limits e.book.start.rows e.book.history e.book.picture.rows) }
+        ensures fault_book { IfErr result
+            (λ e. IsBookOf F.may_return self.tariff K.start e.book) }
     {
         let ServiceOver {
             alloc: _,

@@ -2,13 +2,13 @@
 
 ghost use Rattle.std.specs.Prelude.{◌≡◌, ◌≢◌, ◌+◌, ◌<◌, ◌^◌, ◌∷◌, ◌++◌, [], length, is_ok, is_some};
 ghost use Rattle.std.specs.Prelude.{if◌then◌else◌, IfOk, IfSome, OnOk, OnErr, Some, true};
-ghost use Rattle.topo_core.specs.History.{IsVersion, Replays, is_accepted, versions};
+ghost use Rattle.topo_core.specs.History.{IsVersion, is_accepted, versions};
 ghost use Rattle.topo_core.specs.Routes.{IsFirst};
 ghost use Rattle.topo_core.specs.Steps.{Step};
 ghost use Rattle.topo_core.specs.declared.calls.Refusal.TheVariants.{Memory};
 ghost use Rattle.topo_core.specs.declared.calls.Reply.TheVariants.{Refused};
-ghost use Rattle.topo_book.specs.Books.{CanFollow, IsSameBook, IsUnchanged, ReplaysLawfully};
-ghost use Rattle.topo_book.specs.RouteSources.{IsSourceFor};
+ghost use Rattle.topo_book.specs.Books.{IsLegalBook, IsSameBook, IsUnchanged, PreparesCall};
+ghost use Rattle.topo_book.specs.RouteSources.{IsSourceIn};
 ghost use Rattle.topo_price.specs.Prices.{prices_of};
 ghost use Rattle.topo_versions.specs.Names.{prices_named};
 ghost use Rattle.topo_versions.specs.Versions.{IsVersionFrom};
@@ -66,21 +66,13 @@ fn prepare_call<F: PriceFn>(
     call: Call,
     source: RouteSource<PricedRoute>,
 ) -> Result<Next, AllocError>
-    requires { IsSourceFor (prices_of (F.may_return book.old.tariff))
-        book.old.picture.rows call source }
-    ensures caller { IfOk result (λ n. n.entry.caller ≡ caller) }
-    ensures call { IfOk result (λ n. n.entry.call ≡ call) }
-    ensures ready { IfOk result (CanFollow (prices_of (F.may_return book.new.tariff)) book.new) }
-    ensures unchanged { IsUnchanged book.old book.new }
-    ensures same_book { IsSameBook book.old book.new }
-    ensures legal { Replays (prices_of (F.may_return book.old.tariff))
-        book.old.start.limits book.old.start.rows book.old.history book.old.picture.rows }
-    ensures same_limits { book.old.picture.limits ≡ book.old.start.limits }
+    requires { IsSourceIn F.may_return book.old call source }
+    ensures prepared { PreparesCall F.may_return caller call book.old book.new result }
+    ensures legal { IsLegalBook F.may_return book.old }
     ensures room { length book.old.history + 1 < 2 ^ 64 }
 {
     // For the proof: what the type keeps.
     let _more = book.history().len() + 1;
-    book.picture();
     book.prepare_from(alloc, caller, call, source)
 }
 
@@ -173,8 +165,7 @@ impl<F: PriceFn, K: ServiceBrand<F>, W: VersionWriter<F, K>> LockedState<F, K, W
         call: Call,
         source: RouteSource<'a, FoundRoute<F, K>>,
     ) -> RouteSource<'a, PricedRoute>
-        ensures { IsSourceFor (prices_of (F.may_return self.now.tariff))
-            self.now.picture.rows call result }
+        ensures { IsSourceIn F.may_return self.now call result }
     {
         match (call, source) {
             (Call::Insert { .. }, RouteSource::Plan(plan)) => RouteSource::Plan(plan),
@@ -257,11 +248,7 @@ impl<F: PriceFn, K: ServiceBrand<F>, W: VersionWriter<F, K>> LockedState<F, K, W
         ensures same { result ≡ self }
         ensures start { result.start ≡ K.start }
         ensures named { K.closure ≡ Some result.tariff }
-        ensures legal { Replays (prices_of (F.may_return result.tariff))
-            result.start.limits result.start.rows result.history result.picture.rows }
-        ensures lawful { ReplaysLawfully (prices_of (F.may_return result.tariff))
-            result.start.limits result.start.rows result.history result.picture.rows }
-        ensures same_limits { result.picture.limits ≡ result.start.limits }
+        ensures legal { IsLegalBook F.may_return result }
     {
         let LockedState {
             book,
@@ -274,7 +261,6 @@ impl<F: PriceFn, K: ServiceBrand<F>, W: VersionWriter<F, K>> LockedState<F, K, W
         writer.end(rt);
         // For the proof: what the type keeps.
         book.history();
-        book.picture();
         book
     }
 

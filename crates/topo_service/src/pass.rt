@@ -2,12 +2,12 @@
 
 ghost use Rattle.std.specs.Prelude.{◌≡◌, ◌≢◌, length, IfOk, IfErr};
 ghost use Rattle.topo_picture.specs.Ends.{HasVertices};
-ghost use Rattle.topo_core.specs.History.{IsPrefix};
 ghost use Rattle.topo_price.specs.Prices.{prices_of};
 ghost use Rattle.topo_route.specs.Plans.{IsPlan};
 ghost use Rattle.topo_rows.specs.Shown.{Shown};
 ghost use Rattle.topo_versions.specs.Names.{prices_named};
 ghost use Rattle.topo_versions.specs.Versions.{AreLegal, IsVersionFrom};
+ghost use Rattle.topo_service.specs.Answers.{HasOnlySeen};
 ghost use Rattle.topo_service.specs.Faults.{IsPlanFault, IsPlanRefusal};
 
 use crate::faults::PassFault;
@@ -205,9 +205,7 @@ impl<F: PriceFn, K: ServiceBrand<F>> Pass<F, K> {
     /// seen, and that it has seen from then on. It takes no memory and waits for nobody. NoView is
     /// answered where the service has ended or no further share of the version is left.
     pub fn view(&mut self) -> Result<View<F, K>, PassFault>
-        ensures number { self.new.number ≡ self.old.number }
-        ensures receipts { self.new.receipts ≡ self.old.receipts }
-        ensures later { IsPrefix self.old.seen self.new.seen }
+        ensures only_seen { HasOnlySeen self.old self.new }
         ensures seen { IfOk result (λ v. v.entries ≡ self.new.seen) }
         ensures version { IfOk result
             (λ v. IsVersionFrom (prices_named F.may_return K.closure) K.start v.entries v.picture) }
@@ -246,9 +244,7 @@ impl<F: PriceFn, K: ServiceBrand<F>> Pass<F, K> {
         tariff: &Tariff<F>,
     ) -> Result<Version<F, K>, PassFault>
         requires named { K.closure ≡ Some tariff.now }
-        ensures number { self.new.number ≡ self.old.number }
-        ensures receipts { self.new.receipts ≡ self.old.receipts }
-        ensures later { IsPrefix self.old.seen self.new.seen }
+        ensures only_seen { HasOnlySeen self.old self.new }
     {
         if let Some(own) = self.take_up_to_date(alloc, tariff) {
             return Ok(own);
@@ -271,9 +267,7 @@ impl<F: PriceFn, K: ServiceBrand<F>> Pass<F, K> {
         u: u32,
         v: u32,
     ) -> Result<Plan, PassFault>
-        ensures number { self.new.number ≡ self.old.number }
-        ensures receipts { self.new.receipts ≡ self.old.receipts }
-        ensures later { IsPrefix self.old.seen self.new.seen }
+        ensures only_seen { HasOnlySeen self.old self.new }
         ensures planned { IfOk result (λ plan. (picture : Shown)
             × IsVersionFrom (prices_named F.may_return K.closure) K.start self.new.seen picture
             × IsPlan (prices_of (A.may_return tariff.now)) picture.rows u v plan) }

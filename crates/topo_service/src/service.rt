@@ -1,12 +1,13 @@
 //! The locked service.
 
-ghost use Rattle.std.specs.Prelude.{◌≡◌, ◌+◌, ◌<◌, ◌≤◌, []};
+ghost use Rattle.std.specs.Prelude.{◌≡◌, ◌+◌, ◌<◌, ◌≤◌};
 ghost use Rattle.std.specs.Prelude.{true, false, IfOk, OnErr, Some, is_some};
 ghost use Rattle.topo_core.specs.History.{IsPrefix};
 ghost use Rattle.topo_core.specs.declared.calls.Call.TheVariants.{Grow, Insert, Delete};
 ghost use Rattle.topo_versions.specs.Names.{prices_named};
 ghost use Rattle.topo_versions.specs.Versions.{AreLegal};
-ghost use Rattle.topo_service.specs.Answers.{HasCalled, HasReceiptOf, IsAnswered};
+ghost use Rattle.topo_service.specs.Answers.{AnswersCall, HasOnlySeen, HasReceiptOf, IsAnswered};
+ghost use Rattle.topo_service.specs.Passes.{Begins};
 ghost use Rattle.topo_core.specs.declared.limits.TheConstants.{MAX_PASSES};
 
 use crate::faults::ServiceFault;
@@ -72,9 +73,7 @@ impl<F: PriceFn, K: ServiceBrand<F>, W: VersionWriter<F, K>> ServiceOver<F, K, W
     /// The next pass, with no receipt. NoSeat is answered where as many were given out as there may
     /// be, or the version store has no place for a reader. It waits for nobody.
     pub fn pass(&mut self) -> Result<Pass<F, K>, ServiceFault>
-        ensures number { IfOk result (λ p. p.number ≡ self.old.given) }
-        ensures receipts { IfOk result (λ p. p.receipts ≡ []) }
-        ensures seen { IfOk result (λ p. p.seen ≡ []) }
+        ensures begins { IfOk result (Begins self.old.given) }
         ensures given { IfOk result
             (λ p. (self.old.given < self.old.places) × (self.new.given ≡ self.old.given + 1)) }
         ensures refused { OnErr result (self.new.given ≡ self.old.given) }
@@ -117,10 +116,8 @@ impl<F: PriceFn, K: ServiceBrand<F>, W: VersionWriter<F, K>> ServiceOver<F, K, W
         v: u32,
         kind: u32,
     ) -> Result<Reply, AllocError>
-        ensures called { IfOk result (HasCalled (prices_named F.may_return K.closure)
-            K.start pass.old pass.new (Insert u v kind)) }
-        ensures legal { AreLegal (prices_named F.may_return K.closure) K.start pass.new.seen }
-        ensures unchanged { OnErr result (pass.new ≡ pass.old) }
+        ensures { AnswersCall (prices_named F.may_return K.closure) K.start
+            pass.old pass.new (Insert u v kind) result }
     {
         self.call(rt, pass, Call::Insert { u, v, kind }, RouteSource::Search)
     }
@@ -136,10 +133,8 @@ impl<F: PriceFn, K: ServiceBrand<F>, W: VersionWriter<F, K>> ServiceOver<F, K, W
         kind: u32,
         plan: &Plan,
     ) -> Result<Reply, AllocError>
-        ensures called { IfOk result (HasCalled (prices_named F.may_return K.closure)
-            K.start pass.old pass.new (Insert u v kind)) }
-        ensures legal { AreLegal (prices_named F.may_return K.closure) K.start pass.new.seen }
-        ensures unchanged { OnErr result (pass.new ≡ pass.old) }
+        ensures { AnswersCall (prices_named F.may_return K.closure) K.start
+            pass.old pass.new (Insert u v kind) result }
     {
         let planned = RouteSource::Plan(plan);
         self.call(rt, pass, Call::Insert { u, v, kind }, planned)
@@ -155,10 +150,8 @@ impl<F: PriceFn, K: ServiceBrand<F>, W: VersionWriter<F, K>> ServiceOver<F, K, W
         kind: u32,
         found: &FoundRoute<F, K>,
     ) -> Result<Reply, AllocError>
-        ensures called { IfOk result (HasCalled (prices_named F.may_return K.closure)
-            K.start pass.old pass.new (Insert found.now.u found.now.v kind)) }
-        ensures legal { AreLegal (prices_named F.may_return K.closure) K.start pass.new.seen }
-        ensures unchanged { OnErr result (pass.new ≡ pass.old) }
+        ensures { AnswersCall (prices_named F.may_return K.closure) K.start
+            pass.old pass.new (Insert found.now.u found.now.v kind) result }
     {
         let (u, v) = found.ends();
         let source = RouteSource::Found(found);
@@ -172,10 +165,8 @@ impl<F: PriceFn, K: ServiceBrand<F>, W: VersionWriter<F, K>> ServiceOver<F, K, W
         pass: &mut Pass<F, K>,
         edge: u32,
     ) -> Result<Reply, AllocError>
-        ensures called { IfOk result (HasCalled (prices_named F.may_return K.closure)
-            K.start pass.old pass.new (Delete edge)) }
-        ensures legal { AreLegal (prices_named F.may_return K.closure) K.start pass.new.seen }
-        ensures unchanged { OnErr result (pass.new ≡ pass.old) }
+        ensures { AnswersCall (prices_named F.may_return K.closure) K.start
+            pass.old pass.new (Delete edge) result }
     {
         self.call(rt, pass, Call::Delete { edge }, RouteSource::Search)
     }
@@ -190,10 +181,8 @@ impl<F: PriceFn, K: ServiceBrand<F>, W: VersionWriter<F, K>> ServiceOver<F, K, W
         position: u32,
         kind: u32,
     ) -> Result<Reply, AllocError>
-        ensures called { IfOk result (HasCalled (prices_named F.may_return K.closure)
-            K.start pass.old pass.new (Grow u position kind)) }
-        ensures legal { AreLegal (prices_named F.may_return K.closure) K.start pass.new.seen }
-        ensures unchanged { OnErr result (pass.new ≡ pass.old) }
+        ensures { AnswersCall (prices_named F.may_return K.closure) K.start
+            pass.old pass.new (Grow u position kind) result }
     {
         let growth = Call::Grow { u, position, kind };
         self.call(rt, pass, growth, RouteSource::Search)
@@ -207,10 +196,8 @@ impl<F: PriceFn, K: ServiceBrand<F>, W: VersionWriter<F, K>> ServiceOver<F, K, W
         call: Call,
         source: RouteSource<'a, FoundRoute<F, K>>,
     ) -> Result<Reply, AllocError>
-        ensures called { IfOk result (HasCalled (prices_named F.may_return K.closure)
-            K.start pass.old pass.new call) }
-        ensures legal { AreLegal (prices_named F.may_return K.closure) K.start pass.new.seen }
-        ensures unchanged { OnErr result (pass.new ≡ pass.old) }
+        ensures { AnswersCall (prices_named F.may_return K.closure) K.start
+            pass.old pass.new call result }
     {
         let demand = Demand {
             call,
@@ -285,9 +272,7 @@ where
     K: ServiceBrand<F>,
     W: VersionWriter<F, K>,
     R: Wait,
-    ensures number { pass.new.number ≡ pass.old.number }
-    ensures receipts { pass.new.receipts ≡ pass.old.receipts }
-    ensures later { IsPrefix pass.old.seen pass.new.seen }
+    ensures { HasOnlySeen pass.old pass.new }
 {
     let all = state.prefix();
     if !pass.prefix.is_prefix_of(all) {

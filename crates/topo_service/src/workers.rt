@@ -5,7 +5,7 @@ ghost use Rattle.std.specs.Prelude.{map, IfOk, IfSome, OnErr, OnOk, slice_index_
 ghost use Rattle.std.specs.Fn.{FnOnceReturnsAtMut};
 ghost use Rattle.topo_core.specs.History.{IsPrefix, call_of};
 ghost use Rattle.topo_core.specs.declared.calls.Call.TheVariants.{Insert};
-ghost use Rattle.topo_service.specs.Answers.{HasReceiptOf};
+ghost use Rattle.topo_service.specs.Answers.{HasOnlySeen, HasReceiptOf};
 ghost use Rattle.topo_service.specs.Commands.{HasEnded, HasMade, commands, end_by, receipts_of};
 ghost use Rattle.topo_service.specs.Passes.{PassState};
 ghost use Rattle.topo_versions.specs.Names.{prices_named};
@@ -90,9 +90,7 @@ fn find_ahead<F: PriceFn, K: ServiceBrand<F>, W: VersionWriter<F, K>>(
     u: u32,
     v: u32,
 ) -> Option<FoundRoute<F, K>>
-    ensures number { pass.new.number ≡ pass.old.number }
-    ensures receipts { pass.new.receipts ≡ pass.old.receipts }
-    ensures later { IsPrefix pass.old.seen pass.new.seen }
+    ensures only_seen { HasOnlySeen pass.old pass.new }
     ensures u { IfSome result (λ found. found.u ≡ u) }
     ensures v { IfSome result (λ found. found.v ≡ v) }
 {
@@ -120,7 +118,7 @@ fn find_ahead<F: PriceFn, K: ServiceBrand<F>, W: VersionWriter<F, K>>(
 /// Inserts an edge whose route is looked for first on the pass's own version, without the lock. A
 /// route that comes too late is looked for once more so, unless the one before was late too. If
 /// that finds none, it is an insertion.
-#[tactic(auto, using(crate::proofs::Answering::may_have_later, crate::proofs::Answering::begins_further))]
+#[tactic(auto, using(crate::proofs::Answering::then_receipt, crate::proofs::Answering::begins_further))]
 fn insert_ahead<F: PriceFn, K: ServiceBrand<F>, W: VersionWriter<F, K>, R: Wait>(
     rt: &R,
     service: &ServiceOver<F, K, W>,

@@ -1,7 +1,6 @@
 //! Calls of a service as values.
 
-ghost use Rattle.std.specs.Prelude.{◌≡◌, IfOk, OnErr};
-ghost use Rattle.topo_service.specs.Answers.{HasCalled};
+ghost use Rattle.topo_service.specs.Answers.{AnswersCall};
 ghost use Rattle.topo_versions.specs.Names.{prices_named};
 
 use std::alloc::AllocError;
@@ -19,9 +18,8 @@ pub fn make<F: PriceFn + Drop, K: ServiceBrand<F>, R: Wait>(
     pass: &mut Pass<F, K>,
     call: Call,
 ) -> Result<Reply, AllocError>
-    ensures called { IfOk result (HasCalled (prices_named F.may_return K.closure)
-        K.start pass.old pass.new call) }
-    ensures unchanged { OnErr result (pass.new ≡ pass.old) }
+    ensures { AnswersCall (prices_named F.may_return K.closure) K.start
+        pass.old pass.new call result }
 {
     match call {
         Call::Grow { u, position, kind } => service.grow(rt, pass, u, position, kind),

@@ -1,7 +1,7 @@
 -- Calls of a book as calls of its session.
 use Rattle.std.proofs.Common.{◌≡◌, ◌≤◌, ◌-◌, ℕ, List, [], ◌∷◌, ◌++◌, Option, Some, Result, Ok, Err, IfErr, IfOk, OnErr, ◌⊎◌, inr, ap, length, refl, subst, sym, take, ◌∙◌}
 use Rattle.std.specs.Prelude.{MatchResult}
-use Rattle.topo_book.specs.Books.{BookState, IsDue, IsSameBook}
+use Rattle.topo_book.specs.Books.{AnswersCall as Answered, BookState, IsAnswered, IsDue, IsSameBook, IsUnchanged}
 use Rattle.topo_core.specs.declared.calls.Call.{Call}
 use Rattle.topo_core.specs.declared.calls.Call.TheVariants.{Insert}
 use Rattle.topo_core.specs.declared.calls.Entry.{Entry}
@@ -27,7 +27,7 @@ use Rattle.topo_renumbering.specs.declared.Renumbered.{Renumbered}
 use Rattle.topo_session.specs.declared.session.Undone.{Undone}
 use Rattle.topo_session.specs.Texts.{renumbered_data}
 use Rattle.topo_session.specs.Answers.{CarriesOut, LeavesBy, TellsUndone, undo_text}
-use Rattle.topo_session.specs.Standings.{Enters, IsOpened, IsRouteReply, IsUndone, Renumbers, Standing, TakesBack, standing_of}
+use Rattle.topo_session.specs.Standings.{AnswersCall, Enters, IsOpened, IsRouteReply, IsUndone, Renumbers, Standing, TakesBack, standing_of}
 
 module _ {F : Type 0} (answers : Asking) (numbers : LimitRows) (prices : List (Option ℕ)) (own : AnswersPrices answers prices) where
   moved : (old new : BookState F) (entry : Entry) → new.history ≡ old.history ++ entry ∷ [] → IsSameBook old new
@@ -35,16 +35,20 @@ module _ {F : Type 0} (answers : Asking) (numbers : LimitRows) (prices : List (O
       ≡ record (standing_of numbers prices old) { history = old.history ++ entry ∷ []; picture = new.picture.rows }
   moved old new entry entered same = rw (entered, same.1, same.2) refl
 
-  pub entered_so : {E : Type 0} (old new : BookState F) (caller : ℕ) (call : Call) (r : Result Reply E)
-      → IfOk r (λ reply. Step (prices_of answers) old.picture.limits old.picture.rows call reply new.picture.rows)
-      → IfOk r (λ reply. new.history ≡ old.history ++ record { caller = caller; call = call; reply = reply } ∷ []) → IsSameBook old new
+  entered_so : {E : Type 0} (old new : BookState F) (caller : ℕ) (call : Call) (r : Result Reply E)
+      → IfOk r (λ reply. IsAnswered (prices_of answers) caller call reply old new) → IsSameBook old new
       → IfOk r (λ reply. Enters caller call reply (standing_of numbers prices old) (standing_of numbers prices new))
-  entered_so old new caller call (Ok reply) step entered same = record {
+  entered_so old new caller call (Ok reply) is same = record {
     next = new.picture.rows;
-    step = step_so (prices_of answers) (priced prices) own.only own.each old.picture.limits old.picture.rows call reply new.picture.rows step;
-    moved = moved old new (record { caller = caller; call = call; reply = reply }) entered same;
+    step = step_so (prices_of answers) (priced prices) own.only own.each old.picture.limits old.picture.rows call reply new.picture.rows is.step;
+    moved = moved old new (record { caller = caller; call = call; reply = reply }) is.entered same;
   }
-  entered_so old new caller call (Err e) step entered same = tt
+  entered_so old new caller call (Err e) is same = tt
+
+  left_so : {E : Type 0} (old new : BookState F) (r : Result Reply E) → OnErr r (IsUnchanged old new) → IsSameBook old new
+      → OnErr r (standing_of numbers prices new ≡ standing_of numbers prices old)
+  left_so old new (Ok reply) is same = tt
+  left_so old new (Err e) is same = rw (is.0, is.1, same.1) refl
 
   pub due_so : {E : Type 0} (old : BookState F) (u v : ℕ) (r : Result Reply E)
       → IfOk r (IsDue (prices_of answers) old.picture.limits old.picture.rows (Insert u v 0))
@@ -71,6 +75,15 @@ module _ {F : Type 0} (answers : Asking) (numbers : LimitRows) (prices : List (O
             (subst (λ (l : Limits). Replays price l old.start.rows kept q) under from);
         moved = rw (cut, same.1, same.2) refl;
       }
+
+pub answered_so : {F E : Type 0} (asks : F → Asking) (numbers : LimitRows) (prices : List (Option ℕ)) (before : Standing) (old new : BookState F)
+    → AnswersPrices (asks old.tariff) prices → standing_of numbers prices old ≡ before → (caller : ℕ) (call : Call) (r : Result Reply E)
+    → Answered asks caller call old new r → AnswersCall caller call before (standing_of numbers prices new) r
+answered_so asks numbers prices before old new own stood caller call r told =
+    subst (λ (s : Standing). AnswersCall caller call s (standing_of numbers prices new) r) stood (record {
+      entered = entered_so (asks old.tariff) numbers prices own old new caller call r told.answered told.same_book;
+      unchanged = left_so (asks old.tariff) numbers prices own old new r told.unchanged told.same_book;
+    })
 
 -- a session that an opening opened
 pub opened_so : {F : Type 0} (opening : Opening) (book : BookState F) (p : Shown) → IsSound opening.limits opening.prices opening.start p.limits

@@ -1,5 +1,5 @@
 -- Where a session stands, and what calls make of it.
-use Rattle.std.specs.Prelude.{◌≡◌, ◌<◌, ◌≤◌, ◌-◌, ℕ, List, [], ◌∷◌, ◌++◌, length, take, Option, None, Some, ⊤}
+use Rattle.std.specs.Prelude.{◌≡◌, ◌<◌, ◌≤◌, ◌-◌, ℕ, List, [], ◌∷◌, ◌++◌, length, take, Option, None, Some, Result, IfOk, OnErr, ⊤}
 use Rattle.topo_book.specs.Books.{BookState, IsDue}
 use Rattle.topo_core.specs.declared.calls.Call.{Call}
 use Rattle.topo_core.specs.declared.calls.Call.TheVariants.{Insert}
@@ -58,6 +58,11 @@ pub record Enters (caller : ℕ) (call : Call) (reply : Reply) (old new : Standi
   pub next : Rows
   pub step : Step (priced old.prices) old.limits old.picture call reply next
   pub moved : new ≡ record old { history = old.history ++ record { caller = caller; call = call; reply = reply } ∷ []; picture = next }
+
+-- What each call of a session promises: it is carried out and entered; or it is out of memory, and the session is as it was.
+pub record AnswersCall {E : Type 0} (caller : ℕ) (call : Call) (old new : Standing) (result : Result Reply E) : Type 0 where
+  pub entered : IfOk result (λ reply. Enters caller call reply old new)
+  pub unchanged : OnErr result (new ≡ old)
 
 -- the last entries are taken back, so many: the history is the list without them, and the picture the one that this leads to
 pub record TakesBack (entries : ℕ) (old new : Standing) : Type 0 where

@@ -15,7 +15,7 @@ ghost use Rattle.topo_settings.specs.Settings.{AnswersPrices, IsSound, IsUnsound
 ghost use Rattle.topo_settings.specs.Settings.{start_of};
 ghost use Rattle.topo_renumbering.specs.Renumbering.{IsRenumbered};
 ghost use Rattle.topo_session.specs.Questions.{edge_asked, vertex_asked};
-ghost use Rattle.topo_session.specs.Standings.{Enters, IsOpened, IsReopened, IsRouteReply};
+ghost use Rattle.topo_session.specs.Standings.{AnswersCall, IsOpened, IsReopened, IsRouteReply};
 ghost use Rattle.topo_session.specs.Standings.{IsUndone, Renumbers, begins_with, report_so_far};
 ghost use Rattle.topo_session.specs.Standings.{undone};
 
@@ -204,8 +204,6 @@ impl<F: PriceFn + Drop> Session<F> {
             return Ok(None);
         }
         self.book.take_back(alloc, kept - entries as usize)?;
-        // For the proof: what the book keeps.
-        self.book.picture();
         Ok(Some(self.undone(entries)))
     }
 
@@ -291,9 +289,7 @@ impl<F: PriceFn> Session<F> {
         position: u32,
         kind: u32,
     ) -> Result<Reply, AllocError>
-        ensures entered { IfOk result
-            (λ reply. Enters caller (Grow u position kind) reply self.old self.new) }
-        ensures unchanged { OnErr result (self.new ≡ self.old) }
+        ensures { AnswersCall caller (Grow u position kind) self.old self.new result }
     {
         self.book.grow(alloc, caller, u, position, kind)
     }
@@ -308,18 +304,14 @@ impl<F: PriceFn> Session<F> {
         v: u32,
         kind: u32,
     ) -> Result<Reply, AllocError>
-        ensures entered { IfOk result
-            (λ reply. Enters caller (Insert u v kind) reply self.old self.new) }
-        ensures unchanged { OnErr result (self.new ≡ self.old) }
+        ensures { AnswersCall caller (Insert u v kind) self.old self.new result }
     {
         self.book.insert(alloc, caller, u, v, kind)
     }
 
     /// Takes an edge out, or answers the first reason why not. Both are entered.
     pub fn delete(&mut self, alloc: Global, caller: u32, edge: u32) -> Result<Reply, AllocError>
-        ensures entered { IfOk result
-            (λ reply. Enters caller (Delete edge) reply self.old self.new) }
-        ensures unchanged { OnErr result (self.new ≡ self.old) }
+        ensures { AnswersCall caller (Delete edge) self.old self.new result }
     {
         self.book.delete(alloc, caller, edge)
     }

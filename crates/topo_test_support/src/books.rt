@@ -1,8 +1,8 @@
 //! A book that begins with a picture, and a call of it.
 
-ghost use Rattle.std.specs.Prelude.{◌≡◌, ◌++◌, ◌∷◌, [], IfOk, OnErr};
+ghost use Rattle.std.specs.Prelude.{◌≡◌, [], IfOk};
 ghost use Rattle.topo_price.specs.Prices.{IsPromise};
-ghost use Rattle.topo_book.specs.Books.{IsUnchanged};
+ghost use Rattle.topo_book.specs.Books.{AnswersCall};
 
 use std::alloc::{AllocError, Global};
 use std::sync::Arc;
@@ -35,9 +35,7 @@ pub fn make<F: PriceFn>(
     caller: u32,
     call: Call,
 ) -> Result<Reply, AllocError>
-    ensures entered { IfOk result (λ reply. book.new.history ≡ book.old.history
-        ++ record { caller = caller; call = call; reply = reply } ∷ []) }
-    ensures unchanged { OnErr result (IsUnchanged book.old book.new) }
+    ensures { AnswersCall F.may_return caller call book.old book.new result }
 {
     match call {
         Call::Grow { u, position, kind } => book.grow(alloc, caller, u, position, kind),

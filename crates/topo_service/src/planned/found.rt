@@ -1,13 +1,14 @@
 //! A route that carries its proof.
 
 ghost use Rattle.std.specs.Prelude.{◌≡◌, ◌≢◌, IfErr, IfOk, IfSome, OnOk, Some, true};
-ghost use Rattle.topo_core.specs.History.{IsPrefix, versions};
+ghost use Rattle.topo_core.specs.History.{versions};
 ghost use Rattle.topo_core.specs.Routes.{IsFirst};
 ghost use Rattle.topo_price.specs.Prices.{prices_of};
 ghost use Rattle.topo_versions.specs.Names.{prices_named};
 ghost use Rattle.topo_picture.specs.Ends.{HasVertices};
 ghost use Rattle.topo_service.specs.Faults.{IsPlanFault, IsPlanRefusal};
-ghost use Rattle.topo_service.specs.Found.{IsFoundRoute, IsHeldBy};
+ghost use Rattle.topo_service.specs.Answers.{HasOnlySeen};
+ghost use Rattle.topo_service.specs.Found.{IsFoundFor, IsFoundRoute, IsHeldBy};
 
 use crate::faults::PassFault;
 use crate::pass::Pass;
@@ -239,13 +240,9 @@ impl<F: PriceFn, K: ServiceBrand<F>> Pass<F, K> {
         v: u32,
     ) -> Result<FoundRoute<F, K>, PassFault>
         requires named { K.closure ≡ Some tariff.now }
-        ensures number { self.new.number ≡ self.old.number }
-        ensures receipts { self.new.receipts ≡ self.old.receipts }
-        ensures later { IsPrefix self.old.seen self.new.seen }
-        ensures u { IfOk result (λ f. f.u ≡ u) }
-        ensures v { IfOk result (λ f. f.v ≡ v) }
-        ensures seen { IfOk result (λ f. f.entries ≡ self.new.seen) }
-        ensures found { IfOk result (IsFoundRoute (prices_named F.may_return K.closure) K.start) }
+        ensures only_seen { HasOnlySeen self.old self.new }
+        ensures found { IfOk result
+            (IsFoundFor (prices_named F.may_return K.closure) K.start self.new.seen u v) }
         ensures fault { IfErr result (IsPlanFault (prices_named F.may_return K.closure)
             (prices_named F.may_return K.closure) K.start self.new.seen u v) }
     {

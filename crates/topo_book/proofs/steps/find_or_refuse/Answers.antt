@@ -1,4 +1,5 @@
-use Rattle.std.proofs.Common.{IfOk, MatchOption, MatchResult, refl, subst, sym}
+use Rattle.std.proofs.Common.{◌≤◌, IfOk, MatchOption, MatchResult, arith, refl, subst, sym}
+use Rattle.std.proofs.lemmas.Bool.Decides.{nat_tests}
 use Rattle.topo_core.specs.declared.calls.Call.TheVariants.{Insert}
 use Rattle.topo_core.specs.Routes.{IsFirst}
 use Rattle.topo_core.specs.Steps.{IsRefused}
@@ -18,6 +19,7 @@ returns-then-are_all_priced g c =
     let found = subst (λ rows. MatchOption c.in_ok-direct.direct (CrossesAlways rows u v) (λ r. IsFirst price rows u v r.route r.price))
     c.embedded.ensures c.in_ok-direct.ensures in
     let rows = c.args.picture.now.rows in
+    let full : limits.crossings ≤ rows.next_crossing = grind (arith, nat_tests, c.if-has_no_crossing_left.ensures) in
     elim c.match-direct.branch [
       | in-Some w ↦
           subst (λ r. IfOk r (λ f. MatchResult f (λ r. IsFirst price rows u v r.route r.price) (IsRefused price limits rows (Insert u v kind))))
@@ -27,6 +29,6 @@ returns-then-are_all_priced g c =
           subst (λ r. IfOk r (λ f. MatchResult f (λ r. IsFirst price rows u v r.route r.price) (IsRefused price limits rows (Insert u v kind))))
           (sym w.result-is)
           (refused_as_full price limits rows c.kept_rows.ensures.lawful (c.if-are_all_priced.ensures refl) u v kind c.keeps_promise.ensures c.requires.admitted
-          (c.if-has_no_crossing_left.ensures refl)
+          full
           (subst (λ o. MatchOption o (CrossesAlways rows u v) (λ r. IsFirst price rows u v r.route r.price)) w.in-None.is found))
     ]

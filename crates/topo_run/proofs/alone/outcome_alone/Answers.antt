@@ -20,7 +20,7 @@ returns-then-carry_out-clause-run g c =
     let way : Replays (prices_of (g.F.PriceFn.may_return own)) start.limits start.rows book.history book.picture.rows =
     subst (λ (s : Shown). Replays (prices_of (g.F.PriceFn.may_return own)) s.limits s.rows book.history book.picture.rows) begins
     (subst (λ t. Replays (prices_of (g.F.PriceFn.may_return t)) book.start.limits book.start.rows book.history book.picture.rows)
-    tariff c.history.ensures.legal) in
+    tariff c.history.ensures.legal.replayed) in
     let entered = c.carry_out.ensures.entered c.if-carry_out.true in
     let run = run_of_one (prices_of (g.F.PriceFn.may_return own)) start.limits start.rows book.picture.rows list book.history
     entered.callers entered.calls way in

@@ -1,4 +1,4 @@
-use Rattle.std.proofs.Common.{List, arith, length, map, subst, sym, ◌∙◌}
+use Rattle.std.proofs.Common.{List, ap, arith, length, map, subst, sym, ◌∙◌}
 use Rattle.std.proofs.lemmas.List.{length-map}
 use Rattle.std.specs.Arc.{arc_value}
 use Rattle.topo_core.specs.declared.calls.Entry.{Entry}
@@ -8,7 +8,7 @@ use Rattle.topo_price.specs.Prices.{prices_of}
 use Rattle.topo_service.specs.declared.faults.EndFault.{EndFault}
 use Rattle.topo_service.specs.Commands.{commands}
 use Rattle.topo_service.specs.Faults.{IsEndFault}
-use Rattle.topo_service.specs.Passes.{PassState}
+use Rattle.topo_service.specs.Passes.{PassState, ServiceState}
 use Rattle.topo_run.proofs.Passing.{differing, has_number, ok_both, served}
 use Rattle.topo_run.proofs.Telling.{opening_fails}
 use Rattle.topo_run.specs.Working.{IsOfService}
@@ -32,8 +32,8 @@ returns-in-Ok-close-clause-run g c =
     let book = c.in-Ok-close.book in
     let closed = c.in-Ok-close.ensures in
     let run : IsRun (prices_of (g.F.PriceFn.may_return own)) start.limits start.rows lists book.history book.picture.rows =
-    served g.F.PriceFn.may_return (closed.tariff ∙ c.in-Ok-run_all.ensures.same ∙ c.in-Ok.ensures.tariff)
-    (closed.start ∙ sym c.requires.start) c.in-Ok-run_all.ensures.worked closed.whole closed.legal in
+    served g.F.PriceFn.may_return (closed.book.tariff ∙ c.in-Ok-run_all.ensures.same ∙ ap (λ (s : ServiceState _). s.tariff) c.in-Ok.ensures)
+    (closed.book.start ∙ sym c.requires.start) c.in-Ok-run_all.ensures.worked closed.receipts.whole closed.book.legal.replayed in
     ok_both c.outcome_of.result _ _ _
     (λ outcome history picture. subst
     (λ (es : List Entry). IsRun (prices_of (g.F.PriceFn.may_return own)) start.limits start.rows lists es outcome.picture) (sym history)

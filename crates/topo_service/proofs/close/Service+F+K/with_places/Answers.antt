@@ -1,5 +1,5 @@
 use Rattle.std.proofs.Common.{refl}
 use Rattle.topo_service.proofs.close.Service+F+K.with_places.Goals as goal
 
-pub returns-clause-places : goal.returns-clause-places
-returns-clause-places g c = refl
+pub returns : goal.returns
+returns g c = rw c.new-2.ensures refl

@@ -18,7 +18,7 @@ show-requires-clause-follows g c =
     let good = subst (λ (o : Option Shown). IfSome o (λ q. IsPicture q.limits q.rows)) (shown.picture ∙ is) (copied_lawful c.picture.result shown.lawful) in
     let on : is_accepted n.entry.reply ≡ true = sym shown.accepted ∙ copied_there c.picture.result ∙ ap is_some (shown.picture ∙ is) in
     let there = version_ready g.F.PriceFn.may_return g.K.ServiceBrand.closure g.K.ServiceBrand.start c.self.inside.book c.prepare_call.new.book n i.1 i.0
-    m.unchanged m.same_book m.same_limits c.in_ok-next.ensures.ready m.legal p is on good in
+    m.prepared.unchanged m.prepared.same_book m.legal.same_limits c.in_ok-next.ensures.prepared.ready m.legal.replayed p is on good in
     rw i.3 there)
 
 pub returns-clause-step : goal.returns-clause-step
@@ -28,7 +28,7 @@ returns-clause-step g c =
     let i = c.self.invariant in
     let m = c.prepare_call.ensures in
     let told : c.in_ok-pair.pair.receipt ≡ n.entry.reply = c.in_ok-pair.ensures.receipt ∙ ap (λ e. e.reply) c.entry.ensures.entry in
-    let after : c.commit.new.self.picture ≡ picture_after n.picture b.picture = c.commit.ensures.picture ∙ ap (picture_after n.picture) m.unchanged.1 in
-    let step = named_step g.F.PriceFn.may_return g.K.ServiceBrand.closure g.K.ServiceBrand.start b c.prepare_call.new.book n i.1 i.0 m.unchanged m.same_book
-    m.same_limits c.in_ok-next.ensures.ready in
-    rw (← c.in_ok-next.ensures.call, told, after, ← ap (λ s. s.picture) c.self.view_is) step
+    let after : c.commit.new.self.picture ≡ picture_after n.picture b.picture = c.commit.ensures.picture ∙ ap (picture_after n.picture) m.prepared.unchanged.1 in
+    let step = named_step g.F.PriceFn.may_return g.K.ServiceBrand.closure g.K.ServiceBrand.start b c.prepare_call.new.book n i.1 i.0
+    m.prepared.unchanged m.prepared.same_book m.legal.same_limits c.in_ok-next.ensures.prepared.ready in
+    rw (← c.in_ok-next.ensures.prepared.call, told, after, ← ap (λ s. s.picture) c.self.view_is) step

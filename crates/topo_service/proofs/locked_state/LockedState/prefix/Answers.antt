@@ -9,4 +9,4 @@ returns-clause-replayed g c =
     let i = c.self.invariant in
     let same : b.picture ≡ c.args.self.now.picture = ap (λ s. s.picture) c.self.view_is in
     rw (i.3, ← same, ← i.0, i.1)
-    (is_version (prices_of (g.F.PriceFn.may_return b.tariff)) b.start.limits b.start.rows b.picture.rows b.history c.history.ensures.legal)
+    (is_version (prices_of (g.F.PriceFn.may_return b.tariff)) b.start.limits b.start.rows b.picture.rows b.history c.history.ensures.legal.replayed)

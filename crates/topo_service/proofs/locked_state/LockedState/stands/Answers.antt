@@ -13,7 +13,7 @@ returns-then-is_of g c good =
     let found = c.args.found.now in
     let same : found.entries ≡ versions b.history = c.is_of.ensures c.if-is_of.true ∙ i.3 in
     subst (λ (s : BookState _). IsFirst (prices_of (g.F.PriceFn.may_return s.tariff)) s.picture.rows c.args.u c.args.v found.route found.price) c.self.view_is
-    (first_now g.F.PriceFn.may_return b.history i.1 i.0 c.history.ensures.legal c.first.ensures.found same
+    (first_now g.F.PriceFn.may_return b.history i.1 i.0 c.history.ensures.legal.replayed c.first.ensures.found same
     (c.is_between.ensures.u c.if-is_between.true) (c.is_between.ensures.v c.if-is_between.true))
 
 pub returns-else-is_of : goal.returns-else-is_of

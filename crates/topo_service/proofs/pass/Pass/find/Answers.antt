@@ -1,4 +1,4 @@
-use Rattle.std.proofs.Common.{◌≡◌, List, sym, ap, subst, ◌∙◌}
+use Rattle.std.proofs.Common.{◌≡◌, List, sym, ap, rules, subst, ◌∙◌}
 use Rattle.topo_core.specs.declared.calls.Entry.{Entry}
 use Rattle.topo_versions.specs.Names.{prices_named}
 use Rattle.topo_versions.specs.Versions.{IsVersionFrom}
@@ -15,8 +15,5 @@ returns-in-Err-clause-fault g c =
       c.in-Err.ensures.refused,
     )
 
-pub returns-clause-u : goal.returns-clause-u
-returns-clause-u g c = c.in-Ok.ensures.u
-
-pub returns-clause-v : goal.returns-clause-v
-returns-clause-v g c = c.in-Ok.ensures.v
+pub returns-clause-found : goal.returns-clause-found
+returns-clause-found g c = record { from = c.in-Ok.ensures.u; to = c.in-Ok.ensures.v; entries = search rules; first = search rules }

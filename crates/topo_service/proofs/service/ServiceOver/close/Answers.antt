@@ -1,10 +1,9 @@
 use Rattle.std.proofs.Common.{◌≡◌, ◌≤◌, ◌<◌, ◌+◌, ℕ, length, All, ap, sym, ◌∙◌, subst, arith, rules, List}
 use Rattle.std.specs.Prelude.{vec_len}
 use Rattle.topo_core.specs.declared.calls.Entry.{Entry}
-use Rattle.topo_core.specs.History.{IsPrefix, versions}
 use Rattle.topo_core.specs.declared.limits.TheConstants.{MAX_PASSES}
 use Rattle.topo_service.specs.Passes.{PassState}
-use Rattle.topo_service.specs.Receipts.{AllAgree, AreFirst, AreWhole, HasNumber, receipt_count}
+use Rattle.topo_service.specs.Receipts.{AreFirst, AreReceiptsOf, HasNumber, receipt_count}
 use Rattle.topo_service.proofs.Matching.{first_agree}
 use Rattle.topo_service.proofs.Numbers.{all_parts, apart, enough}
 use Rattle.topo_service.proofs.Wholeness.{whole}
@@ -23,17 +22,8 @@ audit-requires g c =
 pub returns-clause-all_there : goal.returns-clause-all_there
 returns-clause-all_there g c = rw (← c.self.view_is, ← c.into_parts-given.ensures.number, ← c.as_slice.ensures.value) c.in_default.ensures.all_there
 
-pub returns-clause-agree : goal.returns-clause-agree
-returns-clause-agree g c =
-    let firsts : All (λ (p : PassState). AreFirst c.into_inner-state.result.history p.number p.receipts) c.args.passes.items =
-    rw (← c.as_slice.ensures.value, ← c.history.ensures) c.in_default.ensures.agree in
-    let same = ap (λ b. b.history) (c.into_book-2.ensures.same ∙ c.audit.ensures.same) in
-    let agree : All (λ (p : PassState). AllAgree c.into_inner-state.result.history p.number p.receipts) c.args.passes.items =
-    λ k d lt. first_agree _ _ _ (firsts k d lt) in
-    subst (λ (h : List Entry). All (λ (p : PassState). AllAgree h p.number p.receipts) c.args.passes.items) (sym same) agree
-
-pub returns-clause-whole : goal.returns-clause-whole
-returns-clause-whole g c =
+pub returns-clause-receipts : goal.returns-clause-receipts
+returns-clause-receipts g c =
     let given = c.into_parts-given.result.0 in
     let history = c.into_inner-state.result.history in
     let passes : List PassState = c.args.passes.items in
@@ -49,14 +39,13 @@ returns-clause-whole g c =
     rw (← c.as_slice.ensures.value, ← c.history.ensures) c.in_default.ensures.agree in
     let count : length history ≡ receipt_count passes =
     omega (arith, ap (λ b. length b.history) c.audit.ensures.same, c.audit.ensures.counted, s.amount, none) in
-    let all = whole history passes (apart given passes there (rw (← len) few)) firsts count in
     let same = ap (λ b. b.history) (c.into_book-2.ensures.same ∙ c.audit.ensures.same) in
-    subst (λ (h : List Entry). AreWhole h passes) (sym same) all
-
-pub returns-clause-seen : goal.returns-clause-seen
-returns-clause-seen g c =
-    let same = ap (λ b. b.history) (c.into_book-2.ensures.same ∙ c.audit.ensures.same) in
-    subst (λ (h : List Entry). All (λ (p : PassState). IsPrefix p.seen (versions h)) c.args.passes.items) (sym same) c.gather-all.ensures.seen
+    subst (λ (h : List Entry). AreReceiptsOf h passes) (sym same) (record {
+      agree = λ k d lt. first_agree _ _ _ (firsts k d lt);
+      counted = count;
+      whole = whole history passes (apart given passes there (rw (← len) few)) firsts count;
+      seen = s.seen;
+    })
 
 pub returns-in-Some-clause-fault : goal.returns-in-Some-clause-fault
 returns-in-Some-clause-fault g c =

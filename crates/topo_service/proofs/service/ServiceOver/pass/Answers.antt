@@ -1,4 +1,4 @@
-use Rattle.std.proofs.Common.{◌+◌, ◌<◌, ap, subst, ◌∙◌, rules}
+use Rattle.std.proofs.Common.{◌+◌, ◌<◌, ap, subst, ◌∙◌}
 use Rattle.topo_service.specs.Passes.{ServiceState}
 use Rattle.topo_service.proofs.service.ServiceOver.pass.Goals as goal
 

@@ -14,10 +14,10 @@ returns-clause-undone g c =
     let there : c.args.entries ≤ length s.book.history = omega (arith, c.if-kept-entries.false, long) in
     let n = c.take_back.new.self in
     let way = subst (λ t. Replays (prices_of (g.F.PriceFn.may_return t)) n.start.limits n.start.rows n.history n.picture.rows)
-    c.in_ok-take_back.ensures.same_book.0 c.in_ok-take_back.ensures.replay in
+    c.in_ok-take_back.ensures.same_book.0 c.in_ok-take_back.ensures.legal.replayed in
     subst (λ (old : Standing). TakesBack c.args.entries old (standing_of s.limits s.prices n)
     × (c.undone.result ≡ undone c.args.entries n.picture.rows)) c.self.view_is (
       taken_so (g.F.PriceFn.may_return s.book.tariff) s.limits s.prices c.self.invariant s.book n c.args.entries there cut way
-          c.in_ok-take_back.ensures.same_book c.picture.ensures.same_limits,
+          c.in_ok-take_back.ensures.same_book c.in_ok-take_back.ensures.legal.same_limits,
       c.undone.ensures,
     )

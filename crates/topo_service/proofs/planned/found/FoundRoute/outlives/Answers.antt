@@ -39,4 +39,4 @@ returns-then-is_prefix_of g c good =
     let held = subst (λ (o : Option RegionState). IfSome o (IsHeldBy (prices_named answers closure) f.version.picture.rows f.u f.v f.first.route f.first.price))
     c.in-Some.is c.self.invariant.1 in
     subst (λ (s : FoundState). IsFirst (prices_of (answers book.tariff)) book.picture.rows s.u s.v s.route s.price) c.self.view_is
-    (still_first_now answers c.requires.named c.requires.begun c.history.ensures.lawful c.picture.ensures.version there count spared held)
+    (still_first_now answers c.requires.named c.requires.begun c.history.ensures.legal.on_the_way c.picture.ensures.version there count spared held)

@@ -1,4 +1,0 @@
-use Rattle.topo_service.proofs.service.ServiceOver.grow.Goals as goal
-
-pub returns-clause-called : goal.returns-clause-called
-returns-clause-called g c = c.call.ensures.called
