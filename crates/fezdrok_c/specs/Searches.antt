@@ -1,9 +1,9 @@
 -- What a search is answered from C: a status, and a text that lies in the search until its next call.
 use Rattle.std.specs.Prelude.{◌≡◌, ◌≢◌, ◌⊎◌, ℕ, List, [], Option, None, Some, Ok, bytes_eq, codes, if◌then◌else◌, ⊤}
 use Rattle.serde_json.specs.Written.{compact_text}
-use Rattle.topo_forms.specs.Graphs.{graph_of}
-use Rattle.topo_forms.specs.Reads.{IsFirstFault}
-use Rattle.topo_forms.specs.declared.graphs.GraphAsked.{GraphAsked}
+use Rattle.topo_script.specs.Graphs.{graph_of}
+use Rattle.topo_script.specs.Reads.{IsFirstFault}
+use Rattle.topo_script.specs.declared.graphs.GraphAsked.{GraphAsked}
 use Rattle.topo_planarize.specs.Answers.{HasNoAnswer, IsAnswerOf, IsOfSearch, Sought, StartsWell, answer_data, drawn}
 use Rattle.topo_planarize.specs.declared.answers.Answer.{Answer}
 use Rattle.topo_session.specs.Texts.{fault_text}

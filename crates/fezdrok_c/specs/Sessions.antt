@@ -3,7 +3,7 @@ use Rattle.std.specs.Prelude.{◌≡◌, ◌≢◌, ◌⊎◌, ℕ, List, [], Op
 use Rattle.std.specs.Vec.{vec_ptr}
 use Rattle.std.specs.declared.alloc.Global.{Global}
 use Rattle.std.specs.declared.vec.Vec.{Vec}
-use Rattle.topo_forms.specs.Sessions.{line_of}
+use Rattle.topo_script.specs.Sessions.{line_of}
 use Rattle.topo_session.specs.Answers.{AnswersFirst, AnswersLine, IsBadOpening, LosesLine}
 use Rattle.topo_session.specs.Standings.{Standing}
 use Rattle.topo_session.specs.Texts.{fault_text}

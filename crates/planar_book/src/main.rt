@@ -8,7 +8,7 @@ use std::sync::Arc;
 use topo_book::Book;
 use topo_core::limits::Limits;
 use topo_core::rows::Facts;
-use topo_forms::read_rows;
+use topo_script::read_rows;
 use topo_picture::Picture;
 use topo_price::tariff::{PriceFn, Tariff};
 use topo_script::picture_text;

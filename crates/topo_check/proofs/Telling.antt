@@ -1,7 +1,7 @@
 -- What is told of bytes is told of what was read and written.
 use Rattle.std.proofs.Common.{◌≡◌, ℕ, List, Ok, Option, subst}
 use Rattle.std.specs.Io.KnownBytes.{Appends, Keeps}
-use Rattle.topo_forms.specs.Reads.{Gives, Read}
+use Rattle.topo_script.specs.Reads.{Gives, Read}
 use Rattle.topo_settings.specs.declared.fault.RunFault.{RunFault}
 use Rattle.topo_settings.specs.declared.fault.RunFault.TheVariants.{Memory, Script, BadLimits, Price, Load}
 use Rattle.topo_settings.specs.declared.fault.RunFault.TheVariants.{WrongReply, WrongPicture}

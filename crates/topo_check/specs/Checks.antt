@@ -8,9 +8,9 @@ use Rattle.topo_rows.specs.declared.load.LoadFault.{LoadFault}
 use Rattle.topo_rows.specs.Loading.{FailsFirst}
 use Rattle.topo_rows.specs.Shown.{IsPicture}
 use Rattle.topo_picture.specs.Totals.{AreCountsOf}
-use Rattle.topo_forms.specs.Reads.{IsFirstFault}
-use Rattle.topo_forms.specs.RowForms.{rows_of}
-use Rattle.topo_forms.specs.Scripts.{greatest_limits}
+use Rattle.topo_script.specs.Reads.{IsFirstFault}
+use Rattle.topo_script.specs.RowForms.{rows_of}
+use Rattle.topo_script.specs.Scripts.{greatest_limits}
 use Rattle.topo_settings.specs.declared.fault.RunFault.{RunFault}
 use Rattle.topo_settings.specs.declared.fault.RunFault.TheVariants.{Memory, Script, BadLimits, Price, Load, Graph, NoSeat, Mismatch}
 use Rattle.topo_settings.specs.declared.fault.RunFault.TheVariants.{WrongReply, WrongPicture, ReadFault, WriteFault}

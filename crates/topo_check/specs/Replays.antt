@@ -5,9 +5,9 @@ use Rattle.topo_core.specs.declared.rows.Rows.{Rows}
 use Rattle.topo_core.specs.declared.limits.Limits.{Limits}
 use Rattle.topo_core.specs.History.{IsLegal, Replays}
 use Rattle.topo_book.specs.Faults.{IsFirstWrong}
-use Rattle.topo_forms.specs.Reads.{IsFirstFault}
-use Rattle.topo_forms.specs.Scripts.{report_of}
-use Rattle.topo_forms.specs.declared.reports.Report.{Report}
+use Rattle.topo_script.specs.Reads.{IsFirstFault}
+use Rattle.topo_script.specs.Scripts.{report_of}
+use Rattle.topo_script.specs.declared.reports.Report.{Report}
 use Rattle.topo_settings.specs.declared.fault.RunFault.{RunFault}
 use Rattle.topo_settings.specs.declared.fault.RunFault.TheVariants.{Memory, Script, BadLimits, Price, Load, Graph, NoSeat, Mismatch}
 use Rattle.topo_settings.specs.declared.fault.RunFault.TheVariants.{WrongReply, WrongPicture, ReadFault, WriteFault}

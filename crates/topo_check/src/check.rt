@@ -3,15 +3,15 @@
 ghost use Rattle.std.specs.Prelude.{◌≡◌, ◌≤◌, ◌+◌, ℕ, List, IfOk, IfErr, string_bytes};
 ghost use Rattle.topo_check.specs.Checks.{CheckFailsBy, IsChecked};
 ghost use Rattle.topo_check.specs.Checks.{IsSizeOfBytes, IsUnlawful, size_line};
-ghost use Rattle.topo_forms.specs.Reads.{Gives};
-ghost use Rattle.topo_forms.specs.RowForms.{rows_of};
+ghost use Rattle.topo_script.specs.Reads.{Gives};
+ghost use Rattle.topo_script.specs.RowForms.{rows_of};
 ghost use Rattle.topo_settings.specs.Reading.{most_calls};
 
 use std::alloc::{AllocError, Global};
 use std::io::{Read, Write};
 use topo_core::rows::Rows;
-use topo_forms::row_forms::MAX_PICTURE_BYTES;
-use topo_forms::{ScriptFault, read_rows};
+use topo_script::row_forms::MAX_PICTURE_BYTES;
+use topo_script::{ScriptFault, read_rows};
 use topo_picture::{Counts, Picture};
 use topo_settings::reading::{CountedReader, read_bytes};
 use topo_settings::writing::write_text;

@@ -9,7 +9,7 @@ use crate::streams::{
 use std::io::ErrorKind;
 use std::test::Fail;
 use topo_cli::Verb;
-use topo_forms::ScriptFault;
+use topo_script::ScriptFault;
 use topo_settings::RunFault;
 
 /// The greatest number of bytes that a script may have.

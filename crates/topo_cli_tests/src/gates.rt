@@ -4,7 +4,7 @@ use std::sync::atomic::{AtomicBool, AtomicUsize, Ordering};
 use std::test::Fail;
 use std::thread;
 use topo_core::calls::{Entry, Reply};
-use topo_forms::read_report;
+use topo_script::read_report;
 use topo_run::run_io;
 use topo_service::Gate;
 use topo_service_test_support::gates::Turns;

@@ -14,7 +14,7 @@ use std::thread::Threads;
 use topo_core::limits::MAX_PASSES;
 use topo_core::listed::Listed;
 use topo_core::rows::Facts;
-use topo_forms::{Report, Script, read_script};
+use topo_script::{Report, Script, read_script};
 use topo_price::table::PriceTable;
 use topo_price::tariff::{PriceFn, Tariff};
 use topo_run::{OpenGate, run_io, run_script};

@@ -6,8 +6,8 @@ use crate::streams::{BreakingReader, FailingWriter, FullWriter, SlowReader, Slow
 use std::alloc::Global;
 use std::test::Fail;
 use topo_cli::Verb;
-use topo_forms::ScriptFault;
-use topo_forms::path::Path;
+use topo_script::ScriptFault;
+use topo_script::path::Path;
 use topo_settings::RunFault;
 
 /// The greatest number of bytes that a line has, but the first.

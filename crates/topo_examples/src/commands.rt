@@ -6,7 +6,7 @@ use std::sync::Wait;
 use std::thread::Threads;
 use topo_check::{check_bytes, check_io, replay_bytes, replay_io};
 use topo_core::rows::Rows;
-use topo_forms::{Report, ScriptFault, read_report, read_rows, read_script};
+use topo_script::{Report, ScriptFault, read_report, read_rows, read_script};
 use topo_run::{OpenGate, run_io};
 use topo_script::{picture_text, report};
 use topo_serve::serve_io;

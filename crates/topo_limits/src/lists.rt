@@ -13,7 +13,7 @@ use std::sync::{Arc, Wait};
 use std::thread::Threads;
 use topo_core::calls::{Call, Command, Entry, Refusal, Reply};
 use topo_core::listed::Listed;
-use topo_forms::{LimitRows, Report, Script};
+use topo_script::{LimitRows, Report, Script};
 use topo_price::table::PriceTable;
 use topo_price::tariff::{PriceFn, Tariff};
 use topo_run::{OpenGate, run_script};

@@ -1,7 +1,7 @@
 -- What was found and shows a graph is an answer.
 use Rattle.std.proofs.Common.{◌≡◌, ℕ, List, Option, Result, Ok, Err, IfOk, subst, sym}
 use Rattle.topo_core.specs.declared.limits.Limits.{Limits}
-use Rattle.topo_forms.specs.Scripts.{greatest_limits}
+use Rattle.topo_script.specs.Scripts.{greatest_limits}
 use Rattle.topo_graph.specs.Graphs.{Drawn}
 use Rattle.topo_settings.specs.declared.fault.RunFault.{RunFault}
 use Rattle.topo_settings.specs.Limiting.{AreLimits}

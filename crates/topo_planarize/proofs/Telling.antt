@@ -1,8 +1,8 @@
 -- What is told of bytes is told of what was read and written.
 use Rattle.std.proofs.Common.{◌≡◌, ◌⊎◌, ℕ, List, Ok, Option, inl, inr}
 use Rattle.std.specs.Io.KnownBytes.{Appends, Keeps}
-use Rattle.topo_forms.specs.Graphs.{graph_of}
-use Rattle.topo_forms.specs.declared.graphs.GraphAsked.{GraphAsked}
+use Rattle.topo_script.specs.Graphs.{graph_of}
+use Rattle.topo_script.specs.declared.graphs.GraphAsked.{GraphAsked}
 use Rattle.topo_settings.specs.declared.fault.RunFault.{RunFault}
 use Rattle.topo_settings.specs.declared.fault.RunFault.TheVariants.{Memory, Script, Price, Graph}
 use Rattle.topo_settings.specs.Reading.{IsRead, ReaderState}

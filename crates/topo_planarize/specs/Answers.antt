@@ -10,9 +10,9 @@ use Rattle.topo_core.specs.declared.rows.TheConstants.{KINDS}
 use Rattle.topo_graph.specs.Graphs.{Drawn, IsFaultOf}
 use Rattle.topo_graph.specs.declared.GraphFault.{GraphFault}
 use Rattle.topo_graph.specs.declared.GraphFault.TheVariants.{Loop, NoEnd, TooLarge, NotPlanarized, OtherGraph, NotShown}
-use Rattle.topo_forms.specs.declared.graphs.GraphAsked.{GraphAsked}
-use Rattle.topo_forms.specs.declared.graphs.GraphStart.{GraphStart}
-use Rattle.topo_forms.specs.Scripts.{greatest_limits}
+use Rattle.topo_script.specs.declared.graphs.GraphAsked.{GraphAsked}
+use Rattle.topo_script.specs.declared.graphs.GraphStart.{GraphStart}
+use Rattle.topo_script.specs.Scripts.{greatest_limits}
 use Rattle.topo_script.specs.Pictures.{list_data, number_data, part_data}
 use Rattle.topo_settings.specs.declared.fault.RunFault.{RunFault}
 use Rattle.topo_settings.specs.declared.fault.RunFault.TheVariants.{Memory, Price, Graph}

@@ -1,9 +1,9 @@
 -- What the command reads and writes.
 use Rattle.std.specs.Prelude.{◌≡◌, ◌⊎◌, ℕ, List, Option, Ok}
 use Rattle.std.specs.Io.KnownBytes.{Appends, Keeps}
-use Rattle.topo_forms.specs.Graphs.{graph_of}
-use Rattle.topo_forms.specs.Reads.{IsFirstFault}
-use Rattle.topo_forms.specs.declared.graphs.GraphAsked.{GraphAsked}
+use Rattle.topo_script.specs.Graphs.{graph_of}
+use Rattle.topo_script.specs.Reads.{IsFirstFault}
+use Rattle.topo_script.specs.declared.graphs.GraphAsked.{GraphAsked}
 use Rattle.topo_settings.specs.declared.fault.RunFault.{RunFault}
 use Rattle.topo_settings.specs.declared.fault.RunFault.TheVariants.{Memory, Script, Price, Graph, ReadFault, WriteFault}
 use Rattle.topo_settings.specs.Reading.{HasFailed, ReaderState, Spells, SpellsNone}

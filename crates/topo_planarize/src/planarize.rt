@@ -1,8 +1,8 @@
 //! The command `planarize`.
 
 ghost use Rattle.std.specs.Prelude.{◌≡◌, ◌≤◌, ◌+◌, ℕ, List, IfErr, IfOk, string_bytes};
-ghost use Rattle.topo_forms.specs.Graphs.{graph_of};
-ghost use Rattle.topo_forms.specs.Reads.{Gives};
+ghost use Rattle.topo_script.specs.Graphs.{graph_of};
+ghost use Rattle.topo_script.specs.Reads.{Gives};
 ghost use Rattle.topo_planarize.specs.Answers.{HasNoAnswer, IsAnswerTo, answer_line};
 ghost use Rattle.topo_planarize.specs.Planarizing.{IsPlanarized, IsPlanarizedBy, IsUnplanarized};
 ghost use Rattle.topo_planarize.specs.Planarizing.{PlanarizeFailsBy};
@@ -16,8 +16,8 @@ use std::alloc::{AllocError, Global};
 use std::io::{Read, Write};
 use std::rt::Clock;
 use std::thread::Threads;
-use topo_forms::row_forms::MAX_PICTURE_BYTES;
-use topo_forms::{GraphAsked, ScriptFault, read_graph};
+use topo_script::row_forms::MAX_PICTURE_BYTES;
+use topo_script::{GraphAsked, ScriptFault, read_graph};
 use topo_price::table::PriceTable;
 use topo_script::written::Written;
 use topo_settings::reading::{CountedReader, read_bytes};

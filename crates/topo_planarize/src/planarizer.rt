@@ -18,7 +18,7 @@ use std::rt::Clock;
 use std::sync::Arc;
 use std::thread::Threads;
 use topo_core::listed::Listed;
-use topo_forms::{GraphAsked, GraphStart};
+use topo_script::{GraphAsked, GraphStart};
 use topo_graph::{Graph, GraphFault};
 use topo_price::table::PriceTable;
 use topo_price::tariff::{PriceFn, Tariff};

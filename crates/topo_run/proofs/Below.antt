@@ -4,9 +4,9 @@ use Rattle.topo_core.specs.declared.calls.Command.{Command}
 use Rattle.topo_core.specs.declared.limits.Limits.{Limits}
 use Rattle.topo_core.specs.declared.rows.Rows.{Rows}
 use Rattle.topo_core.specs.History.{IsRun}
-use Rattle.topo_forms.specs.declared.reports.Report.{Report}
-use Rattle.topo_forms.specs.declared.scripts.LimitRows.{LimitRows}
-use Rattle.topo_forms.specs.declared.scripts.Script.{Script}
+use Rattle.topo_script.specs.declared.reports.Report.{Report}
+use Rattle.topo_script.specs.declared.scripts.LimitRows.{LimitRows}
+use Rattle.topo_script.specs.declared.scripts.Script.{Script}
 use Rattle.topo_settings.proofs.Interface.{ok_so}
 use Rattle.topo_settings.specs.declared.fault.RunFault.{RunFault}
 use Rattle.topo_settings.specs.Limiting.{AreLimits}

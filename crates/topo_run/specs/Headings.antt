@@ -4,7 +4,7 @@ use Rattle.topo_core.specs.declared.calls.Command.{Command}
 use Rattle.topo_core.specs.declared.limits.Limits.{Limits}
 use Rattle.topo_core.specs.declared.rows.Rows.{Rows}
 use Rattle.topo_core.specs.History.{IsRun}
-use Rattle.topo_forms.specs.declared.reports.Report.{Report}
+use Rattle.topo_script.specs.declared.reports.Report.{Report}
 use Rattle.topo_run.specs.declared.scripts.Heading.{Heading}
 use Rattle.topo_settings.specs.Settings.{priced}
 

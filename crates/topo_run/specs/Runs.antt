@@ -4,11 +4,11 @@ use Rattle.std.specs.Io.KnownBytes.{Appends, Keeps}
 use Rattle.topo_core.specs.declared.rows.Rows.{Rows}
 use Rattle.topo_core.specs.declared.limits.Limits.{Limits}
 use Rattle.topo_core.specs.History.{IsRun}
-use Rattle.topo_forms.specs.declared.script_forms.TheConstants.{MAX_SCRIPT_BYTES}
-use Rattle.topo_forms.specs.declared.scripts.Script.{Script}
-use Rattle.topo_forms.specs.declared.reports.Report.{Report}
-use Rattle.topo_forms.specs.Reads.{IsFirstFault}
-use Rattle.topo_forms.specs.Scripts.{script_of}
+use Rattle.topo_script.specs.declared.script_forms.TheConstants.{MAX_SCRIPT_BYTES}
+use Rattle.topo_script.specs.declared.scripts.Script.{Script}
+use Rattle.topo_script.specs.declared.reports.Report.{Report}
+use Rattle.topo_script.specs.Reads.{IsFirstFault}
+use Rattle.topo_script.specs.Scripts.{script_of}
 use Rattle.topo_script.specs.ReportTexts.{report_text}
 use Rattle.topo_run.specs.Working.{IsOfRun}
 use Rattle.topo_settings.specs.declared.fault.RunFault.{RunFault}

@@ -2,9 +2,9 @@
 
 ghost use Rattle.std.specs.Prelude.{◌≡◌, ◌≤◌, ◌+◌, ℕ, List, IfErr, IfOk, ◌++◌, ◌∷◌, []};
 ghost use Rattle.std.specs.Prelude.{string_bytes};
-ghost use Rattle.topo_forms.specs.declared.script_forms.TheConstants.{MAX_SCRIPT_BYTES};
-ghost use Rattle.topo_forms.specs.Reads.{Gives};
-ghost use Rattle.topo_forms.specs.Scripts.{script_of};
+ghost use Rattle.topo_script.specs.declared.script_forms.TheConstants.{MAX_SCRIPT_BYTES};
+ghost use Rattle.topo_script.specs.Reads.{Gives};
+ghost use Rattle.topo_script.specs.Scripts.{script_of};
 ghost use Rattle.topo_run.specs.Runs.{FailsBy, FailsRun, IsDone, IsFaultOfBytes};
 ghost use Rattle.topo_run.specs.Runs.{IsLineOfBytes, IsRunLine, ShowsRun};
 ghost use Rattle.topo_run.specs.Working.{IsOfRun};
@@ -17,8 +17,8 @@ use std::alloc::{AllocError, Global};
 use std::io::{Read, Write};
 use std::sync::Wait;
 use std::thread::Threads;
-use topo_forms::script_forms::MAX_SCRIPT_BYTES;
-use topo_forms::{Report, Script, ScriptFault, read_script};
+use topo_script::script_forms::MAX_SCRIPT_BYTES;
+use topo_script::{Report, Script, ScriptFault, read_script};
 use topo_picture::Picture;
 use topo_price::table::PriceTable;
 use topo_script::report;

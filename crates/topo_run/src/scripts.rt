@@ -18,7 +18,7 @@ use topo_core::calls::Command;
 use topo_core::limits::Limits;
 use topo_core::listed::Listed;
 use topo_core::rows::Rows;
-use topo_forms::{LimitRows, Report, Script};
+use topo_script::{LimitRows, Report, Script};
 use topo_picture::Picture;
 use topo_price::table::PriceTable;
 use topo_price::tariff::{PriceFn, Tariff};

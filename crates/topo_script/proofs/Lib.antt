@@ -1,6 +1,27 @@
 pub mod Interface
+mod Bytes
+mod Fronts
+mod Items
+mod Letters
+mod LineLaws
+mod Lookups
 mod Members
+mod Objects
+mod PriceLists
 mod ReportBack
 mod ReportTextBack
 mod RowsBack
+mod Spellings
+mod Steps
 mod Texts
+mod TokenCalls
+mod TokenGraphs
+mod TokenLines
+mod TokenReplies
+mod TokenReports
+mod TokenRequests
+mod TokenRows
+mod TokenScripts
+mod TokenSessions
+mod TokenStarts
+mod WrittenMembers

@@ -17,24 +17,24 @@ use Rattle.topo_core.specs.declared.darts.Dart.{Dart}
 use Rattle.topo_core.specs.declared.darts.Way.{Way}
 use Rattle.topo_core.specs.declared.darts.Way.TheVariants.{Forward, Back}
 use Rattle.topo_core.specs.declared.routes.Inserted.{Inserted as Made}
-use Rattle.topo_forms.specs.declared.path.Key.TheVariants as key
-use Rattle.topo_forms.specs.declared.path.Path.{Path}
-use Rattle.topo_forms.specs.declared.scripts.LimitRows.{LimitRows}
-use Rattle.topo_forms.specs.declared.reports.Report.{Report}
-use Rattle.topo_forms.specs.declared.fault.ScriptFault.TheVariants.{BadShape}
-use Rattle.topo_forms.specs.Paths.{whole, element_of}
+use Rattle.topo_script.specs.declared.path.Key.TheVariants as key
+use Rattle.topo_script.specs.declared.path.Path.{Path}
+use Rattle.topo_script.specs.declared.scripts.LimitRows.{LimitRows}
+use Rattle.topo_script.specs.declared.reports.Report.{Report}
+use Rattle.topo_script.specs.declared.fault.ScriptFault.TheVariants.{BadShape}
+use Rattle.topo_script.specs.Paths.{whole, element_of}
 use Rattle.topo_script.specs.Pictures.{number_data, list_data}
-use Rattle.topo_forms.specs.Prices.{without_ones}
+use Rattle.topo_script.specs.Prices.{without_ones}
 use Rattle.topo_script.specs.Ranges.{LimitsFit, PriceFits, CallFits, DartFits, InsertedFits, RefusalFits, ReplyFits, EntryFits, ReportFits}
-use Rattle.topo_forms.specs.Reads.{Read, and_then, passes, element_count, number_below, number_form, long_form, list_form, has_keys, element}
+use Rattle.topo_script.specs.Reads.{Read, and_then, passes, element_count, number_below, number_form, long_form, list_form, has_keys, element}
 use Rattle.topo_script.specs.ReportTexts.{limits_data, price_data, prices_data, has_null, version_of, way_data, dart_data}
 use Rattle.topo_script.specs.ReportTexts.{call_data, refusal_data, inserted_data, reply_data, entry_data, report_data}
-use Rattle.topo_forms.specs.RowForms.{rows_form}
-use Rattle.topo_forms.specs.CallForms.{call_form, grow_form, insert_form, delete_form}
-use Rattle.topo_forms.specs.ReplyForms.{way_form, dart_form, plain_refusal, cut_form, refusal_form, deleted_form}
-use Rattle.topo_forms.specs.ReplyForms.{refused_form, grown_form, inserted_form, reply_form, entry_form}
-use Rattle.topo_forms.specs.Scripts.{limits_form, nulls_of, nulls_in, some_price, price_form, prices_form, report_form}
-use Rattle.topo_forms.proofs.Interface.{went}
+use Rattle.topo_script.specs.RowForms.{rows_form}
+use Rattle.topo_script.specs.CallForms.{call_form, grow_form, insert_form, delete_form}
+use Rattle.topo_script.specs.ReplyForms.{way_form, dart_form, plain_refusal, cut_form, refusal_form, deleted_form}
+use Rattle.topo_script.specs.ReplyForms.{refused_form, grown_form, inserted_form, reply_form, entry_form}
+use Rattle.topo_script.specs.Scripts.{limits_form, nulls_of, nulls_in, some_price, price_form, prices_form, report_form}
+use Rattle.topo_script.proofs.Interface.{went}
 use Rattle.topo_script.proofs.RowsBack.{short_back, list_back, member_back, all_map, rows_back}
 use Rattle.topo_core.specs.declared.rows.TheConstants.{KINDS}
 

@@ -14,15 +14,15 @@ use Rattle.topo_core.specs.declared.darts.Dart.{Dart}
 use Rattle.topo_core.specs.declared.darts.Way.{Way}
 use Rattle.topo_core.specs.declared.darts.Way.TheVariants.{Forward, Back}
 use Rattle.topo_core.specs.declared.routes.Inserted.{Inserted as Made}
-use Rattle.topo_forms.specs.declared.scripts.LimitRows.{LimitRows}
-use Rattle.topo_forms.specs.declared.reports.Report.{Report}
+use Rattle.topo_script.specs.declared.scripts.LimitRows.{LimitRows}
+use Rattle.topo_script.specs.declared.reports.Report.{Report}
 use Rattle.topo_script.specs.Pictures.{list_data}
-use Rattle.topo_forms.specs.Prices.{without_ones}
+use Rattle.topo_script.specs.Prices.{without_ones}
 use Rattle.topo_script.specs.Ranges.{LimitsFit, PriceFits, CallFits, DartFits, InsertedFits, RefusalFits, ReplyFits, EntryFits, ReportFits}
 use Rattle.topo_script.specs.ReportTexts.{limits_data, price_data, prices_data, has_null, version_of, way_data, dart_data, call_data}
 use Rattle.topo_script.specs.ReportTexts.{pair_data, refusal_data, inserted_data, reply_data, entry_data, report_data, report_text}
-use Rattle.topo_forms.specs.Scripts.{report_of}
-use Rattle.topo_forms.proofs.Interface.{went}
+use Rattle.topo_script.specs.Scripts.{report_of}
+use Rattle.topo_script.proofs.Interface.{went}
 use Rattle.topo_script.proofs.Texts.{IsPlain, ArePlainItems, plain_number, plain_string, plain_null, plain_list, plain_array}
 use Rattle.topo_script.proofs.Texts.{no_plain_items, one_plain_item, plain_object, no_plain_members, one_plain_member}
 use Rattle.topo_script.proofs.RowsBack.{all_map, plain_short, plain_rows, deeper, text_value}

@@ -10,16 +10,16 @@ use Rattle.topo_core.specs.declared.darts.Sign.TheVariants.{LeftToRight, RightTo
 use Rattle.topo_core.specs.declared.rows.Rows.{Rows}
 use Rattle.topo_core.specs.declared.rows.EdgeRow.{EdgeRow}
 use Rattle.topo_core.specs.declared.rows.CrossRow.{CrossRow}
-use Rattle.topo_forms.specs.declared.path.Key.{Key}
-use Rattle.topo_forms.specs.declared.path.Key.TheVariants.{A, B, Crossed, Crossings, Edges, Id, Kind, Newcomer}
-use Rattle.topo_forms.specs.declared.path.Key.TheVariants.{NextCrossing, NextEdge, Rotations, Sign as SignKey}
-use Rattle.topo_forms.specs.declared.path.Path.{Path}
-use Rattle.topo_forms.specs.Paths.{key_name, member_of, element_of, whole}
+use Rattle.topo_script.specs.declared.path.Key.{Key}
+use Rattle.topo_script.specs.declared.path.Key.TheVariants.{A, B, Crossed, Crossings, Edges, Id, Kind, Newcomer}
+use Rattle.topo_script.specs.declared.path.Key.TheVariants.{NextCrossing, NextEdge, Rotations, Sign as SignKey}
+use Rattle.topo_script.specs.declared.path.Path.{Path}
+use Rattle.topo_script.specs.Paths.{key_name, member_of, element_of, whole}
 use Rattle.topo_script.specs.Pictures.{number_data, list_data, sign_data, edge_data, crossing_data, rows_data, rows_text}
 use Rattle.topo_script.specs.Ranges.{AreShort, EdgeFits, CrossingFits, RowsFit}
-use Rattle.topo_forms.specs.Reads.{Read, and_then, number_below, number_form, items_from, list_form, has_keys, member_form, value_of}
-use Rattle.topo_forms.specs.RowForms.{sign_form, edge_form, crossing_form, rows_form, rows_of}
-use Rattle.topo_forms.proofs.Interface.{json_of-read, went, within}
+use Rattle.topo_script.specs.Reads.{Read, and_then, number_below, number_form, items_from, list_form, has_keys, member_form, value_of}
+use Rattle.topo_script.specs.RowForms.{sign_form, edge_form, crossing_form, rows_form, rows_of}
+use Rattle.topo_script.proofs.Interface.{json_of-read, went, within}
 use Rattle.topo_script.proofs.Texts.{IsPlain, plain_number, plain_string, plain_list, plain_object, no_plain_members, one_plain_member, read_back}
 
 -- ---- The forms of values

@@ -1,3 +1,17 @@
+pub mod CallForms
+pub mod FaultTexts
+pub mod Graphs
+pub mod Paths
 pub mod Pictures
+pub mod Prices
 pub mod Ranges
+pub mod Readers
+pub mod Reads
+pub mod ReplyForms
 pub mod ReportTexts
+pub mod RowForms
+pub mod Scripts
+pub mod Sessions
+pub mod Slots
+pub mod TokenParts
+pub mod Tokens

@@ -10,8 +10,8 @@ use Rattle.topo_core.specs.declared.calls.Refusal.{Refusal}
 use Rattle.topo_core.specs.declared.calls.Refusal.TheVariants.{NoVertex, SameEnds, NoPosition, NoEdge, BadKind, Cut, Full, Memory, NoRoute}
 use Rattle.topo_core.specs.declared.darts.Dart.{Dart}
 use Rattle.topo_core.specs.declared.routes.Inserted.{Inserted as Made}
-use Rattle.topo_forms.specs.declared.scripts.LimitRows.{LimitRows}
-use Rattle.topo_forms.specs.declared.reports.Report.{Report}
+use Rattle.topo_script.specs.declared.scripts.LimitRows.{LimitRows}
+use Rattle.topo_script.specs.declared.reports.Report.{Report}
 use Rattle.topo_core.specs.declared.rows.Rows.{Rows}
 use Rattle.topo_core.specs.declared.rows.EdgeRow.{EdgeRow}
 use Rattle.topo_core.specs.declared.rows.CrossRow.{CrossRow}

@@ -13,10 +13,10 @@ use Rattle.topo_core.specs.declared.calls.Reply.TheVariants.{Grown, Inserted, De
 use Rattle.topo_core.specs.declared.calls.Refusal.{Refusal}
 use Rattle.topo_core.specs.declared.calls.Refusal.TheVariants.{NoVertex, SameEnds, NoPosition, NoEdge, BadKind, Cut, Full, Memory, NoRoute}
 use Rattle.topo_core.specs.declared.routes.Inserted.{Inserted as Made}
-use Rattle.topo_forms.specs.declared.scripts.LimitRows.{LimitRows}
-use Rattle.topo_forms.specs.declared.reports.Report.{Report}
+use Rattle.topo_script.specs.declared.scripts.LimitRows.{LimitRows}
+use Rattle.topo_script.specs.declared.reports.Report.{Report}
 use Rattle.topo_script.specs.Pictures.{number_data, list_data, rows_data}
-use Rattle.topo_forms.specs.Prices.{without_ones}
+use Rattle.topo_script.specs.Prices.{without_ones}
 
 abbrev pub limits_data : LimitRows → Data
 limits_data limits = object

@@ -1,33 +1,50 @@
-//! The JSON forms of the project, pictures, reports and parts of graphs, as they are written.
+//! The JSON forms of the project: scripts, graphs and the lines of a session, which are read, and
+//! pictures and reports, which are read and written.
 //!
-//! The readers are those of `topo_forms`. `picture_text` and `report` write: compact, keys in the
-//! order of their bytes, nothing else. What is written is read back as what was written.
-//! `docs/FORMATS.md` has the forms in words.
+//! `read_script`, `read_rows`, `read_report`, `read_graph` and `read_line` give what the definitions of `specs/`
+//! give on the value of a text: the form, or its first fault with its path.
+//! `picture_text` and `report` write: compact, keys in the order of their bytes, nothing else. What is
+//! written is read back as what was written. `docs/FORMATS.md` has the forms in words.
 #![tactic(auto)]
 
-mod parts;
+mod calls;
+pub mod fault;
+pub mod form;
+pub mod graph_forms;
+pub mod graphs;
+mod lexing;
+pub mod lines;
+pub mod path;
+pub mod prices;
+mod reader;
+mod replies;
 pub mod report_text;
-mod rows;
+pub mod reports;
+pub mod row_forms;
+pub mod script_forms;
+pub mod scripts;
+pub mod sessions;
+mod slots;
+mod token_calls;
+mod token_graphs;
+mod token_lines;
+mod token_replies;
+mod token_reports;
+mod token_requests;
+mod token_rows;
+mod token_scripts;
+mod token_sessions;
+mod token_settings;
+mod tokens;
 pub mod written;
 
-ghost use Rattle.std.specs.Prelude.{◌≡◌, ◌≤◌, IfOk, Ok, length, string_bytes};
-ghost use Rattle.topo_script.specs.Ranges.{RowsFit};
-ghost use Rattle.topo_forms.specs.RowForms.{rows_of};
-ghost use Rattle.topo_script.specs.Pictures.{rows_text};
-
-use crate::written::Written;
+pub use fault::ScriptFault;
+pub use graph_forms::read_graph;
+pub use graphs::{GraphAsked, GraphStart};
+pub use lines::{Asked, Frame, IdText, Line, LineId, read_command, read_line};
 pub use report_text::report;
-use std::alloc::{AllocError, Global};
-use topo_core::rows::Rows;
-
-/// The text of a picture's rows, on one line and without a line feed.
-pub fn picture_text(alloc: Global, rows: &Rows) -> Result<String, AllocError>
-    ensures text { IfOk result (λ text. string_bytes text ≡ rows_text rows.now) }
-    ensures reads_back { IfOk result
-        (λ text. RowsFit rows.now → length (string_bytes text) ≤ 268435456
-        → rows_of (string_bytes text) ≡ Ok rows.now) }
-{
-    let mut text = String::new(alloc);
-    rows.write(&mut text)?;
-    Ok(text)
-}
+pub use reports::Report;
+pub use row_forms::{picture_text, read_rows};
+pub use script_forms::{read_report, read_script};
+pub use scripts::{LimitRows, Script};
+pub use sessions::{Opening, Request};

@@ -7,9 +7,9 @@ ghost use Rattle.topo_core.specs.declared.calls.Call.TheVariants.{Grow, Insert, 
 ghost use Rattle.topo_core.specs.declared.calls.Reply.TheVariants.{Grown, Deleted, Refused};
 ghost use Rattle.topo_core.specs.declared.calls.Refusal.TheVariants.{Cut};
 ghost use Rattle.topo_script.specs.Pictures.{number_data};
-ghost use Rattle.topo_forms.specs.Prices.{without_ones};
+ghost use Rattle.topo_script.specs.Prices.{without_ones};
 ghost use Rattle.topo_script.specs.Ranges.{ReportFits};
-ghost use Rattle.topo_forms.specs.Scripts.{report_of};
+ghost use Rattle.topo_script.specs.Scripts.{report_of};
 ghost use Rattle.topo_script.specs.ReportTexts.{limits_data, price_data, prices_data, has_null};
 ghost use Rattle.topo_script.specs.ReportTexts.{version_of, way_data, dart_data, call_data};
 ghost use Rattle.topo_script.specs.ReportTexts.{refusal_data, inserted_data, reply_data};
@@ -24,8 +24,8 @@ use topo_core::ids::{EdgeId, VertexId};
 use topo_core::listed::Listed;
 use topo_core::routes::Inserted;
 use topo_core::rows::Rows;
-use topo_forms::prices::kept_len;
-use topo_forms::{LimitRows, Report};
+use crate::prices::kept_len;
+use crate::{LimitRows, Report};
 
 impl Written for EdgeId {
     ghost value = { λ n. number (unsigned n) };

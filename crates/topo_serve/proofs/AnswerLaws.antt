@@ -1,6 +1,6 @@
 -- Laws of answers.
 use Rattle.std.proofs.Common.{ℕ, List, [], ◌∷◌, ◌++◌, Option, false, refl, subst, sym}
-use Rattle.topo_forms.specs.Sessions.{line_of}
+use Rattle.topo_script.specs.Sessions.{line_of}
 use Rattle.topo_session.specs.Answers.{AnswersLine}
 use Rattle.topo_session.specs.Standings.{HasLegalHistory, Standing}
 use Rattle.topo_session.proofs.Interface.{line_legal}

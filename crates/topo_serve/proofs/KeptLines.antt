@@ -8,9 +8,9 @@ use Rattle.std.proofs.Common.{◌≡◌, ℕ, Bool, true, false, if◌then◌els
 use Rattle.std.proofs.Common.{length, ltb-true, suc, ◌<◌, inl, inr, refl, sym, ap, ◌∙◌, arith, lt-ltb}
 use Rattle.std.proofs.lemmas.Bool.Decides.{leb_tells}
 use Rattle.std.proofs.lemmas.List.{length-take, length-take-le, take_all}
-use Rattle.topo_forms.specs.declared.fault.ScriptFault.TheVariants.{NotJson, TooLong}
-use Rattle.topo_forms.specs.Reads.{and_then, json_of, value_of}
-use Rattle.topo_forms.specs.Sessions.{has_brace, line_limit, line_of}
+use Rattle.topo_script.specs.declared.fault.ScriptFault.TheVariants.{NotJson, TooLong}
+use Rattle.topo_script.specs.Reads.{and_then, json_of, value_of}
+use Rattle.topo_script.specs.Sessions.{has_brace, line_limit, line_of}
 
 pub value_long : (limit : ℕ) (bytes : List ℕ) → limit < length bytes → value_of limit bytes ≡ Err TooLong
 unfolding value_of and_then

@@ -3,21 +3,21 @@ use Rattle.std.proofs.Common.{◌≡◌, ℕ, Bool, true, false, List, Option, O
 use Rattle.std.specs.Prelude.{⊤, if◌then◌else◌}
 use Rattle.serde_json.specs.Data.{Data}
 use Rattle.topo_core.specs.declared.rows.Rows.{Rows}
-use Rattle.topo_forms.specs.declared.fault.ScriptFault.{ScriptFault}
-use Rattle.topo_forms.specs.declared.fault.ScriptFault.TheVariants.{Memory as NoMemory, NotJson, TooLong, BadShape, BadVersion, BadNumber}
-use Rattle.topo_forms.specs.declared.lines.Asked.{Asked as Asking}
-use Rattle.topo_forms.specs.declared.lines.Frame.TheVariants.{Opening, Bare}
-use Rattle.topo_forms.specs.declared.lines.Line.{Line}
-use Rattle.topo_forms.specs.declared.lines.LineId.{LineId}
-use Rattle.topo_forms.specs.declared.path.Key.TheVariants.{Call}
-use Rattle.topo_forms.specs.declared.scripts.LimitRows.{LimitRows}
-use Rattle.topo_forms.specs.declared.sessions.Opening.{Opening as Opened}
-use Rattle.topo_forms.specs.declared.sessions.Request.{Request}
-use Rattle.topo_forms.specs.declared.sessions.Request.TheVariants.{Open}
-use Rattle.topo_forms.specs.Paths.{whole}
-use Rattle.topo_forms.specs.Reads.{Read, ◌>>=◌, and_then, has_key, value_of}
-use Rattle.topo_forms.specs.Sessions.{bare_asked, envelope_asked, envelope_head, envelope_line, enveloped, is_opening, line_form, line_limit, line_of, line_or}
-use Rattle.topo_forms.specs.Sessions.{opened_form, opening_form, request_form}
+use Rattle.topo_script.specs.declared.fault.ScriptFault.{ScriptFault}
+use Rattle.topo_script.specs.declared.fault.ScriptFault.TheVariants.{Memory as NoMemory, NotJson, TooLong, BadShape, BadVersion, BadNumber}
+use Rattle.topo_script.specs.declared.lines.Asked.{Asked as Asking}
+use Rattle.topo_script.specs.declared.lines.Frame.TheVariants.{Opening, Bare}
+use Rattle.topo_script.specs.declared.lines.Line.{Line}
+use Rattle.topo_script.specs.declared.lines.LineId.{LineId}
+use Rattle.topo_script.specs.declared.path.Key.TheVariants.{Call}
+use Rattle.topo_script.specs.declared.scripts.LimitRows.{LimitRows}
+use Rattle.topo_script.specs.declared.sessions.Opening.{Opening as Opened}
+use Rattle.topo_script.specs.declared.sessions.Request.{Request}
+use Rattle.topo_script.specs.declared.sessions.Request.TheVariants.{Open}
+use Rattle.topo_script.specs.Paths.{whole}
+use Rattle.topo_script.specs.Reads.{Read, ◌>>=◌, and_then, has_key, value_of}
+use Rattle.topo_script.specs.Sessions.{bare_asked, envelope_asked, envelope_head, envelope_line, enveloped, is_opening, line_form, line_limit, line_of, line_or}
+use Rattle.topo_script.specs.Sessions.{opened_form, opening_form, request_form}
 use Rattle.topo_settings.specs.declared.fault.RunFault.{RunFault}
 use Rattle.topo_settings.specs.declared.fault.RunFault.TheVariants.{Memory, Script, BadLimits, Price, Load}
 use Rattle.topo_settings.specs.Settings.{IsUnsound}

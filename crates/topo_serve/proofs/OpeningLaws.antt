@@ -3,10 +3,10 @@ use Rattle.std.proofs.Common.{◌≡◌, ℕ, Bool, true, false, List, [], ◌�
 use Rattle.std.proofs.Common.{inl, inr, refl, sym, ap, subst, ◌∙◌, arith, append_assoc, append-nil, length-append, ltb-true}
 use Rattle.std.specs.Io.KnownBytes.{Appends, Keeps}
 use Rattle.std.proofs.KnownBytes.{Appends-trans, Consumes-trans}
-use Rattle.topo_forms.specs.declared.fault.ScriptFault.TheVariants.{NotJson, TooLong}
-use Rattle.topo_forms.specs.declared.lines.Frame.TheVariants.{Opening}
-use Rattle.topo_forms.specs.declared.lines.Line.{Line}
-use Rattle.topo_forms.specs.Sessions.{line_limit, line_of}
+use Rattle.topo_script.specs.declared.fault.ScriptFault.TheVariants.{NotJson, TooLong}
+use Rattle.topo_script.specs.declared.lines.Frame.TheVariants.{Opening}
+use Rattle.topo_script.specs.declared.lines.Line.{Line}
+use Rattle.topo_script.specs.Sessions.{line_limit, line_of}
 use Rattle.topo_settings.specs.declared.fault.RunFault.{RunFault}
 use Rattle.topo_settings.specs.declared.fault.RunFault.TheVariants.{Memory, Script, BadLimits, Price, Load, Graph, NoSeat, Mismatch}
 use Rattle.topo_settings.specs.declared.fault.RunFault.TheVariants.{WrongReply, WrongPicture, ReadFault, WriteFault}

@@ -1,7 +1,7 @@
 -- What the turns of a session read and write: in each a line is read and answered.
 use Rattle.std.specs.Prelude.{◌≡◌, ℕ, Bool, true, false, List, [], ◌∷◌, ◌++◌, Option}
 use Rattle.std.specs.Io.KnownBytes.{Appends, Consumes, IsAtEnd, Keeps}
-use Rattle.topo_forms.specs.Sessions.{line_of}
+use Rattle.topo_script.specs.Sessions.{line_of}
 use Rattle.topo_settings.specs.declared.fault.RunFault.{RunFault}
 use Rattle.topo_settings.specs.declared.fault.RunFault.TheVariants.{Memory, ReadFault, WriteFault}
 use Rattle.topo_settings.specs.Writing.{AppendsPart}

@@ -13,8 +13,8 @@ ghost use Rattle.topo_serve.specs.Turns.{Stays, TurnFailsBy, WriteFailsBy, strea
 use crate::ahead::{Ahead, Part};
 use std::alloc::Global;
 use std::io::{Read, Write};
-use topo_forms::ScriptFault;
-use topo_forms::row_forms::MAX_PICTURE_BYTES;
+use topo_script::ScriptFault;
+use topo_script::row_forms::MAX_PICTURE_BYTES;
 use topo_price::table::PriceTable;
 use topo_session::{Session, answer, answer_first};
 use topo_settings::writing::write_text;

@@ -3,13 +3,13 @@ use Rattle.std.proofs.Common.{◌≡◌, ℕ, List, Option, None, Some, Ok, Err,
 use Rattle.topo_core.specs.declared.calls.Call.{Call}
 use Rattle.topo_core.specs.declared.calls.Reply.{Reply}
 use Rattle.topo_core.proofs.Interface.{replays_on}
-use Rattle.topo_forms.specs.declared.lines.Asked.{Asked as Asking}
-use Rattle.topo_forms.specs.declared.lines.Line.{Line}
-use Rattle.topo_forms.specs.declared.sessions.Opening.{Opening}
-use Rattle.topo_forms.specs.declared.sessions.Request.{Request}
-use Rattle.topo_forms.specs.declared.reports.Report.{Report}
-use Rattle.topo_forms.specs.declared.sessions.Request.TheVariants.{Carry, Forget, Open, Renumber, Reopen, Undo}
-use Rattle.topo_forms.specs.Reads.{Read}
+use Rattle.topo_script.specs.declared.lines.Asked.{Asked as Asking}
+use Rattle.topo_script.specs.declared.lines.Line.{Line}
+use Rattle.topo_script.specs.declared.sessions.Opening.{Opening}
+use Rattle.topo_script.specs.declared.sessions.Request.{Request}
+use Rattle.topo_script.specs.declared.reports.Report.{Report}
+use Rattle.topo_script.specs.declared.sessions.Request.TheVariants.{Carry, Forget, Open, Renumber, Reopen, Undo}
+use Rattle.topo_script.specs.Reads.{Read}
 use Rattle.topo_settings.specs.Settings.{priced}
 use Rattle.topo_session.specs.Answers.{Answers, AnswersAsked, AnswersClosed, AnswersLine, Responds}
 use Rattle.topo_session.specs.declared.session.Undone.{Undone}

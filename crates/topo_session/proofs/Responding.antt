@@ -1,15 +1,15 @@
 -- What is told of a line, by what was asked of its session.
 use Rattle.std.proofs.Common.{◌≡◌, ◌≢◌, ◌⊎◌, ℕ, List, Option, Some, Result, Ok, Err, IfOk, IfErr, OnErr, inl, inr, refl, ap, subst, sym, ◌∙◌}
 use Rattle.std.specs.Prelude.{MatchResult}
-use Rattle.topo_forms.specs.declared.fault.ScriptFault.TheVariants.{Memory as NoMemory}
-use Rattle.topo_forms.specs.declared.lines.Asked.{Asked as Asking}
-use Rattle.topo_forms.specs.declared.lines.Frame.{Frame}
-use Rattle.topo_forms.specs.declared.lines.Line.{Line}
+use Rattle.topo_script.specs.declared.fault.ScriptFault.TheVariants.{Memory as NoMemory}
+use Rattle.topo_script.specs.declared.lines.Asked.{Asked as Asking}
+use Rattle.topo_script.specs.declared.lines.Frame.{Frame}
+use Rattle.topo_script.specs.declared.lines.Line.{Line}
 use Rattle.topo_core.specs.declared.calls.Command.{Command}
-use Rattle.topo_forms.specs.declared.sessions.Request.{Request}
-use Rattle.topo_forms.specs.declared.sessions.Request.TheVariants.{Carry}
-use Rattle.topo_forms.specs.Reads.{Read}
-use Rattle.topo_forms.specs.Sessions.{ReadsLine, command_line}
+use Rattle.topo_script.specs.declared.sessions.Request.{Request}
+use Rattle.topo_script.specs.declared.sessions.Request.TheVariants.{Carry}
+use Rattle.topo_script.specs.Reads.{Read}
+use Rattle.topo_script.specs.Sessions.{ReadsLine, command_line}
 use Rattle.topo_settings.specs.declared.fault.RunFault.{RunFault}
 use Rattle.topo_settings.specs.declared.fault.RunFault.TheVariants.{Memory}
 use Rattle.topo_session.specs.Answers.{Answers, CarriesOut, AnswersLine, IsFaultOfAsked, Leaves, LeavesBy, LosesLine, RespondsTo}

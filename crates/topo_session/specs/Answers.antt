@@ -7,17 +7,17 @@ use Rattle.topo_core.specs.declared.darts.Dart.{Dart}
 use Rattle.topo_core.specs.declared.rows.Rows.{Rows}
 use Rattle.topo_core.specs.History.{call_of}
 use Rattle.topo_core.specs.Picture.{edge_row}
-use Rattle.topo_forms.specs.declared.fault.ScriptFault.TheVariants.{Memory as NoMemory}
-use Rattle.topo_forms.specs.declared.graphs.GraphAsked.{GraphAsked}
-use Rattle.topo_forms.specs.declared.lines.Asked.{Asked as Asking}
-use Rattle.topo_forms.specs.declared.lines.Line.{Line}
-use Rattle.topo_forms.specs.declared.lines.Frame.TheVariants.{Opening}
-use Rattle.topo_forms.specs.declared.reports.Report.{Report}
-use Rattle.topo_forms.specs.declared.sessions.Opening.{Opening as Opened}
-use Rattle.topo_forms.specs.declared.sessions.Request.{Request}
-use Rattle.topo_forms.specs.declared.sessions.Request.TheVariants.{Carry, Counts as AskCounts, Picture as AskPicture, Report as AskReport, About}
-use Rattle.topo_forms.specs.declared.sessions.Request.TheVariants.{Route, Edge, Vertex, Face, Open, Undo, Forget, Renumber, Reopen, Planarize}
-use Rattle.topo_forms.specs.Reads.{Read}
+use Rattle.topo_script.specs.declared.fault.ScriptFault.TheVariants.{Memory as NoMemory}
+use Rattle.topo_script.specs.declared.graphs.GraphAsked.{GraphAsked}
+use Rattle.topo_script.specs.declared.lines.Asked.{Asked as Asking}
+use Rattle.topo_script.specs.declared.lines.Line.{Line}
+use Rattle.topo_script.specs.declared.lines.Frame.TheVariants.{Opening}
+use Rattle.topo_script.specs.declared.reports.Report.{Report}
+use Rattle.topo_script.specs.declared.sessions.Opening.{Opening as Opened}
+use Rattle.topo_script.specs.declared.sessions.Request.{Request}
+use Rattle.topo_script.specs.declared.sessions.Request.TheVariants.{Carry, Counts as AskCounts, Picture as AskPicture, Report as AskReport, About}
+use Rattle.topo_script.specs.declared.sessions.Request.TheVariants.{Route, Edge, Vertex, Face, Open, Undo, Forget, Renumber, Reopen, Planarize}
+use Rattle.topo_script.specs.Reads.{Read}
 use Rattle.topo_picture.specs.declared.counts.Counts.{Counts}
 use Rattle.topo_planarize.specs.Answers.{HasNoAnswer, IsAnswerTo, answer_data}
 use Rattle.topo_planarize.specs.declared.answers.Answer.{Answer}

@@ -9,9 +9,9 @@ use Rattle.topo_core.specs.declared.limits.Limits.{Limits}
 use Rattle.topo_core.specs.declared.rows.Rows.{Rows}
 use Rattle.topo_core.specs.History.{Replays}
 use Rattle.topo_core.specs.Steps.{Step}
-use Rattle.topo_forms.specs.declared.reports.Report.{Report}
-use Rattle.topo_forms.specs.declared.scripts.LimitRows.{LimitRows}
-use Rattle.topo_forms.specs.declared.sessions.Opening.{Opening}
+use Rattle.topo_script.specs.declared.reports.Report.{Report}
+use Rattle.topo_script.specs.declared.scripts.LimitRows.{LimitRows}
+use Rattle.topo_script.specs.declared.sessions.Opening.{Opening}
 use Rattle.topo_check.specs.Replays.{IsSoundReport, LeadsTo}
 use Rattle.topo_settings.specs.Settings.{IsSound, priced, start_of}
 use Rattle.topo_renumbering.specs.declared.Renumbered.{Renumbered}

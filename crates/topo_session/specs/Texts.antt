@@ -10,13 +10,13 @@ use Rattle.topo_core.specs.declared.routes.Inserted.{Inserted as Made}
 use Rattle.topo_faults.specs.declared.Fault.{Fault}
 use Rattle.topo_faults.specs.declared.Fault.TheVariants as known
 use Rattle.topo_faults.specs.Faults.{name, number}
-use Rattle.topo_forms.specs.declared.fault.ScriptFault.TheVariants.{BadShape, BadNumber}
-use Rattle.topo_forms.specs.declared.path.Path.{Path}
-use Rattle.topo_forms.specs.declared.lines.Frame.{Frame}
-use Rattle.topo_forms.specs.declared.lines.Frame.TheVariants.{Opening, Bare, Envelope}
-use Rattle.topo_forms.specs.declared.lines.LineId.{LineId}
-use Rattle.topo_forms.specs.declared.lines.LineId.TheVariants.{Text, Number}
-use Rattle.topo_forms.specs.Paths.{path_text}
+use Rattle.topo_script.specs.declared.fault.ScriptFault.TheVariants.{BadShape, BadNumber}
+use Rattle.topo_script.specs.declared.path.Path.{Path}
+use Rattle.topo_script.specs.declared.lines.Frame.{Frame}
+use Rattle.topo_script.specs.declared.lines.Frame.TheVariants.{Opening, Bare, Envelope}
+use Rattle.topo_script.specs.declared.lines.LineId.{LineId}
+use Rattle.topo_script.specs.declared.lines.LineId.TheVariants.{Text, Number}
+use Rattle.topo_script.specs.Paths.{path_text}
 use Rattle.topo_graph.specs.declared.GraphFault.TheVariants.{Loop, NoEnd, NotPlanarized}
 use Rattle.topo_picture.specs.declared.counts.Counts.{Counts}
 use Rattle.topo_price.specs.declared.table.PriceFault.TheVariants.{BadPrice}

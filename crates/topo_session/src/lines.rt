@@ -4,7 +4,7 @@ ghost use Rattle.std.specs.Prelude.{◌≡◌, ◌≢◌, ◌⊎◌, ℕ, List, 
 ghost use Rattle.std.specs.Prelude.{Err, None, Ok, false, string_bytes, true};
 ghost use Rattle.serde_json.specs.Written.{compact_text};
 ghost use Rattle.topo_core.specs.declared.calls.Reply.TheVariants.{Refused};
-ghost use Rattle.topo_forms.specs.Sessions.{command_line, line_of};
+ghost use Rattle.topo_script.specs.Sessions.{command_line, line_of};
 ghost use Rattle.topo_script.specs.Pictures.{rows_text};
 ghost use Rattle.topo_script.specs.ReportTexts.{reply_data, report_text};
 ghost use Rattle.topo_session.specs.Answers.{Answers, AnswersClosed, AnswersFirst, AnswersLine};
@@ -15,7 +15,7 @@ ghost use Rattle.topo_session.specs.Answers.{TellsPictures, TellsRenumbered, Tel
 ghost use Rattle.topo_session.specs.Answers.{edge_text, vertex_text};
 ghost use Rattle.topo_check.specs.Replays.{IsUntrue};
 ghost use Rattle.topo_planarize.specs.Answers.{HasNoAnswer};
-ghost use Rattle.topo_forms.specs.declared.sessions.Request.TheVariants.{Renumber};
+ghost use Rattle.topo_script.specs.declared.sessions.Request.TheVariants.{Renumber};
 ghost use Rattle.topo_session.specs.Standings.{begins_with, report_so_far};
 ghost use Rattle.topo_session.specs.Texts.{fault_text};
 ghost use Rattle.topo_settings.specs.declared.fault.RunFault.TheVariants.{Memory};
@@ -31,7 +31,7 @@ use std::mem;
 use topo_core::calls::{Call, Command, Refusal, Reply};
 use topo_core::darts::Dart;
 use topo_faults::Fault;
-use topo_forms::{
+use topo_script::{
     Asked, Frame, GraphAsked, Line, Opening, Report, Request, ScriptFault, read_command, read_line,
 };
 use topo_planarize::answer_graph;

@@ -30,7 +30,7 @@ use topo_check::replay_report;
 use topo_core::calls::{Call, Entry, Reply};
 use topo_core::darts::Dart;
 use topo_core::listed::Listed;
-use topo_forms::{LimitRows, Opening, Report};
+use topo_script::{LimitRows, Opening, Report};
 use topo_picture::{Counts, Picture};
 use topo_price::table::PriceTable;
 use topo_price::tariff::{PriceFn, Tariff};

@@ -1,7 +1,7 @@
 -- What was read and what was written, in other words for the same.
 use Rattle.std.proofs.Common.{◌≡◌, ℕ, List, Ok, Option, subst}
 use Rattle.std.specs.Io.KnownBytes.{Appends}
-use Rattle.topo_forms.specs.Reads.{Gives, Read}
+use Rattle.topo_script.specs.Reads.{Gives, Read}
 use Rattle.topo_settings.specs.Writing.{AppendsPart}
 
 -- what was read without a fault is what is due

@@ -2,7 +2,7 @@
 use Rattle.std.proofs.Common.{◌≡◌, ℕ, List, Option, subst}
 use Rattle.topo_core.specs.declared.rows.Rows.{Rows}
 use Rattle.topo_core.specs.declared.limits.Limits.{Limits}
-use Rattle.topo_forms.specs.declared.scripts.LimitRows.{LimitRows}
+use Rattle.topo_script.specs.declared.scripts.LimitRows.{LimitRows}
 use Rattle.topo_settings.specs.Settings.{IsSound}
 
 pub sound_so : (numbers : LimitRows) (ps qs : List (Option ℕ)) (p q : Option Rows) (limits : Limits) → ps ≡ qs → p ≡ q → IsSound numbers ps p limits

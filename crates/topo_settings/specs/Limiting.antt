@@ -1,7 +1,7 @@
 -- Limits of a command.
 use Rattle.std.specs.Prelude.{◌≡◌}
 use Rattle.topo_core.specs.declared.limits.Limits.{Limits}
-use Rattle.topo_forms.specs.declared.scripts.LimitRows.{LimitRows}
+use Rattle.topo_script.specs.declared.scripts.LimitRows.{LimitRows}
 
 -- the limits have the numbers that were handed in
 pub record AreLimits (numbers : LimitRows) (limits : Limits) : Type 0 where

@@ -1,8 +1,8 @@
 -- What is read of a reader.
 use Rattle.std.specs.Prelude.{◌≡◌, ◌⊎◌, ◌≤◌, ◌+◌, ◌*◌, ◌-◌, ◌^◌, ℕ, Bool, true, List, ◌++◌, length, min, Option, Ok, ⊤}
 use Rattle.std.specs.Io.KnownBytes.{Consumes, IsAtEnd}
-use Rattle.topo_forms.specs.Reads.{Read, IsFirstFault}
-use Rattle.topo_forms.specs.declared.fault.ScriptFault.{ScriptFault}
+use Rattle.topo_script.specs.Reads.{Read, IsFirstFault}
+use Rattle.topo_script.specs.declared.fault.ScriptFault.{ScriptFault}
 use Rattle.topo_settings.specs.declared.fault.RunFault.{RunFault}
 use Rattle.topo_settings.specs.declared.fault.RunFault.TheVariants.{Memory, ReadFault}
 

@@ -13,7 +13,7 @@ use Rattle.topo_rows.specs.Shown.{IsPicture}
 use Rattle.topo_price.specs.declared.table.PriceFault.{PriceFault}
 use Rattle.topo_price.specs.declared.table.PriceFault.TheVariants.{BadPrice}
 use Rattle.topo_price.specs.Prices.{Asking, first_bad}
-use Rattle.topo_forms.specs.declared.scripts.LimitRows.{LimitRows}
+use Rattle.topo_script.specs.declared.scripts.LimitRows.{LimitRows}
 use Rattle.topo_settings.specs.declared.fault.RunFault.{RunFault}
 use Rattle.topo_settings.specs.declared.fault.RunFault.TheVariants.{Memory, Script, BadLimits, Price, Load, Graph, NoSeat, Mismatch}
 use Rattle.topo_settings.specs.declared.fault.RunFault.TheVariants.{WrongReply, WrongPicture, ReadFault, WriteFault}

@@ -3,7 +3,7 @@ use Rattle.std.specs.Prelude.{ℕ, List, [], ◌∷◌, ◌++◌, ◌==◌, code
 use Rattle.topo_faults.specs.declared.Fault.{Fault}
 use Rattle.topo_faults.specs.declared.Fault.TheVariants as known
 use Rattle.topo_faults.specs.Faults.{number, told, told_with}
-use Rattle.topo_forms.specs.FaultTexts.{fault_of as script_fault, fault_text as script_text}
+use Rattle.topo_script.specs.FaultTexts.{fault_of as script_fault, fault_text as script_text}
 use Rattle.topo_rows.specs.FaultTexts.{fault_of as load_fault}
 use Rattle.topo_price.specs.FaultTexts.{fault_text as price_text}
 use Rattle.topo_graph.specs.FaultTexts.{fault_of as graph_fault, fault_text as graph_text}

@@ -6,7 +6,7 @@ ghost use Rattle.topo_settings.specs.Statuses.{fault_of, fault_text, status_of};
 use std::fmt;
 use thiserror::Error;
 use topo_faults::Fault;
-use topo_forms::ScriptFault;
+use topo_script::ScriptFault;
 use topo_graph::GraphFault;
 use topo_price::table::PriceFault;
 use topo_rows::LoadFault;

@@ -2,7 +2,7 @@
 //! with.
 
 ghost use Rattle.std.specs.Prelude.{◌≡◌, IfOk, IfErr, None, option_copied};
-ghost use Rattle.topo_forms.specs.Scripts.{greatest_limits};
+ghost use Rattle.topo_script.specs.Scripts.{greatest_limits};
 ghost use Rattle.topo_settings.specs.Limiting.{AreLimits};
 ghost use Rattle.topo_settings.specs.Settings.{IsBadPrice, IsSound, IsUnsound};
 ghost use Rattle.topo_settings.specs.Settings.{price_of_kind, price_table, start_of};
@@ -12,7 +12,7 @@ use crate::fault::RunFault;
 use std::alloc::Global;
 use topo_core::limits::Limits;
 use topo_core::rows::{KINDS, Rows};
-use topo_forms::LimitRows;
+use topo_script::LimitRows;
 use topo_picture::Picture;
 use topo_price::table::{PriceFault, PriceTable};
 use topo_rows::LoadFault;

@@ -12,7 +12,7 @@ use topo_core::calls::{Call, Entry, Refusal, Reply};
 use topo_core::limits::Limits;
 use topo_core::listed::Listed;
 use topo_core::rows::Rows;
-use topo_forms::{LimitRows, Report};
+use topo_script::{LimitRows, Report};
 use topo_picture::Picture;
 use topo_price::tariff::PriceFn;
 use topo_script::report;

@@ -3,8 +3,8 @@
 use std::alloc::{AllocError, Global};
 use std::process::Abort;
 use std::test::Fail;
-use topo_forms::lines::{MAX_ID_BYTES, MAX_LINE_BYTES};
-use topo_forms::{Asked, Frame, Line, LineId, Request, ScriptFault, read_command, read_line};
+use topo_script::lines::{MAX_ID_BYTES, MAX_LINE_BYTES};
+use topo_script::{Asked, Frame, Line, LineId, Request, ScriptFault, read_command, read_line};
 
 /// How a line asks: its id stands behind the word.
 fn frame_text(alloc: Global, frame: &Frame) -> Result<String, AllocError> {

@@ -2,7 +2,7 @@
 
 use std::alloc::Global;
 use std::test::Fail;
-use topo_forms::{read_report, read_rows};
+use topo_script::{read_report, read_rows};
 use topo_script::{picture_text, report};
 
 /// The bipyramid with an edge from apex to apex, as it is written.

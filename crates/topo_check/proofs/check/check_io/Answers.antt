@@ -1,7 +1,7 @@
 use Rattle.std.proofs.Common.{List, rules, subst, ℕ, IfErr}
 use Rattle.std.proofs.KnownBytes.{Keeps-refl}
-use Rattle.topo_forms.specs.Reads.{Gives}
-use Rattle.topo_forms.specs.RowForms.{rows_of}
+use Rattle.topo_script.specs.Reads.{Gives}
+use Rattle.topo_script.specs.RowForms.{rows_of}
 use Rattle.topo_settings.proofs.Interface.{err_by, err_so, ok_by}
 use Rattle.topo_check.specs.Checks.{IsUnlawful}
 use Rattle.topo_check.proofs.Telling.{check_fails, check_unwritten, checked}

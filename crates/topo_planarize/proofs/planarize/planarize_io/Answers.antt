@@ -1,7 +1,7 @@
 use Rattle.std.proofs.Common.{List, rules, subst, ℕ, IfErr}
 use Rattle.std.proofs.KnownBytes.{Keeps-refl}
-use Rattle.topo_forms.specs.Reads.{Gives}
-use Rattle.topo_forms.specs.Graphs.{graph_of}
+use Rattle.topo_script.specs.Reads.{Gives}
+use Rattle.topo_script.specs.Graphs.{graph_of}
 use Rattle.topo_settings.proofs.Interface.{err_by, err_so, ok_by}
 use Rattle.topo_planarize.specs.Planarizing.{IsUnplanarized}
 use Rattle.topo_planarize.proofs.Telling.{planarize_fails, planarize_unwritten, planarized}

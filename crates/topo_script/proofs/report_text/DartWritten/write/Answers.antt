@@ -1,6 +1,6 @@
 use Rattle.std.proofs.Common.{[], ◌∷◌, refl}
 use Rattle.serde_json.proofs.OnLiterals.{serde_json_on_literals}
-use Rattle.topo_script.proofs.Members.{members}
+use Rattle.topo_script.proofs.WrittenMembers.{members}
 use Rattle.topo_script.proofs.report_text.DartWritten.write.Goals as goal
 
 pub returns : goal.returns

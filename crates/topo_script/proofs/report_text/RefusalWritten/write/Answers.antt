@@ -4,7 +4,7 @@ use Rattle.serde_json.specs.Written.{compact_text}
 use Rattle.serde_json.proofs.OnLiterals.{serde_json_on_literals}
 use Rattle.topo_core.specs.declared.calls.Refusal.TheVariants.{NoVertex, SameEnds, NoPosition, NoEdge, BadKind, Full, Memory, NoRoute}
 use Rattle.topo_script.specs.ReportTexts.{refusal_data}
-use Rattle.topo_script.proofs.Members.{written}
+use Rattle.topo_script.proofs.WrittenMembers.{written}
 use Rattle.topo_script.proofs.report_text.RefusalWritten.write.Goals as goal
 
 pub returns-in-NoVertex : goal.returns-in-NoVertex

@@ -1,7 +1,0 @@
-use Rattle.std.proofs.Common.{◌≡◌}
-use Rattle.serde_json.specs.View.{members_view}
-use Rattle.topo_forms.specs.Reads.{all_known}
-use Rattle.topo_forms.proofs.form.are_known.Given as goal
-
-abbrev pub invariant-loop-name : goal.invariant-loop-name
-invariant-loop-name l = all_known l.required l.optional (members_view l.name-iterator) ≡ all_known l.required l.optional (members_view l.initial.name-iterator)

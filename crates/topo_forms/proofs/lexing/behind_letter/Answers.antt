@@ -1,6 +1,0 @@
-use Rattle.std.proofs.Common.{arith, rules}
-use Rattle.topo_forms.proofs.Letters.{plain_at}
-use Rattle.topo_forms.proofs.lexing.behind_letter.Goals as goal
-
-pub returns : goal.returns
-returns c = plain_at c.args.bytes.now (search rules) (search rules) (search rules) (search rules)

@@ -1,8 +1,0 @@
-use Rattle.std.proofs.Common.{arith}
-use Rattle.topo_forms.specs.Paths.{whole}
-use Rattle.topo_forms.proofs.LineLaws.{request_bytes}
-use Rattle.topo_forms.proofs.lines.read_later.Goals as goal
-
-pub returns-in-Some : goal.returns-in-Some
-returns-in-Some c = request_bytes c.args.bytes.now c.in-Some.request c.bare_line.result c.line_limit.ensures
-    (c.in-Some.ensures (omega arith) whole) c.bare_line.ensures

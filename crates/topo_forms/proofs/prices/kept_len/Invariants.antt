@@ -1,6 +1,0 @@
-use Rattle.std.proofs.Common.{◌≡◌, ◌≤◌, take}
-use Rattle.topo_forms.specs.Prices.{without_ones}
-use Rattle.topo_forms.proofs.prices.kept_len.Given as goal
-
-abbrev pub invariant-loop-i : goal.invariant-loop-i
-invariant-loop-i l = (l.kept ≤ l.i) × (take l.kept l.prices ≡ without_ones (take l.i l.prices))

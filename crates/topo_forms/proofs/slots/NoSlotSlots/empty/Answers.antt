@@ -1,6 +1,0 @@
-use Rattle.std.proofs.Common.{[], refl}
-use Rattle.topo_forms.proofs.Objects.{none_there}
-use Rattle.topo_forms.proofs.slots.NoSlotSlots.empty.Goals as goal
-
-pub returns : goal.returns
-returns c = record { values = []; held = refl; none = none_there }

@@ -1,5 +1,0 @@
-use Rattle.topo_forms.proofs.TokenReplies.{dart_tokens}
-use Rattle.topo_forms.proofs.token_replies.DartFromTokens.from_tokens.Goals as goal
-
-pub returns : goal.returns
-returns c = dart_tokens c.in_ok-begin_array.ensures c.in_ok-edge.ensures c.in_ok-seg.ensures c.in_ok-way.ensures c.in_ok-end_array.ensures

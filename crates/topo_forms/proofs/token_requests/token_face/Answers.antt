@@ -1,5 +1,0 @@
-use Rattle.topo_forms.proofs.TokenRequests.{face_asked}
-use Rattle.topo_forms.proofs.token_requests.token_face.Goals as goal
-
-pub returns : goal.returns
-returns c = face_asked c.in_ok-edge.ensures c.in_ok-seg.ensures c.in_ok-way.ensures c.in_ok-end_array.ensures

@@ -1,5 +1,0 @@
-use Rattle.topo_forms.proofs.TokenCalls.{planned_tokens}
-use Rattle.topo_forms.proofs.token_scripts.token_planned.Goals as goal
-
-pub returns : goal.returns
-returns c = planned_tokens c.in_ok-u.ensures

@@ -1,0 +1,26 @@
+use Rattle.std.proofs.Common.{[], ◌∷◌, refl}
+use Rattle.serde_json.proofs.OnLiterals.{serde_json_on_literals}
+use Rattle.topo_script.proofs.WrittenMembers.{members}
+use Rattle.topo_script.proofs.row_forms.EdgeRowWritten.write.Goals as goal
+
+pub returns : goal.returns
+unfolding serde_json_on_literals
+returns c =
+    members c.push.result _ (_ ∷ _ ∷ _ ∷ _ ∷ _ ∷ []) _ _ _ (
+      _,
+      c.in_ok-write_after.ensures,
+      (
+        _,
+        c.in_ok-write_after-2.ensures,
+        (
+          _,
+          c.in_ok-write_after-3.ensures,
+          (
+            _,
+            c.in_ok-write_after-4.ensures,
+            (_, c.in_ok-write_after-5.ensures, refl),
+          ),
+        ),
+      ),
+    )
+    c.push.ensures.bytes

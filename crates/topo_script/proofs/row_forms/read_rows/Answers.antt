@@ -1,0 +1,12 @@
+use Rattle.std.proofs.Common.{arith}
+use Rattle.topo_script.specs.Paths.{whole}
+use Rattle.topo_script.specs.RowForms.{rows_of}
+use Rattle.topo_script.proofs.row_forms.read_rows.Goals as goal
+
+pub returns-in-Some : goal.returns-in-Some
+unfolding rows_of
+returns-in-Some c = c.in-Some.ensures (omega arith) whole
+
+pub returns-in-None : goal.returns-in-None
+unfolding rows_of
+returns-in-None c = c.read_value.ensures

@@ -1,0 +1,24 @@
+//! Openings of sessions, read from the tokens of a text.
+
+ghost use Rattle.topo_script.specs.Sessions.{opening_form};
+
+use crate::path::Key;
+use crate::reader::TokenReader;
+use crate::sessions::Opening;
+use crate::slots::{NoSlot, read_object};
+use crate::token_settings::{SettingsSlots, settings_due};
+use crate::tokens::FromTokens;
+use std::alloc::Global;
+
+impl FromTokens for Opening {
+    ghost form = { opening_form };
+
+    ghost nesting = { 5 };
+
+    fn from_tokens(alloc: Global, reader: &mut TokenReader<'_>) -> Option<Self> {
+        let keys = [Key::Limits, Key::Prices, Key::Start, Key::Version];
+        let slots: SettingsSlots<NoSlot> = read_object(alloc, &keys, reader)?;
+        let (opening, _slots) = settings_due(alloc, slots)?;
+        Some(opening)
+    }
+}
