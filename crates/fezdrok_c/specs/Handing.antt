@@ -1,8 +1,8 @@
 -- What a call from C is answered: a status, a text in the caller's buffer, and its length.
 use Rattle.std.specs.Prelude.{◌≡◌, ◌≤◌, ◌<◌, ◌⊎◌, ◌++◌, ℕ, List, drop, length}
-use Rattle.topo_settings.specs.declared.fault.RunFault.{RunFault}
-use Rattle.topo_settings.specs.declared.fault.RunFault.TheVariants.{Memory}
-use Rattle.topo_settings.specs.Statuses.{fault_line, status_of}
+use Rattle.topo_io.specs.declared.fault.RunFault.{RunFault}
+use Rattle.topo_io.specs.declared.fault.RunFault.TheVariants.{Memory}
+use Rattle.topo_io.specs.Statuses.{fault_line, status_of}
 
 -- The size is that of the text. Where the text fits, it is at the front of the buffer, and the result is the status; else
 -- the buffer is as it was, and the result is 4.

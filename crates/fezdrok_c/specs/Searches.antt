@@ -7,9 +7,9 @@ use Rattle.topo_script.specs.declared.graphs.GraphAsked.{GraphAsked}
 use Rattle.topo_planarize.specs.Answers.{HasNoAnswer, IsAnswerOf, IsOfSearch, Sought, StartsWell, answer_data, drawn}
 use Rattle.topo_planarize.specs.declared.answers.Answer.{Answer}
 use Rattle.topo_session.specs.Texts.{fault_text}
-use Rattle.topo_settings.specs.declared.fault.RunFault.{RunFault}
-use Rattle.topo_settings.specs.declared.fault.RunFault.TheVariants.{Memory, Script, Price, Graph}
-use Rattle.topo_settings.specs.Settings.{price_table}
+use Rattle.topo_io.specs.declared.fault.RunFault.{RunFault}
+use Rattle.topo_io.specs.declared.fault.RunFault.TheVariants.{Memory, Script, Price, Graph}
+use Rattle.topo_io.specs.Settings.{price_table}
 use Rattle.fezdrok_c.specs.declared.handle.Text.{Text}
 use Rattle.fezdrok_c.specs.declared.searching.SearchRequest.{SearchRequest}
 use Rattle.fezdrok_c.specs.declared.searching.SearchRequest.TheVariants.{Step, Hurry, End, Pictures}

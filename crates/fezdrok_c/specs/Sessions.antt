@@ -7,8 +7,8 @@ use Rattle.topo_script.specs.Sessions.{line_of}
 use Rattle.topo_session.specs.Answers.{AnswersFirst, AnswersLine, IsBadOpening, LosesLine}
 use Rattle.topo_session.specs.Standings.{Standing}
 use Rattle.topo_session.specs.Texts.{fault_text}
-use Rattle.topo_settings.specs.declared.fault.RunFault.{RunFault}
-use Rattle.topo_settings.specs.declared.fault.RunFault.TheVariants.{Memory}
+use Rattle.topo_io.specs.declared.fault.RunFault.{RunFault}
+use Rattle.topo_io.specs.declared.fault.RunFault.TheVariants.{Memory}
 use Rattle.fezdrok_c.specs.declared.handle.Handle.{Handle}
 use Rattle.fezdrok_c.specs.declared.handle.Text.{Text}
 

@@ -4,7 +4,7 @@ ghost use Rattle.std.specs.Prelude.{◌⊎◌, IfErr, IfOk, string_bytes};
 ghost use Rattle.fezdrok_c.specs.Handing.{EndsBy, HandsOut};
 
 use std::alloc::Global;
-use topo_settings::RunFault;
+use topo_io::RunFault;
 
 /// The status of a judgement without a fault.
 const DONE: u8 = 0;

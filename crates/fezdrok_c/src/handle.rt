@@ -7,7 +7,7 @@ use std::alloc::Global;
 use topo_price::tariff::PriceFn;
 use topo_session::texts::fault_text;
 use topo_session::{Session, answer, answer_first};
-use topo_settings::{FromTable, RunFault};
+use topo_io::{FromTable, RunFault};
 
 /// The status of an answer, also of one that tells a fault of its line.
 pub(crate) const DONE: u8 = 0;

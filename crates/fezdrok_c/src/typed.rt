@@ -16,7 +16,7 @@ use topo_core::calls::{Call, Reply};
 use topo_faults::Fault;
 use topo_price::tariff::PriceFn;
 use topo_session::Session;
-use topo_settings::FromTable;
+use topo_io::FromTable;
 
 /// The greatest number of a caller.
 const LAST_CALLER: u32 = 15;

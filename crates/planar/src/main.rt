@@ -7,7 +7,7 @@ use std::rt::Env;
 use std::{env, io};
 use topo_cli::program::WordsFault;
 use topo_cli::{perform, refuse};
-use topo_settings::reading::CountedReader;
+use topo_io::reading::CountedReader;
 
 /// A failed write to standard error is passed over: there is nowhere left to tell it.
 fn main(rt: HostRuntime) -> ExitCode {

@@ -7,7 +7,7 @@ use Rattle.topo_core.specs.Routes.{Pricing}
 use Rattle.topo_book.specs.Faults.{IsFaultOf, IsIllegalAt}
 use Rattle.topo_book.specs.declared.replaying.ReplayFault.{ReplayFault}
 use Rattle.topo_book.specs.declared.replaying.ReplayFault.TheVariants.{WrongReply, Memory}
-use Rattle.topo_settings.proofs.Interface.{Allows, replays_so, step_so}
+use Rattle.topo_io.proofs.Interface.{Allows, replays_so, step_so}
 
 module _ (a b : Pricing) (allows : Allows a b) (back : Allows b a) where
   pub fault_so : (limits : Limits) (start : Rows) (entries : List Entry) (fault : ReplayFault) → IsFaultOf a limits start entries fault

@@ -2,12 +2,12 @@
 use Rattle.std.proofs.Common.{◌≡◌, ℕ, List, Ok, Option, subst}
 use Rattle.std.specs.Io.KnownBytes.{Appends, Keeps}
 use Rattle.topo_script.specs.Reads.{Gives, Read}
-use Rattle.topo_settings.specs.declared.fault.RunFault.{RunFault}
-use Rattle.topo_settings.specs.declared.fault.RunFault.TheVariants.{Memory, Script, BadLimits, Price, Load}
-use Rattle.topo_settings.specs.declared.fault.RunFault.TheVariants.{WrongReply, WrongPicture}
-use Rattle.topo_settings.specs.Reading.{IsRead, ReaderState}
-use Rattle.topo_settings.specs.Writing.{AppendsPart, IsOfWriting}
-use Rattle.topo_settings.proofs.Interface.{appends_so, by_writing, part_so}
+use Rattle.topo_io.specs.declared.fault.RunFault.{RunFault}
+use Rattle.topo_io.specs.declared.fault.RunFault.TheVariants.{Memory, Script, BadLimits, Price, Load}
+use Rattle.topo_io.specs.declared.fault.RunFault.TheVariants.{WrongReply, WrongPicture}
+use Rattle.topo_io.specs.Reading.{IsRead, ReaderState}
+use Rattle.topo_io.specs.Writing.{AppendsPart, IsOfWriting}
+use Rattle.topo_io.proofs.Interface.{appends_so, by_writing, part_so}
 use Rattle.topo_check.specs.Checks.{CheckFailsBy, IsChecked, IsLawfulInput, IsSizeOfBytes, IsUnlawful}
 use Rattle.topo_check.specs.Replays.{IsUntrueReport, ReplayFailsBy, ReportsUntruly, TellsUntrue}
 

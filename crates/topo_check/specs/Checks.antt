@@ -11,12 +11,12 @@ use Rattle.topo_picture.specs.Totals.{AreCountsOf}
 use Rattle.topo_script.specs.Reads.{IsFirstFault}
 use Rattle.topo_script.specs.RowForms.{rows_of}
 use Rattle.topo_script.specs.Scripts.{greatest_limits}
-use Rattle.topo_settings.specs.declared.fault.RunFault.{RunFault}
-use Rattle.topo_settings.specs.declared.fault.RunFault.TheVariants.{Memory, Script, BadLimits, Price, Load, Graph, NoSeat, Mismatch}
-use Rattle.topo_settings.specs.declared.fault.RunFault.TheVariants.{WrongReply, WrongPicture, ReadFault, WriteFault}
-use Rattle.topo_settings.specs.Limiting.{AreLimits}
-use Rattle.topo_settings.specs.Reading.{HasFailed, ReaderState, Spells, SpellsNone}
-use Rattle.topo_settings.specs.Writing.{AppendsPart}
+use Rattle.topo_io.specs.declared.fault.RunFault.{RunFault}
+use Rattle.topo_io.specs.declared.fault.RunFault.TheVariants.{Memory, Script, BadLimits, Price, Load, Graph, NoSeat, Mismatch}
+use Rattle.topo_io.specs.declared.fault.RunFault.TheVariants.{WrongReply, WrongPicture, ReadFault, WriteFault}
+use Rattle.topo_io.specs.Limiting.{AreLimits}
+use Rattle.topo_io.specs.Reading.{HasFailed, ReaderState, Spells, SpellsNone}
+use Rattle.topo_io.specs.Writing.{AppendsPart}
 
 -- the line that says how large a picture is, with its line feed
 abbrev pub size_line : Counts → List ℕ

@@ -8,12 +8,12 @@ use Rattle.topo_book.specs.Faults.{IsFirstWrong}
 use Rattle.topo_script.specs.Reads.{IsFirstFault}
 use Rattle.topo_script.specs.Scripts.{report_of}
 use Rattle.topo_script.specs.declared.reports.Report.{Report}
-use Rattle.topo_settings.specs.declared.fault.RunFault.{RunFault}
-use Rattle.topo_settings.specs.declared.fault.RunFault.TheVariants.{Memory, Script, BadLimits, Price, Load, Graph, NoSeat, Mismatch}
-use Rattle.topo_settings.specs.declared.fault.RunFault.TheVariants.{WrongReply, WrongPicture, ReadFault, WriteFault}
-use Rattle.topo_settings.specs.Reading.{HasFailed, ReaderState, Spells, SpellsNone}
-use Rattle.topo_settings.specs.Settings.{IsSound, IsUnsound, priced}
-use Rattle.topo_settings.specs.Writing.{AppendsPart}
+use Rattle.topo_io.specs.declared.fault.RunFault.{RunFault}
+use Rattle.topo_io.specs.declared.fault.RunFault.TheVariants.{Memory, Script, BadLimits, Price, Load, Graph, NoSeat, Mismatch}
+use Rattle.topo_io.specs.declared.fault.RunFault.TheVariants.{WrongReply, WrongPicture, ReadFault, WriteFault}
+use Rattle.topo_io.specs.Reading.{HasFailed, ReaderState, Spells, SpellsNone}
+use Rattle.topo_io.specs.Settings.{IsSound, IsUnsound, priced}
+use Rattle.topo_io.specs.Writing.{AppendsPart}
 
 -- ---- What is true of a report
 

@@ -9,8 +9,8 @@ ghost use Rattle.topo_check.specs.Replays.{LeadsTo, ReplayFailsBy, TellsCalls, T
 ghost use Rattle.topo_check.specs.Replays.{calls_line};
 ghost use Rattle.topo_script.specs.Reads.{Gives};
 ghost use Rattle.topo_script.specs.Scripts.{report_of};
-ghost use Rattle.topo_settings.specs.Reading.{most_calls};
-ghost use Rattle.topo_settings.specs.Settings.{AnswersPrices};
+ghost use Rattle.topo_io.specs.Reading.{most_calls};
+ghost use Rattle.topo_io.specs.Settings.{AnswersPrices};
 
 use std::alloc::{AllocError, Global};
 use std::io::{Read, Write};
@@ -20,10 +20,10 @@ use topo_script::{Report, ScriptFault, read_report};
 use topo_picture::Picture;
 use topo_price::table::PriceTable;
 use topo_price::tariff::{PriceFn, Tariff};
-use topo_settings::reading::{CountedReader, read_bytes};
-use topo_settings::settings::validate;
-use topo_settings::writing::write_text;
-use topo_settings::{FromTable, RunFault};
+use topo_io::reading::{CountedReader, read_bytes};
+use topo_io::settings::validate;
+use topo_io::writing::write_text;
+use topo_io::{FromTable, RunFault};
 
 /// Reads a report, carries out its history again from its start, under its limits and at its
 /// prices, and writes how many calls it has, where each reply is the one due and the picture at the

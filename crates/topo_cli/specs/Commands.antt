@@ -1,8 +1,8 @@
 -- What each command of the program does.
 use Rattle.std.specs.Prelude.{ℕ, List, Option}
 use Rattle.std.specs.Io.KnownBytes.{Keeps}
-use Rattle.topo_settings.specs.declared.fault.RunFault.{RunFault}
-use Rattle.topo_settings.specs.Reading.{ReaderState}
+use Rattle.topo_io.specs.declared.fault.RunFault.{RunFault}
+use Rattle.topo_io.specs.Reading.{ReaderState}
 use Rattle.topo_cli.specs.declared.Verb.{Verb}
 use Rattle.topo_cli.specs.declared.Verb.TheVariants.{Run, Replay, Check, Serve, Planarize}
 use Rattle.topo_run.specs.Runs.{FailsBy, IsDone}

@@ -4,11 +4,11 @@ use Rattle.std.specs.Io.KnownBytes.{Appends, Keeps}
 use Rattle.std.specs.Prelude.{string_bytes, ⊤}
 use Rattle.clap.specs.Kinds.{IsAmong}
 use Rattle.clap.specs.declared.error.kind.ErrorKind.TheVariants.{DisplayVersion}
-use Rattle.topo_settings.specs.declared.fault.RunFault.{RunFault}
-use Rattle.topo_settings.specs.declared.fault.RunFault.TheVariants.{Memory as NoMemory, WriteFault}
-use Rattle.topo_settings.specs.Reading.{ReaderState}
-use Rattle.topo_settings.specs.Statuses.{fault_line, status_of}
-use Rattle.topo_settings.specs.Writing.{AppendsPart}
+use Rattle.topo_io.specs.declared.fault.RunFault.{RunFault}
+use Rattle.topo_io.specs.declared.fault.RunFault.TheVariants.{Memory as NoMemory, WriteFault}
+use Rattle.topo_io.specs.Reading.{ReaderState}
+use Rattle.topo_io.specs.Statuses.{fault_line, status_of}
+use Rattle.topo_io.specs.Writing.{AppendsPart}
 use Rattle.topo_cli.specs.declared.Verb.{Verb}
 use Rattle.topo_cli.specs.Words.{asked_verb, word_faults}
 use Rattle.topo_cli.specs.declared.program.Asked.{Asked}

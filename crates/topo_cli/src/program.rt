@@ -4,7 +4,7 @@ ghost use Rattle.std.specs.Io.KnownBytes.{Keeps};
 ghost use Rattle.std.specs.Prelude.{◌≡◌, IfErr, IfOk, codes, map};
 ghost use Rattle.topo_cli.specs.Outcomes.{CarriesOut, IsAsked, IsToldBy, IsUnread, Performs};
 ghost use Rattle.topo_cli.specs.Outcomes.{Refuses, Tells, TellsVersion};
-ghost use Rattle.topo_settings.specs.Statuses.{fault_line, status_of};
+ghost use Rattle.topo_io.specs.Statuses.{fault_line, status_of};
 
 use crate::Verb;
 use crate::answers::answer;
@@ -17,9 +17,9 @@ use std::io::{Read, Write};
 use std::rt::Clock;
 use std::sync::Wait;
 use std::thread::Threads;
-use topo_settings::RunFault;
-use topo_settings::reading::CountedReader;
-use topo_settings::writing::write_text;
+use topo_io::RunFault;
+use topo_io::reading::CountedReader;
+use topo_io::writing::write_text;
 
 /// The status of a command that is done.
 const DONE: u8 = 0;

@@ -2,13 +2,13 @@
 
 ghost use Rattle.std.specs.Io.KnownBytes.{Appends};
 ghost use Rattle.std.specs.Prelude.{◌++◌, ◌∷◌, [], IsFalse, IsTrue, codes};
-ghost use Rattle.topo_settings.specs.Statuses.{fault_line};
-ghost use Rattle.topo_settings.specs.Writing.{AppendsPart};
+ghost use Rattle.topo_io.specs.Statuses.{fault_line};
+ghost use Rattle.topo_io.specs.Writing.{AppendsPart};
 
 use std::fmt::{InlineText, Write};
 use std::io;
-use topo_settings::RunFault;
-use topo_settings::writing::write_text;
+use topo_io::RunFault;
+use topo_io::writing::write_text;
 
 /// The room for the line of a fault, in bytes. The longest has 191: `planar: 54 BadNumber $`, eight
 /// indices of 20 digits, each behind a `/`, and the line feed.

@@ -9,8 +9,8 @@ use std::sync::Wait;
 use std::test::Fail;
 use std::thread::Threads;
 use topo_cli::{Verb, answer};
-use topo_settings::RunFault;
-use topo_settings::reading::CountedReader;
+use topo_io::RunFault;
+use topo_io::reading::CountedReader;
 
 pub(crate) const SCRIPT: &str = "{\"version\":1,\"workers\":[[[\"grow\",1,0,0],[\"grow\",1,1,7]]]}";
 

@@ -10,7 +10,7 @@ use std::io::ErrorKind;
 use std::test::Fail;
 use topo_cli::Verb;
 use topo_script::ScriptFault;
-use topo_settings::RunFault;
+use topo_io::RunFault;
 
 /// The greatest number of bytes that a script may have.
 const LONGEST: usize = 1_048_576;

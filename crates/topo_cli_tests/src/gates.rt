@@ -8,7 +8,7 @@ use topo_script::read_report;
 use topo_run::run_io;
 use topo_service::Gate;
 use topo_service_test_support::gates::Turns;
-use topo_settings::reading::CountedReader;
+use topo_io::reading::CountedReader;
 
 const TWO_LISTS: &str = "{\"version\":1,\"workers\":[[[\"insert\",0,1,0]],[[\"insert\",0,1,1]]]}";
 

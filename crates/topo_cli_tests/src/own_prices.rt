@@ -3,7 +3,7 @@
 
 ghost use Rattle.std.specs.Prelude.{◌≡◌};
 ghost use Rattle.topo_price.specs.Prices.{IsPromise};
-ghost use Rattle.topo_settings.specs.Settings.{AnswersPrices, price_table};
+ghost use Rattle.topo_io.specs.Settings.{AnswersPrices, price_table};
 
 use std::alloc::Global;
 use std::process::Abort;
@@ -20,9 +20,9 @@ use topo_price::tariff::{PriceFn, Tariff};
 use topo_run::{OpenGate, run_io, run_script};
 use topo_script::report;
 use topo_service::Gate;
-use topo_settings::RunFault;
-use topo_settings::reading::CountedReader;
-use topo_settings::settings::validate;
+use topo_io::RunFault;
+use topo_io::reading::CountedReader;
+use topo_io::settings::validate;
 
 /// A list that grows a vertex on each side of a triangle and crosses it twice between them.
 const ONE_LIST: &str = concat!(

@@ -9,7 +9,7 @@ use std::io::{Read, Write};
 use std::process::Abort;
 use topo_cli::program::WordsFault;
 use topo_cli::{Outcome, perform, refuse};
-use topo_settings::reading::CountedReader;
+use topo_io::reading::CountedReader;
 
 /// What is said of a command that is not known.
 const NO_COMMAND: &str = "\

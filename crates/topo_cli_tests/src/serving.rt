@@ -7,8 +7,8 @@ use std::alloc::Global;
 use std::test::Fail;
 use topo_cli::Verb;
 use topo_script::ScriptFault;
-use topo_script::path::Path;
-use topo_settings::RunFault;
+use topo_script::path::JsonPath;
+use topo_io::RunFault;
 
 /// The greatest number of bytes that a line has, but the first.
 const LONGEST: usize = 65_536;
@@ -127,7 +127,7 @@ fn first_lines_that_open_nothing(rt: HostRuntime) {
     for (read, fault) in [
         ("", ScriptFault::NotJson),
         ("\n{\"version\":1}\n", ScriptFault::NotJson),
-        (SCRIPT, ScriptFault::BadShape(Path::WHOLE)),
+        (SCRIPT, ScriptFault::BadShape(JsonPath::WHOLE)),
     ] {
         writes(
             &rt,

@@ -10,7 +10,7 @@ use Rattle.topo_core.specs.Pictures.{back, forward}
 use Rattle.topo_perm.specs.Runs.{IsRun}
 use Rattle.topo_perm.proofs.Interface.{smooths_of, unchords_of}
 use Rattle.topo_map.specs.Rotation.{IsEmbedding, KeepsLabels, Rotation, edge_of, half_limit, is_live, turning_of}
-use Rattle.topo_changes.proofs.Interface.{across, first_of, is_even}
+use Rattle.topo_kept_rows.proofs.Interface.{across, first_of, is_even}
 use Rattle.topo_embedded.specs.Deleting.{spared}
 use Rattle.topo_embedded.specs.Halves.{RowsWithPaths, ShowsRows, half_at, path_of}
 

@@ -13,7 +13,7 @@ ghost use Rattle.topo_map.specs.Rotation.{AddsLabel, Grows, edge_of, half_limit,
 use crate::kinds::Kinds;
 use std::alloc::Global;
 use std::marker::Model;
-use topo_changes::KeptRows;
+use topo_kept_rows::KeptRows;
 use topo_map::{Embedding, Half};
 use topo_route::guided::potentials::Potentials;
 

@@ -6,7 +6,7 @@ ghost use Rattle.std.specs.Prelude.{◌≡◌, ◌↔◌, IsTrue};
 ghost use Rattle.topo_core.specs.Changes.{HasOneFace};
 ghost use Rattle.topo_core.specs.Openings.{is_opened};
 ghost use Rattle.topo_core.specs.declared.darts.Dart.{Dart};
-ghost use Rattle.topo_changes.specs.Cuts.{IsFirstCut, IsLeft, IsNextLeft};
+ghost use Rattle.topo_kept_rows.specs.Cuts.{IsFirstCut, IsLeft, IsNextLeft};
 ghost use Rattle.topo_embedded.specs.Cutting.{IsDartBeside, IsOpenedOn};
 ghost use Rattle.topo_embedded.specs.Halves.{RowsWithPaths, half_in};
 ghost use Rattle.topo_map.specs.Rotation.{Rotation};

@@ -10,7 +10,7 @@ ghost use Rattle.topo_core.specs.Lawful.{Lawful};
 ghost use Rattle.topo_core.specs.Picture.{edge_row};
 ghost use Rattle.topo_core.specs.Rotations.{twin};
 ghost use Rattle.topo_map.specs.Rotation.{edge_of, is_live, turn};
-ghost use Rattle.topo_changes.proofs.Interface.{across};
+ghost use Rattle.topo_kept_rows.proofs.Interface.{across};
 ghost use Rattle.topo_embedded.specs.Halves.{ShowsRows, path_of};
 ghost use Rattle.topo_embedded.specs.Opening.{IsOpenTo, IsOpened, IsSetOut, IsSmoothedTo};
 ghost use Rattle.topo_embedded.specs.Opening.{leads_in, mids_of, without_half};
@@ -20,7 +20,7 @@ ghost use Rattle.topo_table.specs.Places.{ids_in, values_in};
 
 use crate::parts::Parts;
 use crate::path::Path;
-use topo_changes::deletion::delete_rows;
+use topo_kept_rows::deletion::delete_rows;
 use topo_map::{Embedding, Half};
 use topo_table::NumberedTable;
 

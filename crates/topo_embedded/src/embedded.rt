@@ -2,7 +2,7 @@
 
 ghost use Rattle.std.specs.Prelude.{◌≡◌, ◌*◌, ◌<◌, ◌≤◌, ◌^◌, true, ℕ, IfOk, Some};
 ghost use Rattle.std.specs.Prelude.{is_some, length, option_map, sum_by};
-ghost use Rattle.topo_changes.specs.Keeping.{viewed_row};
+ghost use Rattle.topo_kept_rows.specs.Keeping.{viewed_row};
 ghost use Rattle.topo_core.specs.declared.darts.Dart.{Dart};
 ghost use Rattle.topo_core.specs.Lawful.{IsWellFormed};
 ghost use Rattle.topo_core.specs.Picture.{corner, darts, edge_at, edge_row};
@@ -30,7 +30,7 @@ use crate::path::Path;
 use crate::walking::{end_of, led, place_on_path};
 use std::alloc::{AllocError, Global};
 use std::marker::Model;
-use topo_changes::{EdgeView, KeptRows};
+use topo_kept_rows::{EdgeView, KeptRows};
 use topo_core::darts::{Dart, Way};
 use topo_core::ids::EdgeId;
 use topo_core::listed::Listed;
@@ -312,7 +312,7 @@ impl Embedded {
 }
 
 impl Embedded {
-    ghost use Rattle.topo_changes.specs.Cuts.{IsFirstCut};
+    ghost use Rattle.topo_kept_rows.specs.Cuts.{IsFirstCut};
 
     /// The first segment of an edge that has one face on both sides when those before it are out,
     /// if one has. Lawful rows fall apart without these segments, and stay connected where there is

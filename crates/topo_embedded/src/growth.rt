@@ -15,7 +15,7 @@ ghost use Rattle.topo_core.specs.declared.rows.TheConstants.{KINDS};
 use crate::parts::Parts;
 use crate::path::Path;
 use std::alloc::{AllocError, Global};
-use topo_changes::growth::grow_rows;
+use topo_kept_rows::growth::grow_rows;
 use topo_map::Half;
 
 impl Parts {

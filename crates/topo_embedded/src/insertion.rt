@@ -23,7 +23,7 @@ use crate::padding::{Crossed, pad, split_path, unpad};
 use crate::parts::Parts;
 use crate::path::Path;
 use std::alloc::{AllocError, Global};
-use topo_changes::insertion::apply_rows;
+use topo_kept_rows::insertion::apply_rows;
 use topo_core::routes::Route;
 use topo_map::{Embedding, Half};
 use topo_table::NumberedTable;

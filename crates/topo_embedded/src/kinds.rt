@@ -9,7 +9,7 @@ ghost use Rattle.topo_embedded.specs.KnownKinds.{AreKindsOf, IsNoted};
 
 use std::alloc::{AllocError, Global};
 use std::marker::Model;
-use topo_changes::KeptRows;
+use topo_kept_rows::KeptRows;
 
 /// The kinds of the first edges. An edge that is not there any more has any.
 pub(crate) struct Kinds {

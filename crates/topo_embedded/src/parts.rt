@@ -1,14 +1,14 @@
 //! Rows, the halves along each edge, and the segments that these are halves of.
 
 ghost use Rattle.std.specs.Prelude.{◌≡◌, option_copied, option_map};
-ghost use Rattle.topo_changes.specs.Keeping.{viewed_row};
+ghost use Rattle.topo_kept_rows.specs.Keeping.{viewed_row};
 ghost use Rattle.topo_core.specs.Picture.{edge_row};
 ghost use Rattle.topo_table.specs.Places.{entries, value_of};
 
 use crate::bounds::Bounds;
 use crate::kinds::Kinds;
 use crate::path::Path;
-use topo_changes::{EdgeView, KeptRows};
+use topo_kept_rows::{EdgeView, KeptRows};
 use topo_map::Embedding;
 use topo_table::NumberedTable;
 

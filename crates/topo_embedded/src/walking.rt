@@ -2,7 +2,7 @@
 
 ghost use Rattle.std.specs.Prelude.{◌≡◌, ◌==◌, ◌↔◌, ◌<◌, ◌^◌, IsTrue, length, slice_index_or, true};
 ghost use Rattle.std.specs.declared.cmp.Ordering.TheVariants.{Less};
-ghost use Rattle.topo_changes.specs.Keeping.{viewed_row};
+ghost use Rattle.topo_kept_rows.specs.Keeping.{viewed_row};
 ghost use Rattle.topo_core.specs.Darts.{dart_cmp};
 ghost use Rattle.topo_core.specs.Lawful.{Lawful};
 ghost use Rattle.topo_core.specs.Picture.{darts, system};
@@ -19,7 +19,7 @@ use crate::bounds::Bounds;
 use crate::embedded::Embedded;
 use crate::path::Path;
 use std::marker::Model;
-use topo_changes::EdgeView;
+use topo_kept_rows::EdgeView;
 use topo_core::darts::{Dart, Way};
 use topo_core::rows::Facts;
 use topo_map::{Embedding, Half};

@@ -10,11 +10,11 @@ use topo_script::{Report, ScriptFault, read_report, read_rows, read_script};
 use topo_run::{OpenGate, run_io};
 use topo_script::{picture_text, report};
 use topo_serve::serve_io;
-use topo_settings::reading::CountedReader;
+use topo_io::reading::CountedReader;
 
 /// What is done with the bytes of a row.
 #[derive(Clone, Copy)]
-pub(crate) enum Command {
+pub(crate) enum Verb {
     /// The script is run.
     Run,
     /// The script is run, and its report is replayed.
@@ -43,23 +43,23 @@ pub(crate) enum Command {
     RewritePicture,
 }
 
-impl Command {
+impl Verb {
     /// The command of this name.
     pub(crate) fn from_name(name: &str) -> Option<Self> {
         match name {
-            "run" => Some(Command::Run),
-            "run and replay" => Some(Command::RunAndReplay),
-            "run and count" => Some(Command::RunAndCount),
-            "run and check" => Some(Command::RunAndCheck),
-            "replay" => Some(Command::Replay),
-            "check" => Some(Command::Check),
-            "check start" => Some(Command::CheckStart),
-            "check end" => Some(Command::CheckEnd),
-            "serve" => Some(Command::Serve),
-            "read script" => Some(Command::ReadScript),
-            "read report" => Some(Command::ReadReport),
-            "rewrite report" => Some(Command::RewriteReport),
-            "rewrite picture" => Some(Command::RewritePicture),
+            "run" => Some(Verb::Run),
+            "run and replay" => Some(Verb::RunAndReplay),
+            "run and count" => Some(Verb::RunAndCount),
+            "run and check" => Some(Verb::RunAndCheck),
+            "replay" => Some(Verb::Replay),
+            "check" => Some(Verb::Check),
+            "check start" => Some(Verb::CheckStart),
+            "check end" => Some(Verb::CheckEnd),
+            "serve" => Some(Verb::Serve),
+            "read script" => Some(Verb::ReadScript),
+            "read report" => Some(Verb::ReadReport),
+            "rewrite report" => Some(Verb::RewriteReport),
+            "rewrite picture" => Some(Verb::RewritePicture),
             _ => None,
         }
     }
@@ -72,19 +72,19 @@ impl Command {
         bytes: &[u8],
     ) -> Result<Vec<u8>, AllocError> {
         match self {
-            Command::Run => run(rt, alloc, bytes),
-            Command::RunAndReplay => replay(alloc, run(rt, alloc, bytes)?.as_slice()),
-            Command::RunAndCount => count_calls(alloc, run(rt, alloc, bytes)?.as_slice()),
-            Command::RunAndCheck => check_end(alloc, run(rt, alloc, bytes)?.as_slice()),
-            Command::Replay => replay(alloc, bytes),
-            Command::Check => check(alloc, bytes),
-            Command::CheckStart => check_start(alloc, bytes),
-            Command::CheckEnd => check_end(alloc, bytes),
-            Command::Serve => serve(alloc, bytes),
-            Command::ReadScript => read(alloc, read_script(alloc, bytes)),
-            Command::ReadReport => read(alloc, read_report(alloc, bytes)),
-            Command::RewriteReport => rewrite_report(alloc, bytes),
-            Command::RewritePicture => rewrite_picture(alloc, bytes),
+            Verb::Run => run(rt, alloc, bytes),
+            Verb::RunAndReplay => replay(alloc, run(rt, alloc, bytes)?.as_slice()),
+            Verb::RunAndCount => count_calls(alloc, run(rt, alloc, bytes)?.as_slice()),
+            Verb::RunAndCheck => check_end(alloc, run(rt, alloc, bytes)?.as_slice()),
+            Verb::Replay => replay(alloc, bytes),
+            Verb::Check => check(alloc, bytes),
+            Verb::CheckStart => check_start(alloc, bytes),
+            Verb::CheckEnd => check_end(alloc, bytes),
+            Verb::Serve => serve(alloc, bytes),
+            Verb::ReadScript => read(alloc, read_script(alloc, bytes)),
+            Verb::ReadReport => read(alloc, read_report(alloc, bytes)),
+            Verb::RewriteReport => rewrite_report(alloc, bytes),
+            Verb::RewritePicture => rewrite_picture(alloc, bytes),
         }
     }
 }

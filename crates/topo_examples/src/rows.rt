@@ -5,7 +5,7 @@
 //! or `.lines` it is the file of that name, and else the text of one line. `cut COMMAND` stands for
 //! the command on each proper prefix of the line that is read.
 
-use crate::commands::Command;
+use crate::commands::Verb;
 use crate::texts::{bytes_of, changed};
 use anyhow::{Context, Result};
 use std::alloc::Global;
@@ -83,15 +83,15 @@ fn other<R: Threads + Wait + Sync>(
 }
 
 /// The command of this name.
-fn command(name: &str) -> Result<Command> {
-    Command::from_name(name).context("a command")
+fn command(name: &str) -> Result<Verb> {
+    Verb::from_name(name).context("a command")
 }
 
 /// What a command prints on these bytes, if that is not what is due.
 fn other_than<R: Threads + Wait + Sync>(
     rt: &R,
     alloc: Global,
-    command: Command,
+    command: Verb,
     bytes: &[u8],
     due: &[u8],
 ) -> Result<Option<Vec<u8>>> {

@@ -2,7 +2,7 @@
 
 ghost use Rattle.std.specs.Prelude.{◌≡◌};
 ghost use Rattle.topo_price.specs.Prices.{IsPromise};
-ghost use Rattle.topo_settings.specs.Settings.{AnswersPrices, price_table};
+ghost use Rattle.topo_io.specs.Settings.{AnswersPrices, price_table};
 
 use crate::replies::{is_deleted, is_uncrossed};
 use crate::starts::seed_rows;
@@ -18,8 +18,8 @@ use topo_price::table::PriceTable;
 use topo_price::tariff::{PriceFn, Tariff};
 use topo_run::{OpenGate, run_script};
 use topo_script::report;
-use topo_settings::RunFault;
-use topo_settings::settings::validate;
+use topo_io::RunFault;
+use topo_io::settings::validate;
 
 /// How many edges a list puts in and takes out again: so it has twice as many commands.
 const PAIRS: u32 = 35_000;

@@ -13,8 +13,8 @@ use topo_check::{check_io, replay_io};
 use topo_cli::perform;
 use topo_run::{OpenGate, run_io};
 use topo_script::picture_text;
-use topo_settings::RunFault;
-use topo_settings::reading::CountedReader;
+use topo_io::RunFault;
+use topo_io::reading::CountedReader;
 
 /// What a command has written, or its fault.
 fn printed(

@@ -8,7 +8,7 @@ use Rattle.topo_core.specs.Systems.{Connected}
 use Rattle.topo_core.proofs.Interface.{insertion_undone, shown_new_row, some_of}
 use Rattle.topo_rows.specs.Shown.{IsPicture, Shown}
 use Rattle.topo_picture.specs.Undoing.{IsShownOn}
-use Rattle.topo_changes.proofs.Interface.{cut_by_faces, cut_is_by_faces, no_cut, vertices_without, whole_without}
+use Rattle.topo_kept_rows.proofs.Interface.{cut_by_faces, cut_is_by_faces, no_cut, vertices_without, whole_without}
 
 module _ (limits : Limits) (rows : Rows) (e : ℕ) (is : IsPicture limits rows) (there : is_some (edge_row rows e) ≡ true) where
   small : rows.next_crossing ≤ 4294967296

@@ -12,7 +12,7 @@ use Rattle.topo_core.specs.Changes.{shown}
 use Rattle.topo_core.specs.Insertions.{IsInsertable}
 use Rattle.topo_core.proofs.Interface.{shown_vertices, simple_is_insertable}
 use Rattle.topo_rows.specs.Shown.{IsPicture}
-use Rattle.topo_changes.proofs.Interface.{insertion_keeps_lawful}
+use Rattle.topo_kept_rows.proofs.Interface.{insertion_keeps_lawful}
 use Rattle.topo_core.specs.declared.rows.TheConstants.{KINDS}
 
 -- what holds where an insertion is not refused before a route is looked for

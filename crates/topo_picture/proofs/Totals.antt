@@ -9,7 +9,7 @@ use Rattle.topo_core.proofs.Interface.{left_true}
 use Rattle.topo_rows.specs.Shown.{IsPicture}
 use Rattle.topo_picture.specs.Totals.{AreCountsOf}
 use Rattle.topo_rows.proofs.Interface.{few_rise}
-use Rattle.topo_changes.proofs.Interface.{segments_total}
+use Rattle.topo_kept_rows.proofs.Interface.{segments_total}
 
 -- the sizes of a picture, and how they hang together
 pub record IsCounted (rows : Rows) : Type 0 where

@@ -2,11 +2,11 @@
 
 ghost use Rattle.std.specs.Prelude.{◌≡◌};
 ghost use Rattle.std.specs.List.{list_all};
-ghost use Rattle.topo_changes.specs.Keeping.{viewed_row};
+ghost use Rattle.topo_kept_rows.specs.Keeping.{viewed_row};
 ghost use Rattle.topo_core.specs.Picture.{cross_row};
 ghost use Rattle.topo_picture.specs.Apart.{is_of_others, lies_apart};
 
-use topo_changes::{EdgeView, KeptRows};
+use topo_kept_rows::{EdgeView, KeptRows};
 use topo_route::planned::region::Region;
 
 /// Whether a crossing, if it is there, is of two edges that are not of the region.

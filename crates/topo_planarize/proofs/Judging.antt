@@ -3,8 +3,8 @@ use Rattle.std.proofs.Common.{◌≡◌, ℕ, List, Option, Result, Ok, Err, IfO
 use Rattle.topo_core.specs.declared.limits.Limits.{Limits}
 use Rattle.topo_script.specs.Scripts.{greatest_limits}
 use Rattle.topo_graph.specs.Graphs.{Drawn}
-use Rattle.topo_settings.specs.declared.fault.RunFault.{RunFault}
-use Rattle.topo_settings.specs.Limiting.{AreLimits}
+use Rattle.topo_io.specs.declared.fault.RunFault.{RunFault}
+use Rattle.topo_io.specs.Limiting.{AreLimits}
 use Rattle.topo_shown.specs.Planarizations.{Shows}
 use Rattle.topo_graph.specs.declared.parts.Part.{Part}
 use Rattle.topo_planarize.specs.Answers.{IsAnswerOf, total_cost, total_crossings}

@@ -3,11 +3,11 @@ use Rattle.std.proofs.Common.{◌≡◌, ◌⊎◌, ℕ, List, Ok, Option, inl, 
 use Rattle.std.specs.Io.KnownBytes.{Appends, Keeps}
 use Rattle.topo_script.specs.Graphs.{graph_of}
 use Rattle.topo_script.specs.declared.graphs.GraphAsked.{GraphAsked}
-use Rattle.topo_settings.specs.declared.fault.RunFault.{RunFault}
-use Rattle.topo_settings.specs.declared.fault.RunFault.TheVariants.{Memory, Script, Price, Graph}
-use Rattle.topo_settings.specs.Reading.{IsRead, ReaderState}
-use Rattle.topo_settings.specs.Writing.{AppendsPart, IsOfWriting}
-use Rattle.topo_settings.proofs.Interface.{appends_so, by_writing, part_so}
+use Rattle.topo_io.specs.declared.fault.RunFault.{RunFault}
+use Rattle.topo_io.specs.declared.fault.RunFault.TheVariants.{Memory, Script, Price, Graph}
+use Rattle.topo_io.specs.Reading.{IsRead, ReaderState}
+use Rattle.topo_io.specs.Writing.{AppendsPart, IsOfWriting}
+use Rattle.topo_io.proofs.Interface.{appends_so, by_writing, part_so}
 use Rattle.topo_planarize.specs.Answers.{HasNoAnswer}
 use Rattle.topo_planarize.specs.Planarizing.{HasNone, IsPlanarized, IsPlanarizedBy, IsUnplanarized, PlanarizeFailsBy, ReadsNone, TellsOfGraph, TellsOfRead}
 use Rattle.topo_planarize.specs.Ways.{TellsWay}

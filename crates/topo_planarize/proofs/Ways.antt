@@ -3,7 +3,7 @@ use Rattle.std.proofs.Common.{◌≡◌, ◌∙◌, ℕ, Bool, true, false, List
 use Rattle.std.proofs.lemmas.Bool.{false≢true}
 use Rattle.std.proofs.KnownBytes.{Appends-nil, Appends-trans, Keeps-refl, Keeps-trans}
 use Rattle.std.specs.Io.KnownBytes.{Appends, Keeps}
-use Rattle.topo_settings.specs.Writing.{AppendsPart}
+use Rattle.topo_io.specs.Writing.{AppendsPart}
 use Rattle.topo_planarize.specs.Ways.{Grows, TellsWay}
 
 pub grows_none : (a : Option (List ℕ)) → Grows a a

@@ -14,10 +14,10 @@ use Rattle.topo_script.specs.declared.graphs.GraphAsked.{GraphAsked}
 use Rattle.topo_script.specs.declared.graphs.GraphStart.{GraphStart}
 use Rattle.topo_script.specs.Scripts.{greatest_limits}
 use Rattle.topo_script.specs.Pictures.{list_data, number_data, part_data}
-use Rattle.topo_settings.specs.declared.fault.RunFault.{RunFault}
-use Rattle.topo_settings.specs.declared.fault.RunFault.TheVariants.{Memory, Price, Graph}
-use Rattle.topo_settings.specs.Limiting.{AreLimits}
-use Rattle.topo_settings.specs.Settings.{IsBadPrice, price_table}
+use Rattle.topo_io.specs.declared.fault.RunFault.{RunFault}
+use Rattle.topo_io.specs.declared.fault.RunFault.TheVariants.{Memory, Price, Graph}
+use Rattle.topo_io.specs.Limiting.{AreLimits}
+use Rattle.topo_io.specs.Settings.{IsBadPrice, price_table}
 use Rattle.topo_shown.specs.Planarizations.{Shows}
 use Rattle.topo_graph.specs.declared.parts.Part.{Part}
 use Rattle.topo_planarize.specs.declared.answers.Answer.{Answer}

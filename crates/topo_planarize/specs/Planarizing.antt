@@ -4,10 +4,10 @@ use Rattle.std.specs.Io.KnownBytes.{Appends, Keeps}
 use Rattle.topo_script.specs.Graphs.{graph_of}
 use Rattle.topo_script.specs.Reads.{IsFirstFault}
 use Rattle.topo_script.specs.declared.graphs.GraphAsked.{GraphAsked}
-use Rattle.topo_settings.specs.declared.fault.RunFault.{RunFault}
-use Rattle.topo_settings.specs.declared.fault.RunFault.TheVariants.{Memory, Script, Price, Graph, ReadFault, WriteFault}
-use Rattle.topo_settings.specs.Reading.{HasFailed, ReaderState, Spells, SpellsNone}
-use Rattle.topo_settings.specs.Writing.{AppendsPart}
+use Rattle.topo_io.specs.declared.fault.RunFault.{RunFault}
+use Rattle.topo_io.specs.declared.fault.RunFault.TheVariants.{Memory, Script, Price, Graph, ReadFault, WriteFault}
+use Rattle.topo_io.specs.Reading.{HasFailed, ReaderState, Spells, SpellsNone}
+use Rattle.topo_io.specs.Writing.{AppendsPart}
 use Rattle.topo_planarize.specs.Answers.{HasNoAnswer, IsAnswerTo, answer_line}
 use Rattle.topo_planarize.specs.Ways.{TellsWay}
 use Rattle.topo_planarize.specs.declared.answers.Answer.{Answer}

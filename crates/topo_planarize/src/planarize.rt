@@ -7,7 +7,7 @@ ghost use Rattle.topo_planarize.specs.Answers.{HasNoAnswer, IsAnswerTo, answer_l
 ghost use Rattle.topo_planarize.specs.Planarizing.{IsPlanarized, IsPlanarizedBy, IsUnplanarized};
 ghost use Rattle.topo_planarize.specs.Planarizing.{PlanarizeFailsBy};
 ghost use Rattle.topo_planarize.specs.Ways.{TellsWay};
-ghost use Rattle.topo_settings.specs.Reading.{most_calls};
+ghost use Rattle.topo_io.specs.Reading.{most_calls};
 
 use crate::answers::Answer;
 use crate::planarizer::Planarizer;
@@ -20,9 +20,9 @@ use topo_script::row_forms::MAX_PICTURE_BYTES;
 use topo_script::{GraphAsked, ScriptFault, read_graph};
 use topo_price::table::PriceTable;
 use topo_script::written::Written;
-use topo_settings::reading::{CountedReader, read_bytes};
-use topo_settings::writing::write_text;
-use topo_settings::{FromTable, RunFault};
+use topo_io::reading::{CountedReader, read_bytes};
+use topo_io::writing::write_text;
+use topo_io::{FromTable, RunFault};
 
 /// Reads a graph, searches for pictures of its components with few crossings, and writes them on one
 /// line. The reader is read until its end, or until it has given one byte more than a graph may

@@ -6,7 +6,7 @@ ghost use Rattle.topo_planarize.specs.Answers.{IsPriceFaultOf, IsStartFault, Sta
 ghost use Rattle.topo_planarize.specs.Answers.{total_cost, total_crossings};
 ghost use Rattle.topo_planarize.specs.Ways.{TellsWay};
 ghost use Rattle.topo_price.specs.Prices.{IsPromise};
-ghost use Rattle.topo_settings.specs.Settings.{price_table};
+ghost use Rattle.topo_io.specs.Settings.{price_table};
 
 use crate::answers::{Answer, total_cost, total_crossings};
 use crate::searches::{Beginning, Found, Searches, Way};
@@ -23,8 +23,8 @@ use topo_graph::{Graph, GraphFault};
 use topo_price::table::PriceTable;
 use topo_price::tariff::{PriceFn, Tariff};
 use topo_search::{Options, SearchFault};
-use topo_settings::settings::table_of;
-use topo_settings::{FromTable, RunFault, greatest_limits};
+use topo_io::settings::table_of;
+use topo_io::{FromTable, RunFault, greatest_limits};
 use topo_shown::{Planarized, ShowFault, shown};
 
 /// Searches for pictures of a graph, each from a seed of its own, at the prices of a table.

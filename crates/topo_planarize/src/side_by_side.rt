@@ -11,7 +11,7 @@ use std::thread;
 use std::thread::Threads;
 use std::time::Instant;
 use topo_price::tariff::PriceFn;
-use topo_settings::writing::write_text;
+use topo_io::writing::write_text;
 
 /// After so many seconds it is told again how far the searches are.
 const TELLING_SECONDS: u32 = 1;

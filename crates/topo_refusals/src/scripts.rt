@@ -5,8 +5,8 @@ use crate::lists::Watch;
 use anyhow::Result;
 use std::alloc::AllocError;
 use topo_run::run_io;
-use topo_settings::RunFault;
-use topo_settings::reading::CountedReader;
+use topo_io::RunFault;
+use topo_io::reading::CountedReader;
 
 /// Two growths, an insertion that crosses an edge, one that is refused, and a deletion.
 const SCRIPT: &str = concat!(

@@ -30,7 +30,7 @@ use topo_price::tariff::PriceFn;
 /// labels, a dart of each that it has reached, in the order in which it did, and the darts whose
 /// faces wait.
 #[derive(Drop)]
-pub(crate) struct Labels {
+pub(crate) struct SearchState {
     pub heights: StampedArray,
     pub names: Vec<u32>,
     pub waiting: BucketQueue,
@@ -54,12 +54,12 @@ pub(crate) struct Crossing {
     pub height: u64,
 }
 
-impl Labels {
+impl SearchState {
     /// The search state of a picture without faces, with room for so many that wait.
     pub(crate) fn new(alloc: Global, room: usize) -> Result<Self, AllocError>
         ensures { IfOk result (λ labels. (labels.heights ≡ []) × (labels.waiting ≡ [])) }
     {
-        Ok(Labels {
+        Ok(SearchState {
             heights: StampedArray::new(alloc),
             names: Vec::new(alloc),
             waiting: BucketQueue::new(alloc, room)?,

@@ -2,15 +2,15 @@
 
 ghost use Rattle.std.specs.Prelude.{◌≡◌, ◌+◌, ◌<◌, ◌^◌, [], IfOk, length};
 
-use crate::spread::Labels;
+use crate::spread::SearchState;
 use std::alloc::{AllocError, Global};
 
 /// What a search knows of the faces from both of its ends, kept for the next one. Each search
 /// begins with all of it blank, whatever the one before it left, and that takes no time that grows
 /// with the picture, but where the picture has more labels of faces than any before.
 pub struct Workspace {
-    pub(crate) to_end: Labels,
-    pub(crate) to_start: Labels,
+    pub(crate) to_end: SearchState,
+    pub(crate) to_start: SearchState,
 }
 
 // Written out, so that it is proved once: a derived one is proved anew in each function that lets
@@ -34,8 +34,8 @@ impl Workspace {
         ensures { IfOk result (λ work. work.to_start.heights ≡ []) }
     {
         Ok(Workspace {
-            to_end: Labels::new(alloc, room)?,
-            to_start: Labels::new(alloc, 0)?,
+            to_end: SearchState::new(alloc, room)?,
+            to_start: SearchState::new(alloc, 0)?,
         })
     }
 

@@ -7,10 +7,10 @@ use Rattle.topo_core.specs.History.{IsRun}
 use Rattle.topo_script.specs.declared.reports.Report.{Report}
 use Rattle.topo_script.specs.declared.scripts.LimitRows.{LimitRows}
 use Rattle.topo_script.specs.declared.scripts.Script.{Script}
-use Rattle.topo_settings.proofs.Interface.{ok_so}
-use Rattle.topo_settings.specs.declared.fault.RunFault.{RunFault}
-use Rattle.topo_settings.specs.Limiting.{AreLimits}
-use Rattle.topo_settings.specs.Settings.{priced}
+use Rattle.topo_io.proofs.Interface.{ok_so}
+use Rattle.topo_io.specs.declared.fault.RunFault.{RunFault}
+use Rattle.topo_io.specs.Limiting.{AreLimits}
+use Rattle.topo_io.specs.Settings.{priced}
 use Rattle.topo_run.specs.declared.scripts.Heading.{Heading}
 use Rattle.topo_run.specs.Headings.{IsReportBelow}
 use Rattle.topo_run.specs.Runs.{IsReportFrom}

@@ -21,8 +21,8 @@ use Rattle.topo_service.specs.Passes.{PassState}
 use Rattle.topo_service.specs.Receipts.{AreWhole, HasNumber, receipt_in, receipts_due}
 use Rattle.topo_service.proofs.Interface.{number_at}
 use Rattle.topo_price.specs.Prices.{Asking, prices_of}
-use Rattle.topo_settings.specs.Settings.{AnswersPrices, priced}
-use Rattle.topo_settings.proofs.Interface.{run_so}
+use Rattle.topo_io.specs.Settings.{AnswersPrices, priced}
+use Rattle.topo_io.proofs.Interface.{run_so}
 use Rattle.topo_run.specs.Working.{AreOpened, HasWorked, HaveWorked}
 
 abbrev no_pass : PassState

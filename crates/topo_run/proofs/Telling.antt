@@ -2,8 +2,8 @@
 use Rattle.std.proofs.Common.{◌≡◌, ℕ, List, arith, length}
 use Rattle.topo_core.specs.declared.calls.Command.{Command}
 use Rattle.topo_script.specs.declared.scripts.Script.{Script}
-use Rattle.topo_settings.specs.declared.fault.RunFault.{RunFault}
-use Rattle.topo_settings.specs.declared.fault.RunFault.TheVariants.{Memory, NoSeat, Mismatch}
+use Rattle.topo_io.specs.declared.fault.RunFault.{RunFault}
+use Rattle.topo_io.specs.declared.fault.RunFault.TheVariants.{Memory, NoSeat, Mismatch}
 use Rattle.topo_run.specs.Runs.{FailsRun, IsSoundScript}
 use Rattle.topo_run.specs.Working.{IsOfOpening, IsOfRun, IsOfService}
 

@@ -11,13 +11,13 @@ use Rattle.topo_script.specs.Reads.{IsFirstFault}
 use Rattle.topo_script.specs.Scripts.{script_of}
 use Rattle.topo_script.specs.ReportTexts.{report_text}
 use Rattle.topo_run.specs.Working.{IsOfRun}
-use Rattle.topo_settings.specs.declared.fault.RunFault.{RunFault}
-use Rattle.topo_settings.specs.declared.fault.RunFault.TheVariants.{Memory, Script as OfScript, BadLimits, Price, Load, Graph, NoSeat}
-use Rattle.topo_settings.specs.declared.fault.RunFault.TheVariants.{Mismatch, WrongReply, WrongPicture, ReadFault, WriteFault}
-use Rattle.topo_settings.specs.Limiting.{AreLimits}
-use Rattle.topo_settings.specs.Reading.{HasFailed, ReaderState, Spells, SpellsNone}
-use Rattle.topo_settings.specs.Settings.{IsSound, IsUnsound, priced, start_of}
-use Rattle.topo_settings.specs.Writing.{AppendsPart}
+use Rattle.topo_io.specs.declared.fault.RunFault.{RunFault}
+use Rattle.topo_io.specs.declared.fault.RunFault.TheVariants.{Memory, Script as OfScript, BadLimits, Price, Load, Graph, NoSeat}
+use Rattle.topo_io.specs.declared.fault.RunFault.TheVariants.{Mismatch, WrongReply, WrongPicture, ReadFault, WriteFault}
+use Rattle.topo_io.specs.Limiting.{AreLimits}
+use Rattle.topo_io.specs.Reading.{HasFailed, ReaderState, Spells, SpellsNone}
+use Rattle.topo_io.specs.Settings.{IsSound, IsUnsound, priced, start_of}
+use Rattle.topo_io.specs.Writing.{AppendsPart}
 
 -- ---- What a run makes
 

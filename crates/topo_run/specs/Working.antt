@@ -4,8 +4,8 @@ use Rattle.topo_core.specs.declared.calls.Command.{Command}
 use Rattle.topo_core.specs.declared.calls.Entry.{Entry}
 use Rattle.topo_core.specs.History.{call_of}
 use Rattle.topo_service.specs.Passes.{PassState}
-use Rattle.topo_settings.specs.declared.fault.RunFault.{RunFault}
-use Rattle.topo_settings.specs.declared.fault.RunFault.TheVariants.{Memory, NoSeat, Mismatch}
+use Rattle.topo_io.specs.declared.fault.RunFault.{RunFault}
+use Rattle.topo_io.specs.declared.fault.RunFault.TheVariants.{Memory, NoSeat, Mismatch}
 
 -- the pass at each place has this place as its number, and no receipt
 abbrev pub AreOpened : List PassState → Type 0

@@ -15,7 +15,7 @@ use topo_core::calls::{Call, Command, Reply};
 use topo_picture::Picture;
 use topo_price::tariff::{PriceFn, Tariff};
 use topo_service::{Gate, between};
-use topo_settings::RunFault;
+use topo_io::RunFault;
 
 /// The call that a command makes.
 fn call_of(command: Command) -> Call

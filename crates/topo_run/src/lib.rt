@@ -13,7 +13,7 @@ pub mod gate;
 mod outcome;
 pub mod run;
 pub mod scripts;
-mod serving;
+mod passes;
 
 pub use gate::OpenGate;
 pub use run::run_io;

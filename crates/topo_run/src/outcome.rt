@@ -8,7 +8,7 @@ use topo_core::calls::Entry;
 use topo_core::listed::Listed;
 use topo_core::rows::Rows;
 use topo_price::tariff::PriceFn;
-use topo_settings::RunFault;
+use topo_io::RunFault;
 
 /// A history, and the picture at its end.
 #[derive(Drop)]

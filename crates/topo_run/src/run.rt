@@ -9,8 +9,8 @@ ghost use Rattle.topo_run.specs.Runs.{FailsBy, FailsRun, IsDone, IsFaultOfBytes}
 ghost use Rattle.topo_run.specs.Runs.{IsLineOfBytes, IsRunLine, ShowsRun};
 ghost use Rattle.topo_run.specs.Working.{IsOfRun};
 ghost use Rattle.topo_script.specs.ReportTexts.{report_text};
-ghost use Rattle.topo_settings.specs.Reading.{most_calls};
-ghost use Rattle.topo_settings.specs.Settings.{price_table, start_of};
+ghost use Rattle.topo_io.specs.Reading.{most_calls};
+ghost use Rattle.topo_io.specs.Settings.{price_table, start_of};
 
 use crate::scripts::priced_report;
 use std::alloc::{AllocError, Global};
@@ -23,10 +23,10 @@ use topo_picture::Picture;
 use topo_price::table::PriceTable;
 use topo_script::report;
 use topo_service::Gate;
-use topo_settings::RunFault;
-use topo_settings::reading::{CountedReader, read_bytes};
-use topo_settings::settings::validate;
-use topo_settings::writing::write_text;
+use topo_io::RunFault;
+use topo_io::reading::{CountedReader, read_bytes};
+use topo_io::settings::validate;
+use topo_io::writing::write_text;
 
 /// Reads a script, carries out its lists on its start under its limits and at its prices, and
 /// writes the text of the report and a line feed. Each list has a thread of its own, or its turn

@@ -7,10 +7,10 @@ ghost use Rattle.topo_price.specs.Prices.{IsPromise};
 ghost use Rattle.topo_run.specs.Headings.{IsReportBelow};
 ghost use Rattle.topo_run.specs.Runs.{FailsRun, IsReportFrom, IsReportOf};
 ghost use Rattle.topo_run.specs.Working.{IsOfRun};
-ghost use Rattle.topo_settings.specs.Limiting.{AreLimits};
-ghost use Rattle.topo_settings.specs.Settings.{AnswersPrices, price_table, start_of};
+ghost use Rattle.topo_io.specs.Limiting.{AreLimits};
+ghost use Rattle.topo_io.specs.Settings.{AnswersPrices, price_table, start_of};
 
-use crate::serving::run_lists;
+use crate::passes::run_lists;
 use std::alloc::{AllocError, Global};
 use std::sync::{Arc, Wait};
 use std::thread::Threads;
@@ -23,8 +23,8 @@ use topo_picture::Picture;
 use topo_price::table::PriceTable;
 use topo_price::tariff::{PriceFn, Tariff};
 use topo_service::Gate;
-use topo_settings::RunFault;
-use topo_settings::settings::validate;
+use topo_io::RunFault;
+use topo_io::settings::validate;
 
 /// For programs that have a script as a value and a price closure of their own; no command calls
 /// it.

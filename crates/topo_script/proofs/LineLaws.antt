@@ -13,7 +13,7 @@ use Rattle.topo_script.specs.declared.fault.ScriptFault.{ScriptFault}
 use Rattle.topo_script.specs.declared.fault.ScriptFault.TheVariants.{Memory, BadShape}
 use Rattle.topo_script.specs.declared.path.Key.{Key}
 use Rattle.topo_script.specs.declared.path.Key.TheVariants.{Call, Limits, Open, Planarize, Prices, Reopen, Start, Version}
-use Rattle.topo_script.specs.declared.path.Path.{Path}
+use Rattle.topo_script.specs.declared.path.JsonPath.{JsonPath}
 use Rattle.topo_script.specs.declared.lines.Asked.{Asked}
 use Rattle.topo_script.specs.declared.lines.Frame.{Frame}
 use Rattle.topo_script.specs.declared.lines.Frame.TheVariants.{Opening as AsOpening, Envelope}
@@ -34,11 +34,11 @@ use Rattle.topo_script.proofs.Steps.{went}
 
 -- ---- Ids
 
-pub text_there : (path : Path) (d : Data) {text : List ℕ} (r : Read LineId) → Some text ≡ as_str d → Gives r (text_id path text) → Gives r (id_form path d)
+pub text_there : (path : JsonPath) (d : Data) {text : List ℕ} (r : Read LineId) → Some text ≡ as_str d → Gives r (text_id path text) → Gives r (id_form path d)
 unfolding id_form
 text_there path d r is h = rw (sym is) h
 
-pub no_text_there : (path : Path) (d : Data) (r : Read LineId) → None ≡ as_str d → Gives r (number_id path d) → Gives r (id_form path d)
+pub no_text_there : (path : JsonPath) (d : Data) (r : Read LineId) → None ≡ as_str d → Gives r (number_id path d) → Gives r (id_form path d)
 unfolding id_form
 no_text_there path d r is h = rw (sym is) h
 
@@ -104,7 +104,7 @@ unknown_name required optional name (member other d ms) r o known =
         subst (λ n. (is_known required n || is_known optional n) ≡ false) same (rw (r, o) refl) in
         absurd cc
 
-has_keys_by : (required optional : List Key) (path : Path) (key : Key) (ms : Members) (b : Bool) → all_known required optional ms ≡ b
+has_keys_by : (required optional : List Key) (path : JsonPath) (key : Key) (ms : Members) (b : Bool) → all_known required optional ms ≡ b
     → is_known required (key_name key) ≡ false → is_known optional (key_name key) ≡ false → has_keys path required optional (object ms) ≡ Ok tt
     → has_key key (object ms) ≡ false
 unfolding has_keys and_then
@@ -113,7 +113,7 @@ has_keys_by required optional path key ms false e r o h =
     let wrong = subst (λ b. and_then (passes (BadShape path) b) (λ _. all_there path required (object ms)) ≡ Ok tt) e h in absurd cc
 
 -- what has these keys alone has no other one
-other_key : (required optional : List Key) (path : Path) (key : Key) (d : Data) → is_known required (key_name key) ≡ false
+other_key : (required optional : List Key) (path : JsonPath) (key : Key) (d : Data) → is_known required (key_name key) ≡ false
     → is_known optional (key_name key) ≡ false → has_keys path required optional d ≡ Ok tt → has_key key d ≡ false
 other_key required optional path key (object ms) r o h = has_keys_by required optional path key ms (all_known required optional ms) refl r o h
 other_key required optional path key _ r o h = refl
@@ -126,7 +126,7 @@ unfolding and_then
 went_back (Ok a) next b e = (a, refl, e)
 went_back (Err fault) next b e = absurd cc
 
-opening_keys : (path : Path) (d : Data) (o : Opening) → opening_form path d ≡ Ok o
+opening_keys : (path : JsonPath) (d : Data) (o : Opening) → opening_form path d ≡ Ok o
     → has_keys path (Version ∷ []) (Limits ∷ Prices ∷ Start ∷ []) d ≡ Ok tt
 unfolding opening_form
 opening_keys path d o e =
@@ -134,7 +134,7 @@ opening_keys path d o e =
     let keys = went_back (has_keys path (Version ∷ []) (Limits ∷ Prices ∷ Start ∷ []) d) _ o nulls.2 in
     keys.1
 
-no_text_opens : (text : List ℕ) (path : Path) (d : Data) (o : Opening) → opening_form path d ≡ Ok o → is_text text d ≡ false
+no_text_opens : (text : List ℕ) (path : JsonPath) (d : Data) (o : Opening) → opening_form path d ≡ Ok o → is_text text d ≡ false
 unfolding opening_form nulls_in and_then
 no_text_opens text path (string s) o e = absurd cc
 no_text_opens text path _ o e = refl
@@ -170,12 +170,12 @@ first_tokens bytes o e = inr (sym (first_found (value_of 268435456 bytes) o e))
 -- ---- Commands
 
 -- a command is an array, and no text and no object
-no_text : (text : List ℕ) (path : Path) (d : Data) (command : Command) → command_form path d ≡ Ok command → is_text text d ≡ false
+no_text : (text : List ℕ) (path : JsonPath) (d : Data) (command : Command) → command_form path d ≡ Ok command → is_text text d ≡ false
 unfolding command_form plain_form call_form and_then
 no_text text path (string s) command e = absurd cc
 no_text text path _ command e = refl
 
-no_key : (key : Key) (path : Path) (d : Data) (command : Command) → command_form path d ≡ Ok command → has_key key d ≡ false
+no_key : (key : Key) (path : JsonPath) (d : Data) (command : Command) → command_form path d ≡ Ok command → has_key key d ≡ false
 unfolding command_form plain_form call_form and_then
 no_key key path (object ms) command e = absurd cc
 no_key key path _ command e = refl
@@ -206,7 +206,7 @@ record IsNoCommand (word : List ℕ) : Type 0 where
   pub insert : bytes_eq (codes "insert") word ≡ false
   pub delete : bytes_eq (codes "delete") word ≡ false
 
-no_word : (word : List ℕ) (n : ℕ) (path : Path) (d : Data) (command : Command) → IsNoCommand word → command_form path d ≡ Ok command → begins word n d ≡ false
+no_word : (word : List ℕ) (n : ℕ) (path : JsonPath) (d : Data) (command : Command) → IsNoCommand word → command_form path d ≡ Ok command → begins word n d ≡ false
 unfolding command_form plain_form call_form and_then
 no_word word n path d command is e = by_planned (begins (codes "planned") 4 d) refl
   where
@@ -228,7 +228,7 @@ no_word word n path d command is e = by_planned (begins (codes "planned") 4 d) r
     by_planned true h = one_word (codes "planned") word 4 n d h is.planned
     by_planned false h = by_grow (begins (codes "grow") 4 d) refl h
 
-pub carry_read : (path : Path) (d : Data) (command : Command) → command_form path d ≡ Ok command → request_form path d ≡ Ok (Carry command)
+pub carry_read : (path : JsonPath) (d : Data) (command : Command) → command_form path d ≡ Ok command → request_form path d ≡ Ok (Carry command)
 unfolding request_form look_form carry_form
 carry_read path d command e =
     let apart : (word : List ℕ) → IsNoCommand word → (n : ℕ) → begins word n d ≡ false = λ word is n. no_word word n path d command is e in
@@ -257,7 +257,7 @@ passed fault true e = refl
 passed fault false e = absurd cc
 
 -- what has this key alone has it
-key_there : (path : Path) (key : Key) (d : Data) → has_keys path (key ∷ []) [] d ≡ Ok tt → has_key key d ≡ true
+key_there : (path : JsonPath) (key : Key) (d : Data) → has_keys path (key ∷ []) [] d ≡ Ok tt → has_key key d ≡ true
 unfolding has_keys
 key_there path key d h =
     let members = went_back (due (BadShape path) (as_object d)) _ tt h in
@@ -265,7 +265,7 @@ key_there path key d h =
     passed (BadShape (member_of path key)) (has_key key d) known.2
 
 -- what asks by its key has one of the three keys, and is no envelope
-keyed_keys : (path : Path) (d : Data) (request : Request) → keyed_form path d ≡ Ok request → (is_keyed d ≡ true) × (has_key Call d ≡ false)
+keyed_keys : (path : JsonPath) (d : Data) (request : Request) → keyed_form path d ≡ Ok request → (is_keyed d ≡ true) × (has_key Call d ≡ false)
 unfolding keyed_form open_form reopen_form planarize_form
 keyed_keys path d request e = by (has_key Open d) refl e
   where
@@ -285,7 +285,7 @@ keyed_keys path d request e = by (has_key Open d) refl e
         (rw h refl, other_key (Open ∷ []) [] path Call d refl refl keys.1)
     by false h e = by_reopen (has_key Reopen d) refl h e
 
-pub keyed_read : (path : Path) (d : Data) (request : Request) → keyed_form path d ≡ Ok request → request_form path d ≡ Ok request
+pub keyed_read : (path : JsonPath) (d : Data) (request : Request) → keyed_form path d ≡ Ok request → request_form path d ≡ Ok request
 unfolding request_form look_form
 keyed_read path (object ms) request e = rw (keyed_keys path (object ms) request e).0 e
 keyed_read path d request e = let none = (keyed_keys path d request e).0 in absurd cc
@@ -333,7 +333,7 @@ object_bytes first bytes line is e =
 -- ---- Requests
 
 -- no request is an envelope
-no_envelope : (path : Path) (d : Data) (request : Request) → request_form path d ≡ Ok request → has_key Call d ≡ false
+no_envelope : (path : JsonPath) (d : Data) (request : Request) → request_form path d ≡ Ok request → has_key Call d ≡ false
 unfolding request_form look_form carry_form command_form plain_form call_form and_then
 no_envelope path (object ms) request e = by (is_keyed (object ms)) refl e
   where

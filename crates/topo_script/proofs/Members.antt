@@ -6,7 +6,7 @@ use Rattle.std.specs.Cmp.Lexicographic.{slice_cmp}
 use Rattle.serde_json.specs.Data.{Data, object, Members}
 use Rattle.serde_json.specs.Find.{get, get_member}
 use Rattle.topo_script.specs.declared.path.Key.{Key}
-use Rattle.topo_script.specs.declared.path.Path.{Path}
+use Rattle.topo_script.specs.declared.path.JsonPath.{JsonPath}
 use Rattle.topo_script.specs.Paths.{key_name}
 use Rattle.topo_script.specs.Reads.{all_known, all_there, and_then, has_keys, is_known}
 use Rattle.topo_script.specs.Slots.{members_of}
@@ -51,11 +51,11 @@ known_members required optional (k ∷ ks) (Some d ∷ os) known =
     let parts = and_parts (is_known required (key_name k) || is_known optional (key_name k)) (are_known required optional ks) known in
     rw (parts.0, known_members required optional ks os parts.1)
 
-pub one_there : (path : Path) (k : Key) (ks : List Key) (d value : Data) → get (key_name k) d ≡ Some value → all_there path ks d ≡ Ok tt
+pub one_there : (path : JsonPath) (k : Key) (ks : List Key) (d value : Data) → get (key_name k) d ≡ Some value → all_there path ks d ≡ Ok tt
     → all_there path (k ∷ ks) d ≡ Ok tt
 one_there path k ks d value found more = rw found more
 
-pub keys_there : (path : Path) (required optional ks : List Key) (os : List (Option Data)) → are_known required optional ks ≡ true
+pub keys_there : (path : JsonPath) (required optional ks : List Key) (os : List (Option Data)) → are_known required optional ks ≡ true
     → all_there path required (object (members_of ks os)) ≡ Ok tt → has_keys path required optional (object (members_of ks os)) ≡ Ok tt
 unfolding has_keys and_then
 keys_there path required optional ks os known there = rw (known_members required optional ks os known) there

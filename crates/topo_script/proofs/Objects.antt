@@ -10,7 +10,7 @@ use Rattle.json.specs.Json.{parse_map, read_key, value}
 use Rattle.json.proofs.Grammar.{left, value-begin_object, skip_value-shorter, read_key-shorter, members_end, members_more}
 use Rattle.serde_json.specs.Data.{Data, object, Members, no_members, member, put}
 use Rattle.topo_script.specs.declared.path.Key.{Key}
-use Rattle.topo_script.specs.declared.path.Path.{Path}
+use Rattle.topo_script.specs.declared.path.JsonPath.{JsonPath}
 use Rattle.topo_script.specs.Paths.{key_name}
 use Rattle.topo_script.specs.Reads.{Read}
 use Rattle.topo_script.specs.declared.slots.Slot.{Slot}
@@ -105,8 +105,8 @@ object_spelled {nesting} {mid} ms e more = record {
 }
 
 -- a value that a form reads
-pub value_tokens : {A : Type 0} {inner nesting : ℕ} {form : Path → Data → Read A} {ts rest : List Token} {a : A} (d : Data) → SpellsValue inner ts d rest
-    → inner ≤ nesting → ((path : Path) → form path d ≡ Ok a) → Spells nesting form ts a rest
+pub value_tokens : {A : Type 0} {inner nesting : ℕ} {form : JsonPath → Data → Read A} {ts rest : List Token} {a : A} (d : Data) → SpellsValue inner ts d rest
+    → inner ≤ nesting → ((path : JsonPath) → form path d ≡ Ok a) → Spells nesting form ts a rest
 value_tokens d v within read = record {
   written = v.written;
   spelled = d;
@@ -116,7 +116,7 @@ value_tokens d v within read = record {
 }
 
 -- what a form reads is a value
-pub tokens_value : {A : Type 0} {inner nesting : ℕ} {form : Path → Data → Read A} {ts rest : List Token} {a : A} (s : Spells inner form ts a rest)
+pub tokens_value : {A : Type 0} {inner nesting : ℕ} {form : JsonPath → Data → Read A} {ts rest : List Token} {a : A} (s : Spells inner form ts a rest)
     → inner ≤ nesting → SpellsValue nesting ts s.spelled rest
 tokens_value s within = record { written = s.written; begins = λ depth le. s.begins depth (omega arith); means = s.means }
 
@@ -135,7 +135,7 @@ pub none_more : (values : List (Option Data)) → ((keys : List Key) → members
 none_more values none [] = refl
 none_more values none (k ∷ ks) = none ks
 
-module _ {A R : Type 0} (form : Path → Data → Read A) (holds : R → List (Option Data) → Type 0) where
+module _ {A R : Type 0} (form : JsonPath → Data → Read A) (holds : R → List (Option Data) → Type 0) where
   -- a value goes into a slot that was empty
   pub filled_here : {inner nesting : ℕ} {keys more : List Key} {k : Key} {ts mid after : List Token} {value : A} (rest : R) (found : Option A)
       → keys ≡ k ∷ more → ts ≡ key (key_name k) ∷ mid → is_some found ≡ false → Spells inner form mid value after → inner ≤ nesting → (os : List (Option Data))
@@ -174,18 +174,18 @@ module _ {A R : Type 0} (form : Path → Data → Read A) (holds : R → List (O
       }
 
 -- the first of the values is there, and the form reads it as `a`; the others follow
-pub record IsDue {A : Type 0} (form : Path → Data → Read A) (a : A) (os ps : List (Option Data)) : Type 0 where
+pub record IsDue {A : Type 0} (form : JsonPath → Data → Read A) (a : A) (os ps : List (Option Data)) : Type 0 where
   pub spelled : Data
   pub is : os ≡ Some spelled ∷ ps
-  pub reads : (path : Path) → form path spelled ≡ Ok a
+  pub reads : (path : JsonPath) → form path spelled ≡ Ok a
 
 -- the same, with what the slots behind hold
-pub record Due {A R : Type 0} (form : Path → Data → Read A) (holds : R → List (Option Data) → Type 0) (a : A) (r : R) (os : List (Option Data)) : Type 0 where
+pub record Due {A R : Type 0} (form : JsonPath → Data → Read A) (holds : R → List (Option Data) → Type 0) (a : A) (r : R) (os : List (Option Data)) : Type 0 where
   pub values : List (Option Data)
   pub first : IsDue form a os values
   pub held : holds r values
 
-module _ {A R : Type 0} (form : Path → Data → Read A) (holds : R → List (Option Data) → Type 0) where
+module _ {A R : Type 0} (form : JsonPath → Data → Read A) (holds : R → List (Option Data) → Type 0) where
   due_found : {a : A} {r rest : R} (found : Option A) → found ≡ Some a → rest ≡ r → (os : List (Option Data)) → HoldsSlot form holds found rest os
       → Due form holds a r os
   unfolding HoldsSlot
@@ -205,7 +205,7 @@ module _ {A R : Type 0} (form : Path → Data → Read A) (holds : R → List (O
   due_held {slot} {os} e held = due_found slot.found e.0 e.1 os held
 
 -- the first three of the values are there, with what the slots behind hold
-pub record ThreeDue {A B C R : Type 0} (f : Path → Data → Read A) (g : Path → Data → Read B) (h : Path → Data → Read C)
+pub record ThreeDue {A B C R : Type 0} (f : JsonPath → Data → Read A) (g : JsonPath → Data → Read B) (h : JsonPath → Data → Read C)
     (holds : R → List (Option Data) → Type 0) (a : A) (b : B) (c : C) (r : R) (os : List (Option Data)) : Type 0 where
   pub after_first : List (Option Data)
   pub after_second : List (Option Data)
@@ -216,10 +216,10 @@ pub record ThreeDue {A B C R : Type 0} (f : Path → Data → Read A) (g : Path 
   pub held : holds r values
 
 -- what a slot holds, and what those behind it hold
-abbrev pub held_by : {A R : Type 0} → (Path → Data → Read A) → (R → List (Option Data) → Type 0) → Slot A R → List (Option Data) → Type 0
+abbrev pub held_by : {A R : Type 0} → (JsonPath → Data → Read A) → (R → List (Option Data) → Type 0) → Slot A R → List (Option Data) → Type 0
 held_by form holds slot os = HoldsSlot form holds slot.found slot.rest os
 
-module _ {A B C R : Type 0} (f : Path → Data → Read A) (g : Path → Data → Read B) (h : Path → Data → Read C) (holds : R → List (Option Data) → Type 0) where
+module _ {A B C R : Type 0} (f : JsonPath → Data → Read A) (g : JsonPath → Data → Read B) (h : JsonPath → Data → Read C) (holds : R → List (Option Data) → Type 0) where
   pub three_held : {a : A} {b : B} {c : C} {r : R} {slot : Slot A (Slot B (Slot C R))} {os : List (Option Data)}
       → (slot.found ≡ Some a) × (slot.rest.found ≡ Some b) × (slot.rest.rest.found ≡ Some c) × (slot.rest.rest.rest ≡ r)
       → held_by f (held_by g (held_by h holds)) slot os → ThreeDue f g h holds a b c r os
@@ -237,45 +237,45 @@ module _ {A B C R : Type 0} (f : Path → Data → Read A) (g : Path → Data �
       }
 
 -- the last slot
-pub due_last : {A R : Type 0} {form : Path → Data → Read A} {a : A} {r : R} {os : List (Option Data)} → Due form (λ q ps. ps ≡ []) a r os → IsDue form a os []
+pub due_last : {A R : Type 0} {form : JsonPath → Data → Read A} {a : A} {r : R} {os : List (Option Data)} → Due form (λ q ps. ps ≡ []) a r os → IsDue form a os []
 due_last {form} {a} {os} due = subst (IsDue form a os) due.held due.first
 
 -- the third of three slots, where none is behind
-pub last : {A B C R : Type 0} {f : Path → Data → Read A} {g : Path → Data → Read B} {h : Path → Data → Read C} {a : A} {b : B} {c : C} {r : R}
+pub last : {A B C R : Type 0} {f : JsonPath → Data → Read A} {g : JsonPath → Data → Read B} {h : JsonPath → Data → Read C} {a : A} {b : B} {c : C} {r : R}
     {os : List (Option Data)} (three : ThreeDue f g h (λ q ps. ps ≡ []) a b c r os) → IsDue h c three.after_second []
 last {h} {c} three = subst (IsDue h c three.after_second) three.held three.third
 
 -- one value more at the front
-pub then : {A : Type 0} {form : Path → Data → Read A} {a : A} {os ps qs : List (Option Data)} (due : IsDue form a os ps) → ps ≡ qs → os ≡ Some due.spelled ∷ qs
+pub then : {A : Type 0} {form : JsonPath → Data → Read A} {a : A} {os ps qs : List (Option Data)} (due : IsDue form a os ps) → ps ≡ qs → os ≡ Some due.spelled ∷ qs
 then due e = due.is ∙ ap (λ ps. Some due.spelled ∷ ps) e
 
 -- an object with these values, which a form reads
-pub object_tokens : {A : Type 0} {n nesting : ℕ} {form : Path → Data → Read A} {ts rest : List Token} {a : A} {os : List (Option Data)}
+pub object_tokens : {A : Type 0} {n nesting : ℕ} {form : JsonPath → Data → Read A} {ts rest : List Token} {a : A} {os : List (Option Data)}
     (keys : List Key) (values : List (Option Data)) → SpellsValue n ts (object (members_of keys os)) rest → n ≤ nesting → os ≡ values
-    → ((path : Path) → form path (object (members_of keys values)) ≡ Ok a) → Spells nesting form ts a rest
+    → ((path : JsonPath) → form path (object (members_of keys values)) ≡ Ok a) → Spells nesting form ts a rest
 object_tokens {n} {ts} {rest} keys values v within are read =
     value_tokens (object (members_of keys values)) (subst (λ ps. SpellsValue n ts (object (members_of keys ps)) rest) are v) within read
 
 -- ---- Slots that may be empty
 
 -- the first of the values is what the form reads as `o`, if there is one; the others follow
-pub record IsMaybe {A : Type 0} (form : Path → Data → Read A) (o : Option A) (os ps : List (Option Data)) : Type 0 where
+pub record IsMaybe {A : Type 0} (form : JsonPath → Data → Read A) (o : Option A) (os ps : List (Option Data)) : Type 0 where
   pub spelled : Option Data
   pub is : os ≡ spelled ∷ ps
   pub read : IsHeld form o spelled
 
-pub record Maybe {A R : Type 0} (form : Path → Data → Read A) (holds : R → List (Option Data) → Type 0)
+pub record Maybe {A R : Type 0} (form : JsonPath → Data → Read A) (holds : R → List (Option Data) → Type 0)
     (o : Option A) (r : R) (os : List (Option Data)) : Type 0 where
   pub values : List (Option Data)
   pub first : IsMaybe form o os values
   pub held : holds r values
 
-module _ {A R : Type 0} (form : Path → Data → Read A) (holds : R → List (Option Data) → Type 0) where
+module _ {A R : Type 0} (form : JsonPath → Data → Read A) (holds : R → List (Option Data) → Type 0) where
   pub maybe_held : {o : Option A} {r : R} (os : List (Option Data)) → HoldsSlot form holds o r os → Maybe form holds o r os
   unfolding HoldsSlot
   maybe_held [] held = absurd held
   maybe_held (d ∷ os) held = record { values = os; first = record { spelled = d; is = refl; read = held.0 }; held = held.1 }
 
 -- one value more at the front, if there is one
-pub maybe : {A : Type 0} {form : Path → Data → Read A} {o : Option A} {os ps qs : List (Option Data)} (m : IsMaybe form o os ps) → ps ≡ qs → os ≡ m.spelled ∷ qs
+pub maybe : {A : Type 0} {form : JsonPath → Data → Read A} {o : Option A} {os ps qs : List (Option Data)} (m : IsMaybe form o os ps) → ps ≡ qs → os ≡ m.spelled ∷ qs
 maybe m e = m.is ∙ ap (λ ps. m.spelled ∷ ps) e

@@ -18,7 +18,7 @@ use Rattle.topo_core.specs.declared.darts.Way.{Way}
 use Rattle.topo_core.specs.declared.darts.Way.TheVariants.{Forward, Back}
 use Rattle.topo_core.specs.declared.routes.Inserted.{Inserted as Made}
 use Rattle.topo_script.specs.declared.path.Key.TheVariants as key
-use Rattle.topo_script.specs.declared.path.Path.{Path}
+use Rattle.topo_script.specs.declared.path.JsonPath.{JsonPath}
 use Rattle.topo_script.specs.declared.scripts.LimitRows.{LimitRows}
 use Rattle.topo_script.specs.declared.reports.Report.{Report}
 use Rattle.topo_script.specs.declared.fault.ScriptFault.TheVariants.{BadShape}
@@ -40,20 +40,20 @@ use Rattle.topo_core.specs.declared.rows.TheConstants.{KINDS}
 
 -- ---- Forms
 
-long_back : (path : Path) (n : ℕ) → n < 2 ^ 64 → long_form path (number_data n) ≡ Ok n
+long_back : (path : JsonPath) (n : ℕ) → n < 2 ^ 64 → long_form path (number_data n) ≡ Ok n
 unfolding number_below and_then
 long_back path n h = rw (lt-ltb n (2 ^ 64) h)
 
-element_back : {A : Type 0} (form : Path → Data → Read A) (path : Path) (i : ℕ) (d found : Data) (x : A)
+element_back : {A : Type 0} (form : JsonPath → Data → Read A) (path : JsonPath) (i : ℕ) (d found : Data) (x : A)
     → at i d ≡ Some found → form (element_of path i) found ≡ Ok x → element form path i d ≡ Ok x
 unfolding element and_then
 element_back form path i d found x there h = rw there h
 
-limits_keys : (path : Path) (limits : LimitRows) → has_keys path (key.Crossings ∷ key.Edges ∷ key.Vertices ∷ []) [] (limits_data limits) ≡ Ok tt
+limits_keys : (path : JsonPath) (limits : LimitRows) → has_keys path (key.Crossings ∷ key.Edges ∷ key.Vertices ∷ []) [] (limits_data limits) ≡ Ok tt
 unfolding has_keys and_then
 limits_keys path limits = refl
 
-limits_back : (path : Path) (limits : LimitRows) → LimitsFit limits → limits_form path (limits_data limits) ≡ Ok limits
+limits_back : (path : JsonPath) (limits : LimitRows) → LimitsFit limits → limits_form path (limits_data limits) ≡ Ok limits
 unfolding limits_form
 limits_back path limits h =
     went _ _ tt (limits_keys path limits)
@@ -62,7 +62,7 @@ limits_back path limits h =
     ∙ went _ _ limits.edges (member_back number_form path key.Edges (limits_data limits) _ limits.edges refl (short_back _ limits.edges h.edges))
     ∙ went _ _ limits.vertices (member_back number_form path key.Vertices (limits_data limits) _ limits.vertices refl (short_back _ limits.vertices h.vertices))
 
-grow_back : (path : Path) (u position kind : ℕ) → CallFits (Grow u position kind)
+grow_back : (path : JsonPath) (u position kind : ℕ) → CallFits (Grow u position kind)
     → grow_form path (call_data (Grow u position kind)) ≡ Ok (Grow u position kind)
 unfolding grow_form
 grow_back path u position kind h =
@@ -71,7 +71,7 @@ grow_back path u position kind h =
     ∙ went _ _ position (element_back number_form path 2 d _ position refl (short_back _ position h.1))
     ∙ went _ _ kind (element_back number_form path 3 d _ kind refl (short_back _ kind h.2))
 
-insert_back : (path : Path) (u v kind : ℕ) → CallFits (Insert u v kind) → insert_form path (call_data (Insert u v kind)) ≡ Ok (Insert u v kind)
+insert_back : (path : JsonPath) (u v kind : ℕ) → CallFits (Insert u v kind) → insert_form path (call_data (Insert u v kind)) ≡ Ok (Insert u v kind)
 unfolding insert_form
 insert_back path u v kind h =
     let d = call_data (Insert u v kind) in
@@ -79,22 +79,22 @@ insert_back path u v kind h =
     ∙ went _ _ v (element_back number_form path 2 d _ v refl (short_back _ v h.1))
     ∙ went _ _ kind (element_back number_form path 3 d _ kind refl (short_back _ kind h.2))
 
-delete_back : (path : Path) (edge : ℕ) → edge < 2 ^ 32 → delete_form path (call_data (Delete edge)) ≡ Ok (Delete edge)
+delete_back : (path : JsonPath) (edge : ℕ) → edge < 2 ^ 32 → delete_form path (call_data (Delete edge)) ≡ Ok (Delete edge)
 unfolding delete_form
 delete_back path edge h = went _ _ edge (element_back number_form path 1 (call_data (Delete edge)) _ edge refl (short_back _ edge h))
 
-call_back : (path : Path) (call : Call) → CallFits call → call_form path (call_data call) ≡ Ok call
+call_back : (path : JsonPath) (call : Call) → CallFits call → call_form path (call_data call) ≡ Ok call
 unfolding call_form
 call_back path (Grow u position kind) h = grow_back path u position kind h
 call_back path (Insert u v kind) h = insert_back path u v kind h
 call_back path (Delete edge) h = delete_back path edge h
 
-way_back : (path : Path) (way : Way) → way_form path (way_data way) ≡ Ok way
+way_back : (path : JsonPath) (way : Way) → way_form path (way_data way) ≡ Ok way
 unfolding way_form
 way_back path Forward = refl
 way_back path Back = refl
 
-dart_back : (path : Path) (d : Dart) → DartFits d → dart_form path (dart_data d) ≡ Ok d
+dart_back : (path : JsonPath) (d : Dart) → DartFits d → dart_form path (dart_data d) ≡ Ok d
 unfolding dart_form
 dart_back path d h =
     went _ _ tt refl
@@ -102,11 +102,11 @@ dart_back path d h =
     ∙ went _ _ d.seg (element_back number_form path 1 (dart_data d) _ d.seg refl (short_back _ d.seg h.seg))
     ∙ went _ _ d.way (element_back way_form path 2 (dart_data d) _ d.way refl (way_back _ d.way))
 
-cut_back : (path : Path) (segment : ℕ) → segment < 2 ^ 32 → cut_form path (refusal_data (Cut segment)) ≡ Ok (Cut segment)
+cut_back : (path : JsonPath) (segment : ℕ) → segment < 2 ^ 32 → cut_form path (refusal_data (Cut segment)) ≡ Ok (Cut segment)
 unfolding cut_form
 cut_back path segment h = went _ _ segment (element_back number_form path 2 (refusal_data (Cut segment)) _ segment refl (short_back _ segment h))
 
-refusal_back : (path : Path) (why : Refusal) → RefusalFits why → refusal_form path (refusal_data why) ≡ Ok why
+refusal_back : (path : JsonPath) (why : Refusal) → RefusalFits why → refusal_form path (refusal_data why) ≡ Ok why
 unfolding plain_refusal
 refusal_back path NoVertex h = refl
 refusal_back path SameEnds h = refl
@@ -118,43 +118,43 @@ refusal_back path Full h = refl
 refusal_back path Memory h = absurd h
 refusal_back path NoRoute h = refl
 
-deleted_keys : (path : Path) (edge : ℕ) → has_keys path (key.Deleted ∷ []) [] (reply_data (Deleted edge)) ≡ Ok tt
+deleted_keys : (path : JsonPath) (edge : ℕ) → has_keys path (key.Deleted ∷ []) [] (reply_data (Deleted edge)) ≡ Ok tt
 unfolding has_keys and_then
 deleted_keys path edge = refl
 
-deleted_back : (path : Path) (edge : ℕ) → edge < 2 ^ 32 → deleted_form path (reply_data (Deleted edge)) ≡ Ok (Deleted edge)
+deleted_back : (path : JsonPath) (edge : ℕ) → edge < 2 ^ 32 → deleted_form path (reply_data (Deleted edge)) ≡ Ok (Deleted edge)
 unfolding deleted_form
 deleted_back path edge h = went _ _ tt (deleted_keys path edge)
     ∙ went _ _ edge (member_back number_form path key.Deleted (reply_data (Deleted edge)) _ edge refl (short_back _ edge h))
 
-refused_keys : (path : Path) (why : Refusal) → has_keys path (key.Refused ∷ []) [] (reply_data (Refused why)) ≡ Ok tt
+refused_keys : (path : JsonPath) (why : Refusal) → has_keys path (key.Refused ∷ []) [] (reply_data (Refused why)) ≡ Ok tt
 unfolding has_keys and_then
 refused_keys path why = refl
 
-refused_back : (path : Path) (why : Refusal) → RefusalFits why → refused_form path (reply_data (Refused why)) ≡ Ok (Refused why)
+refused_back : (path : JsonPath) (why : Refusal) → RefusalFits why → refused_form path (reply_data (Refused why)) ≡ Ok (Refused why)
 unfolding refused_form
 refused_back path why h = went _ _ tt (refused_keys path why)
     ∙ went _ _ why (member_back refusal_form path key.Refused (reply_data (Refused why)) _ why refl (refusal_back _ why h))
 
-grown_keys : (path : Path) (vertex edge : ℕ) → has_keys path (key.Edge ∷ key.Vertex ∷ []) [] (reply_data (Grown vertex edge)) ≡ Ok tt
+grown_keys : (path : JsonPath) (vertex edge : ℕ) → has_keys path (key.Edge ∷ key.Vertex ∷ []) [] (reply_data (Grown vertex edge)) ≡ Ok tt
 unfolding has_keys and_then
 grown_keys path vertex edge = refl
 
-grown_back : (path : Path) (vertex edge : ℕ) → (vertex < 2 ^ 32) → (edge < 2 ^ 32) → grown_form path (reply_data (Grown vertex edge)) ≡ Ok (Grown vertex edge)
+grown_back : (path : JsonPath) (vertex edge : ℕ) → (vertex < 2 ^ 32) → (edge < 2 ^ 32) → grown_form path (reply_data (Grown vertex edge)) ≡ Ok (Grown vertex edge)
 unfolding grown_form
 grown_back path vertex edge h k =
     went _ _ tt (grown_keys path vertex edge)
     ∙ went _ _ edge (member_back number_form path key.Edge (reply_data (Grown vertex edge)) _ edge refl (short_back _ edge k))
     ∙ went _ _ vertex (member_back number_form path key.Vertex (reply_data (Grown vertex edge)) _ vertex refl (short_back _ vertex h))
 
-inserted_keys : (path : Path) (made : Made) → has_keys path (key.Crossed ∷ key.Edge ∷ key.End ∷ key.Price ∷ key.Start ∷ []) [] (inserted_data made) ≡ Ok tt
+inserted_keys : (path : JsonPath) (made : Made) → has_keys path (key.Crossed ∷ key.Edge ∷ key.End ∷ key.Price ∷ key.Start ∷ []) [] (inserted_data made) ≡ Ok tt
 unfolding has_keys and_then
 inserted_keys path made = refl
 
-inserted_back : (path : Path) (made : Made) → InsertedFits made → inserted_form path (inserted_data made) ≡ Ok (Inserted made)
+inserted_back : (path : JsonPath) (made : Made) → InsertedFits made → inserted_form path (inserted_data made) ≡ Ok (Inserted made)
 unfolding inserted_form
 inserted_back path made h =
-    let darts = all_map DartFits (λ d. (p : Path) → dart_form p (dart_data d) ≡ Ok d) made.route.crossed (λ d k p. dart_back p d k) h.crossed in
+    let darts = all_map DartFits (λ d. (p : JsonPath) → dart_form p (dart_data d) ≡ Ok d) made.route.crossed (λ d k p. dart_back p d k) h.crossed in
     went _ _ tt (inserted_keys path made)
     ∙ went _ _ made.route.crossed (member_back (list_form dart_form) path key.Crossed (inserted_data made) _ made.route.crossed refl
     (list_back dart_form dart_data _ made.route.crossed darts))
@@ -163,18 +163,18 @@ inserted_back path made h =
     ∙ went _ _ made.price (member_back long_form path key.Price (inserted_data made) _ made.price refl (long_back _ made.price h.price))
     ∙ went _ _ made.route.start (member_back number_form path key.Start (inserted_data made) _ made.route.start refl (short_back _ made.route.start h.start))
 
-reply_back : (path : Path) (reply : Reply) → ReplyFits reply → reply_form path (reply_data reply) ≡ Ok reply
+reply_back : (path : JsonPath) (reply : Reply) → ReplyFits reply → reply_form path (reply_data reply) ≡ Ok reply
 unfolding reply_form
 reply_back path (Grown vertex edge) h = grown_back path vertex edge h.0 h.1
 reply_back path (Inserted made) h = inserted_back path made h
 reply_back path (Deleted edge) h = deleted_back path edge h
 reply_back path (Refused why) h = refused_back path why h
 
-entry_keys : (path : Path) (entry : Entry) → has_keys path (key.Call ∷ key.Caller ∷ key.Reply ∷ []) [] (entry_data entry) ≡ Ok tt
+entry_keys : (path : JsonPath) (entry : Entry) → has_keys path (key.Call ∷ key.Caller ∷ key.Reply ∷ []) [] (entry_data entry) ≡ Ok tt
 unfolding has_keys and_then
 entry_keys path entry = refl
 
-pub entry_back : (path : Path) (entry : Entry) → EntryFits entry → entry_form path (entry_data entry) ≡ Ok entry
+pub entry_back : (path : JsonPath) (entry : Entry) → EntryFits entry → entry_form path (entry_data entry) ≡ Ok entry
 unfolding entry_form
 entry_back path entry h =
     went _ _ tt (entry_keys path entry)
@@ -198,33 +198,33 @@ nulls_stand nulls [] h = tt
 nulls_stand nulls (None ∷ prices) h = (h refl, nulls_stand nulls prices (λ _. h refl))
 nulls_stand nulls (Some price ∷ prices) h = (tt, nulls_stand nulls prices h)
 
-some_price_back : (path : Path) (n : ℕ) → n < 2 ^ 32 → some_price path (number_data n) ≡ Ok (Some n)
+some_price_back : (path : JsonPath) (n : ℕ) → n < 2 ^ 32 → some_price path (number_data n) ≡ Ok (Some n)
 unfolding some_price
 some_price_back path n h = went _ _ n (short_back path n h)
 
-price_back : (nulls : Bool) (path : Path) (price : Option ℕ) → MayStand nulls price → PriceFits price → price_form nulls path (price_data price) ≡ Ok price
+price_back : (nulls : Bool) (path : JsonPath) (price : Option ℕ) → MayStand nulls price → PriceFits price → price_form nulls path (price_data price) ≡ Ok price
 unfolding price_form
 price_back nulls path None stands h = rw stands
 price_back true path (Some n) stands h = some_price_back path n h
 price_back false path (Some n) stands h = some_price_back path n h
 
 both_map : (nulls : Bool) (prices : List (Option ℕ)) → AllByRecursion (MayStand nulls) prices → AllByRecursion PriceFits prices
-    → AllByRecursion (λ price. (p : Path) → price_form nulls p (price_data price) ≡ Ok price) prices
+    → AllByRecursion (λ price. (p : JsonPath) → price_form nulls p (price_data price) ≡ Ok price) prices
 both_map nulls [] h k = tt
 both_map nulls (price ∷ prices) h k = (λ p. price_back nulls p price h.0 k.0, both_map nulls prices h.1 k.1)
 
-few : (path : Path) (prices : List (Option ℕ)) → length prices ≤ KINDS
+few : (path : JsonPath) (prices : List (Option ℕ)) → length prices ≤ KINDS
     → passes (BadShape path) (nat_le (element_count (list_data price_data prices)) KINDS) ≡ Ok tt
 few path prices h = rw (items_len-items_of price_data prices, le-leb (length prices) KINDS h)
 
-kept_back : (nulls : Bool) (path : Path) (prices : List (Option ℕ)) → AllByRecursion (MayStand nulls) prices → AllByRecursion PriceFits prices
+kept_back : (nulls : Bool) (path : JsonPath) (prices : List (Option ℕ)) → AllByRecursion (MayStand nulls) prices → AllByRecursion PriceFits prices
     → length prices ≤ KINDS
     → prices_form nulls path (list_data price_data prices) ≡ Ok (without_ones prices)
 unfolding prices_form
 kept_back nulls path prices stand fit short = went _ _ tt (few path prices short)
     ∙ went _ _ prices (list_back (price_form nulls) price_data path prices (both_map nulls prices stand fit))
 
-prices_back : (nulls : Bool) (path : Path) (prices : List (Option ℕ)) → without_ones prices ≡ prices → AllByRecursion (MayStand nulls) prices
+prices_back : (nulls : Bool) (path : JsonPath) (prices : List (Option ℕ)) → without_ones prices ≡ prices → AllByRecursion (MayStand nulls) prices
     → AllByRecursion PriceFits prices → length prices ≤ KINDS
     → prices_form nulls path (prices_data prices) ≡ Ok prices
 prices_back nulls path prices kept stand fit short =
@@ -257,7 +257,7 @@ report_keys r = refl
 pub report_back : (r : Report) → ReportFits r → length r.prices ≤ KINDS → without_ones r.prices ≡ r.prices → report_form whole (report_data r) ≡ Ok r
 unfolding report_form
 report_back r h short kept =
-    let entries = all_map EntryFits (λ entry. (p : Path) → entry_form p (entry_data entry) ≡ Ok entry) r.history
+    let entries = all_map EntryFits (λ entry. (p : JsonPath) → entry_form p (entry_data entry) ≡ Ok entry) r.history
     (λ entry k p. entry_back p entry k) h.history in
     let nulls = has_null r.prices in
     went _ _ nulls (nulls_back r)

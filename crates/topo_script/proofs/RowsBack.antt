@@ -13,7 +13,7 @@ use Rattle.topo_core.specs.declared.rows.CrossRow.{CrossRow}
 use Rattle.topo_script.specs.declared.path.Key.{Key}
 use Rattle.topo_script.specs.declared.path.Key.TheVariants.{A, B, Crossed, Crossings, Edges, Id, Kind, Newcomer}
 use Rattle.topo_script.specs.declared.path.Key.TheVariants.{NextCrossing, NextEdge, Rotations, Sign as SignKey}
-use Rattle.topo_script.specs.declared.path.Path.{Path}
+use Rattle.topo_script.specs.declared.path.JsonPath.{JsonPath}
 use Rattle.topo_script.specs.Paths.{key_name, member_of, element_of, whole}
 use Rattle.topo_script.specs.Pictures.{number_data, list_data, sign_data, edge_data, crossing_data, rows_data, rows_text}
 use Rattle.topo_script.specs.Ranges.{AreShort, EdgeFits, CrossingFits, RowsFit}
@@ -24,24 +24,24 @@ use Rattle.topo_script.proofs.Texts.{IsPlain, plain_number, plain_string, plain_
 
 -- ---- The forms of values
 
-pub short_back : (path : Path) (n : ℕ) → n < 2 ^ 32 → number_form path (number_data n) ≡ Ok n
+pub short_back : (path : JsonPath) (n : ℕ) → n < 2 ^ 32 → number_form path (number_data n) ≡ Ok n
 unfolding number_below and_then
 short_back path n h = rw (lt-ltb n (2 ^ 32) h)
 
-items_back : {X : Type 0} (form : Path → Data → Read X) (f : X → Data) (path : Path) (i : ℕ) (xs : List X)
-    → AllByRecursion (λ x. (p : Path) → form p (f x) ≡ Ok x) xs → items_from form path i (items_of (map f xs)) ≡ Ok xs
+items_back : {X : Type 0} (form : JsonPath → Data → Read X) (f : X → Data) (path : JsonPath) (i : ℕ) (xs : List X)
+    → AllByRecursion (λ x. (p : JsonPath) → form p (f x) ≡ Ok x) xs → items_from form path i (items_of (map f xs)) ≡ Ok xs
 items_back form f path i [] h = refl
 items_back {X = X} form f path i (x ∷ xs) h =
     went (form (element_of path i) (f x)) (λ (y : X). and_then (items_from form path (i + 1) (items_of (map f xs))) (λ ys. Ok (y ∷ ys))) x
     (h.0 (element_of path i))
     ∙ went _ (λ (ys : List X). Ok (x ∷ ys)) xs (items_back form f path (i + 1) xs h.1)
 
-pub list_back : {X : Type 0} (form : Path → Data → Read X) (f : X → Data) (path : Path) (xs : List X)
-    → AllByRecursion (λ x. (p : Path) → form p (f x) ≡ Ok x) xs → list_form form path (list_data f xs) ≡ Ok xs
+pub list_back : {X : Type 0} (form : JsonPath → Data → Read X) (f : X → Data) (path : JsonPath) (xs : List X)
+    → AllByRecursion (λ x. (p : JsonPath) → form p (f x) ≡ Ok x) xs → list_form form path (list_data f xs) ≡ Ok xs
 unfolding list_form and_then
 list_back form f path xs h = items_back form f path 0 xs h
 
-pub member_back : {A : Type 0} (form : Path → Data → Read A) (path : Path) (key : Key) (d found : Data) (x : A)
+pub member_back : {A : Type 0} (form : JsonPath → Data → Read A) (path : JsonPath) (key : Key) (d found : Data) (x : A)
     → get (key_name key) d ≡ Some found → form (member_of path key) found ≡ Ok x → member_form form path key d ≡ Ok x
 unfolding member_form and_then
 member_back form path key d found x there h = rw there h
@@ -50,21 +50,21 @@ pub all_map : {X : Type 0} (P Q : X → Type 0) (xs : List X) → ((x : X) → P
 all_map P Q [] f h = tt
 all_map P Q (x ∷ xs) f h = (f x h.0, all_map P Q xs f h.1)
 
-pub shorts_back : (path : Path) (ns : List ℕ) → AreShort ns → list_form number_form path (list_data number_data ns) ≡ Ok ns
+pub shorts_back : (path : JsonPath) (ns : List ℕ) → AreShort ns → list_form number_form path (list_data number_data ns) ≡ Ok ns
 shorts_back path ns h =
     list_back number_form number_data path ns
-    (all_map (λ n. n < 2 ^ 32) (λ n. (p : Path) → number_form p (number_data n) ≡ Ok n) ns (λ n k p. short_back p n k) h)
+    (all_map (λ n. n < 2 ^ 32) (λ n. (p : JsonPath) → number_form p (number_data n) ≡ Ok n) ns (λ n k p. short_back p n k) h)
 
-sign_back : (path : Path) (s : Sign) → sign_form path (sign_data s) ≡ Ok s
+sign_back : (path : JsonPath) (s : Sign) → sign_form path (sign_data s) ≡ Ok s
 unfolding sign_form
 sign_back path LeftToRight = refl
 sign_back path RightToLeft = refl
 
-edge_keys : (path : Path) (row : EdgeRow) → has_keys path (A ∷ B ∷ Crossings ∷ Id ∷ Kind ∷ []) [] (edge_data row) ≡ Ok tt
+edge_keys : (path : JsonPath) (row : EdgeRow) → has_keys path (A ∷ B ∷ Crossings ∷ Id ∷ Kind ∷ []) [] (edge_data row) ≡ Ok tt
 unfolding has_keys and_then
 edge_keys path row = refl
 
-pub edge_back : (path : Path) (row : EdgeRow) → EdgeFits row → edge_form path (edge_data row) ≡ Ok row
+pub edge_back : (path : JsonPath) (row : EdgeRow) → EdgeFits row → edge_form path (edge_data row) ≡ Ok row
 unfolding edge_form
 edge_back path row h =
     went _ _ tt (edge_keys path row)
@@ -74,11 +74,11 @@ edge_back path row h =
     ∙ went _ _ row.id (member_back number_form path Id (edge_data row) _ row.id refl (short_back _ row.id h.id))
     ∙ went _ _ row.kind (member_back number_form path Kind (edge_data row) _ row.kind refl (short_back _ row.kind h.kind))
 
-crossing_keys : (path : Path) (x : CrossRow) → has_keys path (Crossed ∷ Id ∷ Newcomer ∷ SignKey ∷ []) [] (crossing_data x) ≡ Ok tt
+crossing_keys : (path : JsonPath) (x : CrossRow) → has_keys path (Crossed ∷ Id ∷ Newcomer ∷ SignKey ∷ []) [] (crossing_data x) ≡ Ok tt
 unfolding has_keys and_then
 crossing_keys path x = refl
 
-pub crossing_back : (path : Path) (x : CrossRow) → CrossingFits x → crossing_form path (crossing_data x) ≡ Ok x
+pub crossing_back : (path : JsonPath) (x : CrossRow) → CrossingFits x → crossing_form path (crossing_data x) ≡ Ok x
 unfolding crossing_form
 crossing_back path x h =
     went _ _ tt (crossing_keys path x)
@@ -87,17 +87,17 @@ crossing_back path x h =
     ∙ went _ _ x.newcomer (member_back number_form path Newcomer (crossing_data x) _ x.newcomer refl (short_back _ x.newcomer h.newcomer))
     ∙ went _ _ x.sign (member_back sign_form path SignKey (crossing_data x) _ x.sign refl (sign_back _ x.sign))
 
-rows_keys : (path : Path) (rows : Rows) → has_keys path (Crossings ∷ Edges ∷ NextCrossing ∷ NextEdge ∷ Rotations ∷ []) [] (rows_data rows) ≡ Ok tt
+rows_keys : (path : JsonPath) (rows : Rows) → has_keys path (Crossings ∷ Edges ∷ NextCrossing ∷ NextEdge ∷ Rotations ∷ []) [] (rows_data rows) ≡ Ok tt
 unfolding has_keys and_then
 rows_keys path rows = refl
 
-pub rows_back : (path : Path) (rows : Rows) → RowsFit rows → rows_form path (rows_data rows) ≡ Ok rows
+pub rows_back : (path : JsonPath) (rows : Rows) → RowsFit rows → rows_form path (rows_data rows) ≡ Ok rows
 unfolding rows_form
 rows_back path rows h =
-    let crossings = all_map CrossingFits (λ x. (p : Path) → crossing_form p (crossing_data x) ≡ Ok x) rows.crossings
+    let crossings = all_map CrossingFits (λ x. (p : JsonPath) → crossing_form p (crossing_data x) ≡ Ok x) rows.crossings
     (λ x k p. crossing_back p x k) h.crossings in
-    let edges = all_map EdgeFits (λ row. (p : Path) → edge_form p (edge_data row) ≡ Ok row) rows.edges (λ row k p. edge_back p row k) h.edges in
-    let rotations = all_map AreShort (λ ns. (p : Path) → list_form number_form p (list_data number_data ns) ≡ Ok ns) rows.rotations
+    let edges = all_map EdgeFits (λ row. (p : JsonPath) → edge_form p (edge_data row) ≡ Ok row) rows.edges (λ row k p. edge_back p row k) h.edges in
+    let rotations = all_map AreShort (λ ns. (p : JsonPath) → list_form number_form p (list_data number_data ns) ≡ Ok ns) rows.rotations
     (λ ns k p. shorts_back p ns k) h.rotations in
     went _ _ tt (rows_keys path rows)
     ∙ went _ _ rows.crossings (member_back (list_form crossing_form) path Crossings (rows_data rows) _ rows.crossings refl

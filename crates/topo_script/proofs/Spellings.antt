@@ -9,7 +9,7 @@ use Rattle.json.proofs.Grammar.{left, value_is, value-begin_array, skip_value-sh
 use Rattle.json.proofs.Grammar.{items_end, items_more}
 use Rattle.serde_json.specs.Data.{Data, unsigned, number, string, array, Items, item, no_items}
 use Rattle.serde_json.specs.Read.{of_json, max_depth, read}
-use Rattle.topo_script.specs.declared.path.Path.{Path}
+use Rattle.topo_script.specs.declared.path.JsonPath.{JsonPath}
 use Rattle.topo_script.specs.Paths.{element_of}
 use Rattle.topo_script.specs.Reads.{Read, and_then, number_below, list_form, items_from, value_of}
 use Rattle.topo_script.specs.Tokens.{Spells, SpellsItems, GoesOn, SpellsNumber, SpellsNumbers, SpellsText}
@@ -18,7 +18,7 @@ use Rattle.topo_script.proofs.Steps.{went}
 
 -- ---- Values of one token
 
-pub number_read : (bound n : ℕ) (path : Path) → n < bound → number_below bound path (number (unsigned n)) ≡ Ok n
+pub number_read : (bound n : ℕ) (path : JsonPath) → n < bound → number_below bound path (number (unsigned n)) ≡ Ok n
 unfolding number_below and_then
 number_read bound n path h = rw (lt-ltb n bound h)
 
@@ -31,8 +31,8 @@ number_tokens bound n ts rest s h = record {
   reads = λ path. number_read bound n path h;
 }
 
-pub word_tokens : {A : Type 0} (form : Path → Data → Read A) (word text : List ℕ) (a : A) (ts rest : List Token) → ts ≡ Token.string text ∷ rest → text ≡ word
-    → ((path : Path) → form path (string word) ≡ Ok a) → Spells 0 form ts a rest
+pub word_tokens : {A : Type 0} (form : JsonPath → Data → Read A) (word text : List ℕ) (a : A) (ts rest : List Token) → ts ≡ Token.string text ∷ rest → text ≡ word
+    → ((path : JsonPath) → form path (string word) ≡ Ok a) → Spells 0 form ts a rest
 word_tokens form word text a ts rest e is read = record {
   written = json.string word;
   spelled = string word;
@@ -42,8 +42,8 @@ word_tokens form word text a ts rest e is read = record {
 }
 
 -- what one form reads, another one may read too
-pub read_so : {A B : Type 0} {inner outer : ℕ} {form : Path → Data → Read A} {other : Path → Data → Read B} {ts rest : List Token} {a : A} {b : B}
-    (s : Spells inner form ts a rest) → inner ≤ outer → ((path : Path) → other path s.spelled ≡ Ok b) → Spells outer other ts b rest
+pub read_so : {A B : Type 0} {inner outer : ℕ} {form : JsonPath → Data → Read A} {other : JsonPath → Data → Read B} {ts rest : List Token} {a : A} {b : B}
+    (s : Spells inner form ts a rest) → inner ≤ outer → ((path : JsonPath) → other path s.spelled ≡ Ok b) → Spells outer other ts b rest
 read_so s within read = record {
   written = s.written;
   spelled = s.spelled;
@@ -53,7 +53,7 @@ read_so s within read = record {
 }
 
 -- what nests no deeper than this nests no deeper than more
-pub deeper : {A : Type 0} (inner outer : ℕ) (form : Path → Data → Read A) (ts : List Token) (a : A) (rest : List Token) → inner ≤ outer
+pub deeper : {A : Type 0} (inner outer : ℕ) (form : JsonPath → Data → Read A) (ts : List Token) (a : A) (rest : List Token) → inner ≤ outer
     → Spells inner form ts a rest → Spells outer form ts a rest
 deeper inner outer form ts a rest within s = read_so s within s.reads
 
@@ -65,15 +65,15 @@ not_closed a o (Token.end_array ∷ ts) p e = absurd cc
 not_closed a o _ p e = refl
 
 -- tokens that spell a value do not begin with the end of an array
-pub spells-going : {A : Type 0} (nesting : ℕ) (form : Path → Data → Read A) (ts : List Token) (a : A) (rest : List Token) → Spells nesting form ts a rest
+pub spells-going : {A : Type 0} (nesting : ℕ) (form : JsonPath → Data → Read A) (ts : List Token) (a : A) (rest : List Token) → Spells nesting form ts a rest
     → after_end_array ts ≡ None
 spells-going nesting form ts a rest s = not_closed _ _ ts (s.written, rest) (sym (value_is nesting ts) ∙ s.begins nesting (omega arith))
 
-pub tokens-shorter : {A : Type 0} (nesting : ℕ) (form : Path → Data → Read A) (ts : List Token) (a : A) (rest : List Token) → Spells nesting form ts a rest
+pub tokens-shorter : {A : Type 0} (nesting : ℕ) (form : JsonPath → Data → Read A) (ts : List Token) (a : A) (rest : List Token) → Spells nesting form ts a rest
     → length rest < length ts
 tokens-shorter nesting form ts a rest s = skip_value-shorter nesting ts rest (ap left (s.begins nesting (omega arith)))
 
-module _ {A : Type 0} (nesting : ℕ) (form : Path → Data → Read A) where
+module _ {A : Type 0} (nesting : ℕ) (form : JsonPath → Data → Read A) where
   pub items_done : (ts rest : List Token) → after_end_array ts ≡ Some rest → SpellsItems nesting form ts [] rest
   items_done ts rest e = record {
     written = json.no_items;
@@ -144,7 +144,7 @@ one_more {nesting} {ts} {mid} {written} begins means more =
       means = rw (means, more.means);
     }
 
-pub element_then : {A : Type 0} {inner nesting : ℕ} {form : Path → Data → Read A} {ts : List Token} {a : A} {mid rest : List Token} {ds : Items}
+pub element_then : {A : Type 0} {inner nesting : ℕ} {form : JsonPath → Data → Read A} {ts : List Token} {a : A} {mid rest : List Token} {ds : Items}
     → (s : Spells inner form ts a mid) → inner ≤ nesting → GoesOn nesting mid ds rest → GoesOn nesting ts (item s.spelled ds) rest
 element_then s within more = one_more (λ depth le. s.begins depth (omega arith)) s.means more
 
@@ -163,8 +163,8 @@ pub number_then : {nesting n : ℕ} {ts mid rest : List Token} {ds : Items} → 
 number_then {mid} s more =
     one_more {written = json.number s.0} (λ depth le. ap (value depth) s.1 ∙ value_is depth (Token.number s.0 ∷ mid)) (rw s.2) more
 
-pub few_tokens : {A : Type 0} (nesting : ℕ) {form : Path → Data → Read A} {ts mid rest : List Token} {a : A} (ds : Items) → ts ≡ Token.begin_array ∷ mid
-    → GoesOn nesting mid ds rest → ((path : Path) → form path (array ds) ≡ Ok a) → Spells (nesting + 1) form ts a rest
+pub few_tokens : {A : Type 0} (nesting : ℕ) {form : JsonPath → Data → Read A} {ts mid rest : List Token} {a : A} (ds : Items) → ts ≡ Token.begin_array ∷ mid
+    → GoesOn nesting mid ds rest → ((path : JsonPath) → form path (array ds) ≡ Ok a) → Spells (nesting + 1) form ts a rest
 few_tokens nesting {mid} ds e more read = record {
   written = json.array more.written;
   spelled = array ds;
@@ -181,7 +181,7 @@ read_as : (bytes : List ℕ) (ts : List Token) (written : json.Json) (d : Data) 
 read_as bytes ts written d same begins means = ap (λ us. option_and_then of_json (option_and_then (λ p. json.if_last p.0 p.1) (value max_depth us))) (sym same)
     ∙ rw begins means
 
-pub text_tokens : {A : Type 0} {nesting : ℕ} {form : Path → Data → Read A} (limit : ℕ) (bytes : List ℕ) {ts : List Token} {a : A} {rest : List Token}
+pub text_tokens : {A : Type 0} {nesting : ℕ} {form : JsonPath → Data → Read A} (limit : ℕ) (bytes : List ℕ) {ts : List Token} {a : A} {rest : List Token}
     → length bytes ≤ limit → IsUtf8 bytes → ts ≡ tokens bytes → Spells nesting form ts a rest → rest ≡ [] → SpellsText nesting form limit bytes a
 text_tokens {form} limit bytes {ts} short utf8 same s last within path =
     let begins = s.begins max_depth within ∙ ap (λ r. Some (s.written, r)) last in

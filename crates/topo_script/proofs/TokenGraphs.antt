@@ -11,7 +11,7 @@ use Rattle.topo_script.specs.declared.graph_forms.TheConstants.{MAX_THREADS}
 use Rattle.topo_script.specs.declared.graphs.GraphAsked.{GraphAsked}
 use Rattle.topo_script.specs.declared.path.Key.{Key}
 use Rattle.topo_script.specs.declared.path.Key.TheVariants.{Edges, Effort as EffortKey, Prices, Progress, Seconds, Seed, Start, Threads, Version, Vertices}
-use Rattle.topo_script.specs.declared.path.Path.{Path}
+use Rattle.topo_script.specs.declared.path.JsonPath.{JsonPath}
 use Rattle.topo_script.specs.declared.slots.Slot.{Slot}
 use Rattle.topo_script.specs.Graphs.{edge_form, effort_form, graph_form, some_answer, threads_form, truth_form}
 use Rattle.topo_script.specs.Paths.{key_name, whole}
@@ -114,7 +114,7 @@ threads_or_one _ _ held some few = absurd held
 
 -- what each member is read as
 record AreMembers (x : GraphAsked) (nulls : Bool) (v : Values) : Type 0 where
-  pub of_edges : (path : Path) → list_form edge_form path v.edges ≡ Ok x.edges
+  pub of_edges : (path : JsonPath) → list_form edge_form path v.edges ≡ Ok x.edges
   pub of_effort : AreRead effort_form Default v.effort x.effort
   pub of_prices : AreRead (prices_form nulls) [] v.prices x.prices
   pub of_progress : false ≡ x.progress
@@ -122,9 +122,9 @@ record AreMembers (x : GraphAsked) (nulls : Bool) (v : Values) : Type 0 where
   pub of_seed : AreRead number_form 1 v.seed x.seed
   pub of_start : None ≡ x.start
   pub of_threads : AreRead threads_form 1 v.threads x.threads
-  pub of_vertices : (path : Path) → number_form path v.vertices ≡ Ok x.vertices
+  pub of_vertices : (path : JsonPath) → number_form path v.vertices ≡ Ok x.vertices
 
-graph_read : {x : GraphAsked} {n : ℕ} (v : Values) {nulls : Bool} → nulls_of n ≡ Ok nulls → ((path : Path) → number_form path v.version ≡ Ok n)
+graph_read : {x : GraphAsked} {n : ℕ} (v : Values) {nulls : Bool} → nulls_of n ≡ Ok nulls → ((path : JsonPath) → number_form path v.version ≡ Ok n)
     → AreMembers x nulls v → graph_form (graph_object v) ≡ Ok x
 unfolding graph_form
 graph_read {x} {n} v {nulls} of version are =

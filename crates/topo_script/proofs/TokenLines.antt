@@ -7,7 +7,7 @@ use Rattle.serde_json.specs.Find.{get, as_str}
 use Rattle.topo_script.specs.declared.fault.ScriptFault.TheVariants.{BadShape, BadNumber}
 use Rattle.topo_script.specs.declared.path.Key.{Key}
 use Rattle.topo_script.specs.declared.path.Key.TheVariants.{Call, Caller, Id}
-use Rattle.topo_script.specs.declared.path.Path.{Path}
+use Rattle.topo_script.specs.declared.path.JsonPath.{JsonPath}
 use Rattle.topo_script.specs.declared.lines.Frame.TheVariants.{Envelope}
 use Rattle.topo_script.specs.declared.lines.Line.{Line}
 use Rattle.topo_script.specs.declared.lines.LineId.{LineId}
@@ -28,24 +28,24 @@ use Rattle.topo_script.proofs.TokenScripts.{AreRead, optional_read, or_default}
 -- ---- Ids
 
 -- whether a text may be an id is the same at any place
-text_anywhere : (path other : Path) (text : List ℕ) (id : LineId) (b : Bool) → nat_le (length text) 256 ≡ b → text_id path text ≡ Ok id
+text_anywhere : (path other : JsonPath) (text : List ℕ) (id : LineId) (b : Bool) → nat_le (length text) 256 ≡ b → text_id path text ≡ Ok id
     → text_id other text ≡ Ok id
 text_anywhere path other text id true h e = rw h (sym (rw h refl) ∙ e)
 text_anywhere path other text id false h e = let none : text_id path text ≡ Err (BadShape path) = rw h refl in absurd cc
 
-pub text_id_tokens : {text : List ℕ} {id : LineId} {ts rest : List Token} (path : Path) → ts ≡ text_token text ∷ rest → text_id path text ≡ Ok id
+pub text_id_tokens : {text : List ℕ} {id : LineId} {ts rest : List Token} (path : JsonPath) → ts ≡ text_token text ∷ rest → text_id path text ≡ Ok id
     → Spells 0 some_id ts (Some id) rest
 unfolding some_id id_form
 text_id_tokens {text} {id} {ts} {rest} path e read =
     word_tokens some_id text text (Some id) ts rest e refl
     (λ other. went (text_id other text) (λ (i : LineId). Ok (Some i)) id (text_anywhere path other text id (nat_le (length text) 256) refl read))
 
-no_text : (path : Path) (d : Data) (n : ℕ) → number_form path d ≡ Ok n → as_str d ≡ None
+no_text : (path : JsonPath) (d : Data) (n : ℕ) → number_form path d ≡ Ok n → as_str d ≡ None
 unfolding number_below and_then
 no_text path (string s) n e = absurd cc
 no_text path _ n e = refl
 
-number_id_read : (path : Path) (d : Data) (n : ℕ) → number_form path d ≡ Ok n → some_id path d ≡ Ok (Some (Number n))
+number_id_read : (path : JsonPath) (d : Data) (n : ℕ) → number_form path d ≡ Ok n → some_id path d ≡ Ok (Some (Number n))
 unfolding some_id id_form number_id
 number_id_read path d n e =
     rw (no_text path d n e)
@@ -56,7 +56,7 @@ number_id_tokens {n} s = read_so s (omega arith) (λ path. number_id_read path s
 
 -- ---- Callers
 
-smaller : (path : Path) (m n : ℕ) (b : Bool) → n < 16 → (if b then Ok m else Err (BadNumber path)) ≡ Ok n
+smaller : (path : JsonPath) (m n : ℕ) (b : Bool) → n < 16 → (if b then Ok m else Err (BadNumber path)) ≡ Ok n
     → (if nat_lt m 16 then Ok m else Err (BadNumber path)) ≡ Ok n
 smaller path m n true small e =
     let same : m ≡ n = cc in
@@ -64,7 +64,7 @@ smaller path m n true small e =
     rw (lt-ltb m 16 less) e
 smaller path m n false small e = absurd cc
 
-caller_read : (path : Path) (d : Data) (n : ℕ) → number_form path d ≡ Ok n → n < 16 → caller_form path d ≡ Ok n
+caller_read : (path : JsonPath) (d : Data) (n : ℕ) → number_form path d ≡ Ok n → n < 16 → caller_form path d ≡ Ok n
 unfolding number_below and_then
 caller_read path (number (unsigned m)) n e small = smaller path m n (nat_lt m (2 ^ 32)) small e
 caller_read path _ n e small = absurd cc

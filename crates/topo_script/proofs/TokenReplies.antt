@@ -12,7 +12,7 @@ use Rattle.topo_core.specs.declared.routes.Inserted.{Inserted as InsertedEdge}
 use Rattle.topo_script.specs.declared.path.Key.{Key}
 use Rattle.topo_script.specs.declared.path.Key.TheVariants.{Call, Caller, Crossed, Deleted as DeletedKey, Edge, End, Price}
 use Rattle.topo_script.specs.declared.path.Key.TheVariants.{Refused as RefusedKey, Reply as ReplyKey, Start, Vertex}
-use Rattle.topo_script.specs.declared.path.Path.{Path}
+use Rattle.topo_script.specs.declared.path.JsonPath.{JsonPath}
 use Rattle.topo_script.specs.CallForms.{call_form}
 use Rattle.topo_script.specs.Reads.{number_form, long_form, list_form, has_keys, and_then}
 use Rattle.topo_script.specs.ReplyForms.{way_form, dart_form, refusal_form, cut_form, reply_form}
@@ -41,7 +41,7 @@ dart_tokens {x} e edge seg way close =
 -- ---- Refusals
 
 pub plain_tokens : (n : ℕ) {name text : List ℕ} {why : Refusal} {ts rest : List Token}
-    → ((path : Path) → refusal_form path (array (item (number (unsigned n)) (item (string text) no_items))) ≡ Ok why)
+    → ((path : JsonPath) → refusal_form path (array (item (number (unsigned n)) (item (string text) no_items))) ≡ Ok why)
     → name ≡ text → after_end_array ts ≡ Some rest → SpellsRefusal n name ts why rest
 plain_tokens n read same close =
     (no_items, few_done close, λ path. ap (λ s. refusal_form path (array (item (number (unsigned n)) (item (string s) no_items)))) same ∙ read path)
@@ -65,7 +65,7 @@ refusal_tokens {n} {name} (Some why) rest e first second s =
 
 -- ---- Replies
 
-deleted_keys : (path : Path) (edge : Data) → has_keys path (DeletedKey ∷ []) [] (object (members_of (DeletedKey ∷ []) (Some edge ∷ []))) ≡ Ok tt
+deleted_keys : (path : JsonPath) (edge : Data) → has_keys path (DeletedKey ∷ []) [] (object (members_of (DeletedKey ∷ []) (Some edge ∷ []))) ≡ Ok tt
 unfolding has_keys and_then
 deleted_keys path edge = refl
 
@@ -77,7 +77,7 @@ deleted_tokens {edge} v within due =
     object_tokens (DeletedKey ∷ []) (Some due.spelled ∷ []) v within due.is
     (λ path. went _ _ tt (deleted_keys path due.spelled) ∙ went _ _ edge (member_read number_form path DeletedKey d refl due.reads))
 
-refused_keys : (path : Path) (why : Data) → has_keys path (RefusedKey ∷ []) [] (object (members_of (RefusedKey ∷ []) (Some why ∷ []))) ≡ Ok tt
+refused_keys : (path : JsonPath) (why : Data) → has_keys path (RefusedKey ∷ []) [] (object (members_of (RefusedKey ∷ []) (Some why ∷ []))) ≡ Ok tt
 unfolding has_keys and_then
 refused_keys path why = refl
 
@@ -92,7 +92,7 @@ refused_tokens {why} v within due =
 abbrev grown_order : List Key
 grown_order = Edge ∷ Vertex ∷ []
 
-grown_keys : (path : Path) (edge vertex : Data) → has_keys path grown_order [] (object (members_of grown_order (Some edge ∷ Some vertex ∷ []))) ≡ Ok tt
+grown_keys : (path : JsonPath) (edge vertex : Data) → has_keys path grown_order [] (object (members_of grown_order (Some edge ∷ Some vertex ∷ []))) ≡ Ok tt
 unfolding has_keys and_then
 grown_keys path edge vertex = refl
 
@@ -111,7 +111,7 @@ grown_tokens {vertex} {edge} v within first second =
 abbrev inserted_order : List Key
 inserted_order = Crossed ∷ Edge ∷ End ∷ Price ∷ Start ∷ []
 
-inserted_keys : (path : Path) (crossed edge end price start : Data)
+inserted_keys : (path : JsonPath) (crossed edge end price start : Data)
     → has_keys path inserted_order [] (object (members_of inserted_order (Some crossed ∷ Some edge ∷ Some end ∷ Some price ∷ Some start ∷ []))) ≡ Ok tt
 unfolding has_keys and_then
 inserted_keys path crossed edge end price start = refl
@@ -138,7 +138,7 @@ inserted_tokens {x} v within crossed edge end price start =
 abbrev entry_order : List Key
 entry_order = Call ∷ Caller ∷ ReplyKey ∷ []
 
-entry_keys : (path : Path) (call caller reply : Data)
+entry_keys : (path : JsonPath) (call caller reply : Data)
     → has_keys path entry_order [] (object (members_of entry_order (Some call ∷ Some caller ∷ Some reply ∷ []))) ≡ Ok tt
 unfolding has_keys and_then
 entry_keys path call caller reply = refl

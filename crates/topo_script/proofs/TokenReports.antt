@@ -10,7 +10,7 @@ use Rattle.serde_json.specs.Data.{Data, null, array, object, Items, no_items, it
 use Rattle.serde_json.specs.Events.{items_len}
 use Rattle.topo_script.specs.declared.path.Key.{Key}
 use Rattle.topo_script.specs.declared.path.Key.TheVariants.{Crossings, Edges, History, Limits, Picture, Prices, Start, Version, Vertices}
-use Rattle.topo_script.specs.declared.path.Path.{Path}
+use Rattle.topo_script.specs.declared.path.JsonPath.{JsonPath}
 use Rattle.topo_script.specs.declared.reports.Report.{Report}
 use Rattle.topo_script.specs.declared.scripts.LimitRows.{LimitRows}
 use Rattle.topo_script.specs.Paths.{element_of}
@@ -33,7 +33,7 @@ use Rattle.topo_core.specs.declared.rows.TheConstants.{KINDS}
 abbrev limits_order : List Key
 limits_order = Crossings ∷ Edges ∷ Vertices ∷ []
 
-limits_keys : (path : Path) (crossings edges vertices : Data)
+limits_keys : (path : JsonPath) (crossings edges vertices : Data)
     → has_keys path limits_order [] (object (members_of limits_order (Some crossings ∷ Some edges ∷ Some vertices ∷ []))) ≡ Ok tt
 unfolding has_keys and_then
 limits_keys path crossings edges vertices = refl
@@ -64,7 +64,7 @@ null_tokens ts rest e = record {
 }
 
 -- a number is a price
-price_read : (path : Path) (d : Data) (n : ℕ) → number_form path d ≡ Ok n → price_form true path d ≡ Ok (Some n)
+price_read : (path : JsonPath) (d : Data) (n : ℕ) → number_form path d ≡ Ok n → price_form true path d ≡ Ok (Some n)
 unfolding number_below price_form some_price and_then
 price_read path null n e = absurd cc
 price_read path d n e = went (number_form path d) (λ (k : ℕ). Ok (Some k)) n e
@@ -82,19 +82,19 @@ found (Ok xs) = xs
 found (Err fault) = []
 
 -- what an array with a first element was read as
-first_read : {A : Type 0} (form : Path → Data → Read A) (path : Path) (i : ℕ) (d : Data) (ds : Items) (xs : List A) → items_from form path i (item d ds) ≡ Ok xs
+first_read : {A : Type 0} (form : JsonPath → Data → Read A) (path : JsonPath) (i : ℕ) (d : Data) (ds : Items) (xs : List A) → items_from form path i (item d ds) ≡ Ok xs
     → (y : A) × (ys : List A) × (form (element_of path i) d ≡ Ok y) × (items_from form path (i + 1) ds ≡ Ok ys) × (y ∷ ys ≡ xs)
 first_read {A = A} form path i d ds xs e =
     let one = gone (form (element_of path i) d) (λ (y : A). and_then (items_from form path (i + 1) ds) (λ ys. Ok (y ∷ ys))) xs e in
     let more = gone (items_from form path (i + 1) ds) (λ (ys : List A). Ok (one.0 ∷ ys)) xs one.2 in
     (one.0, more.0, one.1, more.1, ap found more.2)
 
-pub counted : {A : Type 0} (form : Path → Data → Read A) (path : Path) (i : ℕ) (ds : Items) (xs : List A) → items_from form path i ds ≡ Ok xs
+pub counted : {A : Type 0} (form : JsonPath → Data → Read A) (path : JsonPath) (i : ℕ) (ds : Items) (xs : List A) → items_from form path i ds ≡ Ok xs
     → items_len ds ≡ length xs
 counted form path i no_items xs e = ap (λ r. length (found r)) e
 counted form path i (item d ds) xs e = let s = first_read form path i d ds xs e in ap suc (counted form path (i + 1) ds s.1 s.3) ∙ ap length s.4
 
-no_null : (path : Path) (d : Data) (p : Option ℕ) → price_form true path d ≡ Ok p → is_none p ≡ false → price_form false path d ≡ Ok p
+no_null : (path : JsonPath) (d : Data) (p : Option ℕ) → price_form true path d ≡ Ok p → is_none p ≡ false → price_form false path d ≡ Ok p
 unfolding price_form
 no_null path null (Some p) e some = absurd cc
 no_null path null None e some = absurd cc
@@ -104,7 +104,7 @@ neither : (a b : Bool) → (a || b) ≡ false → (a ≡ false) × (b ≡ false)
 neither true b e = absurd cc
 neither false b e = (refl, e)
 
-no_nulls : (path : Path) (i : ℕ) (ds : Items) (ps : List (Option ℕ)) → items_from (price_form true) path i ds ≡ Ok ps → list_any is_none ps ≡ false
+no_nulls : (path : JsonPath) (i : ℕ) (ds : Items) (ps : List (Option ℕ)) → items_from (price_form true) path i ds ≡ Ok ps → list_any is_none ps ≡ false
     → items_from (price_form false) path i ds ≡ Ok ps
 no_nulls path i no_items ps e none = e
 no_nulls path i (item d ds) ps e none =
@@ -114,13 +114,13 @@ no_nulls path i (item d ds) ps e none =
     (no_null (element_of path i) d s.0 s.2 both.0)
     ∙ went _ (λ (qs : List (Option ℕ)). Ok (s.0 ∷ qs)) s.1 (no_nulls path (i + 1) ds s.1 s.3 both.1) ∙ ap (λ qs. Ok qs) s.4
 
-either_way : (nulls : Bool) (path : Path) (ds : Items) (ps : List (Option ℕ)) → items_from (price_form true) path 0 ds ≡ Ok ps
+either_way : (nulls : Bool) (path : JsonPath) (ds : Items) (ps : List (Option ℕ)) → items_from (price_form true) path 0 ds ≡ Ok ps
     → (nulls ≡ false → list_any is_none ps ≡ false)
     → items_from (price_form nulls) path 0 ds ≡ Ok ps
 either_way true path ds ps e none = e
 either_way false path ds ps e none = no_nulls path 0 ds ps e (none refl)
 
-pub prices_read : (nulls : Bool) (path : Path) (d : Data) (ps kept : List (Option ℕ)) → list_form (price_form true) path d ≡ Ok ps → length ps ≤ KINDS
+pub prices_read : (nulls : Bool) (path : JsonPath) (d : Data) (ps kept : List (Option ℕ)) → list_form (price_form true) path d ≡ Ok ps → length ps ≤ KINDS
     → (nulls ≡ false → list_any is_none ps ≡ false)
     → kept ≡ without_ones ps → prices_form nulls path d ≡ Ok kept
 unfolding list_form prices_form and_then
@@ -138,12 +138,12 @@ abbrev report_object : Data → Data → Data → Data → Data → Data → Dat
 report_object history limits picture prices start version =
     object (members_of report_order (Some history ∷ Some limits ∷ Some picture ∷ Some prices ∷ Some start ∷ Some version ∷ []))
 
-report_keys : (path : Path) (history limits picture prices start version : Data)
+report_keys : (path : JsonPath) (history limits picture prices start version : Data)
     → has_keys path report_order [] (report_object history limits picture prices start version) ≡ Ok tt
 unfolding has_keys and_then
 report_keys path history limits picture prices start version = refl
 
-version_read : (path : Path) (n : ℕ) (nulls : Bool) (history limits picture prices start version : Data) → ((path : Path) → number_form path version ≡ Ok n)
+version_read : (path : JsonPath) (n : ℕ) (nulls : Bool) (history limits picture prices start version : Data) → ((path : JsonPath) → number_form path version ≡ Ok n)
     → nulls_of n ≡ Ok nulls → nulls_in path (report_object history limits picture prices start version) ≡ Ok nulls
 unfolding nulls_in
 version_read path n nulls history limits picture prices start version read of =

@@ -8,7 +8,7 @@ use Rattle.topo_core.specs.declared.darts.Dart.{Dart}
 use Rattle.topo_script.specs.declared.path.Key.TheVariants.{Open, Planarize, Reopen, Seconds}
 use Rattle.topo_script.specs.declared.fault.ScriptFault.TheVariants.{BadShape}
 use Rattle.topo_script.specs.declared.graphs.GraphAsked.{GraphAsked}
-use Rattle.topo_script.specs.declared.path.Path.{Path}
+use Rattle.topo_script.specs.declared.path.JsonPath.{JsonPath}
 use Rattle.topo_script.specs.declared.reports.Report.{Report}
 use Rattle.topo_script.specs.declared.sessions.Opening.{Opening}
 use Rattle.topo_script.specs.declared.sessions.Request.{Request}
@@ -32,7 +32,7 @@ use Rattle.topo_script.proofs.Steps.{went}
 -- ---- Arrays
 
 -- a word and a number
-one_asked : (word : List ℕ) (make : ℕ → Request) → ((path : Path) (d : Data) → request_form path (array (item (string word) (item d no_items)))
+one_asked : (word : List ℕ) (make : ℕ → Request) → ((path : JsonPath) (d : Data) → request_form path (array (item (string word) (item d no_items)))
     ≡ (element number_form path 1 (array (item (string word) (item d no_items))) >>= λ n. Ok (make n)))
     → {n : ℕ} {ts mid rest : List Token} → Spells 0 number_form ts n mid → after_end_array mid ≡ Some rest → SpellsAsked word ts (make n) rest
 one_asked word make is {n} first close =
@@ -89,18 +89,18 @@ command_asked {command = command} s = read_so s (omega arith) (λ path. carry_re
 -- ---- Texts
 
 pub word_asked : {word : List ℕ} (o : Option Request) {ts rest : List Token} → ts ≡ text_token word ∷ rest
-    → IfSome o (λ request. (path : Path) → request_form path (string word) ≡ Ok request) → IfSome o (λ request. Spells 7 request_form ts request rest)
+    → IfSome o (λ request. (path : JsonPath) → request_form path (string word) ≡ Ok request) → IfSome o (λ request. Spells 7 request_form ts request rest)
 word_asked None e read = tt
 word_asked {word} (Some request) {ts} {rest} e read =
     deeper 0 7 request_form ts request rest (omega arith) (word_tokens request_form word word request ts rest e refl read)
 
 -- ---- Objects
 
-open_keys : (path : Path) (d : Data) → has_keys path (Open ∷ []) [] (object (members_of (Open ∷ []) (Some d ∷ []))) ≡ Ok tt
+open_keys : (path : JsonPath) (d : Data) → has_keys path (Open ∷ []) [] (object (members_of (Open ∷ []) (Some d ∷ []))) ≡ Ok tt
 unfolding has_keys and_then
 open_keys path d = refl
 
-reopen_keys : (path : Path) (d : Data) → has_keys path (Reopen ∷ []) [] (object (members_of (Reopen ∷ []) (Some d ∷ []))) ≡ Ok tt
+reopen_keys : (path : JsonPath) (d : Data) → has_keys path (Reopen ∷ []) [] (object (members_of (Reopen ∷ []) (Some d ∷ []))) ≡ Ok tt
 unfolding has_keys and_then
 reopen_keys path d = refl
 
@@ -120,7 +120,7 @@ reopen_asked {x} v within report =
     object_tokens (Reopen ∷ []) (Some report.spelled ∷ []) v within report.is
     (λ path. went _ _ tt (reopen_keys path report.spelled) ∙ went _ _ x (member_read report_form path Reopen d refl report.reads))
 
-planarize_keys : (path : Path) (d : Data) → has_keys path (Planarize ∷ []) [] (object (members_of (Planarize ∷ []) (Some d ∷ []))) ≡ Ok tt
+planarize_keys : (path : JsonPath) (d : Data) → has_keys path (Planarize ∷ []) [] (object (members_of (Planarize ∷ []) (Some d ∷ []))) ≡ Ok tt
 unfolding has_keys and_then
 planarize_keys path d = refl
 

@@ -8,7 +8,7 @@ use Rattle.topo_core.specs.declared.rows.Rows.{Rows}
 use Rattle.topo_script.specs.declared.path.Key.{Key}
 use Rattle.topo_script.specs.declared.path.Key.TheVariants.{A, B, Crossed, Crossings, Edges, Id, Kind, Newcomer}
 use Rattle.topo_script.specs.declared.path.Key.TheVariants.{NextCrossing, NextEdge, Rotations, Sign as SignKey}
-use Rattle.topo_script.specs.declared.path.Path.{Path}
+use Rattle.topo_script.specs.declared.path.JsonPath.{JsonPath}
 use Rattle.topo_script.specs.Reads.{number_form, list_form, has_keys, and_then}
 use Rattle.topo_script.specs.RowForms.{sign_form, crossing_form, edge_form, rows_form}
 use Rattle.topo_script.specs.Slots.{members_of, SpellsValue}
@@ -22,7 +22,7 @@ use Rattle.topo_script.proofs.Steps.{went}
 abbrev crossing_order : List Key
 crossing_order = Crossed ∷ Id ∷ Newcomer ∷ SignKey ∷ []
 
-crossing_keys : (path : Path) (crossed id newcomer sign : Data)
+crossing_keys : (path : JsonPath) (crossed id newcomer sign : Data)
     → has_keys path crossing_order [] (object (members_of crossing_order (Some crossed ∷ Some id ∷ Some newcomer ∷ Some sign ∷ []))) ≡ Ok tt
 unfolding has_keys and_then
 crossing_keys path crossed id newcomer sign = refl
@@ -48,7 +48,7 @@ crossing_tokens {x} v within crossed id newcomer sign =
 abbrev edge_order : List Key
 edge_order = A ∷ B ∷ Crossings ∷ Id ∷ Kind ∷ []
 
-edge_keys : (path : Path) (a b crossings id kind : Data)
+edge_keys : (path : JsonPath) (a b crossings id kind : Data)
     → has_keys path edge_order [] (object (members_of edge_order (Some a ∷ Some b ∷ Some crossings ∷ Some id ∷ Some kind ∷ []))) ≡ Ok tt
 unfolding has_keys and_then
 edge_keys path a b crossings id kind = refl
@@ -75,7 +75,7 @@ edge_tokens {x} v within a b crossings id kind =
 abbrev rows_order : List Key
 rows_order = Crossings ∷ Edges ∷ NextCrossing ∷ NextEdge ∷ Rotations ∷ []
 
-rows_keys : (path : Path) (crossings edges next_crossing next_edge rotations : Data)
+rows_keys : (path : JsonPath) (crossings edges next_crossing next_edge rotations : Data)
     → has_keys path rows_order []
     (object (members_of rows_order (Some crossings ∷ Some edges ∷ Some next_crossing ∷ Some next_edge ∷ Some rotations ∷ []))) ≡ Ok tt
 unfolding has_keys and_then

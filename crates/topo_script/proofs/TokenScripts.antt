@@ -6,7 +6,7 @@ use Rattle.serde_json.specs.Find.{get}
 use Rattle.topo_core.specs.declared.rows.Rows.{Rows}
 use Rattle.topo_script.specs.declared.path.Key.{Key}
 use Rattle.topo_script.specs.declared.path.Key.TheVariants.{Limits, Prices, Start, Version, Workers}
-use Rattle.topo_script.specs.declared.path.Path.{Path}
+use Rattle.topo_script.specs.declared.path.JsonPath.{JsonPath}
 use Rattle.topo_script.specs.declared.script_forms.TheConstants.{MAX_WORKERS}
 use Rattle.topo_script.specs.declared.scripts.LimitRows.{LimitRows}
 use Rattle.topo_script.specs.declared.scripts.Script.{Script}
@@ -28,18 +28,18 @@ use Rattle.topo_script.proofs.TokenStarts.{workers_read}
 -- ---- Members that may be missing
 
 -- what is read of such a member
-abbrev pub AreRead : {A : Type 0} → (Path → Data → Read A) → A → Option Data → A → Type 0
+abbrev pub AreRead : {A : Type 0} → (JsonPath → Data → Read A) → A → Option Data → A → Type 0
 AreRead form default None a = default ≡ a
-AreRead form default (Some d) a = (path : Path) → form path d ≡ Ok a
+AreRead form default (Some d) a = (path : JsonPath) → form path d ≡ Ok a
 
-pub optional_read : {A : Type 0} (form : Path → Data → Read A) (default : A) (path : Path) (k : Key) (d : Data) (o : Option Data) (a : A)
+pub optional_read : {A : Type 0} (form : JsonPath → Data → Read A) (default : A) (path : JsonPath) (k : Key) (d : Data) (o : Option Data) (a : A)
     → get (key_name k) d ≡ o → AreRead form default o a
     → member_or default form path k d ≡ Ok a
 unfolding member_or
 optional_read form default path k d None a there read = rw there (ap (λ x. Ok x) read)
 optional_read form default path k d (Some found) a there read = rw there (member_read form path k d there read)
 
-pub or_default : {A : Type 0} (form : Path → Data → Read A) (default : A) (o : Option A)
+pub or_default : {A : Type 0} (form : JsonPath → Data → Read A) (default : A) (o : Option A)
     (d : Option Data) → IsHeld form o d → AreRead form default d (unwrap_or o default)
 or_default form default None None held = refl
 or_default form default (Some a) (Some d) held = held
@@ -70,7 +70,7 @@ pub record HasSettings {R : Type 0} (holds : R → List (Option Data) → Type 0
   pub is : os ≡ l ∷ p ∷ s ∷ Some v ∷ values
   pub held : holds rest values
   pub version : ℕ
-  pub version_read : (path : Path) → number_form path v ≡ Ok version
+  pub version_read : (path : JsonPath) → number_form path v ≡ Ok version
   pub nulls : Bool
   pub of_version : nulls_of version ≡ Ok nulls
   pub front : AreFront l p s nulls limits prices start
@@ -150,13 +150,13 @@ script_keys l p s v w there =
     (one_there whole Version (Workers ∷ []) (script_object l p s v w) v there.version
     (one_there whole Workers [] (script_object l p s v w) w there.workers refl))
 
-pub version_read : (path : Path) (n : ℕ) (nulls : Bool) (ms : Members) (v : Data) → get (key_name Version) (object ms) ≡ Some v → ((path : Path) → number_form path v ≡ Ok n)
+pub version_read : (path : JsonPath) (n : ℕ) (nulls : Bool) (ms : Members) (v : Data) → get (key_name Version) (object ms) ≡ Some v → ((path : JsonPath) → number_form path v ≡ Ok n)
     → nulls_of n ≡ Ok nulls → nulls_in path (object ms) ≡ Ok nulls
 unfolding nulls_in
 version_read path n nulls ms v there read of = went _ _ tt refl ∙ went _ _ n (member_read number_form path Version (object ms) there read) ∙ of
 
 script_read : {x : Script} {n : ℕ} {l p s : Option Data} (v w : Data) {nulls : Bool} → nulls_of n ≡ Ok nulls
-    → AreFront l p s nulls x.limits x.prices x.start → ((path : Path) → number_form path v ≡ Ok n) → ((path : Path) → workers_form path w ≡ Ok x.workers)
+    → AreFront l p s nulls x.limits x.prices x.start → ((path : JsonPath) → number_form path v ≡ Ok n) → ((path : JsonPath) → workers_form path w ≡ Ok x.workers)
     → script_form (script_object l p s v w) ≡ Ok x
 unfolding script_form
 script_read {x} {n} {l} {p} {s} v w {nulls} of front version workers =

@@ -5,7 +5,7 @@ use Rattle.serde_json.specs.Data.{Data, object, Members}
 use Rattle.serde_json.specs.Find.{get}
 use Rattle.topo_script.specs.declared.path.Key.{Key}
 use Rattle.topo_script.specs.declared.path.Key.TheVariants.{Limits, Prices, Start, Version}
-use Rattle.topo_script.specs.declared.path.Path.{Path}
+use Rattle.topo_script.specs.declared.path.JsonPath.{JsonPath}
 use Rattle.topo_script.specs.declared.sessions.Opening.{Opening}
 use Rattle.topo_script.specs.Paths.{key_name}
 use Rattle.topo_script.specs.Reads.{number_form, has_keys}
@@ -44,14 +44,14 @@ all_found l p s v = let values = opening_values l p s v in record {
   version = found_at (key_name Version) opening_order values;
 }
 
-opening_keys : (path : Path) (l p s : Option Data) (v : Data) → Found l p s v (opening_object l p s v)
+opening_keys : (path : JsonPath) (l p s : Option Data) (v : Data) → Found l p s v (opening_object l p s v)
     → has_keys path (Version ∷ []) (Limits ∷ Prices ∷ Start ∷ []) (opening_object l p s v) ≡ Ok tt
 opening_keys path l p s v there =
     keys_there path (Version ∷ []) (Limits ∷ Prices ∷ Start ∷ []) opening_order (opening_values l p s v) refl
     (one_there path Version [] (opening_object l p s v) v there.version refl)
 
-opening_read : (path : Path) {x : Opening} {n : ℕ} {l p s : Option Data} (v : Data) {nulls : Bool} → nulls_of n ≡ Ok nulls
-    → AreFront l p s nulls x.limits x.prices x.start → ((p : Path) → number_form p v ≡ Ok n) → opening_form path (opening_object l p s v) ≡ Ok x
+opening_read : (path : JsonPath) {x : Opening} {n : ℕ} {l p s : Option Data} (v : Data) {nulls : Bool} → nulls_of n ≡ Ok nulls
+    → AreFront l p s nulls x.limits x.prices x.start → ((p : JsonPath) → number_form p v ≡ Ok n) → opening_form path (opening_object l p s v) ≡ Ok x
 unfolding opening_form
 opening_read path {x} {n} {l} {p} {s} v {nulls} of front version =
     let d = opening_object l p s v in

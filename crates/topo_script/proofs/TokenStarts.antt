@@ -5,7 +5,7 @@ use Rattle.serde_json.specs.Data.{Data, string, array}
 use Rattle.serde_json.specs.Events.{items_len}
 use Rattle.topo_core.specs.declared.calls.Command.{Command}
 use Rattle.topo_core.specs.declared.rows.Rows.{Rows}
-use Rattle.topo_script.specs.declared.path.Path.{Path}
+use Rattle.topo_script.specs.declared.path.JsonPath.{JsonPath}
 use Rattle.topo_script.specs.CallForms.{command_form}
 use Rattle.topo_script.specs.Reads.{and_then, is_text, list_form, has_keys}
 use Rattle.topo_script.specs.RowForms.{rows_form}
@@ -18,12 +18,12 @@ use Rattle.topo_script.specs.declared.script_forms.TheConstants.{MAX_WORKERS}
 
 -- ---- Starts
 
-no_seed : (path : Path) (d : Data) (rows : Rows) → rows_form path d ≡ Ok rows → is_text (codes "seed") d ≡ false
+no_seed : (path : JsonPath) (d : Data) (rows : Rows) → rows_form path d ≡ Ok rows → is_text (codes "seed") d ≡ false
 unfolding rows_form has_keys and_then
 no_seed path (string s) rows e = absurd cc
 no_seed path _ rows e = refl
 
-start_read : (path : Path) (d : Data) (rows : Rows) → rows_form path d ≡ Ok rows → start_form path d ≡ Ok (Some rows)
+start_read : (path : JsonPath) (d : Data) (rows : Rows) → rows_form path d ≡ Ok rows → start_form path d ≡ Ok (Some rows)
 unfolding start_form picture_form
 start_read path d rows e = rw (no_seed path d rows e) (went (rows_form path d) (λ (found : Rows). Ok (Some found)) rows e)
 
@@ -36,7 +36,7 @@ seed_tokens text ts rest e is = deeper 0 4 start_form ts None rest (omega arith)
 
 -- ---- Lists of commands
 
-pub workers_read : (path : Path) (d : Data) (ws : List (List Command)) → list_form
+pub workers_read : (path : JsonPath) (d : Data) (ws : List (List Command)) → list_form
     (list_form command_form) path d ≡ Ok ws → 0 < length ws → length ws ≤ MAX_WORKERS
     → workers_form path d ≡ Ok ws
 unfolding list_form workers_form and_then

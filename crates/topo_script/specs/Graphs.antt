@@ -13,14 +13,14 @@ use Rattle.topo_script.specs.declared.graphs.GraphStart.{GraphStart}
 use Rattle.topo_script.specs.declared.graph_forms.TheConstants.{MAX_THREADS}
 use Rattle.topo_script.specs.declared.path.Key.TheVariants.{Cost, Crossings, Edges, Effort as EffortKey, Lonely, Parts, Picture}
 use Rattle.topo_script.specs.declared.path.Key.TheVariants.{Prices, Progress, Seconds, Seed, Start, Threads, Tries, Version, Vertices}
-use Rattle.topo_script.specs.declared.path.Path.{Path}
+use Rattle.topo_script.specs.declared.path.JsonPath.{JsonPath}
 use Rattle.topo_script.specs.Paths.{element_of, whole}
 use Rattle.topo_script.specs.Reads.{Read, ◌>>=◌, due, passes, number_form, is_text, element, element_count, list_form, has_keys, member_form, member_or, value_of}
 use Rattle.topo_script.specs.RowForms.{rows_form}
 use Rattle.topo_script.specs.Scripts.{nulls_in, prices_form, some_price}
 
 -- two ends and a kind
-unfoldable pub edge_form : Path → Data → Read GraphEdge
+unfoldable pub edge_form : JsonPath → Data → Read GraphEdge
 edge_form path d = do
   _ ← passes (BadShape path) (element_count d == 3)
   a ← element number_form path 0 d
@@ -29,25 +29,25 @@ edge_form path d = do
   _ ← passes (BadNumber (element_of path 2)) (nat_lt kind KINDS)
   Ok (record { a = a; b = b; kind = kind })
 
-unfoldable pub effort_form : Path → Data → Read Effort
+unfoldable pub effort_form : JsonPath → Data → Read Effort
 effort_form path d =
     if is_text (codes "quick") d then Ok Quick else (
     if is_text (codes "default") d then Ok Default else (
     if is_text (codes "thorough") d then Ok Thorough else
     Err (BadShape path)))
 
-unfoldable pub truth_form : Path → Data → Read Bool
+unfoldable pub truth_form : JsonPath → Data → Read Bool
 truth_form path d = due (BadShape path) (as_bool d)
 
 -- 1 to 16
-unfoldable pub threads_form : Path → Data → Read ℕ
+unfoldable pub threads_form : JsonPath → Data → Read ℕ
 threads_form path d = do
   threads ← number_form path d
   _ ← passes (BadNumber path) (nat_lt 0 threads && nat_le threads MAX_THREADS)
   Ok threads
 
 -- a picture of a component, with the graph's edges and vertices
-unfoldable pub part_form : Path → Data → Read Part
+unfoldable pub part_form : JsonPath → Data → Read Part
 part_form path d = do
   _ ← has_keys path (Edges ∷ Picture ∷ Vertices ∷ []) [] d
   edges ← member_form (list_form number_form) path Edges d
@@ -56,14 +56,14 @@ part_form path d = do
   Ok (record { rows = rows; vertices = vertices; edges = edges })
 
 -- an answer of before: what it says of its pictures, beside these, is not looked at
-unfoldable pub answer_form : Path → Data → Read GraphStart
+unfoldable pub answer_form : JsonPath → Data → Read GraphStart
 answer_form path d = do
   _ ← has_keys path (Lonely ∷ Parts ∷ []) (Cost ∷ Crossings ∷ Tries ∷ []) d
   lonely ← member_form (list_form number_form) path Lonely d
   parts ← member_form (list_form part_form) path Parts d
   Ok (record { parts = parts; lonely = lonely })
 
-unfoldable pub some_answer : Path → Data → Read (Option GraphStart)
+unfoldable pub some_answer : JsonPath → Data → Read (Option GraphStart)
 some_answer path d = do
   start ← answer_form path d
   Ok (Some start)

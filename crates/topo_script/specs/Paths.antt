@@ -6,7 +6,7 @@ use Rattle.topo_script.specs.declared.path.Key.TheVariants.{Id, Kind, Limits, Lo
 use Rattle.topo_script.specs.declared.path.Key.TheVariants.{Progress, Refused, Reopen, Reply, Rotations, Seconds, Seed, Sign, Start, Threads, Tries, Version, Vertex, Vertices, Workers}
 use Rattle.topo_script.specs.declared.path.Step.{Step}
 use Rattle.topo_script.specs.declared.path.Step.TheVariants.{Member, Element}
-use Rattle.topo_script.specs.declared.path.Path.{Path}
+use Rattle.topo_script.specs.declared.path.JsonPath.{JsonPath}
 
 -- a key as it stands in a text
 abbrev pub key_name : Key → List ℕ
@@ -53,11 +53,11 @@ key_name Vertices = codes "vertices"
 key_name Workers = codes "workers"
 
 -- the whole text
-abbrev pub whole : Path
+abbrev pub whole : JsonPath
 whole = record { first = None; second = None; third = None; fourth = None; fifth = None; sixth = None; seventh = None; eighth = None }
 
 -- one step further: the first place that is free takes it
-unfoldable pub under : Path → Step → Path
+unfoldable pub under : JsonPath → Step → JsonPath
 under path step =
     if is_none path.first then record path { first = Some step } else (
     if is_none path.second then record path { second = Some step } else (
@@ -68,10 +68,10 @@ under path step =
     if is_none path.seventh then record path { seventh = Some step } else
     record path { eighth = Some step }))))))
 
-abbrev pub member_of : Path → Key → Path
+abbrev pub member_of : JsonPath → Key → JsonPath
 member_of path key = under path (Member key)
 
-abbrev pub element_of : Path → ℕ → Path
+abbrev pub element_of : JsonPath → ℕ → JsonPath
 element_of path i = under path (Element i)
 
 -- a step as it is printed, where there is one
@@ -84,6 +84,6 @@ abbrev pub three_text : Option Step → Option Step → Option Step → List ℕ
 three_text a b c = step_text a ++ (step_text b ++ step_text c)
 
 -- a path as it is printed
-abbrev pub path_text : Path → List ℕ
+abbrev pub path_text : JsonPath → List ℕ
 path_text path = codes "$" ++ (three_text path.first path.second path.third ++ (three_text path.fourth path.fifth path.sixth
     ++ (step_text path.seventh ++ step_text path.eighth)))

@@ -8,7 +8,7 @@ use Rattle.serde_json.specs.Find.{get, at, as_number, as_u64, as_str, as_array, 
 use Rattle.serde_json.specs.Events.{items_len}
 use Rattle.serde_json.specs.Read.{read}
 use Rattle.topo_script.specs.declared.path.Key.{Key}
-use Rattle.topo_script.specs.declared.path.Path.{Path}
+use Rattle.topo_script.specs.declared.path.JsonPath.{JsonPath}
 use Rattle.topo_script.specs.declared.fault.ScriptFault.{ScriptFault}
 use Rattle.topo_script.specs.declared.fault.ScriptFault.TheVariants.{Memory, NotJson, TooLong, BadShape, BadNumber}
 use Rattle.topo_script.specs.Paths.{key_name, member_of, element_of}
@@ -61,16 +61,16 @@ Gives (Err fault) due = IsFirstFault due fault
 -- ---- Numbers and texts
 
 -- a whole number below the bound
-unfoldable pub number_below : ℕ → Path → Data → Read ℕ
+unfoldable pub number_below : ℕ → JsonPath → Data → Read ℕ
 number_below bound path d = do
   n ← due (BadShape path) (as_number d)
   whole ← due (BadNumber path) (as_u64 n)
   if nat_lt whole bound then Ok whole else Err (BadNumber path)
 
-abbrev pub number_form : Path → Data → Read ℕ
+abbrev pub number_form : JsonPath → Data → Read ℕ
 number_form = number_below (2 ^ 32)
 
-abbrev pub long_form : Path → Data → Read ℕ
+abbrev pub long_form : JsonPath → Data → Read ℕ
 long_form = number_below (2 ^ 64)
 
 -- the value is this text
@@ -84,24 +84,24 @@ abbrev pub element_count : Data → ℕ
 element_count d = unwrap_or (option_map items_len (as_array d)) 0
 
 -- the elements from place i on, each in the form
-abbrev pub items_from : {A : Type 0} → (Path → Data → Read A) → Path → ℕ → Items → Read (List A)
+abbrev pub items_from : {A : Type 0} → (JsonPath → Data → Read A) → JsonPath → ℕ → Items → Read (List A)
 items_from form path i no_items = Ok []
 items_from form path i (item d ds) = form (element_of path i) d >>= λ x. items_from form path (i + 1) ds >>= λ xs. Ok (x ∷ xs)
 
 -- an array of any length
-unfoldable pub list_form : {A : Type 0} → (Path → Data → Read A) → Path → Data → Read (List A)
+unfoldable pub list_form : {A : Type 0} → (JsonPath → Data → Read A) → JsonPath → Data → Read (List A)
 list_form form path d = do
   items ← due (BadShape path) (as_array d)
   items_from form path 0 items
 
 -- the element at a place
-unfoldable pub element : {A : Type 0} → (Path → Data → Read A) → Path → ℕ → Data → Read A
+unfoldable pub element : {A : Type 0} → (JsonPath → Data → Read A) → JsonPath → ℕ → Data → Read A
 element form path i d = do
   found ← due (BadShape path) (at i d)
   form (element_of path i) found
 
 -- three elements from a place on
-abbrev pub three_elements : {A B C : Type 0} → (Path → Data → Read A) → (Path → Data → Read B) → (Path → Data → Read C) → Path → ℕ → Data → Read (A × B × C)
+abbrev pub three_elements : {A B C : Type 0} → (JsonPath → Data → Read A) → (JsonPath → Data → Read B) → (JsonPath → Data → Read C) → JsonPath → ℕ → Data → Read (A × B × C)
 three_elements a b c path i d = all_three (element a path i d) (element b path (i + 1) d) (element c path (i + 2) d)
 
 -- ---- Objects
@@ -119,33 +119,33 @@ all_known required optional no_members = true
 all_known required optional (member name d ms) = (is_known required name || is_known optional name) && all_known required optional ms
 
 -- the first of these keys that is not there is a fault
-abbrev pub all_there : Path → List Key → Data → Read ⊤
+abbrev pub all_there : JsonPath → List Key → Data → Read ⊤
 all_there path [] d = Ok tt
 all_there path (key ∷ keys) d = if has_key key d then all_there path keys d else Err (BadShape (member_of path key))
 
 -- an object with all of the first keys, some of the others, and no more
-unfoldable pub has_keys : Path → List Key → List Key → Data → Read ⊤
+unfoldable pub has_keys : JsonPath → List Key → List Key → Data → Read ⊤
 has_keys path required optional d = do
   members ← due (BadShape path) (as_object d)
   _ ← passes (BadShape path) (all_known required optional members)
   all_there path required d
 
 -- a member, in a form
-unfoldable pub member_form : {A : Type 0} → (Path → Data → Read A) → Path → Key → Data → Read A
+unfoldable pub member_form : {A : Type 0} → (JsonPath → Data → Read A) → JsonPath → Key → Data → Read A
 member_form form path key d = do
   found ← due (BadShape (member_of path key)) (get (key_name key) d)
   form (member_of path key) found
 
 -- two members, and three
-abbrev pub two_members : {A B : Type 0} → (Path → Data → Read A) → (Path → Data → Read B) → Path → Key → Key → Data → Read (A × B)
+abbrev pub two_members : {A B : Type 0} → (JsonPath → Data → Read A) → (JsonPath → Data → Read B) → JsonPath → Key → Key → Data → Read (A × B)
 two_members a b path first second d = both (member_form a path first d) (member_form b path second d)
 
-abbrev pub three_members : {A B C : Type 0} → (Path → Data → Read A) → (Path → Data → Read B) → (Path → Data → Read C) → Path → Key → Key → Key → Data
+abbrev pub three_members : {A B C : Type 0} → (JsonPath → Data → Read A) → (JsonPath → Data → Read B) → (JsonPath → Data → Read C) → JsonPath → Key → Key → Key → Data
     → Read (A × B × C)
 three_members a b c path first second third d = all_three (member_form a path first d) (member_form b path second d) (member_form c path third d)
 
 -- a member that may be missing
-unfoldable pub member_or : {A : Type 0} → A → (Path → Data → Read A) → Path → Key → Data → Read A
+unfoldable pub member_or : {A : Type 0} → A → (JsonPath → Data → Read A) → JsonPath → Key → Data → Read A
 member_or default form path key d = if has_key key d then member_form form path key d else Ok default
 
 -- ---- Bytes

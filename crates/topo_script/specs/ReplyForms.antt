@@ -12,15 +12,15 @@ use Rattle.topo_core.specs.declared.calls.Refusal.{Refusal}
 use Rattle.topo_core.specs.declared.calls.Refusal.TheVariants.{NoVertex, SameEnds, NoPosition, NoEdge, BadKind, Cut, Full, NoRoute}
 use Rattle.topo_script.specs.declared.path.Key.TheVariants.{Call, Caller, Crossed, Deleted as DeletedKey, Edge, End, Price}
 use Rattle.topo_script.specs.declared.path.Key.TheVariants.{Refused as RefusedKey, Reply as ReplyKey, Start, Vertex}
-use Rattle.topo_script.specs.declared.path.Path.{Path}
+use Rattle.topo_script.specs.declared.path.JsonPath.{JsonPath}
 use Rattle.topo_script.specs.declared.fault.ScriptFault.TheVariants.{BadShape}
 use Rattle.topo_script.specs.Reads.{Read, ◌>>=◌, passes, number_form, long_form, is_text, element_count, list_form, element, has_key, has_keys, member_form}
 use Rattle.topo_script.specs.CallForms.{call_form}
 
-unfoldable pub way_form : Path → Data → Read Way
+unfoldable pub way_form : JsonPath → Data → Read Way
 way_form path d = if is_text (codes "forward") d then Ok Forward else (if is_text (codes "back") d then Ok Back else Err (BadShape path))
 
-unfoldable pub dart_form : Path → Data → Read Dart
+unfoldable pub dart_form : JsonPath → Data → Read Dart
 dart_form path d = do
   _ ← passes (BadShape path) (element_count d == 3)
   edge ← element number_form path 0 d
@@ -37,7 +37,7 @@ is_number number d = unwrap_or (option_map (λ n. n == number) (option_and_then 
 abbrev pub is_pair : ℕ → ℕ → List ℕ → Data → Bool
 is_pair count number name d = ((element_count d == count) && is_number number (at 0 d)) && unwrap_or (option_map (is_text name) (at 1 d)) false
 
-unfoldable pub plain_refusal : Path → Data → Read Refusal
+unfoldable pub plain_refusal : JsonPath → Data → Read Refusal
 plain_refusal path d =
     if is_pair 2 1 (codes "NoVertex") d then Ok NoVertex else (
     if is_pair 2 2 (codes "SameEnds") d then Ok SameEnds else (
@@ -49,36 +49,36 @@ plain_refusal path d =
     Err (BadShape path)))))))
 
 -- Cut has a segment, which is tested as every number is
-unfoldable pub cut_form : Path → Data → Read Refusal
+unfoldable pub cut_form : JsonPath → Data → Read Refusal
 cut_form path d = do
   segment ← element number_form path 2 d
   Ok (Cut segment)
 
-abbrev pub refusal_form : Path → Data → Read Refusal
+abbrev pub refusal_form : JsonPath → Data → Read Refusal
 refusal_form path d = if is_pair 3 6 (codes "Cut") d then cut_form path d else plain_refusal path d
 
 -- ---- Replies
 
-unfoldable pub deleted_form : Path → Data → Read Reply
+unfoldable pub deleted_form : JsonPath → Data → Read Reply
 deleted_form path d = do
   _ ← has_keys path (DeletedKey ∷ []) [] d
   edge ← member_form number_form path DeletedKey d
   Ok (Deleted edge)
 
-unfoldable pub refused_form : Path → Data → Read Reply
+unfoldable pub refused_form : JsonPath → Data → Read Reply
 refused_form path d = do
   _ ← has_keys path (RefusedKey ∷ []) [] d
   why ← member_form refusal_form path RefusedKey d
   Ok (Refused why)
 
-unfoldable pub grown_form : Path → Data → Read Reply
+unfoldable pub grown_form : JsonPath → Data → Read Reply
 grown_form path d = do
   _ ← has_keys path (Edge ∷ Vertex ∷ []) [] d
   edge ← member_form number_form path Edge d
   vertex ← member_form number_form path Vertex d
   Ok (Grown vertex edge)
 
-unfoldable pub inserted_form : Path → Data → Read Reply
+unfoldable pub inserted_form : JsonPath → Data → Read Reply
 inserted_form path d = do
   _ ← has_keys path (Crossed ∷ Edge ∷ End ∷ Price ∷ Start ∷ []) [] d
   crossed ← member_form (list_form dart_form) path Crossed d
@@ -89,14 +89,14 @@ inserted_form path d = do
   Ok (Inserted (record { id = edge; route = record { start = start; crossed = crossed; end = end }; price = price }))
 
 -- the keys choose the form
-unfoldable pub reply_form : Path → Data → Read Reply
+unfoldable pub reply_form : JsonPath → Data → Read Reply
 reply_form path d =
     if has_key DeletedKey d then deleted_form path d else (
     if has_key RefusedKey d then refused_form path d else (
     if has_key Crossed d then inserted_form path d else
     grown_form path d))
 
-unfoldable pub entry_form : Path → Data → Read Entry
+unfoldable pub entry_form : JsonPath → Data → Read Entry
 entry_form path d = do
   _ ← has_keys path (Call ∷ Caller ∷ ReplyKey ∷ []) [] d
   call ← member_form call_form path Call d

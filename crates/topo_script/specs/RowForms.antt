@@ -8,15 +8,15 @@ use Rattle.topo_core.specs.declared.rows.EdgeRow.{EdgeRow}
 use Rattle.topo_core.specs.declared.rows.CrossRow.{CrossRow}
 use Rattle.topo_script.specs.declared.path.Key.TheVariants.{A, B, Crossed, Crossings, Edges, Id, Kind, Newcomer}
 use Rattle.topo_script.specs.declared.path.Key.TheVariants.{NextCrossing, NextEdge, Rotations, Sign as SignKey}
-use Rattle.topo_script.specs.declared.path.Path.{Path}
+use Rattle.topo_script.specs.declared.path.JsonPath.{JsonPath}
 use Rattle.topo_script.specs.declared.fault.ScriptFault.TheVariants.{BadShape}
 use Rattle.topo_script.specs.Paths.{whole}
 use Rattle.topo_script.specs.Reads.{Read, ◌>>=◌, number_form, is_text, list_form, has_keys, member_form, value_of}
 
-unfoldable pub sign_form : Path → Data → Read Sign
+unfoldable pub sign_form : JsonPath → Data → Read Sign
 sign_form path d = if is_text (codes "ltr") d then Ok LeftToRight else (if is_text (codes "rtl") d then Ok RightToLeft else Err (BadShape path))
 
-unfoldable pub edge_form : Path → Data → Read EdgeRow
+unfoldable pub edge_form : JsonPath → Data → Read EdgeRow
 edge_form path d = do
   _ ← has_keys path (A ∷ B ∷ Crossings ∷ Id ∷ Kind ∷ []) [] d
   a ← member_form number_form path A d
@@ -26,7 +26,7 @@ edge_form path d = do
   kind ← member_form number_form path Kind d
   Ok (record { id = id; a = a; b = b; kind = kind; crossings = crossings })
 
-unfoldable pub crossing_form : Path → Data → Read CrossRow
+unfoldable pub crossing_form : JsonPath → Data → Read CrossRow
 crossing_form path d = do
   _ ← has_keys path (Crossed ∷ Id ∷ Newcomer ∷ SignKey ∷ []) [] d
   crossed ← member_form number_form path Crossed d
@@ -35,7 +35,7 @@ crossing_form path d = do
   sign ← member_form sign_form path SignKey d
   Ok (record { id = id; crossed = crossed; newcomer = newcomer; sign = sign })
 
-unfoldable pub rows_form : Path → Data → Read Rows
+unfoldable pub rows_form : JsonPath → Data → Read Rows
 rows_form path d = do
   _ ← has_keys path (Crossings ∷ Edges ∷ NextCrossing ∷ NextEdge ∷ Rotations ∷ []) [] d
   crossings ← member_form (list_form crossing_form) path Crossings d

@@ -8,7 +8,7 @@ use Rattle.topo_script.specs.declared.scripts.LimitRows.{LimitRows}
 use Rattle.topo_script.specs.declared.scripts.Script.{Script}
 use Rattle.topo_script.specs.declared.reports.Report.{Report}
 use Rattle.topo_script.specs.declared.path.Key.TheVariants.{Crossings, Edges, History, Limits, Picture, Prices, Start, Version, Vertices, Workers}
-use Rattle.topo_script.specs.declared.path.Path.{Path}
+use Rattle.topo_script.specs.declared.path.JsonPath.{JsonPath}
 use Rattle.topo_script.specs.declared.fault.ScriptFault.TheVariants.{BadShape, BadVersion}
 use Rattle.topo_script.specs.Paths.{whole}
 use Rattle.topo_script.specs.Reads.{Read, ◌>>=◌, passes, number_form, is_text, element_count, list_form, has_keys, member_form, member_or, value_of}
@@ -24,7 +24,7 @@ use Rattle.topo_script.specs.declared.script_forms.TheConstants.{MAX_WORKERS}
 abbrev pub greatest_limits : LimitRows
 greatest_limits = record { vertices = 65536; edges = 65536; crossings = 1048576 }
 
-unfoldable pub limits_form : Path → Data → Read LimitRows
+unfoldable pub limits_form : JsonPath → Data → Read LimitRows
 limits_form path d = do
   _ ← has_keys path (Crossings ∷ Edges ∷ Vertices ∷ []) [] d
   crossings ← member_form number_form path Crossings d
@@ -39,23 +39,23 @@ unfoldable pub nulls_of : ℕ → Read Bool
 nulls_of version = if version == 1 then Ok false else (if version == 2 then Ok true else Err BadVersion)
 
 -- whether the version of a script, an opening or a report lets a price be null
-unfoldable pub nulls_in : Path → Data → Read Bool
+unfoldable pub nulls_in : JsonPath → Data → Read Bool
 nulls_in path d = do
   _ ← passes (BadShape path) (is_some (as_object d))
   version ← member_form number_form path Version d
   nulls_of version
 
-unfoldable pub some_price : Path → Data → Read (Option ℕ)
+unfoldable pub some_price : JsonPath → Data → Read (Option ℕ)
 some_price path d = do
   price ← number_form path d
   Ok (Some price)
 
 -- a number, or null where the version lets it be
-unfoldable pub price_form : Bool → Path → Data → Read (Option ℕ)
+unfoldable pub price_form : Bool → JsonPath → Data → Read (Option ℕ)
 price_form nulls path d = if nulls && is_some (as_null d) then Ok None else some_price path d
 
 -- at most 64 prices, kept without the ones at their end
-unfoldable pub prices_form : Bool → Path → Data → Read (List (Option ℕ))
+unfoldable pub prices_form : Bool → JsonPath → Data → Read (List (Option ℕ))
 prices_form nulls path d = do
   _ ← passes (BadShape path) (nat_le (element_count d) KINDS)
   prices ← list_form (price_form nulls) path d
@@ -63,17 +63,17 @@ prices_form nulls path d = do
 
 -- ---- Scripts
 
-unfoldable pub picture_form : Path → Data → Read (Option Rows)
+unfoldable pub picture_form : JsonPath → Data → Read (Option Rows)
 picture_form path d = do
   rows ← rows_form path d
   Ok (Some rows)
 
 -- the text `seed`, or a picture
-unfoldable pub start_form : Path → Data → Read (Option Rows)
+unfoldable pub start_form : JsonPath → Data → Read (Option Rows)
 start_form path d = if is_text (codes "seed") d then Ok None else picture_form path d
 
 -- an array of 1 to 16 lists of commands
-unfoldable pub workers_form : Path → Data → Read (List (List Command))
+unfoldable pub workers_form : JsonPath → Data → Read (List (List Command))
 workers_form path d = do
   _ ← passes (BadShape path) (nat_lt 0 (element_count d) && nat_le (element_count d) MAX_WORKERS)
   list_form (list_form command_form) path d
@@ -94,7 +94,7 @@ script_of bytes = value_of 1048576 bytes >>= λ d. script_form d
 
 -- ---- Reports
 
-unfoldable pub report_form : Path → Data → Read Report
+unfoldable pub report_form : JsonPath → Data → Read Report
 report_form path d = do
   nulls ← nulls_in path d
   _ ← has_keys path (History ∷ Limits ∷ Picture ∷ Prices ∷ Start ∷ Version ∷ []) [] d

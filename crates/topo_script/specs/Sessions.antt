@@ -8,7 +8,7 @@ use Rattle.serde_json.specs.Find.{as_str}
 use Rattle.topo_core.specs.declared.calls.Command.{Command}
 use Rattle.topo_script.specs.declared.fault.ScriptFault.TheVariants.{Memory, BadShape}
 use Rattle.topo_script.specs.declared.path.Key.TheVariants.{Call, Caller, Id, Limits, Open, Planarize, Prices, Reopen, Seconds, Start, Version}
-use Rattle.topo_script.specs.declared.path.Path.{Path}
+use Rattle.topo_script.specs.declared.path.JsonPath.{JsonPath}
 use Rattle.topo_script.specs.declared.lines.Asked.{Asked}
 use Rattle.topo_script.specs.declared.lines.Frame.{Frame}
 use Rattle.topo_script.specs.declared.lines.Frame.TheVariants.{Opening as AsOpening, Bare, Envelope}
@@ -29,7 +29,7 @@ use Rattle.topo_script.specs.Scripts.{greatest_limits, limits_form, nulls_in, pr
 -- ---- Openings
 
 -- a script without its lists
-unfoldable pub opening_form : Path → Data → Read Opening
+unfoldable pub opening_form : JsonPath → Data → Read Opening
 opening_form path d = do
   nulls ← nulls_in path d
   _ ← has_keys path (Version ∷ []) (Limits ∷ Prices ∷ Start ∷ []) d
@@ -45,26 +45,26 @@ opening_of bytes = value_of 268435456 bytes >>= λ d. opening_form whole d
 -- ---- Requests
 
 -- the cheapest route between two vertices
-unfoldable pub route_form : Path → Data → Read Request
+unfoldable pub route_form : JsonPath → Data → Read Request
 route_form path d = do
   u ← element number_form path 1 d
   v ← element number_form path 2 d
   Ok (Route u v)
 
 -- an edge
-unfoldable pub edge_form : Path → Data → Read Request
+unfoldable pub edge_form : JsonPath → Data → Read Request
 edge_form path d = do
   edge ← element number_form path 1 d
   Ok (Edge edge)
 
 -- a vertex
-unfoldable pub vertex_form : Path → Data → Read Request
+unfoldable pub vertex_form : JsonPath → Data → Read Request
 vertex_form path d = do
   vertex ← element number_form path 1 d
   Ok (Vertex vertex)
 
 -- the face beside a dart
-unfoldable pub face_form : Path → Data → Read Request
+unfoldable pub face_form : JsonPath → Data → Read Request
 face_form path d = do
   edge ← element number_form path 1 d
   seg ← element number_form path 2 d
@@ -72,26 +72,26 @@ face_form path d = do
   Ok (Face (record { edge = edge; seg = seg; way = way }))
 
 -- to take back the last commands
-unfoldable pub undo_form : Path → Data → Read Request
+unfoldable pub undo_form : JsonPath → Data → Read Request
 undo_form path d = do
   count ← element number_form path 1 d
   Ok (Undo count)
 
 -- an opening, of which the session begins anew
-unfoldable pub opened_form : Path → Data → Read Request
+unfoldable pub opened_form : JsonPath → Data → Read Request
 opened_form path d = do
   opening ← opening_form path d
   Ok (OpenRequest opening)
 
 -- the same as the one member of an object
-unfoldable pub open_form : Path → Data → Read Request
+unfoldable pub open_form : JsonPath → Data → Read Request
 open_form path d = do
   _ ← has_keys path (Open ∷ []) [] d
   opening ← member_form opening_form path Open d
   Ok (OpenRequest opening)
 
 -- a report, as the one member of an object, with which the session goes on
-unfoldable pub reopen_form : Path → Data → Read Request
+unfoldable pub reopen_form : JsonPath → Data → Read Request
 reopen_form path d = do
   _ ← has_keys path (Reopen ∷ []) [] d
   report ← member_form report_form path Reopen d
@@ -99,7 +99,7 @@ reopen_form path d = do
 
 -- A graph, as the one member of an object, of which pictures with few crossings are wanted. Paths in its faults begin at the
 -- graph, as those of the command do. A session has no clock: the seconds are the command's alone.
-unfoldable pub planarize_form : Path → Data → Read Request
+unfoldable pub planarize_form : JsonPath → Data → Read Request
 planarize_form path d = do
   _ ← has_keys path (Planarize ∷ []) [] d
   asked ← member_form (λ _. graph_form) path Planarize d
@@ -110,19 +110,19 @@ planarize_form path d = do
 abbrev pub is_keyed : Data → Bool
 is_keyed d = has_key Open d || has_key Reopen d || has_key Planarize d
 
-unfoldable pub keyed_form : Path → Data → Read Request
+unfoldable pub keyed_form : JsonPath → Data → Read Request
 keyed_form path d =
     if has_key Open d then open_form path d else (
     if has_key Reopen d then reopen_form path d else
     planarize_form path d)
 
-unfoldable pub carry_form : Path → Data → Read Request
+unfoldable pub carry_form : JsonPath → Data → Read Request
 carry_form path d = do
   command ← command_form path d
   Ok (Carry command)
 
 -- what an array or an object asks for: a look at the picture, a step back, what a key names, or a command
-unfoldable pub look_form : Path → Data → Read Request
+unfoldable pub look_form : JsonPath → Data → Read Request
 look_form path d =
     if begins (codes "route") 3 d then route_form path d else (
     if begins (codes "edge") 2 d then edge_form path d else (
@@ -133,7 +133,7 @@ look_form path d =
     carry_form path d)))))
 
 -- the text `about`, `counts`, `picture`, `report`, `forget` or `renumber`, or what an array or an object asks for
-unfoldable pub request_form : Path → Data → Read Request
+unfoldable pub request_form : JsonPath → Data → Read Request
 request_form path d =
     if is_text (codes "about") d then Ok About else (
     if is_text (codes "counts") d then Ok Counts else (
@@ -145,26 +145,26 @@ request_form path d =
 
 -- ---- Ids and callers
 
-abbrev pub text_id : Path → List ℕ → Read LineId
+abbrev pub text_id : JsonPath → List ℕ → Read LineId
 text_id path text = if nat_le (length text) 256 then Ok (Text text) else Err (BadShape path)
 
-unfoldable pub number_id : Path → Data → Read LineId
+unfoldable pub number_id : JsonPath → Data → Read LineId
 number_id path d = do
   number ← number_form path d
   Ok (Number number)
 
 -- a text of at most 256 bytes, or a number
-unfoldable pub id_form : Path → Data → Read LineId
+unfoldable pub id_form : JsonPath → Data → Read LineId
 id_form path d = unwrap_or (option_map (text_id path) (as_str d)) (number_id path d)
 
 -- the same of a member that may be missing
-unfoldable pub some_id : Path → Data → Read (Option LineId)
+unfoldable pub some_id : JsonPath → Data → Read (Option LineId)
 some_id path d = do
   id ← id_form path d
   Ok (Some id)
 
 -- a caller's number
-abbrev pub caller_form : Path → Data → Read ℕ
+abbrev pub caller_form : JsonPath → Data → Read ℕ
 caller_form path d = number_below 16 path d
 
 -- ---- Lines
@@ -191,7 +191,7 @@ unfoldable pub envelope_line : Data → Line
 envelope_line d = enveloped (envelope_head d) (envelope_asked d)
 
 -- a request without an envelope is that of caller 0
-unfoldable pub bare_asked : (Path → Data → Read Request) → Data → Read Asked
+unfoldable pub bare_asked : (JsonPath → Data → Read Request) → Data → Read Asked
 bare_asked form d = do
   request ← form whole d
   Ok (record { caller = 0; request = request })

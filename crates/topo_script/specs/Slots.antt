@@ -7,7 +7,7 @@ use Rattle.json.specs.Json.{Json, Members as JsonMembers, value, members}
 use Rattle.serde_json.specs.Data.{Data, object, Members, no_members, member}
 use Rattle.serde_json.specs.Read.{of_json, of_members}
 use Rattle.topo_script.specs.declared.path.Key.{Key}
-use Rattle.topo_script.specs.declared.path.Path.{Path}
+use Rattle.topo_script.specs.declared.path.JsonPath.{JsonPath}
 use Rattle.topo_script.specs.Paths.{key_name}
 use Rattle.topo_script.specs.Reads.{Read}
 
@@ -55,13 +55,13 @@ pub record MembersTo (nesting : ℕ) (ts : List Token) (old ms : Members) (rest 
 -- ---- Slots
 
 -- what was read into a slot is what the form reads of the value
-abbrev pub IsHeld : {A : Type 0} → (Path → Data → Read A) → Option A → Option Data → Type 0
+abbrev pub IsHeld : {A : Type 0} → (JsonPath → Data → Read A) → Option A → Option Data → Type 0
 IsHeld form None None = ⊤
-IsHeld form (Some a) (Some d) = (path : Path) → form path d ≡ Ok a
+IsHeld form (Some a) (Some d) = (path : JsonPath) → form path d ≡ Ok a
 IsHeld form _ _ = ⊥
 
 -- the same of a slot and of those behind it
-unfoldable pub HoldsSlot : {A R : Type 0} → (Path → Data → Read A) → (R → List (Option Data) → Type 0) → Option A → R → List (Option Data) → Type 0
+unfoldable pub HoldsSlot : {A R : Type 0} → (JsonPath → Data → Read A) → (R → List (Option Data) → Type 0) → Option A → R → List (Option Data) → Type 0
 HoldsSlot form holds found rest [] = ⊥
 HoldsSlot form holds found rest (o ∷ os) = IsHeld form found o × holds rest os
 

@@ -7,7 +7,7 @@ use Rattle.serde_json.specs.Data.{Items, array, item, number, string, unsigned}
 use Rattle.topo_core.specs.declared.calls.Call.{Call}
 use Rattle.topo_core.specs.declared.calls.Refusal.{Refusal}
 use Rattle.topo_core.specs.declared.rows.Rows.{Rows}
-use Rattle.topo_script.specs.declared.path.Path.{Path}
+use Rattle.topo_script.specs.declared.path.JsonPath.{JsonPath}
 use Rattle.topo_script.specs.declared.scripts.LimitRows.{LimitRows}
 use Rattle.topo_script.specs.declared.sessions.Request.{Request}
 use Rattle.topo_script.specs.CallForms.{begins, call_form}
@@ -20,7 +20,7 @@ use Rattle.topo_core.specs.declared.rows.TheConstants.{KINDS}
 
 -- behind this word, the tokens go on to the end of a call, which is no planned insertion
 abbrev pub SpellsCall : List ℕ → List Token → Call → List Token → Type 0
-SpellsCall word ts call rest = (ds : Items) × GoesOn 0 (text_token word ∷ ts) ds rest × ((path : Path) → call_form path (array ds) ≡ Ok call)
+SpellsCall word ts call rest = (ds : Items) × GoesOn 0 (text_token word ∷ ts) ds rest × ((path : JsonPath) → call_form path (array ds) ≡ Ok call)
     × (begins (codes "planned") 4 (array ds) ≡ false)
 
 -- behind this word, the tokens go on to the end of the array of a request
@@ -30,7 +30,7 @@ SpellsAsked word ts request rest = Spells 7 request_form (begin_array ∷ text_t
 -- behind this number and this name, the tokens go on to the end of a refusal
 abbrev pub SpellsRefusal : ℕ → List ℕ → List Token → Refusal → List Token → Type 0
 SpellsRefusal n name ts why rest = (ds : Items) × GoesOn 0 ts ds rest
-    × ((path : Path) → refusal_form path (array (item (number (unsigned n)) (item (string name) ds))) ≡ Ok why)
+    × ((path : JsonPath) → refusal_form path (array (item (number (unsigned n)) (item (string name) ds))) ≡ Ok why)
 
 -- at most 64 prices, with a null only where the version lets it be, and those kept of them
 abbrev pub ArePricesOf : ℕ → List (Option ℕ) → List (Option ℕ) → Type 0

@@ -8,7 +8,7 @@ ghost use Rattle.topo_script.specs.CallForms.{delete_form, command_form, planned
 
 use crate::fault::ScriptFault;
 use crate::form::{Form, element_count, is_text, read_element, read_elements};
-use crate::path::Path;
+use crate::path::JsonPath;
 use serde_json::Value;
 use std::alloc::Global;
 use topo_core::calls::{Call, Command};
@@ -26,28 +26,28 @@ pub(crate) fn begins(word: &str, count: usize, value: &Value) -> bool
     }
 }
 
-fn read_grow(alloc: Global, path: Path, value: &Value) -> Result<Call, ScriptFault>
+fn read_grow(alloc: Global, path: JsonPath, value: &Value) -> Result<Call, ScriptFault>
     ensures { Gives result (grow_form path (view value.now)) }
 {
     let (u, position, kind) = read_elements(alloc, path, 1, value)?;
     Ok(Call::Grow { u, position, kind })
 }
 
-fn read_insert(alloc: Global, path: Path, value: &Value) -> Result<Call, ScriptFault>
+fn read_insert(alloc: Global, path: JsonPath, value: &Value) -> Result<Call, ScriptFault>
     ensures { Gives result (insert_form path (view value.now)) }
 {
     let (u, v, kind) = read_elements(alloc, path, 1, value)?;
     Ok(Call::Insert { u, v, kind })
 }
 
-fn read_delete(alloc: Global, path: Path, value: &Value) -> Result<Call, ScriptFault>
+fn read_delete(alloc: Global, path: JsonPath, value: &Value) -> Result<Call, ScriptFault>
     ensures { Gives result (delete_form path (view value.now)) }
 {
     let edge = read_element(alloc, path, 1, value)?;
     Ok(Call::Delete { edge })
 }
 
-fn read_planned(alloc: Global, path: Path, value: &Value) -> Result<Command, ScriptFault>
+fn read_planned(alloc: Global, path: JsonPath, value: &Value) -> Result<Command, ScriptFault>
     ensures { Gives result (planned_form path (view value.now)) }
 {
     let (u, v, kind) = read_elements(alloc, path, 1, value)?;
@@ -58,7 +58,7 @@ impl Form for Call {
     ghost form = { call_form };
 
     #[tactic(auto, unfolding(crate::specs::CallForms::call_form))]
-    fn read(alloc: Global, path: Path, value: &Value) -> Result<Self, ScriptFault> {
+    fn read(alloc: Global, path: JsonPath, value: &Value) -> Result<Self, ScriptFault> {
         if begins("grow", 4, value) {
             read_grow(alloc, path, value)
         } else if begins("insert", 4, value) {
@@ -71,7 +71,7 @@ impl Form for Call {
     }
 }
 
-fn read_plain(alloc: Global, path: Path, value: &Value) -> Result<Command, ScriptFault>
+fn read_plain(alloc: Global, path: JsonPath, value: &Value) -> Result<Command, ScriptFault>
     ensures { Gives result (plain_form path (view value.now)) }
 {
     let call = Call::read(alloc, path, value)?;
@@ -82,7 +82,7 @@ impl Form for Command {
     ghost form = { command_form };
 
     #[tactic(auto, unfolding(crate::specs::CallForms::command_form))]
-    fn read(alloc: Global, path: Path, value: &Value) -> Result<Self, ScriptFault> {
+    fn read(alloc: Global, path: JsonPath, value: &Value) -> Result<Self, ScriptFault> {
         if begins("planned", 4, value) {
             read_planned(alloc, path, value)
         } else {

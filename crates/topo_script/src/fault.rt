@@ -3,7 +3,7 @@
 ghost use Rattle.std.specs.Prelude.{◌≡◌, Some};
 ghost use Rattle.topo_script.specs.FaultTexts.{fault_of, fault_text};
 
-use crate::path::Path;
+use crate::path::JsonPath;
 use std::fmt;
 use thiserror::Error;
 use topo_faults::Fault;
@@ -15,9 +15,9 @@ pub enum ScriptFault {
     Memory,
     NotJson,
     TooLong,
-    BadShape(Path),
+    BadShape(JsonPath),
     BadVersion,
-    BadNumber(Path),
+    BadNumber(JsonPath),
 }
 
 impl ScriptFault {

@@ -11,7 +11,7 @@ ghost use Rattle.topo_script.specs.Reads.{three_members, three_elements, value_o
 ghost use Rattle.topo_script.specs.Paths.{whole};
 
 use crate::fault::ScriptFault;
-use crate::path::{Key, Path};
+use crate::path::{Key, JsonPath};
 use serde_json::{Map, Value};
 use std::alloc::Global;
 use topo_core::ids::{EdgeId, VertexId};
@@ -21,19 +21,19 @@ use topo_core::listed::Listed;
 /// fault is its first.
 pub trait Form: Drop {
     ghost use Rattle.serde_json.specs.Data.{Data};
-    ghost use Rattle.topo_script.specs.declared.path.Path.{Path};
+    ghost use Rattle.topo_script.specs.declared.path.JsonPath.{JsonPath};
     ghost use Rattle.topo_script.specs.Reads.{Read};
 
-    ghost form: { Path → Data → Read Self };
+    ghost form: { JsonPath → Data → Read Self };
 
     /// What the value at a path is read as.
-    fn read(alloc: Global, path: Path, value: &Value) -> Result<Self, ScriptFault>
+    fn read(alloc: Global, path: JsonPath, value: &Value) -> Result<Self, ScriptFault>
         ensures { Gives result (form path (view value.now)) };
 }
 
 /// A whole number of at most `greatest`.
 #[tactic(auto, unfolding(crate::specs::Reads::number_below, crate::specs::Reads::and_then))]
-pub fn read_number(greatest: u64, path: Path, value: &Value) -> Result<u64, ScriptFault>
+pub fn read_number(greatest: u64, path: JsonPath, value: &Value) -> Result<u64, ScriptFault>
     ensures { result ≡ number_below (greatest + 1) path (view value.now) }
 {
     if !value.is_number() {
@@ -48,7 +48,7 @@ pub fn read_number(greatest: u64, path: Path, value: &Value) -> Result<u64, Scri
 impl Form for u32 {
     ghost form = { number_form };
 
-    fn read(_alloc: Global, path: Path, value: &Value) -> Result<Self, ScriptFault> {
+    fn read(_alloc: Global, path: JsonPath, value: &Value) -> Result<Self, ScriptFault> {
         let number = read_number(u64::from(u32::MAX), path, value)?;
         Ok(number as u32)
     }
@@ -57,7 +57,7 @@ impl Form for u32 {
 impl Form for EdgeId {
     ghost form = { number_form };
 
-    fn read(alloc: Global, path: Path, value: &Value) -> Result<Self, ScriptFault> {
+    fn read(alloc: Global, path: JsonPath, value: &Value) -> Result<Self, ScriptFault> {
         match u32::read(alloc, path, value) {
             Ok(number) => Ok(EdgeId::new(number)),
             Err(fault) => Err(fault),
@@ -68,7 +68,7 @@ impl Form for EdgeId {
 impl Form for VertexId {
     ghost form = { number_form };
 
-    fn read(alloc: Global, path: Path, value: &Value) -> Result<Self, ScriptFault> {
+    fn read(alloc: Global, path: JsonPath, value: &Value) -> Result<Self, ScriptFault> {
         match u32::read(alloc, path, value) {
             Ok(number) => Ok(VertexId::new(number)),
             Err(fault) => Err(fault),
@@ -79,7 +79,7 @@ impl Form for VertexId {
 impl<T: Form> Form for Listed<T> {
     ghost form = { list_form T.form };
 
-    fn read(alloc: Global, path: Path, value: &Value) -> Result<Self, ScriptFault> {
+    fn read(alloc: Global, path: JsonPath, value: &Value) -> Result<Self, ScriptFault> {
         match value.as_array() {
             Some(items) => read_items(alloc, path, items.as_slice()),
             None => Err(ScriptFault::BadShape(path)),
@@ -90,7 +90,7 @@ impl<T: Form> Form for Listed<T> {
 /// What each element of an array is read as, up to the first fault.
 pub fn read_items<T: Form>(
     alloc: Global,
-    path: Path,
+    path: JsonPath,
     items: &[Value],
 ) -> Result<Listed<T>, ScriptFault>
     ensures { Gives result (items_from T.form path 0 (items_view items.now)) }
@@ -110,7 +110,7 @@ pub fn read_items<T: Form>(
 /// What a member is read as.
 pub fn read_member<T: Form>(
     alloc: Global,
-    path: Path,
+    path: JsonPath,
     key: Key,
     value: &Value,
 ) -> Result<T, ScriptFault>
@@ -125,7 +125,7 @@ pub fn read_member<T: Form>(
 /// What two members are read as, one after the other.
 pub fn read_two<A: Form, B: Form>(
     alloc: Global,
-    path: Path,
+    path: JsonPath,
     first: Key,
     second: Key,
     value: &Value,
@@ -140,7 +140,7 @@ pub fn read_two<A: Form, B: Form>(
 /// What three members are read as, one after the other.
 pub fn read_three<A: Form, B: Form, C: Form>(
     alloc: Global,
-    path: Path,
+    path: JsonPath,
     first: Key,
     second: Key,
     third: Key,
@@ -157,7 +157,7 @@ pub fn read_three<A: Form, B: Form, C: Form>(
 /// What a member is read as, or a default where it is missing.
 pub fn read_member_or<T: Form>(
     alloc: Global,
-    path: Path,
+    path: JsonPath,
     key: Key,
     value: &Value,
     default: T,
@@ -173,7 +173,7 @@ pub fn read_member_or<T: Form>(
 /// What an element is read as.
 pub fn read_element<T: Form>(
     alloc: Global,
-    path: Path,
+    path: JsonPath,
     i: usize,
     value: &Value,
 ) -> Result<T, ScriptFault>
@@ -188,7 +188,7 @@ pub fn read_element<T: Form>(
 /// What three elements are read as, the first of them at place `i`.
 pub fn read_elements<A: Form, B: Form, C: Form>(
     alloc: Global,
-    path: Path,
+    path: JsonPath,
     i: u32,
     value: &Value,
 ) -> Result<(A, B, C), ScriptFault>
@@ -229,7 +229,7 @@ pub fn element_count(value: &Value) -> usize
 }
 
 /// Tests that a value is an array of so many elements.
-pub fn check_count(path: Path, count: usize, value: &Value) -> Result<(), ScriptFault>
+pub fn check_count(path: JsonPath, count: usize, value: &Value) -> Result<(), ScriptFault>
     ensures { result ≡ passes (BadShape path) (element_count (view value.now) == count) }
 {
     if element_count(value) == count {
@@ -243,7 +243,7 @@ pub fn check_count(path: Path, count: usize, value: &Value) -> Result<(), Script
 /// more.
 #[tactic(auto, unfolding(crate::specs::Reads::has_keys, crate::specs::Reads::and_then))]
 pub fn check_keys(
-    path: Path,
+    path: JsonPath,
     required: &[Key],
     optional: &[Key],
     value: &Value,
@@ -279,7 +279,7 @@ fn is_known(keys: &[Key], name: &str) -> bool
 }
 
 /// Tests that each of the keys is there.
-fn check_required(path: Path, required: &[Key], value: &Value) -> Result<(), ScriptFault>
+fn check_required(path: JsonPath, required: &[Key], value: &Value) -> Result<(), ScriptFault>
     ensures { result ≡ all_there path required.now (view value.now) }
 {
     for key in required {
@@ -345,5 +345,5 @@ pub fn read_value<T: Form>(alloc: Global, limit: usize, bytes: &[u8]) -> Result<
     ensures { Gives result (and_then (value_of limit bytes.now) (T.form whole)) }
 {
     let value = parse(alloc, limit, bytes)?;
-    T::read(alloc, Path::WHOLE, &value)
+    T::read(alloc, JsonPath::WHOLE, &value)
 }

@@ -24,7 +24,7 @@ use crate::form::{
     read_three, read_two, read_value,
 };
 use crate::graphs::{GraphAsked, GraphStart};
-use crate::path::{Key, Path};
+use crate::path::{Key, JsonPath};
 use crate::prices::read_some_price;
 use crate::row_forms::MAX_PICTURE_BYTES;
 use crate::script_forms::{read_nulls, read_prices_or_none};
@@ -39,7 +39,7 @@ use topo_graph::{Effort, GraphEdge, Part};
 pub(crate) const MAX_THREADS: u32 = 16;
 
 /// Tests that the kind of the edge at a path is one.
-fn check_kind(path: Path, kind: u32) -> Result<(), ScriptFault>
+fn check_kind(path: JsonPath, kind: u32) -> Result<(), ScriptFault>
     ensures { result ≡ passes (BadNumber (element_of path 2)) (nat_lt kind KINDS) }
 {
     if (kind as usize) < KINDS {
@@ -52,7 +52,7 @@ fn check_kind(path: Path, kind: u32) -> Result<(), ScriptFault>
 impl Form for GraphEdge {
     ghost form = { edge_form };
 
-    fn read(alloc: Global, path: Path, value: &Value) -> Result<Self, ScriptFault> {
+    fn read(alloc: Global, path: JsonPath, value: &Value) -> Result<Self, ScriptFault> {
         check_count(path, 3, value)?;
         let (a, b, kind) = read_elements(alloc, path, 0, value)?;
         check_kind(path, kind)?;
@@ -64,7 +64,7 @@ impl Form for Effort {
     ghost form = { effort_form };
 
     #[tactic(auto, unfolding(crate::specs::Graphs::effort_form))]
-    fn read(_alloc: Global, path: Path, value: &Value) -> Result<Self, ScriptFault> {
+    fn read(_alloc: Global, path: JsonPath, value: &Value) -> Result<Self, ScriptFault> {
         if is_text("quick", value) {
             Ok(Effort::Quick)
         } else if is_text("default", value) {
@@ -80,7 +80,7 @@ impl Form for Effort {
 impl Form for Option<u32> {
     ghost form = { some_price };
 
-    fn read(alloc: Global, path: Path, value: &Value) -> Result<Self, ScriptFault> {
+    fn read(alloc: Global, path: JsonPath, value: &Value) -> Result<Self, ScriptFault> {
         read_some_price(alloc, path, value)
     }
 }
@@ -89,7 +89,7 @@ impl Form for bool {
     ghost form = { truth_form };
 
     #[tactic(auto, unfolding(crate::specs::Graphs::truth_form))]
-    fn read(_alloc: Global, path: Path, value: &Value) -> Result<Self, ScriptFault> {
+    fn read(_alloc: Global, path: JsonPath, value: &Value) -> Result<Self, ScriptFault> {
         match value.as_bool() {
             Some(truth) => Ok(truth),
             None => Err(ScriptFault::BadShape(path)),
@@ -98,7 +98,7 @@ impl Form for bool {
 }
 
 /// Tests that there are 1 to 16 searches.
-fn check_threads(path: Path, threads: u32) -> Result<(), ScriptFault>
+fn check_threads(path: JsonPath, threads: u32) -> Result<(), ScriptFault>
     ensures { result ≡ passes (BadNumber path) (nat_lt 0 threads && nat_le threads MAX_THREADS) }
 {
     if 0 < threads && threads <= MAX_THREADS {
@@ -109,7 +109,7 @@ fn check_threads(path: Path, threads: u32) -> Result<(), ScriptFault>
 }
 
 /// How many searches there are side by side.
-fn read_threads(alloc: Global, path: Path, value: &Value) -> Result<u32, ScriptFault>
+fn read_threads(alloc: Global, path: JsonPath, value: &Value) -> Result<u32, ScriptFault>
     ensures { Gives result (threads_form path (view value.now)) }
 {
     let threads = u32::read(alloc, path, value)?;
@@ -121,7 +121,7 @@ fn read_threads(alloc: Global, path: Path, value: &Value) -> Result<u32, ScriptF
 fn read_threads_member(alloc: Global, value: &Value) -> Result<u32, ScriptFault>
     ensures { Gives result (member_form threads_form whole Threads (view value.now)) }
 {
-    let path = Path::WHOLE.member(Key::Threads);
+    let path = JsonPath::WHOLE.member(Key::Threads);
     match value.get(Key::Threads.name()) {
         Some(threads) => read_threads(alloc, path, threads),
         None => Err(ScriptFault::BadShape(path)),
@@ -142,7 +142,7 @@ fn read_threads_or_one(alloc: Global, value: &Value) -> Result<u32, ScriptFault>
 impl Form for Part {
     ghost form = { part_form };
 
-    fn read(alloc: Global, path: Path, value: &Value) -> Result<Self, ScriptFault> {
+    fn read(alloc: Global, path: JsonPath, value: &Value) -> Result<Self, ScriptFault> {
         check_keys(path, &[Key::Edges, Key::Picture, Key::Vertices], &[], value)?;
         let (edges, rows, vertices) = read_three(
             alloc,
@@ -174,7 +174,7 @@ impl Written for Part {
 impl Form for GraphStart {
     ghost form = { answer_form };
 
-    fn read(alloc: Global, path: Path, value: &Value) -> Result<Self, ScriptFault> {
+    fn read(alloc: Global, path: JsonPath, value: &Value) -> Result<Self, ScriptFault> {
         let optional = [Key::Cost, Key::Crossings, Key::Tries];
         check_keys(path, &[Key::Lonely, Key::Parts], &optional, value)?;
         let (lonely, parts) = read_two(alloc, path, Key::Lonely, Key::Parts, value)?;
@@ -185,7 +185,7 @@ impl Form for GraphStart {
 impl Form for Option<GraphStart> {
     ghost form = { some_answer };
 
-    fn read(alloc: Global, path: Path, value: &Value) -> Result<Self, ScriptFault> {
+    fn read(alloc: Global, path: JsonPath, value: &Value) -> Result<Self, ScriptFault> {
         let start = GraphStart::read(alloc, path, value)?;
         Ok(Some(start))
     }
@@ -202,9 +202,9 @@ fn read_head(
         (member_or Default effort_form whole EffortKey (view value.now))
         (member_or [] (prices_form nulls) whole Prices (view value.now))) }
 {
-    let edges = read_member(alloc, Path::WHOLE, Key::Edges, value)?;
-    let effort = read_member_or(alloc, Path::WHOLE, Key::Effort, value, Effort::Default)?;
-    let prices = read_prices_or_none(alloc, Path::WHOLE, nulls, value)?;
+    let edges = read_member(alloc, JsonPath::WHOLE, Key::Edges, value)?;
+    let effort = read_member_or(alloc, JsonPath::WHOLE, Key::Effort, value, Effort::Default)?;
+    let prices = read_prices_or_none(alloc, JsonPath::WHOLE, nulls, value)?;
     Ok((edges, effort, prices))
 }
 
@@ -215,9 +215,9 @@ fn read_terms(alloc: Global, value: &Value) -> Result<(bool, Option<u32>, u32), 
         (member_or None some_price whole Seconds (view value.now))
         (member_or 1 number_form whole Seed (view value.now))) }
 {
-    let progress = read_member_or(alloc, Path::WHOLE, Key::Progress, value, false)?;
-    let seconds = read_member_or(alloc, Path::WHOLE, Key::Seconds, value, None)?;
-    let seed = read_member_or(alloc, Path::WHOLE, Key::Seed, value, 1)?;
+    let progress = read_member_or(alloc, JsonPath::WHOLE, Key::Progress, value, false)?;
+    let seconds = read_member_or(alloc, JsonPath::WHOLE, Key::Seconds, value, None)?;
+    let seed = read_member_or(alloc, JsonPath::WHOLE, Key::Seed, value, 1)?;
     Ok((progress, seconds, seed))
 }
 
@@ -228,9 +228,9 @@ fn read_tail(alloc: Global, value: &Value) -> Result<(Option<GraphStart>, u32, u
         (member_or 1 threads_form whole Threads (view value.now))
         (member_form number_form whole Vertices (view value.now))) }
 {
-    let start = read_member_or(alloc, Path::WHOLE, Key::Start, value, None)?;
+    let start = read_member_or(alloc, JsonPath::WHOLE, Key::Start, value, None)?;
     let threads = read_threads_or_one(alloc, value)?;
-    let vertices = read_member(alloc, Path::WHOLE, Key::Vertices, value)?;
+    let vertices = read_member(alloc, JsonPath::WHOLE, Key::Vertices, value)?;
     Ok((start, threads, vertices))
 }
 
@@ -238,8 +238,8 @@ impl Form for GraphAsked {
     ghost form = { λ path. graph_form };
 
     // It stands nowhere but at the whole of a text.
-    fn read(alloc: Global, _path: Path, value: &Value) -> Result<Self, ScriptFault> {
-        let nulls = read_nulls(alloc, Path::WHOLE, value)?;
+    fn read(alloc: Global, _path: JsonPath, value: &Value) -> Result<Self, ScriptFault> {
+        let nulls = read_nulls(alloc, JsonPath::WHOLE, value)?;
         let required = [Key::Edges, Key::Version, Key::Vertices];
         let optional = [
             Key::Effort,
@@ -250,7 +250,7 @@ impl Form for GraphAsked {
             Key::Start,
             Key::Threads,
         ];
-        check_keys(Path::WHOLE, &required, &optional, value)?;
+        check_keys(JsonPath::WHOLE, &required, &optional, value)?;
         let (edges, effort, prices) = read_head(alloc, nulls, value)?;
         let (progress, seconds, seed) = read_terms(alloc, value)?;
         let (start, threads, vertices) = read_tail(alloc, value)?;

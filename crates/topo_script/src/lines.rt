@@ -15,7 +15,7 @@ use crate::fault::ScriptFault;
 use crate::form::{
     Form, check_keys, has_key, is_text, parse, read_member, read_member_or, read_number,
 };
-use crate::path::{Key, Path};
+use crate::path::{Key, JsonPath};
 use crate::row_forms::MAX_PICTURE_BYTES;
 use crate::sessions::{Opening, Request, is_keyed, read_opened};
 use crate::tokens::read_tokens;
@@ -98,7 +98,7 @@ pub struct Line {
 }
 
 /// A text of at most 256 bytes.
-pub(crate) fn read_text_id(alloc: Global, path: Path, text: &str) -> Result<LineId, ScriptFault>
+pub(crate) fn read_text_id(alloc: Global, path: JsonPath, text: &str) -> Result<LineId, ScriptFault>
     ensures { Gives result (text_id path text.now) }
 {
     if text.len() > MAX_ID_BYTES {
@@ -110,7 +110,7 @@ pub(crate) fn read_text_id(alloc: Global, path: Path, text: &str) -> Result<Line
     }
 }
 
-fn read_number_id(alloc: Global, path: Path, value: &Value) -> Result<LineId, ScriptFault>
+fn read_number_id(alloc: Global, path: JsonPath, value: &Value) -> Result<LineId, ScriptFault>
     ensures { Gives result (number_id path (view value.now)) }
 {
     let number = u32::read(alloc, path, value)?;
@@ -120,7 +120,7 @@ fn read_number_id(alloc: Global, path: Path, value: &Value) -> Result<LineId, Sc
 impl Form for LineId {
     ghost form = { id_form };
 
-    fn read(alloc: Global, path: Path, value: &Value) -> Result<Self, ScriptFault> {
+    fn read(alloc: Global, path: JsonPath, value: &Value) -> Result<Self, ScriptFault> {
         match value.as_str() {
             Some(text) => read_text_id(alloc, path, text),
             None => read_number_id(alloc, path, value),
@@ -131,7 +131,7 @@ impl Form for LineId {
 impl Form for Option<LineId> {
     ghost form = { some_id };
 
-    fn read(alloc: Global, path: Path, value: &Value) -> Result<Self, ScriptFault> {
+    fn read(alloc: Global, path: JsonPath, value: &Value) -> Result<Self, ScriptFault> {
         let id = LineId::read(alloc, path, value)?;
         Ok(Some(id))
     }
@@ -141,12 +141,12 @@ impl Form for Option<LineId> {
 fn read_head(alloc: Global, value: &Value) -> Result<Option<LineId>, ScriptFault>
     ensures { Gives result (envelope_head (view value.now)) }
 {
-    check_keys(Path::WHOLE, &[Key::Call], &[Key::Caller, Key::Id], value)?;
-    read_member_or(alloc, Path::WHOLE, Key::Id, value, None)
+    check_keys(JsonPath::WHOLE, &[Key::Call], &[Key::Caller, Key::Id], value)?;
+    read_member_or(alloc, JsonPath::WHOLE, Key::Id, value, None)
 }
 
 /// Reads a caller's number.
-fn read_caller(path: Path, value: &Value) -> Result<u32, ScriptFault>
+fn read_caller(path: JsonPath, value: &Value) -> Result<u32, ScriptFault>
     ensures { result ≡ caller_form path (view value.now) }
 {
     let caller = read_number(GREATEST_CALLER, path, value)?;
@@ -157,7 +157,7 @@ fn read_caller(path: Path, value: &Value) -> Result<u32, ScriptFault>
 fn read_caller_member(value: &Value) -> Result<u32, ScriptFault>
     ensures { Gives result (member_form caller_form whole Caller (view value.now)) }
 {
-    let path = Path::WHOLE.member(Key::Caller);
+    let path = JsonPath::WHOLE.member(Key::Caller);
     match value.get(Key::Caller.name()) {
         Some(caller) => read_caller(path, caller),
         None => Err(ScriptFault::BadShape(path)),
@@ -180,7 +180,7 @@ fn read_asked(alloc: Global, value: &Value) -> Result<Asked, ScriptFault>
     ensures { Gives result (envelope_asked (view value.now)) }
 {
     let caller = read_caller_or(value)?;
-    let request = read_member(alloc, Path::WHOLE, Key::Call, value)?;
+    let request = read_member(alloc, JsonPath::WHOLE, Key::Call, value)?;
     Ok(Asked { caller, request })
 }
 
@@ -204,7 +204,7 @@ fn read_envelope(alloc: Global, value: &Value) -> Line
 fn asked_opening(alloc: Global, value: &Value) -> Result<Asked, ScriptFault>
     ensures { Gives result (bare_asked opened_form (view value.now)) }
 {
-    let request = read_opened(alloc, Path::WHOLE, value)?;
+    let request = read_opened(alloc, JsonPath::WHOLE, value)?;
     Ok(Asked { caller: 0, request })
 }
 
@@ -212,7 +212,7 @@ fn asked_opening(alloc: Global, value: &Value) -> Result<Asked, ScriptFault>
 fn asked_bare(alloc: Global, value: &Value) -> Result<Asked, ScriptFault>
     ensures { Gives result (bare_asked request_form (view value.now)) }
 {
-    let request = Request::read(alloc, Path::WHOLE, value)?;
+    let request = Request::read(alloc, JsonPath::WHOLE, value)?;
     Ok(Asked { caller: 0, request })
 }
 

@@ -114,7 +114,7 @@ pub enum Step {
 /// each step, `/` and the key or the index. No form nests deeper than eight steps, and a path
 /// holds no more.
 #[derive(Clone, Copy, Debug, PartialEq, Eq)]
-pub struct Path {
+pub struct JsonPath {
     pub first: Option<Step>,
     pub second: Option<Step>,
     pub third: Option<Step>,
@@ -125,11 +125,11 @@ pub struct Path {
     pub eighth: Option<Step>,
 }
 
-impl Path {
+impl JsonPath {
     ghost use Rattle.topo_script.specs.Paths.{under};
 
     /// The path of the whole text, `$`.
-    pub const WHOLE: Path = Path {
+    pub const WHOLE: JsonPath = JsonPath {
         first: None,
         second: None,
         third: None,
@@ -146,7 +146,7 @@ impl Path {
         ensures { result ≡ under self step }
     {
         let step = Some(step);
-        let Path {
+        let JsonPath {
             first,
             second,
             third,
@@ -157,42 +157,42 @@ impl Path {
             eighth: _,
         } = self;
         if first.is_none() {
-            Path {
+            JsonPath {
                 first: step,
                 ..self
             }
         } else if second.is_none() {
-            Path {
+            JsonPath {
                 second: step,
                 ..self
             }
         } else if third.is_none() {
-            Path {
+            JsonPath {
                 third: step,
                 ..self
             }
         } else if fourth.is_none() {
-            Path {
+            JsonPath {
                 fourth: step,
                 ..self
             }
         } else if fifth.is_none() {
-            Path {
+            JsonPath {
                 fifth: step,
                 ..self
             }
         } else if sixth.is_none() {
-            Path {
+            JsonPath {
                 sixth: step,
                 ..self
             }
         } else if seventh.is_none() {
-            Path {
+            JsonPath {
                 seventh: step,
                 ..self
             }
         } else {
-            Path {
+            JsonPath {
                 eighth: step,
                 ..self
             }
@@ -245,7 +245,7 @@ fn write_three<W: fmt::Write>(
     write_step(c, f)
 }
 
-impl fmt::Display for Path {
+impl fmt::Display for JsonPath {
     ghost output = { λ path. Some (path_text path) };
 
     fn fmt<W: fmt::Write>(&self, f: &mut fmt::Formatter<W>) -> fmt::Result {

@@ -10,7 +10,7 @@ ghost use Rattle.topo_core.specs.declared.rows.TheConstants.{KINDS};
 
 use crate::fault::ScriptFault;
 use crate::form::{Form, element_count};
-use crate::path::Path;
+use crate::path::JsonPath;
 use serde_json::Value;
 use std::alloc::Global;
 use topo_core::listed::Listed;
@@ -22,7 +22,7 @@ pub(crate) const MAX_PRICES: usize = KINDS;
 /// A number, as a price.
 pub(crate) fn read_some_price(
     alloc: Global,
-    path: Path,
+    path: JsonPath,
     value: &Value,
 ) -> Result<Option<u32>, ScriptFault>
     ensures { Gives result (some_price path (view value.now)) }
@@ -36,7 +36,7 @@ pub(crate) fn read_some_price(
 fn read_price(
     alloc: Global,
     nulls: bool,
-    path: Path,
+    path: JsonPath,
     value: &Value,
 ) -> Result<Option<u32>, ScriptFault>
     ensures { Gives result (price_form nulls path (view value.now)) }
@@ -49,7 +49,7 @@ fn read_price(
 }
 
 /// Tests that there is at most one price for each kind.
-fn check_prices(path: Path, value: &Value) -> Result<(), ScriptFault>
+fn check_prices(path: JsonPath, value: &Value) -> Result<(), ScriptFault>
     ensures { result ≡ passes (BadShape path) (nat_le (element_count (view value.now)) KINDS) }
 {
     if element_count(value) <= MAX_PRICES {
@@ -63,7 +63,7 @@ fn check_prices(path: Path, value: &Value) -> Result<(), ScriptFault>
 pub fn read_prices(
     alloc: Global,
     nulls: bool,
-    path: Path,
+    path: JsonPath,
     value: &Value,
 ) -> Result<Listed<Option<u32>>, ScriptFault>
     ensures { Gives result (prices_form nulls path (view value.now)) }
@@ -77,7 +77,7 @@ pub fn read_prices(
 fn read_price_list(
     alloc: Global,
     nulls: bool,
-    path: Path,
+    path: JsonPath,
     value: &Value,
 ) -> Result<Listed<Option<u32>>, ScriptFault>
     ensures { Gives result (list_form (price_form nulls) path (view value.now)) }
@@ -92,7 +92,7 @@ fn read_price_list(
 fn read_price_items(
     alloc: Global,
     nulls: bool,
-    path: Path,
+    path: JsonPath,
     items: &[Value],
 ) -> Result<Listed<Option<u32>>, ScriptFault>
     ensures { Gives result (items_from (price_form nulls) path 0 (items_view items.now)) }

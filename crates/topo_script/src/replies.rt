@@ -13,7 +13,7 @@ use crate::form::{
     Form, check_count, check_keys, element_count, has_key, is_text, read_element, read_elements,
     read_member, read_number, read_three, read_two,
 };
-use crate::path::{Key, Path};
+use crate::path::{Key, JsonPath};
 use serde_json::Value;
 use std::alloc::Global;
 use topo_core::calls::{Entry, Refusal, Reply};
@@ -23,7 +23,7 @@ use topo_core::routes::{Inserted, Route};
 impl Form for u64 {
     ghost form = { long_form };
 
-    fn read(_alloc: Global, path: Path, value: &Value) -> Result<Self, ScriptFault> {
+    fn read(_alloc: Global, path: JsonPath, value: &Value) -> Result<Self, ScriptFault> {
         read_number(u64::MAX, path, value)
     }
 }
@@ -32,7 +32,7 @@ impl Form for Way {
     ghost form = { way_form };
 
     #[tactic(auto, unfolding(crate::specs::ReplyForms::way_form))]
-    fn read(_alloc: Global, path: Path, value: &Value) -> Result<Self, ScriptFault> {
+    fn read(_alloc: Global, path: JsonPath, value: &Value) -> Result<Self, ScriptFault> {
         if is_text("forward", value) {
             Ok(Way::Forward)
         } else if is_text("back", value) {
@@ -46,7 +46,7 @@ impl Form for Way {
 impl Form for Dart {
     ghost form = { dart_form };
 
-    fn read(alloc: Global, path: Path, value: &Value) -> Result<Self, ScriptFault> {
+    fn read(alloc: Global, path: JsonPath, value: &Value) -> Result<Self, ScriptFault> {
         check_count(path, 3, value)?;
         let (edge, seg, way) = read_elements(alloc, path, 0, value)?;
         Ok(Dart { edge, seg, way })
@@ -75,7 +75,7 @@ fn is_pair(count: usize, number: u64, name: &str, value: &Value) -> bool
 
 /// The refusal without a segment that a value is.
 #[tactic(auto, unfolding(crate::specs::ReplyForms::plain_refusal))]
-fn plain_refusal(path: Path, value: &Value) -> Result<Refusal, ScriptFault>
+fn plain_refusal(path: JsonPath, value: &Value) -> Result<Refusal, ScriptFault>
     ensures { result ≡ plain_refusal path (view value.now) }
 {
     if is_pair(2, 1, "NoVertex", value) {
@@ -97,7 +97,7 @@ fn plain_refusal(path: Path, value: &Value) -> Result<Refusal, ScriptFault>
     }
 }
 
-fn read_cut(alloc: Global, path: Path, value: &Value) -> Result<Refusal, ScriptFault>
+fn read_cut(alloc: Global, path: JsonPath, value: &Value) -> Result<Refusal, ScriptFault>
     ensures { Gives result (cut_form path (view value.now)) }
 {
     let segment = read_element(alloc, path, 2, value)?;
@@ -108,7 +108,7 @@ impl Form for Refusal {
     ghost form = { refusal_form };
 
     #[tactic(auto, using(crate::proofs::Steps::gives_same))]
-    fn read(alloc: Global, path: Path, value: &Value) -> Result<Self, ScriptFault> {
+    fn read(alloc: Global, path: JsonPath, value: &Value) -> Result<Self, ScriptFault> {
         if is_pair(3, 6, "Cut", value) {
             read_cut(alloc, path, value)
         } else {
@@ -117,7 +117,7 @@ impl Form for Refusal {
     }
 }
 
-fn read_deleted(alloc: Global, path: Path, value: &Value) -> Result<Reply, ScriptFault>
+fn read_deleted(alloc: Global, path: JsonPath, value: &Value) -> Result<Reply, ScriptFault>
     ensures { Gives result (deleted_form path (view value.now)) }
 {
     check_keys(path, &[Key::Deleted], &[], value)?;
@@ -125,7 +125,7 @@ fn read_deleted(alloc: Global, path: Path, value: &Value) -> Result<Reply, Scrip
     Ok(Reply::Deleted(edge))
 }
 
-fn read_refused(alloc: Global, path: Path, value: &Value) -> Result<Reply, ScriptFault>
+fn read_refused(alloc: Global, path: JsonPath, value: &Value) -> Result<Reply, ScriptFault>
     ensures { Gives result (refused_form path (view value.now)) }
 {
     check_keys(path, &[Key::Refused], &[], value)?;
@@ -133,7 +133,7 @@ fn read_refused(alloc: Global, path: Path, value: &Value) -> Result<Reply, Scrip
     Ok(Reply::Refused(why))
 }
 
-fn read_grown(alloc: Global, path: Path, value: &Value) -> Result<Reply, ScriptFault>
+fn read_grown(alloc: Global, path: JsonPath, value: &Value) -> Result<Reply, ScriptFault>
     ensures { Gives result (grown_form path (view value.now)) }
 {
     check_keys(path, &[Key::Edge, Key::Vertex], &[], value)?;
@@ -141,7 +141,7 @@ fn read_grown(alloc: Global, path: Path, value: &Value) -> Result<Reply, ScriptF
     Ok(Reply::Grown { vertex, edge })
 }
 
-fn read_inserted(alloc: Global, path: Path, value: &Value) -> Result<Reply, ScriptFault>
+fn read_inserted(alloc: Global, path: JsonPath, value: &Value) -> Result<Reply, ScriptFault>
     ensures { Gives result (inserted_form path (view value.now)) }
 {
     let keys = [Key::Crossed, Key::Edge, Key::End, Key::Price, Key::Start];
@@ -160,7 +160,7 @@ impl Form for Reply {
     ghost form = { reply_form };
 
     #[tactic(auto, unfolding(crate::specs::ReplyForms::reply_form))]
-    fn read(alloc: Global, path: Path, value: &Value) -> Result<Self, ScriptFault> {
+    fn read(alloc: Global, path: JsonPath, value: &Value) -> Result<Self, ScriptFault> {
         if has_key(Key::Deleted, value) {
             read_deleted(alloc, path, value)
         } else if has_key(Key::Refused, value) {
@@ -176,7 +176,7 @@ impl Form for Reply {
 impl Form for Entry {
     ghost form = { entry_form };
 
-    fn read(alloc: Global, path: Path, value: &Value) -> Result<Self, ScriptFault> {
+    fn read(alloc: Global, path: JsonPath, value: &Value) -> Result<Self, ScriptFault> {
         check_keys(path, &[Key::Call, Key::Caller, Key::Reply], &[], value)?;
         let (call, caller, reply) = read_three(
             alloc,

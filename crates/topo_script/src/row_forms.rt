@@ -9,7 +9,7 @@ ghost use Rattle.topo_script.specs.RowForms.{crossing_form, rows_form, rows_of};
 
 use crate::fault::ScriptFault;
 use crate::form::{Form, check_keys, is_text, read_three, read_two, read_value};
-use crate::path::{Key, Path};
+use crate::path::{Key, JsonPath};
 use crate::tokens::read_tokens;
 use crate::written::{Written, write_after};
 use serde_json::Value;
@@ -24,7 +24,7 @@ impl Form for Sign {
     ghost form = { sign_form };
 
     #[tactic(auto, unfolding(crate::specs::RowForms::sign_form))]
-    fn read(_alloc: Global, path: Path, value: &Value) -> Result<Self, ScriptFault> {
+    fn read(_alloc: Global, path: JsonPath, value: &Value) -> Result<Self, ScriptFault> {
         if is_text("ltr", value) {
             Ok(Sign::LeftToRight)
         } else if is_text("rtl", value) {
@@ -49,7 +49,7 @@ impl Written for Sign {
 impl Form for EdgeRow {
     ghost form = { edge_form };
 
-    fn read(alloc: Global, path: Path, value: &Value) -> Result<Self, ScriptFault> {
+    fn read(alloc: Global, path: JsonPath, value: &Value) -> Result<Self, ScriptFault> {
         let keys = [Key::A, Key::B, Key::Crossings, Key::Id, Key::Kind];
         check_keys(path, &keys, &[], value)?;
         let (a, b) = read_two(alloc, path, Key::A, Key::B, value)?;
@@ -87,7 +87,7 @@ impl Written for EdgeRow {
 impl Form for CrossRow {
     ghost form = { crossing_form };
 
-    fn read(alloc: Global, path: Path, value: &Value) -> Result<Self, ScriptFault> {
+    fn read(alloc: Global, path: JsonPath, value: &Value) -> Result<Self, ScriptFault> {
         let keys = [Key::Crossed, Key::Id, Key::Newcomer, Key::Sign];
         check_keys(path, &keys, &[], value)?;
         let (crossed, id) = read_two(alloc, path, Key::Crossed, Key::Id, value)?;
@@ -116,7 +116,7 @@ impl Written for CrossRow {
 impl Form for Rows {
     ghost form = { rows_form };
 
-    fn read(alloc: Global, path: Path, value: &Value) -> Result<Self, ScriptFault> {
+    fn read(alloc: Global, path: JsonPath, value: &Value) -> Result<Self, ScriptFault> {
         let keys = [
             Key::Crossings,
             Key::Edges,

@@ -20,7 +20,7 @@ use crate::form::{
     Form, check_keys, element_count, has_key, is_text, read_member, read_member_or, read_three,
     read_value,
 };
-use crate::path::{Key, Path};
+use crate::path::{Key, JsonPath};
 use crate::prices::read_prices;
 use crate::reports::Report;
 use crate::row_forms::MAX_PICTURE_BYTES;
@@ -42,7 +42,7 @@ pub(crate) const MAX_WORKERS: usize = MAX_PASSES as usize;
 impl Form for LimitRows {
     ghost form = { limits_form };
 
-    fn read(alloc: Global, path: Path, value: &Value) -> Result<Self, ScriptFault> {
+    fn read(alloc: Global, path: JsonPath, value: &Value) -> Result<Self, ScriptFault> {
         let keys = [Key::Crossings, Key::Edges, Key::Vertices];
         check_keys(path, &keys, &[], value)?;
         let (crossings, edges, vertices) = read_three(
@@ -62,7 +62,7 @@ impl Form for LimitRows {
 }
 
 /// Tests that a value is an object.
-fn check_object(path: Path, value: &Value) -> Result<(), ScriptFault>
+fn check_object(path: JsonPath, value: &Value) -> Result<(), ScriptFault>
     ensures { result ≡ passes (BadShape path) (is_some (as_object (view value.now))) }
 {
     if value.is_object() {
@@ -85,7 +85,7 @@ pub(crate) fn nulls_of(version: u32) -> Result<bool, ScriptFault>
 }
 
 /// Whether a price may be null in the version of a script, an opening or a report.
-pub(crate) fn read_nulls(alloc: Global, path: Path, value: &Value) -> Result<bool, ScriptFault>
+pub(crate) fn read_nulls(alloc: Global, path: JsonPath, value: &Value) -> Result<bool, ScriptFault>
     ensures { Gives result (nulls_in path (view value.now)) }
 {
     check_object(path, value)?;
@@ -103,7 +103,7 @@ pub(crate) const GREATEST_LIMITS: LimitRows = LimitRows {
 /// The prices of a report.
 fn read_price_member(
     alloc: Global,
-    path: Path,
+    path: JsonPath,
     nulls: bool,
     value: &Value,
 ) -> Result<Listed<Option<u32>>, ScriptFault>
@@ -119,7 +119,7 @@ fn read_price_member(
 /// The prices of a script or an opening, which may be missing.
 pub(crate) fn read_prices_or_none(
     alloc: Global,
-    path: Path,
+    path: JsonPath,
     nulls: bool,
     value: &Value,
 ) -> Result<Listed<Option<u32>>, ScriptFault>
@@ -135,7 +135,7 @@ pub(crate) fn read_prices_or_none(
 /// The limits, the prices and the start of a script or an opening, each of which may be missing.
 pub(crate) fn read_settings(
     alloc: Global,
-    path: Path,
+    path: JsonPath,
     nulls: bool,
     value: &Value,
 ) -> Result<(LimitRows, Listed<Option<u32>>, Option<Rows>), ScriptFault>
@@ -150,7 +150,7 @@ pub(crate) fn read_settings(
     Ok((limits, prices, start))
 }
 
-fn read_picture(alloc: Global, path: Path, value: &Value) -> Result<Option<Rows>, ScriptFault>
+fn read_picture(alloc: Global, path: JsonPath, value: &Value) -> Result<Option<Rows>, ScriptFault>
     ensures { Gives result (picture_form path (view value.now)) }
 {
     let rows = Rows::read(alloc, path, value)?;
@@ -161,7 +161,7 @@ impl Form for Option<Rows> {
     ghost form = { start_form };
 
     #[tactic(auto, unfolding(crate::specs::Scripts::start_form))]
-    fn read(alloc: Global, path: Path, value: &Value) -> Result<Self, ScriptFault> {
+    fn read(alloc: Global, path: JsonPath, value: &Value) -> Result<Self, ScriptFault> {
         if is_text("seed", value) {
             Ok(None)
         } else {
@@ -171,7 +171,7 @@ impl Form for Option<Rows> {
 }
 
 /// Tests that there are 1 to 16 lists of commands.
-fn check_workers(path: Path, value: &Value) -> Result<(), ScriptFault>
+fn check_workers(path: JsonPath, value: &Value) -> Result<(), ScriptFault>
     ensures { result ≡ passes (BadShape path) (nat_lt 0 (element_count (view value.now))
         && nat_le (element_count (view value.now)) MAX_WORKERS) }
 {
@@ -186,7 +186,7 @@ fn check_workers(path: Path, value: &Value) -> Result<(), ScriptFault>
 /// 1 to 16 lists of commands.
 fn read_workers(
     alloc: Global,
-    path: Path,
+    path: JsonPath,
     value: &Value,
 ) -> Result<Listed<Listed<Command>>, ScriptFault>
     ensures { Gives result (workers_form path (view value.now)) }
@@ -199,7 +199,7 @@ fn read_workers(
 fn read_workers_member(alloc: Global, value: &Value) -> Result<Listed<Listed<Command>>, ScriptFault>
     ensures { Gives result (member_form workers_form whole Workers (view value.now)) }
 {
-    let path = Path::WHOLE.member(Key::Workers);
+    let path = JsonPath::WHOLE.member(Key::Workers);
     match value.get(Key::Workers.name()) {
         Some(workers) => read_workers(alloc, path, workers),
         None => Err(ScriptFault::BadShape(path)),
@@ -210,11 +210,11 @@ impl Form for Script {
     ghost form = { λ path. script_form };
 
     // It stands nowhere but at the whole of a text.
-    fn read(alloc: Global, _path: Path, value: &Value) -> Result<Self, ScriptFault> {
-        let nulls = read_nulls(alloc, Path::WHOLE, value)?;
+    fn read(alloc: Global, _path: JsonPath, value: &Value) -> Result<Self, ScriptFault> {
+        let nulls = read_nulls(alloc, JsonPath::WHOLE, value)?;
         let optional = [Key::Limits, Key::Prices, Key::Start];
-        check_keys(Path::WHOLE, &[Key::Version, Key::Workers], &optional, value)?;
-        let (limits, prices, start) = read_settings(alloc, Path::WHOLE, nulls, value)?;
+        check_keys(JsonPath::WHOLE, &[Key::Version, Key::Workers], &optional, value)?;
+        let (limits, prices, start) = read_settings(alloc, JsonPath::WHOLE, nulls, value)?;
         match read_workers_member(alloc, value) {
             Ok(workers) => Ok(Script {
                 limits,
@@ -243,7 +243,7 @@ pub fn read_script(alloc: Global, bytes: &[u8]) -> Result<Script, ScriptFault>
 /// The prices and the start of a report.
 fn prices_and_start(
     alloc: Global,
-    path: Path,
+    path: JsonPath,
     nulls: bool,
     value: &Value,
 ) -> Result<(Listed<Option<u32>>, Rows), ScriptFault>
@@ -258,7 +258,7 @@ fn prices_and_start(
 impl Form for Report {
     ghost form = { report_form };
 
-    fn read(alloc: Global, path: Path, value: &Value) -> Result<Self, ScriptFault> {
+    fn read(alloc: Global, path: JsonPath, value: &Value) -> Result<Self, ScriptFault> {
         let nulls = read_nulls(alloc, path, value)?;
         let keys = [
             Key::History,

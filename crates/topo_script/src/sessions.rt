@@ -15,7 +15,7 @@ use crate::calls::begins;
 use crate::fault::ScriptFault;
 use crate::form::{Form, check_keys, has_key, is_text, read_element, read_elements, read_member};
 use crate::graphs::GraphAsked;
-use crate::path::{Key, Path};
+use crate::path::{Key, JsonPath};
 use crate::reports;
 use crate::script_forms::{read_nulls, read_settings};
 use crate::scripts::LimitRows;
@@ -72,7 +72,7 @@ pub enum Request {
 impl Form for Opening {
     ghost form = { opening_form };
 
-    fn read(alloc: Global, path: Path, value: &Value) -> Result<Self, ScriptFault> {
+    fn read(alloc: Global, path: JsonPath, value: &Value) -> Result<Self, ScriptFault> {
         let nulls = read_nulls(alloc, path, value)?;
         let optional = [Key::Limits, Key::Prices, Key::Start];
         check_keys(path, &[Key::Version], &optional, value)?;
@@ -85,7 +85,7 @@ impl Form for Opening {
     }
 }
 
-fn read_route(alloc: Global, path: Path, value: &Value) -> Result<Request, ScriptFault>
+fn read_route(alloc: Global, path: JsonPath, value: &Value) -> Result<Request, ScriptFault>
     ensures { Gives result (route_form path (view value.now)) }
 {
     let u = read_element(alloc, path, 1, value)?;
@@ -93,28 +93,28 @@ fn read_route(alloc: Global, path: Path, value: &Value) -> Result<Request, Scrip
     Ok(Request::Route { u, v })
 }
 
-fn read_edge(alloc: Global, path: Path, value: &Value) -> Result<Request, ScriptFault>
+fn read_edge(alloc: Global, path: JsonPath, value: &Value) -> Result<Request, ScriptFault>
     ensures { Gives result (edge_form path (view value.now)) }
 {
     let edge = read_element(alloc, path, 1, value)?;
     Ok(Request::Edge(edge))
 }
 
-fn read_vertex(alloc: Global, path: Path, value: &Value) -> Result<Request, ScriptFault>
+fn read_vertex(alloc: Global, path: JsonPath, value: &Value) -> Result<Request, ScriptFault>
     ensures { Gives result (vertex_form path (view value.now)) }
 {
     let vertex = read_element(alloc, path, 1, value)?;
     Ok(Request::Vertex(vertex))
 }
 
-fn read_face(alloc: Global, path: Path, value: &Value) -> Result<Request, ScriptFault>
+fn read_face(alloc: Global, path: JsonPath, value: &Value) -> Result<Request, ScriptFault>
     ensures { Gives result (face_form path (view value.now)) }
 {
     let (edge, seg, way) = read_elements(alloc, path, 1, value)?;
     Ok(Request::Face(Dart { edge, seg, way }))
 }
 
-fn read_undo(alloc: Global, path: Path, value: &Value) -> Result<Request, ScriptFault>
+fn read_undo(alloc: Global, path: JsonPath, value: &Value) -> Result<Request, ScriptFault>
     ensures { Gives result (undo_form path (view value.now)) }
 {
     let count = read_element(alloc, path, 1, value)?;
@@ -122,14 +122,14 @@ fn read_undo(alloc: Global, path: Path, value: &Value) -> Result<Request, Script
 }
 
 /// An opening, as what is asked for.
-pub(crate) fn read_opened(alloc: Global, path: Path, value: &Value) -> Result<Request, ScriptFault>
+pub(crate) fn read_opened(alloc: Global, path: JsonPath, value: &Value) -> Result<Request, ScriptFault>
     ensures { Gives result (opened_form path (view value.now)) }
 {
     let opening = Opening::read(alloc, path, value)?;
     Ok(Request::Open(opening))
 }
 
-fn read_open(alloc: Global, path: Path, value: &Value) -> Result<Request, ScriptFault>
+fn read_open(alloc: Global, path: JsonPath, value: &Value) -> Result<Request, ScriptFault>
     ensures { Gives result (open_form path (view value.now)) }
 {
     check_keys(path, &[Key::Open], &[], value)?;
@@ -137,7 +137,7 @@ fn read_open(alloc: Global, path: Path, value: &Value) -> Result<Request, Script
     Ok(Request::Open(opening))
 }
 
-fn read_reopen(alloc: Global, path: Path, value: &Value) -> Result<Request, ScriptFault>
+fn read_reopen(alloc: Global, path: JsonPath, value: &Value) -> Result<Request, ScriptFault>
     ensures { Gives result (reopen_form path (view value.now)) }
 {
     check_keys(path, &[Key::Reopen], &[], value)?;
@@ -153,11 +153,11 @@ fn check_seconds(asked: &GraphAsked) -> Result<(), ScriptFault>
     if asked.seconds.is_none() {
         Ok(())
     } else {
-        Err(ScriptFault::BadShape(Path::WHOLE.member(Key::Seconds)))
+        Err(ScriptFault::BadShape(JsonPath::WHOLE.member(Key::Seconds)))
     }
 }
 
-fn read_planarize(alloc: Global, path: Path, value: &Value) -> Result<Request, ScriptFault>
+fn read_planarize(alloc: Global, path: JsonPath, value: &Value) -> Result<Request, ScriptFault>
     ensures { Gives result (planarize_form path (view value.now)) }
 {
     check_keys(path, &[Key::Planarize], &[], value)?;
@@ -174,7 +174,7 @@ pub(crate) fn is_keyed(value: &Value) -> bool
 }
 
 #[tactic(auto, unfolding(crate::specs::Sessions::keyed_form))]
-fn read_keyed(alloc: Global, path: Path, value: &Value) -> Result<Request, ScriptFault>
+fn read_keyed(alloc: Global, path: JsonPath, value: &Value) -> Result<Request, ScriptFault>
     ensures { Gives result (keyed_form path (view value.now)) }
 {
     if has_key(Key::Open, value) {
@@ -186,7 +186,7 @@ fn read_keyed(alloc: Global, path: Path, value: &Value) -> Result<Request, Scrip
     }
 }
 
-fn read_carry(alloc: Global, path: Path, value: &Value) -> Result<Request, ScriptFault>
+fn read_carry(alloc: Global, path: JsonPath, value: &Value) -> Result<Request, ScriptFault>
     ensures { Gives result (carry_form path (view value.now)) }
 {
     let command = Command::read(alloc, path, value)?;
@@ -195,7 +195,7 @@ fn read_carry(alloc: Global, path: Path, value: &Value) -> Result<Request, Scrip
 
 /// What an array or an object asks for.
 #[tactic(auto, unfolding(crate::specs::Sessions::look_form))]
-fn read_look(alloc: Global, path: Path, value: &Value) -> Result<Request, ScriptFault>
+fn read_look(alloc: Global, path: JsonPath, value: &Value) -> Result<Request, ScriptFault>
     ensures { Gives result (look_form path (view value.now)) }
 {
     if begins("route", 3, value) {
@@ -219,7 +219,7 @@ impl Form for Request {
     ghost form = { request_form };
 
     #[tactic(auto, unfolding(crate::specs::Sessions::request_form))]
-    fn read(alloc: Global, path: Path, value: &Value) -> Result<Self, ScriptFault> {
+    fn read(alloc: Global, path: JsonPath, value: &Value) -> Result<Self, ScriptFault> {
         if is_text("about", value) {
             Ok(Request::About)
         } else if is_text("counts", value) {

@@ -5,7 +5,7 @@ ghost use Rattle.topo_script.specs.Sessions.{object_line, some_id};
 ghost use Rattle.topo_script.specs.Tokens.{Spells};
 
 use crate::lines::{Asked, Frame, GREATEST_CALLER, Line, LineId, bare_line, read_text_id};
-use crate::path::{Key, Path};
+use crate::path::{Key, JsonPath};
 use crate::reader::TokenReader;
 use crate::sessions::Request;
 use crate::slots::{NoSlot, Slot, read_object};
@@ -19,7 +19,7 @@ fn token_text_id(alloc: Global, reader: &mut TokenReader<'_>) -> Option<Option<L
 {
     let bytes = reader.next_text()?;
     let text = std::str::from_utf8(bytes).ok()?;
-    match read_text_id(alloc, Path::WHOLE, text) {
+    match read_text_id(alloc, JsonPath::WHOLE, text) {
         Ok(id) => Some(Some(id)),
         Err(_) => None,
     }

@@ -3,7 +3,7 @@
 ghost use Rattle.std.specs.Prelude.{◌≡◌, IfSome, Ok, codes};
 ghost use Rattle.serde_json.specs.Data.{array, item, no_items, number as number_data};
 ghost use Rattle.serde_json.specs.Data.{string as string_data, unsigned};
-ghost use Rattle.topo_script.specs.declared.path.Path.{Path};
+ghost use Rattle.topo_script.specs.declared.path.JsonPath.{JsonPath};
 ghost use Rattle.topo_script.specs.ReplyForms.{way_form, dart_form, refusal_form};
 ghost use Rattle.topo_script.specs.ReplyForms.{reply_form, entry_form};
 ghost use Rattle.topo_script.specs.Tokens.{Spells};
@@ -57,7 +57,7 @@ impl FromTokens for Dart {
 #[tactic(auto, unfolding(crate::specs::ReplyForms::plain_refusal))]
 fn refusal_of(number: u64) -> Option<(&'static str, Refusal)>
     ensures { IfSome result
-        (λ named. (path : Path)
+        (λ named. (path : JsonPath)
         → refusal_form path (array (item (number_data (unsigned number))
         (item (string_data named.0.now) no_items))) ≡ Ok named.1) }
 {

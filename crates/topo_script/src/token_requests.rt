@@ -2,7 +2,7 @@
 
 ghost use Rattle.std.specs.Prelude.{◌≡◌, IfSome, Ok, codes};
 ghost use Rattle.serde_json.specs.Data.{string};
-ghost use Rattle.topo_script.specs.declared.path.Path.{Path};
+ghost use Rattle.topo_script.specs.declared.path.JsonPath.{JsonPath};
 ghost use Rattle.topo_script.specs.Sessions.{keyed_form, request_form};
 ghost use Rattle.topo_script.specs.Tokens.{Spells};
 ghost use Rattle.topo_script.specs.TokenParts.{SpellsAsked};
@@ -102,7 +102,7 @@ fn is_command(word: &[u8]) -> bool {
 /// What a text asks for.
 fn asked_by(word: &[u8]) -> Option<Request>
     ensures { IfSome result
-        (λ request. (path : Path) → request_form path (string word.now) ≡ Ok request) }
+        (λ request. (path : JsonPath) → request_form path (string word.now) ≡ Ok request) }
 {
     if bytes_are(word, "about") {
         Some(Request::About)

@@ -18,11 +18,11 @@ use topo_core::listed::Listed;
 pub trait FromTokens: Drop {
     ghost use Rattle.std.specs.Prelude.{ℕ};
     ghost use Rattle.serde_json.specs.Data.{Data};
-    ghost use Rattle.topo_script.specs.declared.path.Path.{Path};
+    ghost use Rattle.topo_script.specs.declared.path.JsonPath.{JsonPath};
     ghost use Rattle.topo_script.specs.Reads.{Read};
     ghost use Rattle.topo_script.specs.Tokens.{Spells};
 
-    ghost form: { Path → Data → Read Self };
+    ghost form: { JsonPath → Data → Read Self };
 
     ghost nesting: { ℕ };
 

@@ -18,9 +18,9 @@ use Rattle.topo_script.specs.Paths.{whole}
 use Rattle.topo_script.specs.Reads.{Read, ◌>>=◌, and_then, has_key, value_of}
 use Rattle.topo_script.specs.Sessions.{bare_asked, envelope_asked, envelope_head, envelope_line, enveloped, is_opening, line_form, line_limit, line_of, line_or}
 use Rattle.topo_script.specs.Sessions.{opened_form, opening_form, request_form}
-use Rattle.topo_settings.specs.declared.fault.RunFault.{RunFault}
-use Rattle.topo_settings.specs.declared.fault.RunFault.TheVariants.{Memory, Script, BadLimits, Price, Load}
-use Rattle.topo_settings.specs.Settings.{IsUnsound}
+use Rattle.topo_io.specs.declared.fault.RunFault.{RunFault}
+use Rattle.topo_io.specs.declared.fault.RunFault.TheVariants.{Memory, Script, BadLimits, Price, Load}
+use Rattle.topo_io.specs.Settings.{IsUnsound}
 use Rattle.topo_session.specs.Answers.{IsBadOpening, IsFaultOfAsked}
 
 abbrev pub IsOfOpening : RunFault → Type 0

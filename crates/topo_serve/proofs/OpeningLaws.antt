@@ -7,10 +7,10 @@ use Rattle.topo_script.specs.declared.fault.ScriptFault.TheVariants.{NotJson, To
 use Rattle.topo_script.specs.declared.lines.Frame.TheVariants.{Opening}
 use Rattle.topo_script.specs.declared.lines.Line.{Line}
 use Rattle.topo_script.specs.Sessions.{line_limit, line_of}
-use Rattle.topo_settings.specs.declared.fault.RunFault.{RunFault}
-use Rattle.topo_settings.specs.declared.fault.RunFault.TheVariants.{Memory, Script, BadLimits, Price, Load, Graph, NoSeat, Mismatch}
-use Rattle.topo_settings.specs.declared.fault.RunFault.TheVariants.{WrongReply, WrongPicture, ReadFault, WriteFault}
-use Rattle.topo_settings.specs.Reading.{IsOfReading}
+use Rattle.topo_io.specs.declared.fault.RunFault.{RunFault}
+use Rattle.topo_io.specs.declared.fault.RunFault.TheVariants.{Memory, Script, BadLimits, Price, Load, Graph, NoSeat, Mismatch}
+use Rattle.topo_io.specs.declared.fault.RunFault.TheVariants.{WrongReply, WrongPicture, ReadFault, WriteFault}
+use Rattle.topo_io.specs.Reading.{IsOfReading}
 use Rattle.topo_session.specs.Answers.{AnswersFirst, IsBadOpening}
 use Rattle.topo_session.specs.Standings.{Standing}
 use Rattle.topo_session.proofs.Interface.{line_legal}

@@ -5,8 +5,8 @@ use Rattle.std.specs.Io.KnownBytes.{Appends, Consumes, Keeps}
 use Rattle.std.proofs.KnownBytes.{Appends-nil, Appends-trans, Consumes-trans}
 use Rattle.std.proofs.lemmas.Bool.{false≢true}
 use Rattle.topo_script.specs.declared.lines.Line.{Line}
-use Rattle.topo_settings.specs.declared.fault.RunFault.{RunFault}
-use Rattle.topo_settings.specs.declared.fault.RunFault.TheVariants.{Memory, ReadFault, WriteFault}
+use Rattle.topo_io.specs.declared.fault.RunFault.{RunFault}
+use Rattle.topo_io.specs.declared.fault.RunFault.TheVariants.{Memory, ReadFault, WriteFault}
 use Rattle.topo_session.specs.Answers.{AnswersLine}
 use Rattle.topo_session.specs.Standings.{Standing}
 use Rattle.topo_serve.specs.Lines.{IsPlain, closed, lines_of}

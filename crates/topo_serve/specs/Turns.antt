@@ -2,9 +2,9 @@
 use Rattle.std.specs.Prelude.{◌≡◌, ℕ, Bool, true, false, List, [], ◌∷◌, ◌++◌, Option}
 use Rattle.std.specs.Io.KnownBytes.{Appends, Consumes, IsAtEnd, Keeps}
 use Rattle.topo_script.specs.Sessions.{line_of}
-use Rattle.topo_settings.specs.declared.fault.RunFault.{RunFault}
-use Rattle.topo_settings.specs.declared.fault.RunFault.TheVariants.{Memory, ReadFault, WriteFault}
-use Rattle.topo_settings.specs.Writing.{AppendsPart}
+use Rattle.topo_io.specs.declared.fault.RunFault.{RunFault}
+use Rattle.topo_io.specs.declared.fault.RunFault.TheVariants.{Memory, ReadFault, WriteFault}
+use Rattle.topo_io.specs.Writing.{AppendsPart}
 use Rattle.topo_session.specs.Answers.{AnswersFirst, AnswersLine, IsBadOpening}
 use Rattle.topo_session.specs.Standings.{Standing}
 use Rattle.topo_serve.specs.Lines.{ArePlain, IsPlain, closed, lines_of}

@@ -6,12 +6,12 @@ ghost use Rattle.std.specs.Io.KnownBytes.{Consumes, IsAtEnd, Keeps};
 ghost use Rattle.topo_serve.specs.Lines.{first_line};
 ghost use Rattle.topo_serve.specs.Taking.{Consumed, PartsAhead, ReadsNoFeed};
 ghost use Rattle.topo_serve.specs.Taking.{TakesFirst, TakesLine, TakesPart};
-ghost use Rattle.topo_settings.specs.Reading.{IsOfReading};
+ghost use Rattle.topo_io.specs.Reading.{IsOfReading};
 
 use std::alloc::Global;
 use std::io::{ErrorKind, Read};
 use std::marker::Model;
-use topo_settings::RunFault;
+use topo_io::RunFault;
 
 /// The greatest number of bytes that one call of `read` is given room for. Contracts count with it.
 const CHUNK_BYTES: usize = 8192;

@@ -11,18 +11,18 @@ use Rattle.topo_core.specs.History.{Replays}
 use Rattle.topo_core.specs.Steps.{Step}
 use Rattle.topo_script.specs.declared.scripts.LimitRows.{LimitRows}
 use Rattle.topo_price.specs.Prices.{Asking, prices_of}
-use Rattle.topo_settings.specs.Settings.{AnswersPrices, priced}
-use Rattle.topo_settings.proofs.Interface.{replays_so, step_so}
+use Rattle.topo_io.specs.Settings.{AnswersPrices, priced}
+use Rattle.topo_io.proofs.Interface.{replays_so, step_so}
 use Rattle.serde_json.specs.Written.{compact_text}
 use Rattle.topo_core.specs.declared.calls.Command.{Command}
 use Rattle.topo_core.specs.History.{call_of}
 use Rattle.topo_script.specs.declared.sessions.Opening.{Opening}
 use Rattle.topo_rows.specs.Shown.{Shown}
 use Rattle.topo_script.specs.ReportTexts.{reply_data}
-use Rattle.topo_settings.specs.Settings.{IsSound, start_of}
+use Rattle.topo_io.specs.Settings.{IsSound, start_of}
 use Rattle.topo_script.specs.declared.sessions.Request.TheVariants.{Renumber}
-use Rattle.topo_settings.specs.declared.fault.RunFault.{RunFault}
-use Rattle.topo_settings.specs.declared.fault.RunFault.TheVariants.{Memory}
+use Rattle.topo_io.specs.declared.fault.RunFault.{RunFault}
+use Rattle.topo_io.specs.declared.fault.RunFault.TheVariants.{Memory}
 use Rattle.topo_renumbering.specs.declared.Renumbered.{Renumbered}
 use Rattle.topo_session.specs.declared.session.Undone.{Undone}
 use Rattle.topo_session.specs.Texts.{renumbered_data}

@@ -10,7 +10,7 @@ use Rattle.topo_script.specs.declared.sessions.Request.{Request}
 use Rattle.topo_script.specs.declared.reports.Report.{Report}
 use Rattle.topo_script.specs.declared.sessions.Request.TheVariants.{Carry, Forget, Open, Renumber, Reopen, Undo}
 use Rattle.topo_script.specs.Reads.{Read}
-use Rattle.topo_settings.specs.Settings.{priced}
+use Rattle.topo_io.specs.Settings.{priced}
 use Rattle.topo_session.specs.Answers.{Answers, AnswersAsked, AnswersClosed, AnswersLine, Responds}
 use Rattle.topo_session.specs.declared.session.Undone.{Undone}
 use Rattle.topo_session.specs.Standings.{Enters, HasLegalHistory, IsOpened, IsReopened, IsUndone, Standing}

@@ -10,8 +10,8 @@ use Rattle.topo_script.specs.declared.sessions.Request.{Request}
 use Rattle.topo_script.specs.declared.sessions.Request.TheVariants.{Carry}
 use Rattle.topo_script.specs.Reads.{Read}
 use Rattle.topo_script.specs.Sessions.{ReadsLine, command_line}
-use Rattle.topo_settings.specs.declared.fault.RunFault.{RunFault}
-use Rattle.topo_settings.specs.declared.fault.RunFault.TheVariants.{Memory}
+use Rattle.topo_io.specs.declared.fault.RunFault.{RunFault}
+use Rattle.topo_io.specs.declared.fault.RunFault.TheVariants.{Memory}
 use Rattle.topo_session.specs.Answers.{Answers, CarriesOut, AnswersLine, IsFaultOfAsked, Leaves, LeavesBy, LosesLine, RespondsTo}
 use Rattle.topo_session.specs.Standings.{Standing}
 use Rattle.topo_session.specs.Texts.{fault_text, framed}

@@ -25,9 +25,9 @@ use Rattle.topo_picture.specs.Faces.{IsFaceOf}
 use Rattle.topo_picture.specs.Totals.{AreCountsOf}
 use Rattle.topo_script.specs.Pictures.{rows_text}
 use Rattle.topo_script.specs.ReportTexts.{reply_data, report_text}
-use Rattle.topo_settings.specs.declared.fault.RunFault.{RunFault}
-use Rattle.topo_settings.specs.declared.fault.RunFault.TheVariants.{Load, Memory, Script}
-use Rattle.topo_settings.specs.Settings.{IsUnsound, start_of}
+use Rattle.topo_io.specs.declared.fault.RunFault.{RunFault}
+use Rattle.topo_io.specs.declared.fault.RunFault.TheVariants.{Load, Memory, Script}
+use Rattle.topo_io.specs.Settings.{IsUnsound, start_of}
 use Rattle.topo_session.specs.Questions.{edge_asked, vertex_asked}
 use Rattle.topo_check.specs.Replays.{IsUntrue}
 use Rattle.topo_renumbering.specs.declared.Renumbered.{Renumbered}

@@ -6,7 +6,7 @@ use Rattle.topo_core.specs.declared.rows.CrossRow.{CrossRow}
 use Rattle.topo_core.specs.declared.rows.EdgeRow.{EdgeRow}
 use Rattle.topo_core.specs.declared.rows.Rows.{Rows}
 use Rattle.topo_core.specs.Picture.{cross_row, edge_row, rotation}
-use Rattle.topo_settings.specs.Settings.{price_of_kind}
+use Rattle.topo_io.specs.Settings.{price_of_kind}
 use Rattle.topo_session.specs.declared.edges.EdgeAnswer.{EdgeAnswer}
 use Rattle.topo_session.specs.declared.edges.Meeting.{Meeting}
 use Rattle.topo_session.specs.declared.vertices.End.{End}

@@ -13,7 +13,7 @@ use Rattle.topo_script.specs.declared.reports.Report.{Report}
 use Rattle.topo_script.specs.declared.scripts.LimitRows.{LimitRows}
 use Rattle.topo_script.specs.declared.sessions.Opening.{Opening}
 use Rattle.topo_check.specs.Replays.{IsSoundReport, LeadsTo}
-use Rattle.topo_settings.specs.Settings.{IsSound, priced, start_of}
+use Rattle.topo_io.specs.Settings.{IsSound, priced, start_of}
 use Rattle.topo_renumbering.specs.declared.Renumbered.{Renumbered}
 use Rattle.topo_session.specs.declared.session.Undone.{Undone}
 use Rattle.topo_renumbering.specs.Renumbering.{IsRenumbered}

@@ -11,7 +11,7 @@ use Rattle.topo_faults.specs.declared.Fault.{Fault}
 use Rattle.topo_faults.specs.declared.Fault.TheVariants as known
 use Rattle.topo_faults.specs.Faults.{name, number}
 use Rattle.topo_script.specs.declared.fault.ScriptFault.TheVariants.{BadShape, BadNumber}
-use Rattle.topo_script.specs.declared.path.Path.{Path}
+use Rattle.topo_script.specs.declared.path.JsonPath.{JsonPath}
 use Rattle.topo_script.specs.declared.lines.Frame.{Frame}
 use Rattle.topo_script.specs.declared.lines.Frame.TheVariants.{Opening, Bare, Envelope}
 use Rattle.topo_script.specs.declared.lines.LineId.{LineId}
@@ -29,9 +29,9 @@ use Rattle.topo_session.specs.declared.session.Undone.{Undone}
 use Rattle.topo_session.specs.declared.vertices.End.{End}
 use Rattle.topo_session.specs.declared.vertices.End.TheVariants.{A, B}
 use Rattle.topo_session.specs.declared.vertices.VertexAnswer.{VertexAnswer}
-use Rattle.topo_settings.specs.declared.fault.RunFault.{RunFault}
-use Rattle.topo_settings.specs.declared.fault.RunFault.TheVariants.{Script, Price, Graph, WrongReply}
-use Rattle.topo_settings.specs.Statuses.{fault_of}
+use Rattle.topo_io.specs.declared.fault.RunFault.{RunFault}
+use Rattle.topo_io.specs.declared.fault.RunFault.TheVariants.{Script, Price, Graph, WrongReply}
+use Rattle.topo_io.specs.Statuses.{fault_of}
 
 -- ---- Values
 
@@ -114,7 +114,7 @@ abbrev pub counted_text : Fault → ℕ → List ℕ
 counted_text fault count = codes "{\"fault\":[" ++ (decimal (number fault) ++ (codes ",\"" ++ (name fault ++ (codes "\"," ++ (decimal count ++ codes "]}")))))
 
 -- a fault with its path
-abbrev pub placed_text : Fault → Path → List ℕ
+abbrev pub placed_text : Fault → JsonPath → List ℕ
 placed_text fault path =
     codes "{\"fault\":[" ++ (decimal (number fault) ++ (codes ",\"" ++ (name fault ++ (codes "\",\"" ++ (path_text path ++ codes "\"]}")))))
 

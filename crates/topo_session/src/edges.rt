@@ -1,14 +1,14 @@
 //! What a session answers about an edge.
 
 ghost use Rattle.std.specs.Prelude.{◌≡◌, ℕ, IfOk, List, Option};
-ghost use Rattle.topo_changes.specs.Keeping.{viewed_row};
+ghost use Rattle.topo_kept_rows.specs.Keeping.{viewed_row};
 ghost use Rattle.topo_core.specs.Picture.{cross_row};
-ghost use Rattle.topo_settings.specs.Settings.{price_of_kind};
+ghost use Rattle.topo_io.specs.Settings.{price_of_kind};
 ghost use Rattle.topo_session.specs.Questions.{edge_found, meeting_of, meetings_on};
 ghost use Rattle.topo_session.specs.Questions.{other_edge, sign_along};
 
 use std::alloc::{AllocError, Global};
-use topo_changes::{EdgeView, KeptRows};
+use topo_kept_rows::{EdgeView, KeptRows};
 use topo_core::darts::Sign;
 use topo_core::listed::Listed;
 use topo_core::rows::CrossRow;

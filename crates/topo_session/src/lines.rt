@@ -18,8 +18,8 @@ ghost use Rattle.topo_planarize.specs.Answers.{HasNoAnswer};
 ghost use Rattle.topo_script.specs.declared.sessions.Request.TheVariants.{Renumber};
 ghost use Rattle.topo_session.specs.Standings.{begins_with, report_so_far};
 ghost use Rattle.topo_session.specs.Texts.{fault_text};
-ghost use Rattle.topo_settings.specs.declared.fault.RunFault.TheVariants.{Memory};
-ghost use Rattle.topo_settings.specs.Settings.{IsUnsound};
+ghost use Rattle.topo_io.specs.declared.fault.RunFault.TheVariants.{Memory};
+ghost use Rattle.topo_io.specs.Settings.{IsUnsound};
 
 use crate::session::Session;
 use crate::texts::{
@@ -38,7 +38,7 @@ use topo_planarize::answer_graph;
 use topo_price::tariff::PriceFn;
 use topo_rows::LoadFault;
 use topo_script::{picture_text, report};
-use topo_settings::{FromTable, RunFault};
+use topo_io::{FromTable, RunFault};
 
 /// What the program is, how large a picture may be, and which requests there are.
 const ABOUT: &str =

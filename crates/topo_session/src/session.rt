@@ -11,8 +11,8 @@ ghost use Rattle.topo_picture.specs.Faces.{IsFaceOf};
 ghost use Rattle.topo_picture.specs.Totals.{AreCountsOf};
 ghost use Rattle.topo_book.specs.Books.{IsBook};
 ghost use Rattle.topo_price.specs.Prices.{IsPromise, prices_of};
-ghost use Rattle.topo_settings.specs.Settings.{AnswersPrices, IsSound, IsUnsound, price_table};
-ghost use Rattle.topo_settings.specs.Settings.{start_of};
+ghost use Rattle.topo_io.specs.Settings.{AnswersPrices, IsSound, IsUnsound, price_table};
+ghost use Rattle.topo_io.specs.Settings.{start_of};
 ghost use Rattle.topo_renumbering.specs.Renumbering.{IsRenumbered};
 ghost use Rattle.topo_session.specs.Questions.{edge_asked, vertex_asked};
 ghost use Rattle.topo_session.specs.Standings.{AnswersCall, IsOpened, IsReopened, IsRouteReply};
@@ -36,8 +36,8 @@ use topo_price::table::PriceTable;
 use topo_price::tariff::{PriceFn, Tariff};
 use topo_renumbering::{Renumbered, close_up};
 use topo_rows::LoadFault;
-use topo_settings::settings::{price_of_kind, validate};
-use topo_settings::{FromTable, RunFault};
+use topo_io::settings::{price_of_kind, validate};
+use topo_io::{FromTable, RunFault};
 
 /// A session: one picture with its history, at the prices and under the limits that it was opened
 /// with.
@@ -63,7 +63,7 @@ impl<F: PriceFn + Drop> Drop for Session<F> {
 
 impl<F: PriceFn> Model for Session<F> {
     ghost use Rattle.topo_session.specs.Standings.{Standing, standing_of};
-    ghost use Rattle.topo_settings.specs.Settings.{AnswersPrices};
+    ghost use Rattle.topo_io.specs.Settings.{AnswersPrices};
 
     ghost Value = { Standing };
 

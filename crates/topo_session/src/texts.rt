@@ -20,14 +20,14 @@ use topo_core::darts::Dart;
 use topo_core::listed::Listed;
 use topo_core::routes::Inserted;
 use topo_faults::Fault;
-use topo_script::path::Path;
+use topo_script::path::JsonPath;
 use topo_script::{Frame, LineId, ScriptFault};
 use topo_graph::GraphFault;
 use topo_picture::Counts;
 use topo_price::table::PriceFault;
 use topo_renumbering::Renumbered;
 use topo_script::written::{Written, write_after, write_next};
-use topo_settings::RunFault;
+use topo_io::RunFault;
 
 /// How many bytes the text of an answer has room for at first. Most answers have no more, so that
 /// their texts are not moved while they grow.
@@ -232,7 +232,7 @@ pub fn numbered_text(alloc: Global, fault: Fault) -> Result<String, AllocError>
 }
 
 /// The text of a fault with its number, its name and its path.
-fn placed_text(alloc: Global, fault: Fault, path: Path) -> Result<String, AllocError>
+fn placed_text(alloc: Global, fault: Fault, path: JsonPath) -> Result<String, AllocError>
     ensures { IfOk result (λ text. string_bytes text ≡ placed_text fault path) }
 {
     let number = fault.number();

@@ -4,7 +4,7 @@ ghost use Rattle.std.specs.Prelude.{◌≡◌, IfOk, map, true};
 ghost use Rattle.topo_session.specs.Questions.{end_at, vertex_asked};
 
 use std::alloc::{AllocError, Global};
-use topo_changes::{KeptRows, Rotation};
+use topo_kept_rows::{KeptRows, Rotation};
 use topo_core::listed::Listed;
 
 /// An end of an edge.

@@ -8,12 +8,12 @@ use topo_book::ReplayFault;
 use topo_core::calls::Refusal;
 use topo_core::limits::LimitsFault;
 use topo_script::ScriptFault;
-use topo_script::path::{Key, Path};
+use topo_script::path::{Key, JsonPath};
 use topo_graph::GraphFault;
 use topo_price::table::PriceFault;
 use topo_route::plan::PlanFault;
 use topo_rows::LoadFault;
-use topo_settings::RunFault;
+use topo_io::RunFault;
 use topo_test_support::errors::text_of_error;
 
 /// A fault that `?` has made an error of any kind is printed as this text.
@@ -107,7 +107,7 @@ const FAULTS: &[(Fault, &str)] = &[
         "51 TooLong",
     ),
     (
-        Fault::Run(RunFault::Script(ScriptFault::BadShape(Path::WHOLE))),
+        Fault::Run(RunFault::Script(ScriptFault::BadShape(JsonPath::WHOLE))),
         "52 BadShape $",
     ),
     (
@@ -181,7 +181,7 @@ fn faults_are_errors_that_print_their_numbers(rt: HostRuntime) -> Result<(), Fai
 
 #[test]
 fn faults_at_paths(rt: HostRuntime) -> Result<(), Fail> {
-    let workers = Path::WHOLE.member(Key::Workers);
+    let workers = JsonPath::WHOLE.member(Key::Workers);
     let deep = workers.element(0).element(3).element(1);
     let sixth = deep.member(Key::Call).member(Key::NextEdge);
     let eighth = sixth.member(Key::Open).element(2);
@@ -209,7 +209,7 @@ const MAX_FAULT_LINE_BYTES: usize = 192;
 
 #[test]
 fn the_longest_line(rt: HostRuntime) -> Result<(), Fail> {
-    let mut path = Path::WHOLE;
+    let mut path = JsonPath::WHOLE;
     for _ in 0..8 {
         path = path.element(usize::MAX);
     }

@@ -16,7 +16,7 @@ use topo_script::{LimitRows, Report};
 use topo_picture::Picture;
 use topo_price::tariff::PriceFn;
 use topo_script::report;
-use topo_settings::reading::CountedReader;
+use topo_io::reading::CountedReader;
 use topo_test_support::books::make;
 use topo_test_support::lawful::{is_loaded_again, shows};
 use topo_test_support::prices::{Entries, table_of};

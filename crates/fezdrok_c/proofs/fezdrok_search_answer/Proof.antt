@@ -2,8 +2,8 @@
 use Rattle.fezdrok_c.proofs.Steps.{ !, Body, Fits, Goes-dropped, Goes-ref, Incl-refl, Is, Lasts, LentAgain, MutRef, Ptr, RawPtr, ShrSlice, Stays, WpFn, [], addr, alloc_all, and_then, at_ret, await, block_ptr, blocks, calls_at, comes_back, done, emp, ends_at, enter, env, ex_i, exec, fact, fact_i, first, flent, flft, framed, free_all, fsplit, ftrue, full_share, get, glues, group, heard, id⊢, in_a_block, join, keep, lands_as, lasts, later, lends_again, lends_ref, length, lft_end, lft_new, lies_at, look_at, mem, move, mut_Tells, mut_vals, named, no_more, not-mem-nil, nothing, of_opd, part_at, pass_all, peeks, pick, plain, prop, proved, qed, raw, rawptr_Tells, rawptr_vals, ref_back, refl, regoal, returns, sep, sets, sets_last, shows, shr_slice_Tells, shr_slice_of, shr_slice_vals, some, split, stay_dropped, stay_ref, stop, suffices, tables, through, triple_of, u8, uint_Lawful, use0, use1, use2, use3, vptr, w64, w8, walk_of, yes, ‵, ℕ, ◌$◌, ◌++◌, ◌∵◌, ◌∷◌, ◌⊑◌, ◌⊛◌}
 use Rattle.topo_price.specs.contracts.tariff.PriceTablePriceFn.TheImpl as price
 use Rattle.topo_price.proofs.tariff.PriceTablePriceFn.TheImpl.Met as price_met
-use Rattle.topo_settings.specs.contracts.tables.PriceTableFromTable.TheImpl as from
-use Rattle.topo_settings.proofs.tables.PriceTableFromTable.TheImpl.Met as from_met
+use Rattle.topo_io.specs.contracts.tables.PriceTableFromTable.TheImpl as from
+use Rattle.topo_io.proofs.tables.PriceTableFromTable.TheImpl.Met as from_met
 use Rattle.fezdrok_c.proofs.Tables.{drops, laws_of_T}
 use Rattle.fezdrok_c.specs.Blocks.{P, T, Sought as Session, is_search, search_answered}
 use Rattle.fezdrok_c.specs.Searches.{IsSearchAnswered}
@@ -48,7 +48,7 @@ fezdrok_search_answer_spec {M} 𝓤 𝓛 𝓜 𝓡 wired =
     let G = triple_of 𝓛 (g.signature T from.ghosts from.dict price.ghosts price.dict drops) (g.spec T from.ghosts from.dict price.ghosts price.dict drops 𝓛 𝓜.mem 𝓡.returns) in
     let z : G.Ghost = (((α ∷ [], (κs.0, (β2 ∷ [], ([], tt)))), (full_share, (qs.0, (full_share, (full_share, tt)))), ((λ x m. absurd (not-mem-nil m)), tt), (record { ref_ptr = (b, o); ghost_name = δ; now = held }, (line1, (record text { ghost_name = ε2 }, tt))), (vptr b o ∷ [], ((shr_slice_vals line1), ((mut_vals text), tt)))), tt) in
     nothing ! $ move ! (1 ∷ 0 ∷ []) $ join ! $ move ! (6 ∷ 0 ∷ []) $ join ! $ move ! (3 ∷ 0 ∷ []) $ join ! $ nothing ! $ use0 𝓛 (‵ (flft [] full_share)) (𝓛.lfts.lft-nil full_share) $ join ! $ move ! (3 ∷ 0 ∷ []) $ join ! $ move ! (5 ∷ 0 ∷ []) $ join ! $ move ! (4 ∷ 0 ∷ []) $ join ! $ join ! $ nothing ! $ use0 𝓛 (raw (fact 𝓤 ([] ⊑ T.lives))) (fact_i 𝓤 ([] ⊑ T.lives) (emp 𝓤) (Incl-refl [])) $ join ! $ move ! (1 ∷ 0 ∷ []) $ use2 𝓛 (raw (G.pre z)) (id⊢ 𝓤 _) $
-    calls_at ! (framed 𝓤 𝓛.H 𝓜 (tables 𝓤 𝓛.H 𝓜 𝓡 𝓡.env)) G (met 𝓤 𝓛 𝓜 𝓡 (code.calls-fezdrok_c::searching::answer_search 𝓡.env wired) T laws_of_T from.ghosts from.dict price.ghosts price.dict drops (from_met.passed 𝓡.env (code.calls-topo_settings::tables::PriceTableFromTable::from_table 𝓡.env wired) M 𝓤 𝓛 𝓜 𝓡) (price_met.passed 𝓡.env (code.calls-topo_price::tariff::PriceTablePriceFn::price 𝓡.env wired) (code.calls-topo_price::tariff::PriceTablePriceFn::price_of_kind 𝓡.env wired) M 𝓤 𝓛 𝓜 𝓡) (glues "fezdrok_c::Destruct++none::drop" 𝓡.env (code.calls-fezdrok_c::Destruct++none::drop 𝓡.env wired) T laws_of_T M 𝓤 𝓛 𝓜 𝓡)) z
+    calls_at ! (framed 𝓤 𝓛.H 𝓜 (tables 𝓤 𝓛.H 𝓜 𝓡 𝓡.env)) G (met 𝓤 𝓛 𝓜 𝓡 (code.calls-fezdrok_c::searching::answer_search 𝓡.env wired) T laws_of_T from.ghosts from.dict price.ghosts price.dict drops (from_met.passed 𝓡.env (code.calls-topo_io::tables::PriceTableFromTable::from_table 𝓡.env wired) M 𝓤 𝓛 𝓜 𝓡) (price_met.passed 𝓡.env (code.calls-topo_price::tariff::PriceTablePriceFn::price 𝓡.env wired) (code.calls-topo_price::tariff::PriceTablePriceFn::price_of_kind 𝓡.env wired) M 𝓤 𝓛 𝓜 𝓡) (glues "fezdrok_c::Destruct++none::drop" 𝓡.env (code.calls-fezdrok_c::Destruct++none::drop 𝓡.env wired) T laws_of_T M 𝓤 𝓛 𝓜 𝓡)) z
     (and_then ! (get ! refl) (and_then ! (get ! refl) (and_then ! (get ! refl) (no_more !)))) (λ v.
     use1 𝓛 (later (some (λ (n : ℕ). ((‵ (flft (α ∷ []) full_share) ⊛ ‵ (flft (κs.0) qs.0) ⊛ ‵ (flft (β2 ∷ []) full_share) ⊛ ‵ (flft ([]) full_share) ⊛ ‵ ftrue) ⊛ ‵ (u8.own_val n (v ∷ []))) ⊛
     some (λ (ws : Lasts (g.ended T from.ghosts from.dict price.ghosts price.dict drops) z.0.0 z.0.3). ‵ (lasts (g.ended T from.ghosts from.dict price.ghosts price.dict drops) z.0.0 z.0.3 ws) ⊛ raw (fact 𝓤 (IsSearchAnswered held line1.now n ws.0 ws.1.1.0)))))) (id⊢ 𝓤 _) $ await ! tt $ pick ! (λ n.

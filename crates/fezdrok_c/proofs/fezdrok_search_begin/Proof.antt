@@ -4,8 +4,8 @@ use Rattle.std.specs.contracts.alloc.Global.{the_row as A}
 use Rattle.std.proofs.alloc.Global.TheLaws as heap
 use Rattle.topo_price.specs.contracts.tariff.PriceTablePriceFn.TheImpl as price
 use Rattle.topo_price.proofs.tariff.PriceTablePriceFn.TheImpl.Met as price_met
-use Rattle.topo_settings.specs.contracts.tables.PriceTableFromTable.TheImpl as from
-use Rattle.topo_settings.proofs.tables.PriceTableFromTable.TheImpl.Met as from_met
+use Rattle.topo_io.specs.contracts.tables.PriceTableFromTable.TheImpl as from
+use Rattle.topo_io.proofs.tables.PriceTableFromTable.TheImpl.Met as from_met
 use Rattle.fezdrok_c.proofs.Tables.{drops, laws_of_T}
 use Rattle.fezdrok_c.proofs.Tables.{laws_of_P}
 use Rattle.fezdrok_c.specs.Blocks.{P, T, Sought as Session, is_search, search_begun}
@@ -49,7 +49,7 @@ fezdrok_search_begin_spec {M} 𝓤 𝓛 𝓜 𝓡 wired =
     let G = triple_of 𝓛 (g.signature T from.ghosts from.dict price.ghosts price.dict drops) (g.spec T from.ghosts from.dict price.ghosts price.dict drops 𝓛 𝓜.mem 𝓡.returns) in
     let z : G.Ghost = (((κs.0, (β3 ∷ [], (β4 ∷ [], ([], tt)))), (qs.0, (full_share, (full_share, (full_share, tt)))), tt, (h, (line2, (record text { ghost_name = ε3 }, (record status { ghost_name = ε4 }, tt)))), (hs, ((shr_slice_vals line2), ((mut_vals text), ((mut_vals status), tt))))), tt) in
     nothing ! $ move ! (1 ∷ 0 ∷ []) $ join ! $ move ! (3 ∷ 0 ∷ []) $ join ! $ move ! (7 ∷ 0 ∷ []) $ join ! $ move ! (6 ∷ 0 ∷ []) $ join ! $ nothing ! $ use0 𝓛 (‵ (flft [] full_share)) (𝓛.lfts.lft-nil full_share) $ join ! $ move ! (3 ∷ 0 ∷ []) $ join ! $ move ! (4 ∷ 0 ∷ []) $ join ! $ move ! (5 ∷ 0 ∷ []) $ join ! $ join ! $ nothing ! $ use0 𝓛 (raw (fact 𝓤 ([] ⊑ T.lives))) (fact_i 𝓤 ([] ⊑ T.lives) (emp 𝓤) (Incl-refl [])) $ join ! $ move ! (1 ∷ 0 ∷ []) $ use2 𝓛 (raw (G.pre z)) (id⊢ 𝓤 _) $
-    calls_at ! (framed 𝓤 𝓛.H 𝓜 (tables 𝓤 𝓛.H 𝓜 𝓡 𝓡.env)) G (met 𝓤 𝓛 𝓜 𝓡 (code.calls-fezdrok_c::searching::begin_search 𝓡.env wired) T laws_of_T from.ghosts from.dict price.ghosts price.dict drops (from_met.passed 𝓡.env (code.calls-topo_settings::tables::PriceTableFromTable::from_table 𝓡.env wired) M 𝓤 𝓛 𝓜 𝓡) (price_met.passed 𝓡.env (code.calls-topo_price::tariff::PriceTablePriceFn::price 𝓡.env wired) (code.calls-topo_price::tariff::PriceTablePriceFn::price_of_kind 𝓡.env wired) M 𝓤 𝓛 𝓜 𝓡) (glues "fezdrok_c::Destruct++none::drop" 𝓡.env (code.calls-fezdrok_c::Destruct++none::drop 𝓡.env wired) T laws_of_T M 𝓤 𝓛 𝓜 𝓡)) z
+    calls_at ! (framed 𝓤 𝓛.H 𝓜 (tables 𝓤 𝓛.H 𝓜 𝓡 𝓡.env)) G (met 𝓤 𝓛 𝓜 𝓡 (code.calls-fezdrok_c::searching::begin_search 𝓡.env wired) T laws_of_T from.ghosts from.dict price.ghosts price.dict drops (from_met.passed 𝓡.env (code.calls-topo_io::tables::PriceTableFromTable::from_table 𝓡.env wired) M 𝓤 𝓛 𝓜 𝓡) (price_met.passed 𝓡.env (code.calls-topo_price::tariff::PriceTablePriceFn::price 𝓡.env wired) (code.calls-topo_price::tariff::PriceTablePriceFn::price_of_kind 𝓡.env wired) M 𝓤 𝓛 𝓜 𝓡) (glues "fezdrok_c::Destruct++none::drop" 𝓡.env (code.calls-fezdrok_c::Destruct++none::drop 𝓡.env wired) T laws_of_T M 𝓤 𝓛 𝓜 𝓡)) z
     (and_then ! (get ! refl) (and_then ! (get ! refl) (and_then ! (get ! refl) (and_then ! (get ! refl) (no_more !))))) (λ v.
     use1 𝓛 (later (some (λ (s : Session). ((‵ (flft (κs.0) qs.0) ⊛ ‵ (flft (β3 ∷ []) full_share) ⊛ ‵ (flft (β4 ∷ []) full_share) ⊛ ‵ (flft ([]) full_share) ⊛ ‵ ftrue) ⊛ ‵ (P.own_val s (v ∷ []))) ⊛
     some (λ (ws : Lasts (g.ended T from.ghosts from.dict price.ghosts price.dict drops) z.0.0 z.0.3). ‵ (lasts (g.ended T from.ghosts from.dict price.ghosts price.dict drops) z.0.0 z.0.3 ws) ⊛ raw (fact 𝓤 (IsSearchBegun line2.now s ws.1.1.0 ws.1.1.1.0)))))) (id⊢ 𝓤 _) $ await ! tt $ pick ! (λ s.

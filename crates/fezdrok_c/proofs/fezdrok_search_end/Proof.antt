@@ -2,8 +2,8 @@
 use Rattle.fezdrok_c.proofs.Steps.{ !, Goes-dropped, Incl-refl, Is, Lasts, Ptr, RawPtr, Stays, Val, WpFn, [], alloc_all, and_then, ap, await, block_ptr, calls_at, done, drop, emp, ends_at, enter, fact, fact_i, fat, feq_i, feq_l, flft, framed, free_all, ftrue, full_share, get, glues, group, id⊢, in_a_block, join, lands_as, lasts, later, lies_at, load, lone, look, look_at, move, no_more, nothing, of_opd, on_entry, only, part_out, pass_all, peeks, pick, plain, prop, proved, qed, raw, rawptr_Tells, rawptr_vals, refl, regoal, returns, room_at, sets, shows, some, split, stay_dropped, stop, suffices, tables, through, triple_of, unit, unit_lit, use0, use1, use2, vunit, walk_of, yes, ‵, ◌$◌, ◌∵◌, ◌∷◌, ◌⊑◌, ◌⊛◌}
 use Rattle.topo_price.specs.contracts.tariff.PriceTablePriceFn.TheImpl as price
 use Rattle.topo_price.proofs.tariff.PriceTablePriceFn.TheImpl.Met as price_met
-use Rattle.topo_settings.specs.contracts.tables.PriceTableFromTable.TheImpl as from
-use Rattle.topo_settings.proofs.tables.PriceTableFromTable.TheImpl.Met as from_met
+use Rattle.topo_io.specs.contracts.tables.PriceTableFromTable.TheImpl as from
+use Rattle.topo_io.proofs.tables.PriceTableFromTable.TheImpl.Met as from_met
 use Rattle.fezdrok_c.proofs.Tables.{drops, laws_of_P, laws_of_T}
 use Rattle.fezdrok_c.specs.Blocks.{P, T}
 use Rattle.fezdrok_c.specs.contracts.fezdrok_search_end as f
@@ -36,7 +36,7 @@ fezdrok_search_end_spec {M} 𝓤 𝓛 𝓜 𝓡 wired =
     nothing ! $ use0 𝓛 (‵ (flft [] full_share)) (𝓛.lfts.lft-nil full_share) $ join ! $ join ! $
     nothing ! $ use0 𝓛 (raw (fact 𝓤 ([] ⊑ T.lives))) (fact_i 𝓤 ([] ⊑ T.lives) (emp 𝓤) (Incl-refl [])) $ join ! $
     move ! (1 ∷ 0 ∷ []) $ use2 𝓛 (raw (G.pre z)) (id⊢ 𝓤 _) $
-    calls_at ! (framed 𝓤 𝓛.H 𝓜 (tables 𝓤 𝓛.H 𝓜 𝓡 𝓡.env)) G (met 𝓤 𝓛 𝓜 𝓡 (code.calls-fezdrok_c::searching::shut_search 𝓡.env wired) T laws_of_T from.ghosts from.dict price.ghosts price.dict drops (from_met.passed 𝓡.env (code.calls-topo_settings::tables::PriceTableFromTable::from_table 𝓡.env wired) M 𝓤 𝓛 𝓜 𝓡) (price_met.passed 𝓡.env (code.calls-topo_price::tariff::PriceTablePriceFn::price 𝓡.env wired) (code.calls-topo_price::tariff::PriceTablePriceFn::price_of_kind 𝓡.env wired) M 𝓤 𝓛 𝓜 𝓡) (glues "fezdrok_c::Destruct++none::drop" 𝓡.env (code.calls-fezdrok_c::Destruct++none::drop 𝓡.env wired) T laws_of_T M 𝓤 𝓛 𝓜 𝓡)) z
+    calls_at ! (framed 𝓤 𝓛.H 𝓜 (tables 𝓤 𝓛.H 𝓜 𝓡 𝓡.env)) G (met 𝓤 𝓛 𝓜 𝓡 (code.calls-fezdrok_c::searching::shut_search 𝓡.env wired) T laws_of_T from.ghosts from.dict price.ghosts price.dict drops (from_met.passed 𝓡.env (code.calls-topo_io::tables::PriceTableFromTable::from_table 𝓡.env wired) M 𝓤 𝓛 𝓜 𝓡) (price_met.passed 𝓡.env (code.calls-topo_price::tariff::PriceTablePriceFn::price 𝓡.env wired) (code.calls-topo_price::tariff::PriceTablePriceFn::price_of_kind 𝓡.env wired) M 𝓤 𝓛 𝓜 𝓡) (glues "fezdrok_c::Destruct++none::drop" 𝓡.env (code.calls-fezdrok_c::Destruct++none::drop 𝓡.env wired) T laws_of_T M 𝓤 𝓛 𝓜 𝓡)) z
     (and_then ! (get ! refl) (no_more !)) (λ u.
     use1 𝓛 (later (some (λ (r : Unit {0}). ((‵ (flft [] full_share) ⊛ ‵ ftrue) ⊛ ‵ (unit.own_val r (u ∷ []))) ⊛ some (λ (ws : Lasts (g.ended T from.ghosts from.dict price.ghosts price.dict drops) z.0.0 z.0.3). ‵ (lasts (g.ended T from.ghosts from.dict price.ghosts price.dict drops) z.0.0 z.0.3 ws) ⊛ ‵ ftrue)))) (id⊢ 𝓤 _) $
     await ! tt $ pick ! (λ r. split ! $ split ! $ drop ! $ feq_l ! (λ is_unit. drop ! $ lands_as ! (ap only is_unit) refl (tt, tt) $

@@ -16,7 +16,7 @@ use Rattle.topo_perm.specs.RenumberedEdits.{IsAlive}
 use Rattle.topo_perm.specs.Runs.{IsRun, Turning}
 use Rattle.topo_perm.proofs.Interface.{smooths_of, unchords_of}
 use Rattle.topo_map.specs.Rotation.{IsEmbedding, KeepsLabels, Rotation, edge_of, half_limit, is_live, turning_of}
-use Rattle.topo_changes.proofs.Interface.{crossings, deleted_along, first_of, hides, in_place, left, mid, mid_is, n, number_less, off_left, path_mids_all, segments}
+use Rattle.topo_kept_rows.proofs.Interface.{crossings, deleted_along, first_of, hides, in_place, left, mid, mid_is, n, number_less, off_left, path_mids_all, segments}
 use Rattle.topo_embedded.specs.Deleting.{ArePathsLeft, AreAheads}
 use Rattle.topo_embedded.specs.Halves.{RowsWithPaths, ShowsRows, half_at, half_in}
 use Rattle.topo_embedded.proofs.halves.Numbers.{half_of_number}

@@ -23,7 +23,7 @@ use Rattle.topo_perm.specs.Runs.Edit.{Unchord}
 use Rattle.topo_perm.proofs.Interface.{alive_turn, still_alive, twin-cases}
 use Rattle.topo_map.specs.Rotation.{KeepsLabels, Rotation, Shrinks, edge_of, half_limit, is_live, turn, turning_of}
 use Rattle.topo_map.proofs.Interface.{live_half, unchord_step}
-use Rattle.topo_changes.proofs.Interface.{across, back_alive, forward_alive, in_place, is_even, mid_found, over_dart, over_off, over_turn, segment_alive}
+use Rattle.topo_kept_rows.proofs.Interface.{across, back_alive, forward_alive, in_place, is_even, mid_found, over_dart, over_off, over_turn, segment_alive}
 use Rattle.topo_embedded.specs.Halves.{RowsWithPaths, ShowsRows, half_at, half_in, path_of}
 use Rattle.topo_embedded.specs.Opening.{IsOpenTo, IsSetOut, leads_in, mid_at}
 use Rattle.topo_embedded.proofs.halves.Apart.{halves_apart}

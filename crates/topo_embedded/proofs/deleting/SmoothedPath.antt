@@ -25,7 +25,7 @@ use Rattle.topo_map.specs.Rotation.{IsEmbedding, KeepsLabels, Rotation, Shrinks,
 use Rattle.topo_map.proofs.Interface.{live_half, smooth_step}
 use Rattle.topo_rows.specs.Ids.{IsPlaceOf}
 use Rattle.topo_rows.proofs.Interface.{edges_rise, placed_here}
-use Rattle.topo_changes.proofs.Interface.{filter_alike, filter_twice, first_of, in_place, mid_is, rest_is, smoothable_along}
+use Rattle.topo_kept_rows.proofs.Interface.{filter_alike, filter_twice, first_of, in_place, mid_is, rest_is, smoothable_along}
 use Rattle.topo_embedded.specs.Deleting.{ArePathsLeft, spared}
 use Rattle.topo_embedded.specs.Halves.{RowsWithPaths, ShowsRows, half_at, path_of}
 use Rattle.topo_embedded.specs.Opening.{IsOpened, IsOpenTo, IsSetOut, IsSmoothedTo, mid_at, mids_of, without_half}

@@ -27,7 +27,7 @@ use Rattle.topo_perm.specs.Runs.Edit.{Hang}
 use Rattle.topo_perm.proofs.Interface.{IsGrowthUnder, twin-cases}
 use Rattle.topo_map.specs.Rotation.{AddsLabel, Grows, IsEmbedding, Rotation, edge_of, half_limit, is_live, turn, turning_of}
 use Rattle.topo_map.proofs.Interface.{hang_step}
-use Rattle.topo_changes.proofs.Interface.{corner_is, even_count, grown_good, grown_slab, new_row, old_edge}
+use Rattle.topo_kept_rows.proofs.Interface.{corner_is, even_count, grown_good, grown_slab, new_row, old_edge}
 use Rattle.topo_embedded.specs.Halves.{RowsWithPaths, ShowsRows, half_at, half_in, path_of}
 use Rattle.topo_embedded.proofs.halves.Made.{agreeing_numbers}
 use Rattle.topo_embedded.proofs.halves.Numbers.{StandsAt, half_alive, half_of_number, stands_at}

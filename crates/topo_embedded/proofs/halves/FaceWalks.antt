@@ -24,9 +24,9 @@ use Rattle.topo_perm.proofs.Interface.{SameCycle-same, face_next-permutation, re
 use Rattle.topo_rows.proofs.Interface.{dart_there, got_within}
 use Rattle.topo_map.specs.Rotation.{Rotation, edge_of, half_limit, is_live, turn}
 use Rattle.topo_map.proofs.Interface.{limit-is}
-use Rattle.topo_changes.specs.Cuts.{IsLeft, IsNextLeft}
-use Rattle.topo_changes.proofs.Interface.{Passes, Walks, face_told, forth_of_face, not_opened, one_face_forth, one_face_round, passes_few, passes_more, passes_none, passes_to, round_of_face}
-use Rattle.topo_changes.proofs.Interface.{walks_home, walks_met, walks_more, walks_never, walks_none}
+use Rattle.topo_kept_rows.specs.Cuts.{IsLeft, IsNextLeft}
+use Rattle.topo_kept_rows.proofs.Interface.{Passes, Walks, face_told, forth_of_face, not_opened, one_face_forth, one_face_round, passes_few, passes_more, passes_none, passes_to, round_of_face}
+use Rattle.topo_kept_rows.proofs.Interface.{walks_home, walks_met, walks_more, walks_never, walks_none}
 use Rattle.topo_embedded.specs.Cutting.{IsOpenedOn}
 use Rattle.topo_embedded.specs.Halves.{RowsWithPaths, by_way, half_at, half_in}
 use Rattle.topo_embedded.specs.Walking.{IsOnPath}

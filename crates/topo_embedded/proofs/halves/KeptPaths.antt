@@ -18,7 +18,7 @@ use Rattle.topo_core.specs.Items.{has_id}
 use Rattle.topo_core.specs.Lawful.{has_good_paths}
 use Rattle.topo_core.specs.Picture.{edge_at, edge_row}
 use Rattle.topo_core.proofs.Interface.{row_id, some_of}
-use Rattle.topo_changes.proofs.Interface.{below_more, ids_stay, more_places}
+use Rattle.topo_kept_rows.proofs.Interface.{below_more, ids_stay, more_places}
 use Rattle.topo_rows.specs.Ids.{IsPlaceOf}
 use Rattle.topo_rows.proofs.Interface.{edges_rise, place_among, placed_here}
 use Rattle.topo_table.specs.Places.{AreBelow, IsLiveAt, Places, entries, entry_at, ids_in, ids_of, place_in, present, value_of, values_in, without_id}

@@ -19,7 +19,7 @@ use Rattle.topo_core.proofs.Interface.{index_less, index_twin}
 use Rattle.topo_perm.specs.Runs.{Turning}
 use Rattle.topo_perm.proofs.Interface.{AreNumbered, AreSubdivisionsAt, IsInsertionPathUnder, NewChord, Subdivision, chords_of}
 use Rattle.topo_map.specs.Rotation.{Rotation}
-use Rattle.topo_changes.proofs.Interface.{HasInsertionPath, dart_of_number, name, new_chords_of, path_chords, path_subdivisions, subdivisions_of}
+use Rattle.topo_kept_rows.proofs.Interface.{HasInsertionPath, dart_of_number, name, new_chords_of, path_chords, path_subdivisions, subdivisions_of}
 use Rattle.topo_embedded.specs.Crossing.{AreCrossedAt, halves_of}
 use Rattle.topo_embedded.specs.Halves.{RowsWithPaths, half_at}
 use Rattle.topo_embedded.proofs.inserting.Inserted.{AreInserted}

@@ -12,7 +12,7 @@ use Rattle.topo_core.specs.Rotations.{twin}
 use Rattle.topo_perm.specs.Runs.{IsRun, Turning}
 use Rattle.topo_perm.proofs.Interface.{AreAlong, NewChord, Subdivision, chords_of, splits_of, subdivided_number}
 use Rattle.topo_map.specs.Rotation.{IsEmbedding, Rotation, edge_of, half_limit, turning_of}
-use Rattle.topo_changes.proofs.Interface.{AreCrossedHalves, HasInsertionPath, inserted_slab}
+use Rattle.topo_kept_rows.proofs.Interface.{AreCrossedHalves, HasInsertionPath, inserted_slab}
 use Rattle.topo_embedded.specs.Crossing.{AreCrossedAt, halves_of}
 use Rattle.topo_embedded.specs.Halves.{RowsWithPaths, ShowsRows, half_at}
 use Rattle.topo_embedded.specs.Inserting.{put_halves}

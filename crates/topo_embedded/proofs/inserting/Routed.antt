@@ -14,7 +14,7 @@ use Rattle.topo_core.specs.Systems.{has_dart}
 use Rattle.topo_core.proofs.Interface.{corner_in, shown_well_formed}
 use Rattle.topo_perm.proofs.Interface.{AreAlong, Subdivision, subdivided_number}
 use Rattle.topo_map.specs.Rotation.{IsEmbedding, Rotation, is_live, turning_of}
-use Rattle.topo_changes.proofs.Interface.{HasInsertionPath, has_insertion_path}
+use Rattle.topo_kept_rows.proofs.Interface.{HasInsertionPath, has_insertion_path}
 use Rattle.topo_embedded.specs.declared.padding.Crossed.{Crossed}
 use Rattle.topo_embedded.specs.Crossing.{AreCrossedAt, AreChordsAdded, HasLabel, HaveLabel, HaveLabels, IsMarked, IsReady, ids_of_edges}
 use Rattle.topo_embedded.specs.Crossing.{IsReadyFor, IsRouted, subdivisions_of, subdivided_half, crossed_darts, halves_of}

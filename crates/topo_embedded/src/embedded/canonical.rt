@@ -3,7 +3,7 @@
 ghost use Rattle.std.specs.Prelude.{◌≡◌, ◌+◌, ◌++◌, ◌<◌, ◌≤◌, ℕ, true, IfOk};
 ghost use Rattle.std.specs.Prelude.{None, OnOk, Some, flat_map, if◌then◌else◌};
 ghost use Rattle.std.specs.Prelude.{length, map, slice_index, slice_index_or};
-ghost use Rattle.topo_changes.specs.Keeping.{viewed_row};
+ghost use Rattle.topo_kept_rows.specs.Keeping.{viewed_row};
 ghost use Rattle.topo_core.specs.declared.darts.Dart.{Dart};
 ghost use Rattle.topo_core.specs.Picture.{darts, points_of, rotation, start, start_place};
 ghost use Rattle.topo_core.specs.Systems.{has_dart};
@@ -18,7 +18,7 @@ use crate::parts::Parts;
 use crate::path::Path;
 use crate::walking::led;
 use std::alloc::{AllocError, Global};
-use topo_changes::EdgeView;
+use topo_kept_rows::EdgeView;
 use topo_core::darts::{Dart, Point, Way};
 use topo_core::ids::{CrossId, VertexId};
 use topo_core::rows::Rows;

@@ -27,7 +27,7 @@ pub crosses_from : (rows : Rows) (c d : Dart) (xs : List Dart) (to : Dart) → S
 crosses_from rows c d [] to same walk = same_through (face_step (system rows)) c d to same walk
 crosses_from rows c d (x ∷ xs) to same walk = (same_through (face_step (system rows)) c d x same walk.0, walk.1)
 
--- ---- Labels of faces
+-- ---- SearchState of faces
 
 module _ (g : Named) (lawful : Lawful g.rows) (has : IsNamed g) (face : ℕ → ℕ) (faces : ℕ) (has_faces : HasFaces g face faces) where
   -- the next dart has the same label

@@ -10,7 +10,7 @@ ghost use Rattle.topo_route.specs.Seen.{HasSeen, HoldsBelow, HoldsMore, HoldsSee
 use crate::both_ends::Stop;
 use crate::face_graph::FaceGraph;
 use crate::planned::region::Region;
-use crate::spread::Labels;
+use crate::spread::SearchState;
 use crate::steps::{face_at, next_along};
 use crate::workspace::Workspace;
 use std::alloc::{AllocError, Global};
@@ -55,7 +55,7 @@ fn mark_face<W: FaceGraph>(graph: &W, dart: u32, region: &mut Region) -> Result<
 /// Marks the edges of each face that is lower than the bound.
 fn mark_below<W: FaceGraph>(
     graph: &W,
-    labels: &Labels,
+    labels: &SearchState,
     bound: u64,
     region: &mut Region,
 ) -> Result<(), AllocError>

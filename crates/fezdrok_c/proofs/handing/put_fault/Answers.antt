@@ -1,7 +1,7 @@
 use Rattle.std.proofs.Common.{◌≡◌, ℕ, List, [], ◌∷◌, ◌++◌, ap, arith, codes, decimal, inr}
 use Rattle.std.proofs.lemmas.Fmt.{decimal-digits_of}
-use Rattle.topo_settings.specs.declared.fault.RunFault.TheVariants.{Memory}
-use Rattle.topo_settings.specs.Statuses.{fault_line}
+use Rattle.topo_io.specs.declared.fault.RunFault.TheVariants.{Memory}
+use Rattle.topo_io.specs.Statuses.{fault_line}
 use Rattle.fezdrok_c.proofs.handing.put_fault.Goals as goal
 
 eight : decimal 8 ≡ 56 ∷ []

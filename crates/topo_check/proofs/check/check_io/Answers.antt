@@ -2,7 +2,7 @@ use Rattle.std.proofs.Common.{List, rules, subst, ℕ, IfErr}
 use Rattle.std.proofs.KnownBytes.{Keeps-refl}
 use Rattle.topo_script.specs.Reads.{Gives}
 use Rattle.topo_script.specs.RowForms.{rows_of}
-use Rattle.topo_settings.proofs.Interface.{err_by, err_so, ok_by}
+use Rattle.topo_io.proofs.Interface.{err_by, err_so, ok_by}
 use Rattle.topo_check.specs.Checks.{IsUnlawful}
 use Rattle.topo_check.proofs.Telling.{check_fails, check_unwritten, checked}
 use Rattle.topo_check.proofs.check.check_io.Goals as goal

@@ -1,5 +1,5 @@
 use Rattle.std.proofs.Common.{rules}
-use Rattle.topo_settings.proofs.Interface.{read_so}
+use Rattle.topo_io.proofs.Interface.{read_so}
 use Rattle.topo_check.proofs.check.line_of_read.Goals as goal
 
 pub returns-in-Err-counts-clause-fault : goal.returns-in-Err-counts-clause-fault

@@ -1,7 +1,7 @@
 use Rattle.std.proofs.Common.{rules, IfErr}
 use Rattle.std.proofs.KnownBytes.{Keeps-refl}
 use Rattle.topo_check.specs.Replays.{TellsUntrue}
-use Rattle.topo_settings.proofs.Interface.{err_so}
+use Rattle.topo_io.proofs.Interface.{err_so}
 use Rattle.topo_check.proofs.Telling.{replay_fails}
 use Rattle.topo_check.proofs.replay.replay_io.Goals as goal
 

@@ -5,8 +5,8 @@ use Rattle.topo_core.specs.declared.calls.Entry.{Entry}
 use Rattle.topo_core.specs.declared.rows.Rows.{Rows}
 use Rattle.topo_core.specs.History.{Replays}
 use Rattle.topo_price.specs.Prices.{prices_of}
-use Rattle.topo_settings.proofs.Interface.{replays_so}
-use Rattle.topo_settings.specs.Settings.{priced}
+use Rattle.topo_io.proofs.Interface.{replays_so}
+use Rattle.topo_io.specs.Settings.{priced}
 use Rattle.topo_check.proofs.SameFaults.{fault_so, illegal_so}
 use Rattle.topo_check.proofs.replay.replay_report.Goals as goal
 

@@ -1,4 +1,4 @@
-use Rattle.topo_settings.proofs.Interface.{own_prices}
+use Rattle.topo_io.proofs.Interface.{own_prices}
 use Rattle.topo_cli_tests.proofs.own_prices.report_by_table.Goals as goal
 
 pub report_by-requires-clause-own : goal.report_by-requires-clause-own

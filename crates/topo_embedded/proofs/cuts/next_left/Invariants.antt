@@ -1,7 +1,7 @@
 use Rattle.topo_core.specs.declared.darts.Dart.{Dart}
 use Rattle.topo_core.specs.Darts.{dart_twin}
 use Rattle.topo_core.specs.Picture.{index_of}
-use Rattle.topo_changes.specs.Cuts.{IsLeft}
+use Rattle.topo_kept_rows.specs.Cuts.{IsLeft}
 use Rattle.topo_embedded.specs.Cutting.{IsOpenedOn}
 use Rattle.topo_embedded.specs.Halves.{RowsWithPaths, half_in}
 use Rattle.topo_embedded.proofs.halves.FaceWalks.{Turns}

@@ -1,7 +1,7 @@
 use Rattle.std.proofs.Common.{◌∙◌, [], ◌∷◌, ap, length, refl, subst, sym, List, set, ℕ}
 use Rattle.std.specs.Prelude.{◌==◌, slice_index_or}
 use Rattle.std.specs.List.{position_or_len}
-use Rattle.topo_changes.proofs.Interface.{edges_climb}
+use Rattle.topo_kept_rows.proofs.Interface.{edges_climb}
 use Rattle.topo_table.specs.Places.{ids_in, values_in}
 use Rattle.topo_table.proofs.Interface.{below_same}
 use Rattle.topo_embedded.specs.Opening.{IsOpened, IsSmoothedTo, mids_of}

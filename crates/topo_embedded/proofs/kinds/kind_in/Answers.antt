@@ -1,5 +1,5 @@
 use Rattle.std.proofs.Common.{arith, sym}
-use Rattle.topo_changes.specs.Keeping.{viewed_row}
+use Rattle.topo_kept_rows.specs.Keeping.{viewed_row}
 use Rattle.topo_embedded.proofs.halves.Reading.{kind_known}
 use Rattle.topo_embedded.proofs.kinds.kind_in.Goals as goal
 

@@ -1,7 +1,7 @@
 use Rattle.std.proofs.Common.{◌∙◌, ◌++◌, ◌∷◌, [], ap, arith, length, map, Some, subst, sym, ℕ}
 use Rattle.std.proofs.lemmas.Option.{slice_get-get_or}
 use Rattle.topo_rows.proofs.Interface.{begins_length}
-use Rattle.topo_changes.proofs.Interface.{ids_all, ids_more, ids_none}
+use Rattle.topo_kept_rows.proofs.Interface.{ids_all, ids_more, ids_none}
 use Rattle.topo_table.specs.Places.{AreBelow, present, values_in}
 use Rattle.topo_embedded.specs.Making.{ArePathsOf}
 use Rattle.topo_embedded.proofs.halves.KeptPaths.{values_pushed}

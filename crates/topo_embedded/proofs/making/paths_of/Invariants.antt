@@ -1,4 +1,4 @@
-use Rattle.topo_changes.proofs.Interface.{AreIdsNoted}
+use Rattle.topo_kept_rows.proofs.Interface.{AreIdsNoted}
 use Rattle.topo_table.specs.Places.{values_in}
 use Rattle.topo_embedded.specs.Making.{ArePathsOf}
 use Rattle.topo_embedded.proofs.making.paths_of.Given as goal

@@ -5,7 +5,7 @@ use Rattle.std.specs.Prelude.{map}
 use Rattle.indexmap.specs.IndexMap.{set_value_at}
 use Rattle.topo_table.specs.Places.{present}
 use Rattle.topo_table.proofs.Interface.{is_back, is_empty}
-use Rattle.topo_changes.proofs.Interface.{err_more, ok_more, on_ok}
+use Rattle.topo_kept_rows.proofs.Interface.{err_more, ok_more, on_ok}
 use Rattle.topo_embedded.specs.Paths.{IsPathAt, path_in}
 use Rattle.topo_embedded.proofs.halves.KeptPaths.{ids_kept, path_put, path_taken, path_there}
 use Rattle.topo_embedded.proofs.padding.pad_path.Goals as goal

@@ -1,5 +1,5 @@
 use Rattle.std.proofs.Common.{◌≡◌, ◌<◌, ◌++◌, ◌∷◌, [], arith, get_or, length, List, refl, set, subst, sym, ℕ}
-use Rattle.topo_changes.proofs.Interface.{when_ok}
+use Rattle.topo_kept_rows.proofs.Interface.{when_ok}
 use Rattle.topo_table.specs.Places.{ids_in, place_in, values_in}
 use Rattle.topo_embedded.specs.declared.padding.Crossed.{Crossed}
 use Rattle.topo_embedded.specs.Padding.{IsPlaced}

@@ -1,5 +1,5 @@
 use Rattle.topo_core.proofs.Interface.{simple_is_insertable}
-use Rattle.topo_changes.proofs.Interface.{insertion_keeps_lawful}
+use Rattle.topo_kept_rows.proofs.Interface.{insertion_keeps_lawful}
 use Rattle.topo_picture.proofs.laws.insertion_keeps_lawful.Goals as goal
 
 pub returns : goal.returns

@@ -2,7 +2,7 @@ use Rattle.std.proofs.Common.{List, rules, subst, ℕ, IfErr}
 use Rattle.std.proofs.KnownBytes.{Keeps-refl}
 use Rattle.topo_script.specs.Reads.{Gives}
 use Rattle.topo_script.specs.Graphs.{graph_of}
-use Rattle.topo_settings.proofs.Interface.{err_by, err_so, ok_by}
+use Rattle.topo_io.proofs.Interface.{err_by, err_so, ok_by}
 use Rattle.topo_planarize.specs.Planarizing.{IsUnplanarized}
 use Rattle.topo_planarize.proofs.Telling.{planarize_fails, planarize_unwritten, planarized}
 use Rattle.topo_planarize.proofs.planarize.planarize_io.Goals as goal

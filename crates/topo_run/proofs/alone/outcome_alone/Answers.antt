@@ -5,7 +5,7 @@ use Rattle.topo_core.specs.declared.rows.Rows.{Rows}
 use Rattle.topo_core.specs.History.{IsRun, Replays}
 use Rattle.topo_price.specs.Prices.{prices_of}
 use Rattle.topo_rows.specs.Shown.{Shown}
-use Rattle.topo_settings.proofs.Interface.{run_of_one}
+use Rattle.topo_io.proofs.Interface.{run_of_one}
 use Rattle.topo_run.proofs.Passing.{ok_both}
 use Rattle.topo_run.proofs.alone.outcome_alone.Goals as goal
 

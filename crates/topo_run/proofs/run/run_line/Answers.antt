@@ -1,7 +1,7 @@
 use Rattle.std.proofs.Common.{◌≡◌, ap, rules, subst, ◌∙◌}
 use Rattle.topo_core.specs.declared.rows.Rows.{Rows}
-use Rattle.topo_settings.proofs.Interface.{err_so, ok_so, sound_so}
-use Rattle.topo_settings.specs.Settings.{IsSound, start_of}
+use Rattle.topo_io.proofs.Interface.{err_so, ok_so, sound_so}
+use Rattle.topo_io.specs.Settings.{IsSound, start_of}
 use Rattle.topo_run.proofs.Telling.{run_fails}
 use Rattle.topo_run.specs.Runs.{IsReportFrom}
 use Rattle.topo_run.proofs.run.run_line.Goals as goal

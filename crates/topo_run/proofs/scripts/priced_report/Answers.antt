@@ -1,6 +1,6 @@
 use Rattle.std.proofs.Common.{refl, rules}
-use Rattle.topo_settings.proofs.Interface.{own_prices}
-use Rattle.topo_settings.specs.Limiting.{AreLimits}
+use Rattle.topo_io.proofs.Interface.{own_prices}
+use Rattle.topo_io.specs.Limiting.{AreLimits}
 use Rattle.topo_run.proofs.Below.{reports_of}
 use Rattle.topo_run.proofs.scripts.priced_report.Goals as goal
 

@@ -1,8 +1,8 @@
 use Rattle.std.proofs.Common.{◌≡◌, IfOk, List, ap, rules, subst, ◌∙◌}
 use Rattle.topo_core.specs.declared.calls.Command.{Command}
 use Rattle.topo_core.specs.declared.rows.Rows.{Rows}
-use Rattle.topo_settings.proofs.Interface.{err_so, ok_so, sound_so}
-use Rattle.topo_settings.specs.Settings.{IsSound, start_of}
+use Rattle.topo_io.proofs.Interface.{err_so, ok_so, sound_so}
+use Rattle.topo_io.specs.Settings.{IsSound, start_of}
 use Rattle.topo_run.proofs.Below.{reports_of}
 use Rattle.topo_run.proofs.Telling.{run_fails}
 use Rattle.topo_run.specs.Runs.{IsReportFrom}

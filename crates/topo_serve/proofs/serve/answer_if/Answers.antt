@@ -1,7 +1,7 @@
 use Rattle.std.proofs.Common.{◌≡◌, refl, [], rules, arith}
 use Rattle.std.proofs.KnownBytes.{Keeps-refl}
 use Rattle.std.proofs.lemmas.List.{nil_from_length}
-use Rattle.topo_settings.proofs.Interface.{err_so, ok_so}
+use Rattle.topo_io.proofs.Interface.{err_so, ok_so}
 use Rattle.topo_serve.proofs.SessionLaws.{line_fails, not_empty, of_fed, of_none, of_some}
 use Rattle.topo_serve.proofs.serve.answer_if.Goals as goal
 

@@ -1,6 +1,6 @@
 use Rattle.std.proofs.Common.{false, string_bytes}
 use Rattle.topo_script.specs.Sessions.{line_of}
-use Rattle.topo_settings.proofs.Interface.{ok_so}
+use Rattle.topo_io.proofs.Interface.{ok_so}
 use Rattle.topo_session.proofs.Responding.{line_told}
 use Rattle.topo_session.proofs.lines.answer_any.Goals as goal
 

@@ -1,5 +1,5 @@
 use Rattle.std.proofs.Common.{◌≡◌, Some, refl, rules, string_bytes}
-use Rattle.topo_settings.proofs.Interface.{ok_so}
+use Rattle.topo_io.proofs.Interface.{ok_so}
 use Rattle.topo_session.proofs.Responding.{command_lost, command_told}
 use Rattle.topo_session.proofs.lines.answer_command.Goals as goal
 

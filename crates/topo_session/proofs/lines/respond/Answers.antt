@@ -1,5 +1,5 @@
 use Rattle.std.proofs.Common.{◌≡◌, Ok, Some, refl, rules}
-use Rattle.topo_settings.proofs.Interface.{err_so, ok_so}
+use Rattle.topo_io.proofs.Interface.{err_so, ok_so}
 use Rattle.topo_session.proofs.Responding.{open_answers, open_leaves}
 use Rattle.topo_session.proofs.lines.respond.Goals as goal
 

@@ -2,7 +2,7 @@ use Rattle.std.proofs.Common.{ap, is_some, sym, ◌∙◌}
 use Rattle.std.specs.Option.{option_map}
 use Rattle.std.proofs.lemmas.Bool.{false≢true}
 use Rattle.topo_core.specs.Picture.{edge_row, end_dart}
-use Rattle.topo_changes.specs.Keeping.{viewed_row}
+use Rattle.topo_kept_rows.specs.Keeping.{viewed_row}
 use Rattle.topo_embedded.specs.Halves.{RowsWithPaths, half_in, path_of}
 use Rattle.topo_embedded.specs.Parts.{with_paths}
 use Rattle.topo_embedded.proofs.halves.Reading.{edge_found, edge_there, end_half_is, end_on_list, path_read}

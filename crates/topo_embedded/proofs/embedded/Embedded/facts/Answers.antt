@@ -6,7 +6,7 @@ use Rattle.topo_core.specs.Picture.{darts, edge_at, edge_row}
 use Rattle.topo_core.specs.Routes.{AreFactsOf}
 use Rattle.topo_core.specs.Systems.{has_dart}
 use Rattle.topo_core.proofs.Interface.{edge_at_row, edge_of_dart}
-use Rattle.topo_changes.specs.Keeping.{viewed_row}
+use Rattle.topo_kept_rows.specs.Keeping.{viewed_row}
 use Rattle.topo_embedded.specs.Halves.{RowsWithPaths, IsHalf, half_in}
 use Rattle.topo_embedded.specs.Parts.{with_paths}
 use Rattle.topo_embedded.proofs.halves.Apart.{label_is}

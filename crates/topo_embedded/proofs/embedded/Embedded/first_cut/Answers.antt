@@ -1,6 +1,6 @@
 use Rattle.std.proofs.Common.{ap, arith, subst, sym, ◌∙◌}
 use Rattle.std.specs.Prelude.{is_some}
-use Rattle.topo_changes.specs.Cuts.{IsFirstCut}
+use Rattle.topo_kept_rows.specs.Cuts.{IsFirstCut}
 use Rattle.topo_core.specs.Picture.{edge_row}
 use Rattle.topo_embedded.specs.Cutting.{IsOpenedOn}
 use Rattle.topo_embedded.specs.Halves.{RowsWithPaths, path_of}

@@ -6,7 +6,7 @@ use Rattle.topo_core.specs.declared.darts.Point.TheVariants.{Vertex}
 use Rattle.topo_core.specs.Picture.{darts, edge_row, points_of, start, start_place}
 use Rattle.topo_core.specs.Systems.{has_dart}
 use Rattle.topo_core.proofs.Interface.{edge_of_dart}
-use Rattle.topo_changes.specs.Keeping.{viewed_row}
+use Rattle.topo_kept_rows.specs.Keeping.{viewed_row}
 use Rattle.topo_embedded.specs.Halves.{RowsWithPaths}
 use Rattle.topo_embedded.specs.Parts.{with_paths}
 use Rattle.topo_embedded.proofs.halves.FoundHalves.{start_inside, start_told}

@@ -7,7 +7,7 @@ use Rattle.topo_embedded.specs.declared.padding.Crossed.{Crossed}
 use Rattle.topo_core.specs.Lawful.{IsWellFormed}
 use Rattle.topo_core.specs.Picture.{edge_row}
 use Rattle.topo_core.specs.declared.rows.EdgeRow.{EdgeRow}
-use Rattle.topo_changes.proofs.Interface.{on_err, when_err, when_ok}
+use Rattle.topo_kept_rows.proofs.Interface.{on_err, when_err, when_ok}
 use Rattle.topo_table.specs.Places.{ids_in, values_in}
 use Rattle.topo_embedded.specs.Crossing.{ids_of_edges}
 use Rattle.topo_embedded.specs.Halves.{RowsWithPaths, ShowsRows}

@@ -1,6 +1,6 @@
 use Rattle.std.proofs.Common.{◌≡◌, ℕ, false, true, ap, arith, inr, is_some, None, not, Option, refl, Some, sym, ◌∙◌}
 use Rattle.std.specs.Option.{option_map}
-use Rattle.topo_changes.specs.Keeping.{viewed_row}
+use Rattle.topo_kept_rows.specs.Keeping.{viewed_row}
 use Rattle.topo_core.specs.Changes.{IsCut, IsLocalCut}
 use Rattle.topo_core.specs.Picture.{edge_row}
 use Rattle.topo_picture.proofs.DeletedPicture.{cut_of_picture, in_view, whole_of_picture}

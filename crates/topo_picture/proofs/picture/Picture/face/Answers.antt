@@ -1,5 +1,5 @@
 use Rattle.std.proofs.Common.{◌≡◌, ◌<◌, Some, ap, arith, refl, rules, subst, sym, true, ◌∙◌, ℕ, Option}
-use Rattle.topo_changes.specs.Keeping.{viewed_row}
+use Rattle.topo_kept_rows.specs.Keeping.{viewed_row}
 use Rattle.topo_core.specs.declared.rows.EdgeRow.{EdgeRow}
 use Rattle.topo_core.specs.declared.rows.Rows.{Rows}
 use Rattle.topo_core.specs.Picture.{IsDart, darts, edge_row, segment_count, system}

@@ -2,7 +2,7 @@ use Rattle.std.proofs.Common.{IfSome, ap, ◌∙◌}
 use Rattle.std.specs.Prelude.{◌↔◌, IsTrue}
 use Rattle.topo_core.specs.declared.rows.Rows.{Rows}
 use Rattle.topo_core.specs.Picture.{edge_row}
-use Rattle.topo_changes.specs.Keeping.{viewed_row}
+use Rattle.topo_kept_rows.specs.Keeping.{viewed_row}
 use Rattle.topo_route.specs.Regions.{IsApart}
 use Rattle.topo_picture.specs.Apart.{lies_apart}
 use Rattle.topo_picture.proofs.ApartEdges.{found_apart}

@@ -2,8 +2,8 @@ use Rattle.std.proofs.Common.{◌++◌, ◌≡◌, ◌≢◌, ◌≤◌, [], ap,
 use Rattle.std.proofs.KnownBytes.{Keeps-refl}
 use Rattle.std.proofs.lemmas.List.{length-take}
 use Rattle.topo_serve.specs.declared.ahead.Part.{Part}
-use Rattle.topo_settings.specs.declared.fault.RunFault.{RunFault}
-use Rattle.topo_settings.specs.declared.fault.RunFault.TheVariants.{ReadFault}
+use Rattle.topo_io.specs.declared.fault.RunFault.{RunFault}
+use Rattle.topo_io.specs.declared.fault.RunFault.TheVariants.{ReadFault}
 use Rattle.topo_serve.specs.Taking.{EndsBy, ReadsNoFeed}
 use Rattle.topo_serve.proofs.TakingLaws.{first_fed, first_long, first_over, line_on, no_feed}
 use Rattle.topo_serve.proofs.ahead.Ahead.take_first.Goals as goal

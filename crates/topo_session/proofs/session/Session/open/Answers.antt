@@ -1,5 +1,5 @@
 use Rattle.std.proofs.Common.{subst, sym}
-use Rattle.topo_settings.specs.Settings.{AnswersPrices}
+use Rattle.topo_io.specs.Settings.{AnswersPrices}
 use Rattle.topo_session.proofs.Entering.{opened_so}
 use Rattle.topo_session.proofs.session.Session.open.Goals as goal
 

@@ -2,8 +2,8 @@ use Rattle.std.proofs.Common.{◌≡◌, ◌∙◌, ap, refl, subst, sym}
 use Rattle.std.proofs.lemmas.Bool.{false≢true}
 use Rattle.topo_check.specs.Replays.{LeadsTo}
 use Rattle.topo_core.specs.declared.rows.Rows.{Rows}
-use Rattle.topo_settings.proofs.Interface.{sound_so}
-use Rattle.topo_settings.specs.Settings.{AnswersPrices, price_table}
+use Rattle.topo_io.proofs.Interface.{sound_so}
+use Rattle.topo_io.specs.Settings.{AnswersPrices, price_table}
 use Rattle.topo_session.proofs.session.Session.reopen.Goals as goal
 
 pub replay_report-requires-clause-prices : goal.replay_report-requires-clause-prices

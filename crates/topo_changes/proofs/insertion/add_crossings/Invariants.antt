@@ -1,6 +1,0 @@
-use Rattle.topo_changes.proofs.rows.Keeping.{AreAdded}
-use Rattle.topo_changes.proofs.insertion.add_crossings.Given as goal
-
--- the crossings of the darts so far, and room for the others
-abbrev pub invariant-loop-i : goal.invariant-loop-i
-invariant-loop-i l = AreAdded l.fn.crossings l.darts l.first l.edge l.i l.crossings

@@ -1,9 +1,0 @@
-use Rattle.std.proofs.Common.{arith}
-use Rattle.topo_changes.proofs.rows.Keeping.{row_kept}
-use Rattle.topo_changes.proofs.kept.KeptRows.crossing.Goals as goal
-
-pub returns-in_err-crossing : goal.returns-in_err-crossing
-returns-in_err-crossing c = grind (arith, row_kept)
-
-pub returns : goal.returns
-returns c = grind (arith, row_kept)

@@ -1,8 +1,0 @@
-use Rattle.std.proofs.Common.{◌∙◌}
-use Rattle.topo_changes.proofs.rows.Copying.{one_more}
-use Rattle.topo_changes.proofs.rotation.copied_rotations.Goals as goal
-
-pub loop-rotation-preserved : goal.loop-rotation-preserved
-loop-rotation-preserved c = one_more c.loop-rotation.copy.items c.push.new.self.items c.args.rotations.now c.loop-rotation.rotation-index
-    c.whole.result c.rotation-item.result c.loop-rotation-test.true c.loop-rotation.invariant
-    c.in_ok-push.ensures.items (c.whole.ensures ∙ c.in_ok-ids.ensures) c.rotation-item.is

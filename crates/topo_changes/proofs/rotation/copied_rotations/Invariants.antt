@@ -1,5 +1,0 @@
-use Rattle.std.proofs.Common.{◌≡◌, take}
-use Rattle.topo_changes.proofs.rotation.copied_rotations.Given as goal
-
-abbrev pub invariant-loop-rotation : goal.invariant-loop-rotation
-invariant-loop-rotation l = l.copy.items ≡ take l.rotation-index l.rotations
