@@ -4,10 +4,10 @@ ghost use Rattle.fezdrok_c.specs.Sessions.{IsAnswered, IsBegun, LiesAt, TellsFau
 
 use crate::given::Item;
 use std::alloc::Global;
+use topo_io::{FromTable, RunFault};
 use topo_price::tariff::PriceFn;
 use topo_session::texts::fault_text;
 use topo_session::{Session, answer, answer_first};
-use topo_io::{FromTable, RunFault};
 
 /// The status of an answer, also of one that tells a fault of its line.
 pub(crate) const DONE: u8 = 0;

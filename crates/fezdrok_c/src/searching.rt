@@ -8,13 +8,13 @@ ghost use Rattle.fezdrok_c.specs.Searches.{search_request_of};
 use crate::handle::{DONE, NO_MEMORY, Text, place, tell};
 use std::alloc::{AllocError, Global};
 use topo_faults::Fault;
-use topo_script::path::JsonPath;
-use topo_script::{ScriptFault, read_graph};
+use topo_io::{FromTable, RunFault};
 use topo_planarize::{Planarizer, Way};
 use topo_price::tariff::PriceFn;
+use topo_script::path::JsonPath;
 use topo_script::written::write_after;
+use topo_script::{ScriptFault, read_graph};
 use topo_session::texts::{fault_text, numbered_text, text_of};
-use topo_io::{FromTable, RunFault};
 
 /// A search, until its pictures are taken, with the text of its last answer.
 pub struct Searching<F: PriceFn> {
@@ -156,7 +156,10 @@ fn reply_to<F: PriceFn + Drop>(
 {
     match request_of(text) {
         Some(request) => reply(heap, planarizer, request),
-        None => fault_text(heap, RunFault::Script(ScriptFault::BadShape(JsonPath::WHOLE))),
+        None => fault_text(
+            heap,
+            RunFault::Script(ScriptFault::BadShape(JsonPath::WHOLE)),
+        ),
     }
 }
 

@@ -14,9 +14,9 @@ use crate::handle::{DONE, Handle, NO_MEMORY};
 use std::alloc::{AllocError, Global};
 use topo_core::calls::{Call, Reply};
 use topo_faults::Fault;
+use topo_io::FromTable;
 use topo_price::tariff::PriceFn;
 use topo_session::Session;
-use topo_io::FromTable;
 
 /// The greatest number of a caller.
 const LAST_CALLER: u32 = 15;

@@ -8,10 +8,9 @@ use std::sync::Arc;
 use topo_book::Book;
 use topo_core::limits::Limits;
 use topo_core::rows::Facts;
-use topo_script::read_rows;
 use topo_picture::Picture;
 use topo_price::tariff::{PriceFn, Tariff};
-use topo_script::picture_text;
+use topo_script::{picture_text, read_rows};
 
 /// Two vertices, and the edge 0 between them.
 const START: &str = r#"{"crossings":[],"edges":[{"a":0,"b":1,"crossings":[],"id":0,"kind":0}],

@@ -10,12 +10,12 @@ ghost use Rattle.topo_io.specs.Reading.{most_calls};
 use std::alloc::{AllocError, Global};
 use std::io::{Read, Write};
 use topo_core::rows::Rows;
-use topo_script::row_forms::MAX_PICTURE_BYTES;
-use topo_script::{ScriptFault, read_rows};
-use topo_picture::{Counts, Picture};
 use topo_io::reading::{CountedReader, read_bytes};
 use topo_io::writing::write_text;
 use topo_io::{RunFault, greatest_limits};
+use topo_picture::{Counts, Picture};
+use topo_script::row_forms::MAX_PICTURE_BYTES;
+use topo_script::{ScriptFault, read_rows};
 
 /// Reads a picture, and writes how large it is where it is a lawful one under the greatest limits.
 /// The reader is read until its end, or until it has given one byte more than a picture may have:

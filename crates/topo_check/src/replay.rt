@@ -15,15 +15,15 @@ ghost use Rattle.topo_io.specs.Settings.{AnswersPrices};
 use std::alloc::{AllocError, Global};
 use std::io::{Read, Write};
 use topo_book::{ReplayFault, replay};
-use topo_script::row_forms::MAX_PICTURE_BYTES;
-use topo_script::{Report, ScriptFault, read_report};
-use topo_picture::Picture;
-use topo_price::table::PriceTable;
-use topo_price::tariff::{PriceFn, Tariff};
 use topo_io::reading::{CountedReader, read_bytes};
 use topo_io::settings::validate;
 use topo_io::writing::write_text;
 use topo_io::{FromTable, RunFault};
+use topo_picture::Picture;
+use topo_price::table::PriceTable;
+use topo_price::tariff::{PriceFn, Tariff};
+use topo_script::row_forms::MAX_PICTURE_BYTES;
+use topo_script::{Report, ScriptFault, read_report};
 
 /// Reads a report, carries out its history again from its start, under its limits and at its
 /// prices, and writes how many calls it has, where each reply is the one due and the picture at the

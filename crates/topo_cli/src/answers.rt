@@ -10,11 +10,11 @@ use std::rt::Clock;
 use std::sync::Wait;
 use std::thread::Threads;
 use topo_check::{check_io, replay_io};
+use topo_io::RunFault;
+use topo_io::reading::CountedReader;
 use topo_planarize::planarize_io;
 use topo_run::{OpenGate, run_io};
 use topo_serve::serve_io;
-use topo_io::RunFault;
-use topo_io::reading::CountedReader;
 
 /// Carries out a command: it reads its input from the reader and writes its answer to the writer. What
 /// it tells on the way goes to `told`.

@@ -9,8 +9,8 @@ use crate::streams::{
 use std::io::ErrorKind;
 use std::test::Fail;
 use topo_cli::Verb;
-use topo_script::ScriptFault;
 use topo_io::RunFault;
+use topo_script::ScriptFault;
 
 /// The greatest number of bytes that a script may have.
 const LONGEST: usize = 1_048_576;

@@ -4,11 +4,11 @@ use std::sync::atomic::{AtomicBool, AtomicUsize, Ordering};
 use std::test::Fail;
 use std::thread;
 use topo_core::calls::{Entry, Reply};
-use topo_script::read_report;
+use topo_io::reading::CountedReader;
 use topo_run::run_io;
+use topo_script::read_report;
 use topo_service::Gate;
 use topo_service_test_support::gates::Turns;
-use topo_io::reading::CountedReader;
 
 const TWO_LISTS: &str = "{\"version\":1,\"workers\":[[[\"insert\",0,1,0]],[[\"insert\",0,1,1]]]}";
 

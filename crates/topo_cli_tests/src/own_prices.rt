@@ -14,15 +14,14 @@ use std::thread::Threads;
 use topo_core::limits::MAX_PASSES;
 use topo_core::listed::Listed;
 use topo_core::rows::Facts;
-use topo_script::{Report, Script, read_script};
-use topo_price::table::PriceTable;
-use topo_price::tariff::{PriceFn, Tariff};
-use topo_run::{OpenGate, run_io, run_script};
-use topo_script::report;
-use topo_service::Gate;
 use topo_io::RunFault;
 use topo_io::reading::CountedReader;
 use topo_io::settings::validate;
+use topo_price::table::PriceTable;
+use topo_price::tariff::{PriceFn, Tariff};
+use topo_run::{OpenGate, run_io, run_script};
+use topo_script::{Report, Script, read_script, report};
+use topo_service::Gate;
 
 /// A list that grows a vertex on each side of a triangle and crosses it twice between them.
 const ONE_LIST: &str = concat!(

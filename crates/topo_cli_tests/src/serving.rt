@@ -6,9 +6,9 @@ use crate::streams::{BreakingReader, FailingWriter, FullWriter, SlowReader, Slow
 use std::alloc::Global;
 use std::test::Fail;
 use topo_cli::Verb;
+use topo_io::RunFault;
 use topo_script::ScriptFault;
 use topo_script::path::JsonPath;
-use topo_io::RunFault;
 
 /// The greatest number of bytes that a line has, but the first.
 const LONGEST: usize = 65_536;

@@ -23,8 +23,8 @@ use crate::padding::{Crossed, pad, split_path, unpad};
 use crate::parts::Parts;
 use crate::path::Path;
 use std::alloc::{AllocError, Global};
-use topo_kept_rows::insertion::apply_rows;
 use topo_core::routes::Route;
+use topo_kept_rows::insertion::apply_rows;
 use topo_map::{Embedding, Half};
 use topo_table::NumberedTable;
 

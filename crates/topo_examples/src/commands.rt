@@ -6,11 +6,10 @@ use std::sync::Wait;
 use std::thread::Threads;
 use topo_check::{check_bytes, check_io, replay_bytes, replay_io};
 use topo_core::rows::Rows;
-use topo_script::{Report, ScriptFault, read_report, read_rows, read_script};
-use topo_run::{OpenGate, run_io};
-use topo_script::{picture_text, report};
-use topo_serve::serve_io;
 use topo_io::reading::CountedReader;
+use topo_run::{OpenGate, run_io};
+use topo_script::{Report, ScriptFault, picture_text, read_report, read_rows, read_script, report};
+use topo_serve::serve_io;
 
 /// What is done with the bytes of a row.
 #[derive(Clone, Copy)]

@@ -6,10 +6,10 @@ ghost use Rattle.topo_io.specs.Statuses.{fault_of, fault_text, status_of};
 use std::fmt;
 use thiserror::Error;
 use topo_faults::Fault;
-use topo_script::ScriptFault;
 use topo_graph::GraphFault;
 use topo_price::table::PriceFault;
 use topo_rows::LoadFault;
+use topo_script::ScriptFault;
 
 /// Why a command has no answer: the fault of the same name, or one of a crate below. It is printed
 /// as that and its values.

@@ -12,10 +12,10 @@ use crate::fault::RunFault;
 use std::alloc::Global;
 use topo_core::limits::Limits;
 use topo_core::rows::{KINDS, Rows};
-use topo_script::LimitRows;
 use topo_picture::Picture;
 use topo_price::table::{PriceFault, PriceTable};
 use topo_rows::LoadFault;
+use topo_script::LimitRows;
 
 /// The prices of all kinds and the picture that is started with, or the first fault of the limits,
 /// the prices and the start.

@@ -13,13 +13,12 @@ use std::sync::{Arc, Wait};
 use std::thread::Threads;
 use topo_core::calls::{Call, Command, Entry, Refusal, Reply};
 use topo_core::listed::Listed;
-use topo_script::{LimitRows, Report, Script};
+use topo_io::RunFault;
+use topo_io::settings::validate;
 use topo_price::table::PriceTable;
 use topo_price::tariff::{PriceFn, Tariff};
 use topo_run::{OpenGate, run_script};
-use topo_script::report;
-use topo_io::RunFault;
-use topo_io::settings::validate;
+use topo_script::{LimitRows, Report, Script, report};
 
 /// How many edges a list puts in and takes out again: so it has twice as many commands.
 const PAIRS: u32 = 35_000;

@@ -11,10 +11,10 @@ use std::sync::Wait;
 use std::thread::Threads;
 use topo_check::{check_io, replay_io};
 use topo_cli::perform;
-use topo_run::{OpenGate, run_io};
-use topo_script::picture_text;
 use topo_io::RunFault;
 use topo_io::reading::CountedReader;
+use topo_run::{OpenGate, run_io};
+use topo_script::picture_text;
 
 /// What a command has written, or its fault.
 fn printed(

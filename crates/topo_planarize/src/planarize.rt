@@ -16,13 +16,13 @@ use std::alloc::{AllocError, Global};
 use std::io::{Read, Write};
 use std::rt::Clock;
 use std::thread::Threads;
-use topo_script::row_forms::MAX_PICTURE_BYTES;
-use topo_script::{GraphAsked, ScriptFault, read_graph};
-use topo_price::table::PriceTable;
-use topo_script::written::Written;
 use topo_io::reading::{CountedReader, read_bytes};
 use topo_io::writing::write_text;
 use topo_io::{FromTable, RunFault};
+use topo_price::table::PriceTable;
+use topo_script::row_forms::MAX_PICTURE_BYTES;
+use topo_script::written::Written;
+use topo_script::{GraphAsked, ScriptFault, read_graph};
 
 /// Reads a graph, searches for pictures of its components with few crossings, and writes them on one
 /// line. The reader is read until its end, or until it has given one byte more than a graph may

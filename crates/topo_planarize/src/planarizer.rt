@@ -18,13 +18,13 @@ use std::rt::Clock;
 use std::sync::Arc;
 use std::thread::Threads;
 use topo_core::listed::Listed;
-use topo_script::{GraphAsked, GraphStart};
 use topo_graph::{Graph, GraphFault};
-use topo_price::table::PriceTable;
-use topo_price::tariff::{PriceFn, Tariff};
-use topo_search::{Options, SearchFault};
 use topo_io::settings::table_of;
 use topo_io::{FromTable, RunFault, greatest_limits};
+use topo_price::table::PriceTable;
+use topo_price::tariff::{PriceFn, Tariff};
+use topo_script::{GraphAsked, GraphStart};
+use topo_search::{Options, SearchFault};
 use topo_shown::{Planarized, ShowFault, shown};
 
 /// Searches for pictures of a graph, each from a seed of its own, at the prices of a table.

@@ -10,8 +10,8 @@ use std::rt::Clock;
 use std::thread;
 use std::thread::Threads;
 use std::time::Instant;
-use topo_price::tariff::PriceFn;
 use topo_io::writing::write_text;
+use topo_price::tariff::PriceFn;
 
 /// After so many seconds it is told again how far the searches are.
 const TELLING_SECONDS: u32 = 1;

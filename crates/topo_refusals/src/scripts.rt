@@ -4,9 +4,9 @@ use crate::judge::{Done, Runtime, refused, room};
 use crate::lists::Watch;
 use anyhow::Result;
 use std::alloc::AllocError;
-use topo_run::run_io;
 use topo_io::RunFault;
 use topo_io::reading::CountedReader;
+use topo_run::run_io;
 
 /// Two growths, an insertion that crosses an edge, one that is refused, and a deletion.
 const SCRIPT: &str = concat!(

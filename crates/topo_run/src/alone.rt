@@ -12,10 +12,10 @@ use std::alloc::{AllocError, Global};
 use std::sync::Arc;
 use topo_book::Book;
 use topo_core::calls::{Call, Command, Reply};
+use topo_io::RunFault;
 use topo_picture::Picture;
 use topo_price::tariff::{PriceFn, Tariff};
 use topo_service::{Gate, between};
-use topo_io::RunFault;
 
 /// The call that a command makes.
 fn call_of(command: Command) -> Call

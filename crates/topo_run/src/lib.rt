@@ -11,9 +11,9 @@
 mod alone;
 pub mod gate;
 mod outcome;
+mod passes;
 pub mod run;
 pub mod scripts;
-mod passes;
 
 pub use gate::OpenGate;
 pub use run::run_io;

@@ -7,8 +7,8 @@ use topo_book::Book;
 use topo_core::calls::Entry;
 use topo_core::listed::Listed;
 use topo_core::rows::Rows;
-use topo_price::tariff::PriceFn;
 use topo_io::RunFault;
+use topo_price::tariff::PriceFn;
 
 /// A history, and the picture at its end.
 #[derive(Drop)]

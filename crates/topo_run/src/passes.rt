@@ -19,10 +19,10 @@ use std::thread::Threads;
 use topo_core::calls::Command;
 use topo_core::limits::MAX_PASSES;
 use topo_core::listed::Listed;
+use topo_io::RunFault;
 use topo_picture::Picture;
 use topo_price::tariff::{PriceFn, Tariff};
 use topo_service::{EndFault, FreshService, Gate, Pass, Service, WorkerEnd, run_workers};
-use topo_io::RunFault;
 use topo_versions::ServiceBrand;
 
 /// Copies of lists of commands.

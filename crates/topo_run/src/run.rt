@@ -17,16 +17,15 @@ use std::alloc::{AllocError, Global};
 use std::io::{Read, Write};
 use std::sync::Wait;
 use std::thread::Threads;
-use topo_script::script_forms::MAX_SCRIPT_BYTES;
-use topo_script::{Report, Script, ScriptFault, read_script};
-use topo_picture::Picture;
-use topo_price::table::PriceTable;
-use topo_script::report;
-use topo_service::Gate;
 use topo_io::RunFault;
 use topo_io::reading::{CountedReader, read_bytes};
 use topo_io::settings::validate;
 use topo_io::writing::write_text;
+use topo_picture::Picture;
+use topo_price::table::PriceTable;
+use topo_script::script_forms::MAX_SCRIPT_BYTES;
+use topo_script::{Report, Script, ScriptFault, read_script, report};
+use topo_service::Gate;
 
 /// Reads a script, carries out its lists on its start under its limits and at its prices, and
 /// writes the text of the report and a line feed. Each list has a thread of its own, or its turn

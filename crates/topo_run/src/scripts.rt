@@ -18,13 +18,13 @@ use topo_core::calls::Command;
 use topo_core::limits::Limits;
 use topo_core::listed::Listed;
 use topo_core::rows::Rows;
-use topo_script::{LimitRows, Report, Script};
+use topo_io::RunFault;
+use topo_io::settings::validate;
 use topo_picture::Picture;
 use topo_price::table::PriceTable;
 use topo_price::tariff::{PriceFn, Tariff};
+use topo_script::{LimitRows, Report, Script};
 use topo_service::Gate;
-use topo_io::RunFault;
-use topo_io::settings::validate;
 
 /// For programs that have a script as a value and a price closure of their own; no command calls
 /// it.

@@ -11,7 +11,7 @@ ghost use Rattle.topo_script.specs.Reads.{three_members, three_elements, value_o
 ghost use Rattle.topo_script.specs.Paths.{whole};
 
 use crate::fault::ScriptFault;
-use crate::path::{Key, JsonPath};
+use crate::path::{JsonPath, Key};
 use serde_json::{Map, Value};
 use std::alloc::Global;
 use topo_core::ids::{EdgeId, VertexId};

@@ -17,18 +17,18 @@ ghost use Rattle.topo_script.specs.declared.path.Key.TheVariants.{Edges, Effort 
 ghost use Rattle.topo_script.specs.declared.path.Key.TheVariants.{Progress, Seconds, Seed, Start};
 ghost use Rattle.topo_script.specs.declared.path.Key.TheVariants.{Threads, Vertices};
 
-use crate::written::{Written, write_after};
 use crate::fault::ScriptFault;
 use crate::form::{
     Form, check_count, check_keys, has_key, is_text, read_elements, read_member, read_member_or,
     read_three, read_two, read_value,
 };
 use crate::graphs::{GraphAsked, GraphStart};
-use crate::path::{Key, JsonPath};
+use crate::path::{JsonPath, Key};
 use crate::prices::read_some_price;
 use crate::row_forms::MAX_PICTURE_BYTES;
 use crate::script_forms::{read_nulls, read_prices_or_none};
 use crate::tokens::read_tokens;
+use crate::written::{Written, write_after};
 use serde_json::Value;
 use std::alloc::{AllocError, Global};
 use topo_core::listed::Listed;

@@ -13,7 +13,7 @@ use crate::form::{
     Form, check_count, check_keys, element_count, has_key, is_text, read_element, read_elements,
     read_member, read_number, read_three, read_two,
 };
-use crate::path::{Key, JsonPath};
+use crate::path::{JsonPath, Key};
 use serde_json::Value;
 use std::alloc::Global;
 use topo_core::calls::{Entry, Refusal, Reply};

@@ -16,7 +16,9 @@ ghost use Rattle.topo_script.specs.ReportTexts.{refusal_data, inserted_data, rep
 ghost use Rattle.topo_script.specs.ReportTexts.{entry_data, report_data, report_text};
 ghost use Rattle.topo_core.specs.declared.rows.TheConstants.{KINDS};
 
+use crate::prices::kept_len;
 use crate::written::{Written, write_after, write_list, write_next};
+use crate::{LimitRows, Report};
 use std::alloc::{AllocError, Global};
 use topo_core::calls::{Call, Entry, Refusal, Reply};
 use topo_core::darts::{Dart, Way};
@@ -24,8 +26,6 @@ use topo_core::ids::{EdgeId, VertexId};
 use topo_core::listed::Listed;
 use topo_core::routes::Inserted;
 use topo_core::rows::Rows;
-use crate::prices::kept_len;
-use crate::{LimitRows, Report};
 
 impl Written for EdgeId {
     ghost value = { λ n. number (unsigned n) };

@@ -9,7 +9,7 @@ ghost use Rattle.topo_script.specs.RowForms.{crossing_form, rows_form, rows_of};
 
 use crate::fault::ScriptFault;
 use crate::form::{Form, check_keys, is_text, read_three, read_two, read_value};
-use crate::path::{Key, JsonPath};
+use crate::path::{JsonPath, Key};
 use crate::tokens::read_tokens;
 use crate::written::{Written, write_after};
 use serde_json::Value;

@@ -20,7 +20,7 @@ use crate::form::{
     Form, check_keys, element_count, has_key, is_text, read_member, read_member_or, read_three,
     read_value,
 };
-use crate::path::{Key, JsonPath};
+use crate::path::{JsonPath, Key};
 use crate::prices::read_prices;
 use crate::reports::Report;
 use crate::row_forms::MAX_PICTURE_BYTES;
@@ -213,7 +213,12 @@ impl Form for Script {
     fn read(alloc: Global, _path: JsonPath, value: &Value) -> Result<Self, ScriptFault> {
         let nulls = read_nulls(alloc, JsonPath::WHOLE, value)?;
         let optional = [Key::Limits, Key::Prices, Key::Start];
-        check_keys(JsonPath::WHOLE, &[Key::Version, Key::Workers], &optional, value)?;
+        check_keys(
+            JsonPath::WHOLE,
+            &[Key::Version, Key::Workers],
+            &optional,
+            value,
+        )?;
         let (limits, prices, start) = read_settings(alloc, JsonPath::WHOLE, nulls, value)?;
         match read_workers_member(alloc, value) {
             Ok(workers) => Ok(Script {

@@ -15,7 +15,7 @@ use crate::calls::begins;
 use crate::fault::ScriptFault;
 use crate::form::{Form, check_keys, has_key, is_text, read_element, read_elements, read_member};
 use crate::graphs::GraphAsked;
-use crate::path::{Key, JsonPath};
+use crate::path::{JsonPath, Key};
 use crate::reports;
 use crate::script_forms::{read_nulls, read_settings};
 use crate::scripts::LimitRows;
@@ -122,7 +122,11 @@ fn read_undo(alloc: Global, path: JsonPath, value: &Value) -> Result<Request, Sc
 }
 
 /// An opening, as what is asked for.
-pub(crate) fn read_opened(alloc: Global, path: JsonPath, value: &Value) -> Result<Request, ScriptFault>
+pub(crate) fn read_opened(
+    alloc: Global,
+    path: JsonPath,
+    value: &Value,
+) -> Result<Request, ScriptFault>
     ensures { Gives result (opened_form path (view value.now)) }
 {
     let opening = Opening::read(alloc, path, value)?;

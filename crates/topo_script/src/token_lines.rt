@@ -5,7 +5,7 @@ ghost use Rattle.topo_script.specs.Sessions.{object_line, some_id};
 ghost use Rattle.topo_script.specs.Tokens.{Spells};
 
 use crate::lines::{Asked, Frame, GREATEST_CALLER, Line, LineId, bare_line, read_text_id};
-use crate::path::{Key, JsonPath};
+use crate::path::{JsonPath, Key};
 use crate::reader::TokenReader;
 use crate::sessions::Request;
 use crate::slots::{NoSlot, Slot, read_object};

@@ -13,12 +13,12 @@ ghost use Rattle.topo_serve.specs.Turns.{Stays, TurnFailsBy, WriteFailsBy, strea
 use crate::ahead::{Ahead, Part};
 use std::alloc::Global;
 use std::io::{Read, Write};
-use topo_script::ScriptFault;
-use topo_script::row_forms::MAX_PICTURE_BYTES;
-use topo_price::table::PriceTable;
-use topo_session::{Session, answer, answer_first};
 use topo_io::writing::write_text;
 use topo_io::{FromTable, RunFault};
+use topo_price::table::PriceTable;
+use topo_script::ScriptFault;
+use topo_script::row_forms::MAX_PICTURE_BYTES;
+use topo_session::{Session, answer, answer_first};
 
 /// Reads one line after another until the input ends, and answers each before it reads the next. An
 /// answer is one line, which the writer is let pass on. The first line may be an opening as it is,

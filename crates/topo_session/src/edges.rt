@@ -8,10 +8,10 @@ ghost use Rattle.topo_session.specs.Questions.{edge_found, meeting_of, meetings_
 ghost use Rattle.topo_session.specs.Questions.{other_edge, sign_along};
 
 use std::alloc::{AllocError, Global};
-use topo_kept_rows::{EdgeView, KeptRows};
 use topo_core::darts::Sign;
 use topo_core::listed::Listed;
 use topo_core::rows::CrossRow;
+use topo_kept_rows::{EdgeView, KeptRows};
 
 /// A crossing as it is met along an edge.
 #[derive(Clone, Copy, Debug, PartialEq, Eq)]

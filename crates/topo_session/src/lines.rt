@@ -31,14 +31,14 @@ use std::mem;
 use topo_core::calls::{Call, Command, Refusal, Reply};
 use topo_core::darts::Dart;
 use topo_faults::Fault;
-use topo_script::{
-    Asked, Frame, GraphAsked, Line, Opening, Report, Request, ScriptFault, read_command, read_line,
-};
+use topo_io::{FromTable, RunFault};
 use topo_planarize::answer_graph;
 use topo_price::tariff::PriceFn;
 use topo_rows::LoadFault;
-use topo_script::{picture_text, report};
-use topo_io::{FromTable, RunFault};
+use topo_script::{
+    Asked, Frame, GraphAsked, Line, Opening, Report, Request, ScriptFault, picture_text,
+    read_command, read_line, report,
+};
 
 /// What the program is, how large a picture may be, and which requests there are.
 const ABOUT: &str =

@@ -30,14 +30,14 @@ use topo_check::replay_report;
 use topo_core::calls::{Call, Entry, Reply};
 use topo_core::darts::Dart;
 use topo_core::listed::Listed;
-use topo_script::{LimitRows, Opening, Report};
+use topo_io::settings::{price_of_kind, validate};
+use topo_io::{FromTable, RunFault};
 use topo_picture::{Counts, Picture};
 use topo_price::table::PriceTable;
 use topo_price::tariff::{PriceFn, Tariff};
 use topo_renumbering::{Renumbered, close_up};
 use topo_rows::LoadFault;
-use topo_io::settings::{price_of_kind, validate};
-use topo_io::{FromTable, RunFault};
+use topo_script::{LimitRows, Opening, Report};
 
 /// A session: one picture with its history, at the prices and under the limits that it was opened
 /// with.

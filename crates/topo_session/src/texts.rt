@@ -20,14 +20,14 @@ use topo_core::darts::Dart;
 use topo_core::listed::Listed;
 use topo_core::routes::Inserted;
 use topo_faults::Fault;
-use topo_script::path::JsonPath;
-use topo_script::{Frame, LineId, ScriptFault};
 use topo_graph::GraphFault;
+use topo_io::RunFault;
 use topo_picture::Counts;
 use topo_price::table::PriceFault;
 use topo_renumbering::Renumbered;
+use topo_script::path::JsonPath;
 use topo_script::written::{Written, write_after, write_next};
-use topo_io::RunFault;
+use topo_script::{Frame, LineId, ScriptFault};
 
 /// How many bytes the text of an answer has room for at first. Most answers have no more, so that
 /// their texts are not moved while they grow.

@@ -4,8 +4,8 @@ ghost use Rattle.std.specs.Prelude.{◌≡◌, IfOk, map, true};
 ghost use Rattle.topo_session.specs.Questions.{end_at, vertex_asked};
 
 use std::alloc::{AllocError, Global};
-use topo_kept_rows::{KeptRows, Rotation};
 use topo_core::listed::Listed;
+use topo_kept_rows::{KeptRows, Rotation};
 
 /// An end of an edge.
 #[derive(Clone, Copy, Debug, PartialEq, Eq)]

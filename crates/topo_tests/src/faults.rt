@@ -7,13 +7,13 @@ use std::test::Fail;
 use topo_book::ReplayFault;
 use topo_core::calls::Refusal;
 use topo_core::limits::LimitsFault;
-use topo_script::ScriptFault;
-use topo_script::path::{Key, JsonPath};
 use topo_graph::GraphFault;
+use topo_io::RunFault;
 use topo_price::table::PriceFault;
 use topo_route::plan::PlanFault;
 use topo_rows::LoadFault;
-use topo_io::RunFault;
+use topo_script::ScriptFault;
+use topo_script::path::{JsonPath, Key};
 use topo_test_support::errors::text_of_error;
 
 /// A fault that `?` has made an error of any kind is printed as this text.

@@ -2,8 +2,7 @@
 
 use std::alloc::Global;
 use std::test::Fail;
-use topo_script::{read_report, read_rows};
-use topo_script::{picture_text, report};
+use topo_script::{picture_text, read_report, read_rows, report};
 
 /// The bipyramid with an edge from apex to apex, as it is written.
 const JOINED: &str = concat!(

@@ -18,10 +18,10 @@ use crate::parts::Parts;
 use crate::path::Path;
 use crate::walking::led;
 use std::alloc::{AllocError, Global};
-use topo_kept_rows::EdgeView;
 use topo_core::darts::{Dart, Point, Way};
 use topo_core::ids::{CrossId, VertexId};
 use topo_core::rows::Rows;
+use topo_kept_rows::EdgeView;
 use topo_map::{Embedding, Half};
 use topo_table::NumberedTable;
 
