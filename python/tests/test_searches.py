@@ -49,6 +49,19 @@ class Defaults(PlanarizationTest):
             for u, v in options.get("forbidden", ()):
                 self.assertEqual(len(result.segments(u, v, *([0] if graph.is_multigraph() else []))), 1)
 
+    def test_leaves_and_paths(self):
+        """A path of edges is searched as one edge, and a leaf as none: with them there are as many crossings."""
+        plain = nx.random_regular_graph(4, 30, seed=3)
+        long = nx.Graph()
+        long.add_nodes_from(plain)
+        for u, v in plain.edges:
+            nx.add_path(long, [u, (u, v, 1), (u, v, 2), v])
+        long.add_edges_from((node, ("leaf", node)) for node in plain)
+        for seed in range(3):
+            result = planarize(long, seed=seed)
+            self.judge(result)
+            self.assertEqual(result.crossings, planarize(plain, seed=seed).crossings)
+
     def test_the_same_each_time_and_true(self):
         graph = nx.random_regular_graph(4, 24, seed=1)
         result, again = planarize(graph, seed=5), planarize(graph, seed=5 + 2**32)
