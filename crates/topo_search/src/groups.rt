@@ -12,7 +12,7 @@ pub(crate) struct Groups {
 }
 
 impl Groups {
-    /// No list.
+    /// Groups without a list.
     pub(crate) fn new(alloc: Global) -> Result<Self, AllocError> {
         let mut begins = Vec::new(alloc);
         begins.push(0)?;
