@@ -281,29 +281,49 @@ fn small_remains(rt: HostRuntime) -> Result<(), Fail> {
     Ok(())
 }
 
-/// A search at price 1 for everything.
-fn begun(
+/// Goes on to the end of a search, and answers what it has found.
+fn found_by<F: PriceFn + Drop>(
+    rt: &impl Abort,
     alloc: Global,
-    vertices: u32,
-    edges: &[GraphEdge],
-    effort: Effort,
-) -> Result<Search<PriceTable>, Fail> {
-    let table = PriceTable::new([Some(1); KINDS])?;
-    table.laws();
-    let tariff = Arc::new(alloc, Tariff::new(table))?;
-    let options = Options { seed: 1, effort };
-    let copy = Vec::from_slice(alloc, edges)?;
-    Ok(Search::new(alloc, vertices as usize, copy, tariff, options)?)
-}
-
-/// Goes on to the end of a search.
-fn end<F: PriceFn>(alloc: Global, search: &mut Search<F>) -> Result<(), Fail> {
+    mut search: Search<F>,
+) -> Result<(Rows, Vec<u32>), Fail> {
     for _ in 0..1000 {
         if search.step(alloc)? == Progress::Done {
             break;
         }
     }
-    Ok(())
+    Ok(search.into_best(alloc)?.expect(rt, "a picture"))
+}
+
+/// How many crossings a search has that begins with the picture that a quick one has found.
+fn crossings_again<F: PriceFn + Drop>(
+    rt: &impl Abort,
+    alloc: Global,
+    vertices: u32,
+    edges: &[GraphEdge],
+    ask: F,
+) -> Result<usize, Fail>
+    requires callable { F.is_callable ask }
+    requires promise { IsPromise (F.may_return ask) }
+{
+    let tariff = Arc::new(alloc, Tariff::new(ask))?;
+    let vertices = vertices as usize;
+    let options = Options {
+        seed: 1,
+        effort: Effort::Quick,
+    };
+    let copy = Vec::from_slice(alloc, edges)?;
+    let first = Search::new(alloc, vertices, copy, Arc::clone(&tariff)?, options)?;
+    let (rows, places) = found_by(rt, alloc, first)?;
+    let mut sorted = Vec::new(alloc);
+    for place in &places {
+        sorted.push(*edges.get(*place as usize).expect(rt, "an edge"))?;
+    }
+    let copy = Vec::from_slice(alloc, &sorted)?;
+    let mut second = Search::new(alloc, vertices, copy, tariff, options)?;
+    second.begin_from(alloc, &rows)?;
+    let best = found_by(rt, alloc, second)?;
+    crossings_of(rt, alloc, &sorted, Some(best))
 }
 
 /// A search that begins with a picture that has leaves and paths.
@@ -311,17 +331,9 @@ fn end<F: PriceFn>(alloc: Global, search: &mut Search<F>) -> Result<(), Fail> {
 fn begun_from_a_picture(rt: HostRuntime) -> Result<(), Fail> {
     let alloc = rt.alloc();
     let (vertices, edges) = lengthened(alloc, 6, &complete(alloc, 6, 0)?, 2, 1)?;
-    let mut first = begun(alloc, vertices, &edges, Effort::Quick)?;
-    end(alloc, &mut first)?;
-    let (rows, places) = first.into_best(alloc)?.expect(&rt, "a picture");
-    let mut sorted = Vec::new(alloc);
-    for place in &places {
-        sorted.push(*edges.get(*place as usize).expect(&rt, "an edge"))?;
-    }
-    let mut second = begun(alloc, vertices, &sorted, Effort::Default)?;
-    second.begin_from(alloc, &rows)?;
-    end(alloc, &mut second)?;
-    let best = second.into_best(alloc)?;
-    assert_eq!(rt; crossings_of(&rt, alloc, &sorted, best)?, 3);
+    let table = PriceTable::new([Some(1); KINDS])?;
+    table.laws();
+    let crossings = crossings_again(&rt, alloc, vertices, &edges, table)?;
+    assert_eq!(rt; crossings, 3);
     Ok(())
 }
