@@ -51,9 +51,9 @@ class Planarization(GraphPicture):
     >>> result
     <Planarization: 10 nodes, 15 edges, 2 crossings>
     >>> result.crossing_pairs
-    [((3, 4), (0, 1)), ((2, 7), (6, 8))]
-    >>> [segment.end for segment in result.segments(3, 4)]
-    [x0, 4]
+    [((0, 1), (7, 9)), ((2, 3), (6, 8))]
+    >>> [segment.end for segment in result.segments(7, 9)]
+    [x0, 9]
     """
 
     parts: tuple["Planarization", ...] = ()
