@@ -1,8 +1,7 @@
 //! Insertions where no crossing id is left: only a route that crosses nothing can be taken then, so
 //! no other is looked for.
 
-ghost use Rattle.std.specs.Prelude.{◌≡◌, ◌≢◌, ◌<◌, IfOk, MatchOption, None, Option, length, true};
-ghost use Rattle.std.specs.Prelude.{nat_le, ℕ};
+ghost use Rattle.std.specs.Prelude.{◌≡◌, ◌≢◌, ◌<◌, IfOk, MatchOption, None, Option, length, true, ℕ};
 ghost use Rattle.topo_core.specs.declared.rows.Facts.{Facts};
 ghost use Rattle.topo_core.specs.Routes.{IsFirst};
 ghost use Rattle.topo_price.specs.Prices.{prices_of};
@@ -10,7 +9,6 @@ ghost use Rattle.topo_book.specs.Fullness.{AreAllPriced, CrossesAlways};
 
 use std::alloc::{AllocError, Global};
 use topo_core::rows::{Facts, KINDS};
-use topo_picture::Picture;
 use topo_price::tariff::{PriceFn, Tariff};
 use topo_route::face_graph::FaceGraph;
 use topo_route::plan::PricedRoute;
@@ -49,13 +47,6 @@ pub(crate) fn are_all_priced<F: PriceFn>(tariff: &Tariff<F>) -> bool
         };
     }
     true
-}
-
-/// Whether a picture has no crossing id left.
-pub fn has_no_crossing_left(picture: &Picture) -> bool
-    ensures { result ≡ nat_le picture.now.limits.crossings picture.now.rows.next_crossing }
-{
-    picture.limits().crossings <= picture.kept_rows().next_crossing()
 }
 
 /// As `find_direct`, with what answers that no edge may be crossed.

@@ -39,7 +39,6 @@ mod sparing;
 mod steps;
 
 pub use book::Book;
-pub use fullness::has_no_crossing_left;
 pub use next::Next;
 pub use replaying::{ReplayFault, replay};
 pub use route_source::RouteSource;

@@ -14,7 +14,7 @@ ghost use Rattle.topo_rows.specs.Shown.{IsPicture};
 ghost use Rattle.topo_book.specs.Books.{IsDue};
 ghost use Rattle.topo_book.specs.RouteSources.{IsSourceFor, IsTrueOf};
 
-use crate::fullness::{are_all_priced, find_direct, has_no_crossing_left};
+use crate::fullness::{are_all_priced, find_direct};
 use crate::route_source::RouteSource;
 use crate::scratch::Scratch;
 use crate::search_cost::measure_if_due;
@@ -130,7 +130,7 @@ fn find_or_refuse<F: PriceFn>(
 {
     let (u, v, _) = edge;
     if matches!(source, RouteSource::Search)
-        && has_no_crossing_left(picture)
+        && picture.has_no_crossing_left()
         && are_all_priced(tariff)
     {
         // For the proof: what the types keep.

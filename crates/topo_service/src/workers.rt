@@ -19,7 +19,7 @@ use std::alloc::{AllocError, Global};
 use std::sync::Wait;
 use std::thread;
 use std::thread::Threads;
-use topo_book::{RouteSource, has_no_crossing_left};
+use topo_book::RouteSource;
 use topo_core::calls::{Call, Command, Refusal};
 use topo_price::tariff::PriceFn;
 use topo_versions::{ServiceBrand, VersionWriter};
@@ -101,7 +101,7 @@ fn find_ahead<F: PriceFn, K: ServiceBrand<F>, W: VersionWriter<F, K>>(
     let Ok(own) = pass.take_own(alloc, service.tariff()) else {
         return None;
     };
-    let found = if has_no_crossing_left(own.picture()) {
+    let found = if own.picture().has_no_crossing_left() {
         Err(Refusal::Full)
     } else {
         first_on(alloc, own.picture(), service.tariff(), u, v, &mut pass.work)

@@ -5,7 +5,7 @@ ghost use Rattle.topo_price.specs.Prices.{IsPromise};
 use std::alloc::{AllocError, Global};
 use std::process::Abort;
 use std::test::Fail;
-use topo_book::{Book, has_no_crossing_left};
+use topo_book::Book;
 use topo_core::calls::Reply;
 use topo_core::limits::Limits;
 use topo_core::rows::{Facts, Rows};
@@ -52,7 +52,7 @@ fn told<F: PriceFn + Drop>(
     requires promise { IsPromise (F.may_return ask) }
 {
     let mut book = book_of(alloc, full_picture(alloc, rows)?, ask)?;
-    assert!(rt; has_no_crossing_left(book.picture()));
+    assert!(rt; book.picture().has_no_crossing_left());
     let text = text_of_insertion(alloc, &mut book, ends);
     let again = text_of_insertion(alloc, &mut book, ends);
     drop(book);
