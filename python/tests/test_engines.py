@@ -35,7 +35,7 @@ MPI = {
 @needs_program
 class Engines(unittest.TestCase):
     def setUp(self):
-        folder = tempfile.TemporaryDirectory()
+        folder = tempfile.TemporaryDirectory(ignore_cleanup_errors=True)  # what was stopped may write still
         self.addCleanup(folder.cleanup)
         self.folder = Path(folder.name)
 
