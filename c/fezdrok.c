@@ -134,6 +134,68 @@ uint8_t fezdrok_search_open(const char *graph, size_t graph_length, fezdrok_sear
     return begin_in(&SEARCH, graph, graph_length, (fezdrok_session **)search, answer);
 }
 
+/* Writes a text, and returns the place behind it. */
+static char *put(char *at, const char *text) {
+    while (*text)
+        *at++ = *text++;
+    return at;
+}
+
+/* Writes a number behind a text. */
+static char *put_number(char *at, const char *before, uint32_t number) {
+    char digits[10];
+    int count = 0;
+    at = put(at, before);
+    do
+        digits[count++] = (char)('0' + number % 10);
+    while (number /= 10);
+    while (count)
+        *at++ = digits[--count];
+    return at;
+}
+
+/* Writes a graph as `planar planarize` reads it, and returns the place behind it. An edge takes 35 bytes at most, a price 11, all
+ * else less than 200. */
+static char *put_graph(char *at, const fezdrok_graph *graph) {
+    static const char *const EFFORTS[] = {"\"default\"", "\"quick\"", "\"thorough\""};
+    uint32_t version = 1;
+    at = put(at, "{\"edges\":[");
+    for (size_t i = 0; i < graph->edge_count; i++) {
+        at = put_number(at, i ? ",[" : "[", graph->edges[i][0]);
+        at = put_number(at, ",", graph->edges[i][1]);
+        at = put(put_number(at, ",", graph->edges[i][2]), "]");
+    }
+    at = put(at, "],\"effort\":");
+    at = graph->effort < 3 ? put(at, EFFORTS[graph->effort]) : put_number(at, "", graph->effort);
+    at = put(at, ",\"prices\":[");
+    for (size_t i = 0; i < graph->price_count; i++)
+        if (graph->prices[i])
+            at = put_number(at, i ? "," : "", graph->prices[i]);
+        else
+            at = put(at, i ? ",null" : "null"), version = 2;
+    at = put_number(at, "],\"seed\":", graph->seed);
+    at = put_number(at, ",\"threads\":", graph->threads ? graph->threads : 1);
+    at = put_number(at, ",\"version\":", version);
+    return put(put_number(at, ",\"vertices\":", graph->vertices), "}");
+}
+
+uint8_t fezdrok_search_open_graph(const fezdrok_graph *graph, fezdrok_search **search, fezdrok_text *answer) {
+    uint8_t status;
+    char *text = NULL;
+    if (!graph || !search || !answer || (!graph->edges && graph->edge_count) || (!graph->prices && graph->price_count))
+        return FEZDROK_NULL_OR_CLOSED;
+    if (graph->edge_count < (size_t)-1 / 128 && graph->price_count < (size_t)-1 / 128)
+        text = malloc(200 + 35 * graph->edge_count + 11 * graph->price_count);
+    if (!text) {
+        *search = NULL;
+        *answer = (fezdrok_text){"", 0};
+        return FEZDROK_NO_MEMORY;
+    }
+    status = fezdrok_search_open(text, (size_t)(put_graph(text, graph) - text), search, answer);
+    free(text);
+    return status;
+}
+
 uint8_t fezdrok_search_call(fezdrok_search *search, const char *request, size_t request_length, fezdrok_text *answer) {
     return ask(&SEARCH, (fezdrok_session *)search, request, request_length, answer);
 }

@@ -172,6 +172,23 @@ typedef struct fezdrok_search fezdrok_search;
  */
 uint8_t fezdrok_search_open(const char *graph, size_t graph_length, fezdrok_search **search, fezdrok_text *answer);
 
+/* How much is tried. */
+enum { FEZDROK_EFFORT_DEFAULT = 0, FEZDROK_EFFORT_QUICK = 1, FEZDROK_EFFORT_THOROUGH = 2 };
+
+/* A graph in arrays, and how it is searched. What is 0 or NULL counts as in `planar planarize` where its key is missing, but for the
+ * seed. */
+typedef struct fezdrok_graph {
+    uint32_t vertices;           /* how many there are, from 0 on */
+    size_t edge_count;
+    const uint32_t (*edges)[3];  /* of each edge its two ends and its kind */
+    size_t price_count;
+    const uint32_t *prices;      /* of the kinds from 0 on; 0 where an edge of this kind is to have no crossing */
+    uint32_t effort, seed, threads;
+} fezdrok_graph;
+
+/* As fezdrok_search_open, by a graph in arrays, which are only read. */
+uint8_t fezdrok_search_open_graph(const fezdrok_graph *graph, fezdrok_search **search, fezdrok_text *answer);
+
 /* Asks a search:
  *
  *     "step"      to search for a while, some 50 milliseconds for each of its threads' seeds, one after the other
