@@ -15,7 +15,7 @@ pub use Rattle.topo_core.proofs.numbering.Standing.{system_test}
 -- Rotation systems: their turn, their points, and what is joined.
 pub use Rattle.topo_core.proofs.systems.BarePoints.{any_of, bares}
 pub use Rattle.topo_core.proofs.systems.Bypassing.{point_distinct}
-pub use Rattle.topo_core.proofs.systems.Connection.{seed_is_embedding}
+pub use Rattle.topo_core.proofs.systems.Connection.{connected_by_spread, seed_is_embedding, spreads_in}
 pub use Rattle.topo_core.proofs.systems.Lengthening.{same_tests}
 pub use Rattle.topo_core.proofs.systems.NewDarts.{has_dart-append, or_left_false, or_right_false, stands_in, turn_at}
 pub use Rattle.topo_core.proofs.systems.Orbits.{FirstAt, IsPeriod, SameCycle-is_met, SameCycle-refl, SameCycle-step, SameCycle-sym, SameCycle-trans, after-add, after-within, count_below-same}
@@ -49,13 +49,12 @@ pub use Rattle.topo_core.proofs.deleting.WithoutRows.{IsRotated, filter_passes, 
 pub use Rattle.topo_core.proofs.deleting.WithoutRows.{without_known, without_rotated, without_rotation, without_row, without_rows, without_vertices}
 pub use Rattle.topo_core.proofs.deleting.WithoutTurns.{hides_turns, two_orders}
 -- Routes, their order, and certificates.
-pub use Rattle.topo_core.proofs.routing.Certificates.{face_height, face_in, first_by_heights, height_bounds, not_above, one_facts, route_bound, same_some, single_price, start_before}
+pub use Rattle.topo_core.proofs.routing.Certificates.{Certified, face_height, face_in, first_by_heights, height_bounds, not_above, one_facts, route_bound, same_some, single_price, start_before}
 pub use Rattle.topo_core.proofs.routing.FirstRoutes.{priced_firsts_exist}
 pub use Rattle.topo_core.proofs.routing.LeastRoutes.{least_is_simple}
 pub use Rattle.topo_core.proofs.routing.RouteDarts.{certified, corner_in, has_item, item_at}
-pub use Rattle.topo_core.proofs.routing.RouteOrder.{one_least}
+pub use Rattle.topo_core.proofs.routing.RouteOrder.{one_first, one_least}
 pub use Rattle.topo_core.proofs.routing.SimpleRoutes.{face_back, same_or_twins, simple_is_insertable}
--- Steps and replays, and the tools of the evidence.
-pub use Rattle.topo_core.proofs.stepping.Computed.{Passes, Planned, certificate_by_tests, connected_by_tests, first_by_tests, other_face}
+-- Steps and replays.
 pub use Rattle.topo_core.proofs.stepping.Determined.{one_step}
 pub use Rattle.topo_core.proofs.stepping.Replaying.{replays_on, versions_replay}

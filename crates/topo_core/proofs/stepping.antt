@@ -1,5 +1,3 @@
--- Steps and replays, and the tools of the evidence.
-pub mod Computed
+-- Steps and replays.
 pub mod Determined
-pub mod FalseTests
 pub mod Replaying

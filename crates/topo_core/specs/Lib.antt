@@ -2,11 +2,8 @@ pub mod Changes
 pub mod Cycles
 pub mod Darts
 pub mod Deletions
-pub mod EditCases
 pub mod Edits
-pub mod Evidence
 pub mod ExistenceLaws
-pub mod FalseCases
 pub mod FaultTexts
 pub mod History
 pub mod Insertions
@@ -21,7 +18,6 @@ pub mod Pictures
 pub mod Rotations
 pub mod RouteLaws
 pub mod Routes
-pub mod StepCases
 pub mod StepLaws
 pub mod Steps
 pub mod Systems

@@ -4,17 +4,14 @@
 //! limits, calls and their replies. `specs/` has the definitions that every contract of the project
 //! is stated in: rotation systems and their faces, lawful pictures, routes and what is least, what
 //! an insertion, a growth and a deletion make of a picture, steps and histories. `laws` has the
-//! facts about these definitions that the crates above rest on, and `evidence` computes them on
-//! small named pictures.
+//! facts about these definitions that the crates above rest on; `topo_cases` computes them on small
+//! named pictures.
 #![tactic(auto)]
 
 pub mod calls;
 pub mod darts;
-pub mod edit_cases;
 mod equality;
-pub mod evidence;
 pub mod existence_laws;
-pub mod false_cases;
 pub mod ids;
 pub mod laws;
 pub mod limits;
@@ -23,5 +20,4 @@ pub mod prices;
 pub mod route_laws;
 pub mod routes;
 pub mod rows;
-pub mod step_cases;
 pub mod step_laws;

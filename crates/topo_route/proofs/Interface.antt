@@ -7,4 +7,5 @@ pub use Rattle.topo_route.proofs.names.Numbers.{dart_in, dart_of_number, face_of
 -- What a search knows where its two ends have met, and the route down the heights.
 pub use Rattle.topo_route.proofs.meeting.Descending.{has_darts}
 -- Routes that stay the first while their region is kept.
+pub use Rattle.topo_route.proofs.surviving.Searched.{survives}
 pub use Rattle.topo_route.proofs.surviving.Sparing.{spared}

@@ -2,7 +2,6 @@
 pub mod Surviving
 pub mod Searched
 pub mod Staying
-pub mod ComputedFaces
 pub mod KeptRegions
 pub mod SeenRegions
 pub mod Marking

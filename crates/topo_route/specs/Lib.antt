@@ -10,10 +10,8 @@ pub mod Names
 pub mod Numbers
 pub mod Plans
 pub mod Potentials
-pub mod RegionEvidence
 pub mod Regions
 pub mod Seen
 pub mod Settling
 pub mod StampedArrays
 pub mod Surviving
-pub mod SurvivingEvidence

@@ -1,0 +1,3 @@
+mod Computed
+mod ComputedFaces
+mod FalseTests
