@@ -10,6 +10,7 @@ pub mod Names
 pub mod Numbers
 pub mod Plans
 pub mod Potentials
+pub mod PricedFaces
 pub mod RegionEvidence
 pub mod Regions
 pub mod Seen
