@@ -1,6 +1,7 @@
 -- What a search sees of a picture and its prices, and what its steps keep.
 use Rattle.std.specs.Prelude.{◌≡◌, ◌≢◌, ℕ, ◌+◌, ◌^◌, ◌<◌, ◌≤◌, true, false, List, length, Option, min, slice_index, slice_set}
-use Rattle.topo_core.specs.Routes.{Pricing}
+use Rattle.topo_core.specs.Picture.{darts}
+use Rattle.topo_core.specs.Routes.{Pricing, unreached}
 use Rattle.topo_price.specs.declared.tariff.PriceFn as PriceFn
 use Rattle.topo_price.specs.Prices.{prices_of}
 use Rattle.topo_route.specs.declared.both_ends.Stop.{Stop}
@@ -10,11 +11,12 @@ use Rattle.topo_route.specs.declared.priced_graph.PricedGraph.{PricedGraph}
 use Rattle.topo_route.specs.declared.spread.Crossing.{Crossing}
 use Rattle.topo_route.specs.declared.spread.SearchState.{SearchState}
 use Rattle.topo_route.specs.declared.workspace.Workspace.{Workspace}
-use Rattle.topo_route.specs.Descents.{AreHeightsFor}
+use Rattle.topo_route.specs.Descents.{AreHeightsFor, AreHeightsUpTo}
 use Rattle.topo_route.specs.FaceHeights.{AreLabelled, dart_heights, with_name}
 use Rattle.topo_route.specs.Guided.{top_of_bound}
 use Rattle.topo_route.specs.Meeting.{HasMet, SpreadsBoth}
 use Rattle.topo_route.specs.Names.{IsName, Named, twin_name}
+use Rattle.topo_route.specs.Plans.{AreHeights}
 use Rattle.topo_route.specs.Potentials.{bound_by}
 use Rattle.topo_route.specs.Regions.{RegionState}
 use Rattle.topo_route.specs.Seen.{HasSeen, HoldsSeen}
@@ -50,6 +52,11 @@ heights_over p heights = dart_heights p.named p.face heights
 -- the prices that are kept are right
 abbrev pub KeepsPrices : PricedFaces → Type 0
 KeepsPrices p = ArePrices p.price p.named p.kept
+
+-- and there is a dart
+pub record HasPrices (p : PricedFaces) : Type 0 where
+  pub right : KeepsPrices p
+  pub some : 0 < length (darts p.named.rows)
 
 -- ---- What waits
 
@@ -112,8 +119,9 @@ pub record RelaxesTwin (p : PricedFaces) (v : ℕ) (others : List ℕ) (before :
   pub crossed : IsCrossed p.price p.named (reach_of least') (heights_over p after.heights) dart
   pub same : slice_index (heights_over p after.heights) dart ≡ height
 
--- heights that have spread below the tops, and the least of their sums
+-- right prices, heights that have spread below the tops, and the least of their sums
 pub record IsSpread (p : PricedFaces) (v : ℕ) (others : List ℕ) (top : ℕ → ℕ) (state : SearchState) (least : ℕ) : Type 0 where
+  pub right : KeepsPrices p
   pub spreads : Spreads p.price p.named p.face p.faces v top (reach_of least) state.heights state.names.items state.waiting p.named.size
   pub sums : AreSums p.named (heights_over p state.heights) (heights_over p others) least
 
@@ -132,6 +140,25 @@ pub record Settles (p : PricedFaces) (v : ℕ) (others : List ℕ) (top : ℕ �
   pub sums : AreSums p.named (heights_over p after.heights) (heights_over p others) least'
   pub less : least' ≤ least
   pub lower : AreLowered (heights_over p before.heights) (heights_over p after.heights)
+
+-- the least price from each dart's face to a face at v
+pub record HasLeastHeights (p : PricedFaces) (v : ℕ) (heights : List ℕ) : Type 0 where
+  pub are_heights : AreHeights p.price p.named v (heights_over p heights)
+  pub in_range : (k : ℕ) → slice_index (heights_over p heights) k ≤ unreached
+  pub one_each : length heights ≡ p.faces
+
+-- ---- Down the heights
+
+-- right prices, and one height for each label
+pub record HasHeights (p : PricedFaces) (heights : List ℕ) : Type 0 where
+  pub right : KeepsPrices p
+  pub one_each : length heights ≡ p.faces
+
+-- and these are known as far up as a dart
+pub record KnowsUpTo (p : PricedFaces) (v : ℕ) (heights : List ℕ) (at : ℕ) : Type 0 where
+  pub has : HasHeights p heights
+  pub name : IsName p.named at
+  pub known : AreHeightsUpTo p.price p.named v (heights_over p heights) at
 
 -- ---- Searches from both ends
 

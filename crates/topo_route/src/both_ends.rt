@@ -1,11 +1,8 @@
 //! The search from both ends.
 
-ghost use Rattle.std.specs.Prelude.{◌≡◌, ◌<◌, ◌≤◌, [], ℕ, IfOk, OnOk, length, slice_index};
-ghost use Rattle.topo_core.specs.Picture.{darts};
-ghost use Rattle.topo_core.specs.Routes.{unreached};
-ghost use Rattle.topo_route.specs.Plans.{AreHeights};
-ghost use Rattle.topo_route.specs.PricedFaces.{BothMeet, KeepsPrices, SpreadsFrom};
-ghost use Rattle.topo_route.specs.PricedFaces.{heights_on, heights_over, priced_faces};
+ghost use Rattle.std.specs.Prelude.{◌≡◌, [], IfOk, OnOk};
+ghost use Rattle.topo_route.specs.PricedFaces.{BothMeet, HasLeastHeights, HasPrices, KeepsPrices};
+ghost use Rattle.topo_route.specs.PricedFaces.{SpreadsFrom, priced_faces};
 
 use crate::face_graph::FaceGraph;
 use crate::priced_graph::PricedGraph;
@@ -101,8 +98,7 @@ fn finish<W: FaceGraph, F: PriceFn>(
     v: u32,
     level: u64,
 ) -> Result<Stop, AllocError>
-    requires right { KeepsPrices (priced_faces W.FaceGraph F.PriceFn priced.now) }
-    requires some { 0 < length (darts (W.named priced.now.graph.now).rows) }
+    requires priced { HasPrices (priced_faces W.FaceGraph F.PriceFn priced.now) }
     requires both { SpreadsFrom (priced_faces W.FaceGraph F.PriceFn priced.now) u v work.old least }
     ensures { IfOk result
         (BothMeet (priced_faces W.FaceGraph F.PriceFn priced.now) u v work.new) }
@@ -138,8 +134,7 @@ pub(crate) fn heights_for<W: FaceGraph, F: PriceFn>(
     v: u32,
     work: &mut Workspace,
 ) -> Result<Stop, AllocError>
-    requires right { KeepsPrices (priced_faces W.FaceGraph F.PriceFn priced.now) }
-    requires some { 0 < length (darts (W.named priced.now.graph.now).rows) }
+    requires { HasPrices (priced_faces W.FaceGraph F.PriceFn priced.now) }
     ensures { IfOk result
         (BothMeet (priced_faces W.FaceGraph F.PriceFn priced.now) u v work.new) }
 {
@@ -154,15 +149,10 @@ pub(crate) fn least_heights<W: FaceGraph, F: PriceFn>(
     v: u32,
     work: &mut Workspace,
 ) -> Result<(), AllocError>
-    requires right { KeepsPrices (priced_faces W.FaceGraph F.PriceFn priced.now) }
-    requires some { 0 < length (darts (W.named priced.now.graph.now).rows) }
+    requires priced { HasPrices (priced_faces W.FaceGraph F.PriceFn priced.now) }
     requires alone { work.old.to_start.heights ≡ [] }
-    ensures are_heights { let p = priced_faces W.FaceGraph F.PriceFn priced.now in
-        OnOk result (AreHeights p.price p.named v (heights_over p work.new.to_end.heights)) }
-    ensures in_range { OnOk result ((k : ℕ) → slice_index
-        (heights_on W.FaceGraph priced.now.graph.now work.new.to_end.heights) k ≤ unreached) }
-    ensures one_each { OnOk result
-        (length work.new.to_end.heights ≡ W.face_bound priced.now.graph.now) }
+    ensures heights { OnOk result
+        (HasLeastHeights (priced_faces W.FaceGraph F.PriceFn priced.now) v work.new.to_end.heights) }
     ensures alone { work.new.to_start.heights ≡ [] }
 {
     let faces = priced.graph.faces();

@@ -6,12 +6,12 @@ ghost use Rattle.topo_core.specs.declared.darts.Dart.{Dart};
 ghost use Rattle.topo_core.specs.Picture.{corner};
 ghost use Rattle.topo_core.specs.RouteLaws.{IsTight};
 ghost use Rattle.topo_core.specs.Routes.{unreached};
-ghost use Rattle.topo_route.specs.Descents.{AreHeightsUpTo, HasNoEnd, HasNoStart, IsDescent};
+ghost use Rattle.topo_route.specs.Descents.{HasNoEnd, HasNoStart, IsDescent};
 ghost use Rattle.topo_route.specs.Descents.{IsEnd, IsFirstOf, IsFirstTight, IsStart};
 ghost use Rattle.topo_route.specs.Names.{IsName, dart_named, height_of};
 ghost use Rattle.topo_route.specs.Plans.{HasNoneBefore, IsLeastAt};
-ghost use Rattle.topo_route.specs.PricedFaces.{KeepsPrices, heights_on};
-ghost use Rattle.topo_route.specs.PricedFaces.{heights_over, priced_faces};
+ghost use Rattle.topo_route.specs.PricedFaces.{HasHeights, KnowsUpTo};
+ghost use Rattle.topo_route.specs.PricedFaces.{heights_on, heights_over, priced_faces};
 
 use crate::face_graph::FaceGraph;
 use crate::priced_graph::PricedGraph;
@@ -114,8 +114,7 @@ fn is_tight<W: FaceGraph, F: PriceFn>(
     heights: &StampedArray,
     dart: u32,
 ) -> bool
-    requires right { KeepsPrices (priced_faces W.FaceGraph F.PriceFn priced.now) }
-    requires one_each { length heights.now ≡ W.face_bound priced.now.graph.now }
+    requires has { HasHeights (priced_faces W.FaceGraph F.PriceFn priced.now) heights.now }
     requires name { IsName (W.named priced.now.graph.now) dart }
     ensures { let p = priced_faces W.FaceGraph F.PriceFn priced.now in
         IsTrue result ↔ IsTight p.price p.named.rows
@@ -141,8 +140,7 @@ fn first_of<W: FaceGraph, F: PriceFn>(
     first: Option<u32>,
     dart: u32,
 ) -> Option<u32>
-    requires right { KeepsPrices (priced_faces W.FaceGraph F.PriceFn priced.now) }
-    requires one_each { length heights.now ≡ W.face_bound priced.now.graph.now }
+    requires has { HasHeights (priced_faces W.FaceGraph F.PriceFn priced.now) heights.now }
     requires first_there { IfSome first (IsName (W.named priced.now.graph.now)) }
     requires name { IsName (W.named priced.now.graph.now) dart }
     ensures { let p = priced_faces W.FaceGraph F.PriceFn priced.now in
@@ -170,11 +168,7 @@ fn first_tight<W: FaceGraph, F: PriceFn>(
     v: u32,
     at: u32,
 ) -> Option<u32>
-    requires right { KeepsPrices (priced_faces W.FaceGraph F.PriceFn priced.now) }
-    requires known { let p = priced_faces W.FaceGraph F.PriceFn priced.now in
-        AreHeightsUpTo p.price p.named v (heights_over p heights.now) at }
-    requires one_each { length heights.now ≡ W.face_bound priced.now.graph.now }
-    requires name { IsName (W.named priced.now.graph.now) at }
+    requires known { KnowsUpTo (priced_faces W.FaceGraph F.PriceFn priced.now) v heights.now at }
     requires above { let p = priced_faces W.FaceGraph F.PriceFn priced.now in
         0 < height_of p.named (heights_over p heights.now) (dart_named p.named at) }
     ensures { let p = priced_faces W.FaceGraph F.PriceFn priced.now in
@@ -201,11 +195,7 @@ pub(crate) fn descend<W: FaceGraph, F: PriceFn>(
     v: u32,
     from: u32,
 ) -> Result<(Vec<Dart>, u32), AllocError>
-    requires right { KeepsPrices (priced_faces W.FaceGraph F.PriceFn priced.now) }
-    requires known { let p = priced_faces W.FaceGraph F.PriceFn priced.now in
-        AreHeightsUpTo p.price p.named v (heights_over p heights.now) from }
-    requires one_each { length heights.now ≡ W.face_bound priced.now.graph.now }
-    requires name { IsName (W.named priced.now.graph.now) from }
+    requires { KnowsUpTo (priced_faces W.FaceGraph F.PriceFn priced.now) v heights.now from }
     ensures { let p = priced_faces W.FaceGraph F.PriceFn priced.now in
         IfOk result
         (λ r. IsDescent p.price p.named (heights_over p heights.now) from r.0.items r.1) }

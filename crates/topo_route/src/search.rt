@@ -6,7 +6,7 @@ ghost use Rattle.topo_core.specs.Routes.{HasNoRoute, IsFirst, KeepsPromise};
 ghost use Rattle.topo_price.specs.Prices.{prices_of};
 ghost use Rattle.topo_route.specs.Descents.{AreHeightsFor, IsFirstRoute};
 ghost use Rattle.topo_route.specs.Plans.{IsPlan};
-ghost use Rattle.topo_route.specs.PricedFaces.{HasStopped, KeepsPrices, heights_on};
+ghost use Rattle.topo_route.specs.PricedFaces.{HasHeights, HasStopped, KeepsPrices, heights_on};
 ghost use Rattle.topo_route.specs.PricedFaces.{heights_over, priced_faces};
 ghost use Rattle.topo_route.specs.Regions.{IsFirstWhileKept, IsRegionOf};
 ghost use Rattle.topo_route.specs.Seen.{RestsOn};
@@ -38,10 +38,9 @@ fn route_by_heights<W: FaceGraph, F: PriceFn>(
     v: u32,
     heights: &StampedArray,
 ) -> Result<Option<PricedRoute>, AllocError>
-    requires right { KeepsPrices (priced_faces W.FaceGraph F.PriceFn priced.now) }
+    requires has { HasHeights (priced_faces W.FaceGraph F.PriceFn priced.now) heights.now }
     requires known { let p = priced_faces W.FaceGraph F.PriceFn priced.now in
         AreHeightsFor p.price p.named u v (heights_over p heights.now) }
-    requires one_each { length heights.now ≡ W.face_bound priced.now.graph.now }
     requires some { 0 < length (darts (W.named priced.now.graph.now).rows) }
     ensures { let p = priced_faces W.FaceGraph F.PriceFn priced.now in
         IfOk result (λ found. MatchOption found (HasNoRoute p.price p.named.rows u v)

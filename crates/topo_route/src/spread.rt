@@ -195,8 +195,7 @@ impl SearchState {
         level: u64,
         most: u64,
     ) -> Result<(), AllocError>
-        requires right { KeepsPrices (priced_faces W.FaceGraph F.PriceFn priced.now) }
-        requires known { let p = priced_faces W.FaceGraph F.PriceFn priced.now in
+        requires { let p = priced_faces W.FaceGraph F.PriceFn priced.now in
             IsSpread p ends.now.v ends.now.other.now
             (top_of level (min most least.old) (heights_over p ends.now.other.now))
             self.old least.old }
@@ -230,8 +229,7 @@ impl SearchState {
         least: &mut u64,
         v: u32,
     ) -> Result<(), AllocError>
-        requires right { KeepsPrices (priced_faces W.FaceGraph F.PriceFn priced.now) }
-        requires known { IsSpread (priced_faces W.FaceGraph F.PriceFn priced.now)
+        requires { IsSpread (priced_faces W.FaceGraph F.PriceFn priced.now)
             v other.now (λ _. reach_of least.old) self.old least.old }
         ensures { IfOk result (λ _. Settles (priced_faces W.FaceGraph F.PriceFn priced.now)
             v other.now (top_toward W.FaceGraph priced.now.graph.now guide.now least.new)
@@ -265,8 +263,7 @@ impl SearchState {
         least: &mut u64,
         v: u32,
     ) -> Result<Option<u64>, AllocError>
-        requires right { KeepsPrices (priced_faces W.FaceGraph F.PriceFn priced.now) }
-        requires known { IsSpread (priced_faces W.FaceGraph F.PriceFn priced.now)
+        requires { IsSpread (priced_faces W.FaceGraph F.PriceFn priced.now)
             v other.now (λ _. reach_of least.old) self.old least.old }
         ensures goes_on { IfOk result (λ _. GoesOn (priced_faces W.FaceGraph F.PriceFn priced.now)
             v other.now (λ _. reach_of least.new) self.old least.old self.new least.new) }

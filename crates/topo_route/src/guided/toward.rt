@@ -1,14 +1,14 @@
 //! The search that is guided to the start.
 
 ghost use Rattle.std.specs.Prelude.{◌≡◌, ◌<◌, ◌≤◌, ℕ, OnOk, length, Some};
-ghost use Rattle.topo_core.specs.Picture.{corner, darts};
+ghost use Rattle.topo_core.specs.Picture.{corner};
 ghost use Rattle.topo_core.specs.declared.darts.Dart.{Dart};
 ghost use Rattle.topo_core.specs.declared.rows.Facts.{Facts};
 ghost use Rattle.topo_core.specs.declared.rows.TheConstants.{KINDS};
 ghost use Rattle.topo_price.specs.Prices.{prices_of};
 ghost use Rattle.topo_route.specs.Descents.{AreHeightsFor};
 ghost use Rattle.topo_route.specs.Potentials.{IsOfGuide};
-ghost use Rattle.topo_route.specs.PricedFaces.{KeepsPrices, heights_over, priced_faces};
+ghost use Rattle.topo_route.specs.PricedFaces.{HasPrices, heights_over, priced_faces};
 
 use crate::both_ends::start_both;
 use crate::face_graph::FaceGraph;
@@ -27,8 +27,7 @@ pub(crate) fn heights_toward<W: FaceGraph, F: PriceFn>(
     guide: &Guide,
     work: &mut Workspace,
 ) -> Result<(), AllocError>
-    requires right { KeepsPrices (priced_faces W.FaceGraph F.PriceFn priced.now) }
-    requires some { 0 < length (darts (W.named priced.now.graph.now).rows) }
+    requires priced { HasPrices (priced_faces W.FaceGraph F.PriceFn priced.now) }
     requires corners { let p = priced_faces W.FaceGraph F.PriceFn priced.now in
         (n : ℕ) (c : Dart) → corner p.named.rows u n ≡ Some c → IsOfGuide guide.now
         (W.potentials priced.now.graph.now (p.face (p.named.name c))) }

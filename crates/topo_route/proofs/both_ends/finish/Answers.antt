@@ -11,8 +11,8 @@ use Rattle.topo_route.proofs.spreading.Settled.{meets_lower, narrowed}
 use Rattle.topo_route.proofs.spreading.Sums.{sums_swapped}
 use Rattle.topo_route.proofs.both_ends.finish.Goals as goal
 
-pub spread-requires-clause-known : goal.spread-requires-clause-known
-spread-requires-clause-known g c =
+pub spread-requires : goal.spread-requires
+spread-requires g c =
     let seen = priced_faces g.W.FaceGraph g.F.PriceFn c.args.priced.now in
     let graph = c.args.priced.now.graph.now in
     let lawful = g.met.W.FaceGraph.lawful graph in
@@ -21,14 +21,15 @@ spread-requires-clause-known g c =
     let reach = reach_of c.args.least in
     let back = c.args.work.now.to_start in
     record {
+      right = c.requires.priced.right;
       spreads = narrowed seen.price seen.named seen.face seen.faces c.args.u back.heights back.names.items back.waiting (λ k. reach)
           (top_of (c.saturating_add-reach.result - c.clamp-level.result) (min 0 c.args.least) (dart_heights seen.named seen.face c.args.work.now.to_end.heights)) reach reach
           seen.named.size c.requires.both.back (λ k. omega (arith, c.saturating_add-reach.ensures)) (omega arith);
       sums = back_sums seen.price seen.named lawful has seen.face seen.faces has_faces c.args.u c.args.v c.requires.both;
     }
 
-pub spread-requires-2-clause-known : goal.spread-requires-2-clause-known
-spread-requires-2-clause-known g c =
+pub spread-requires-2 : goal.spread-requires-2
+spread-requires-2 g c =
     let seen = priced_faces g.W.FaceGraph g.F.PriceFn c.args.priced.now in
     let graph = c.args.priced.now.graph.now in
     let has = g.met.W.FaceGraph.has_names graph in
@@ -36,6 +37,7 @@ spread-requires-2-clause-known g c =
     let distances = dart_heights seen.named seen.face c.spread.new.self.heights in
     let heights = dart_heights seen.named seen.face c.args.work.now.to_end.heights in
     record {
+      right = c.requires.priced.right;
       spreads = narrowed seen.price seen.named seen.face seen.faces c.args.v on.heights on.names.items on.waiting (λ k. reach_of c.args.least)
           (top_of c.min-level.result (min 18446744073709551614 c.spread.new.least) (dart_heights seen.named seen.face c.spread.new.self.heights))
           (reach_of c.args.least) (reach_of c.spread.new.least) seen.named.size c.requires.both.on
@@ -50,7 +52,7 @@ returns g c =
     let graph = c.args.priced.now.graph.now in
     let lawful = g.met.W.FaceGraph.lawful graph in
     let has = g.met.W.FaceGraph.has_names graph in
-    let promise = c.requires.right.promise c.requires.some in
+    let promise = c.requires.priced.right.promise c.requires.priced.some in
     let back = c.in_ok-spread.ensures in
     let on = c.in_ok-spread-2.ensures in
     let heights = dart_heights seen.named seen.face c.spread-2.new.self.heights in

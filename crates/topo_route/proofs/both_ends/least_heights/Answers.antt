@@ -27,8 +27,8 @@ start_at-requires g c =
           c.args.work.now.to_start.heights;
     }
 
-pub spread-requires-clause-known : goal.spread-requires-clause-known
-spread-requires-clause-known g c =
+pub spread-requires : goal.spread-requires
+spread-requires g c =
     let seen = priced_faces g.W.FaceGraph g.F.PriceFn c.args.priced.now in
     let graph = c.args.priced.now.graph.now in
     let lawful = g.met.W.FaceGraph.lawful graph in
@@ -39,6 +39,7 @@ spread-requires-clause-known g c =
     let reach = reach_of c.start_at.new.least in
     let now = c.start_at.new.self in
     record {
+      right = c.requires.priced.right;
       spreads = narrowed seen.price seen.named seen.face seen.faces c.args.v now.heights now.names.items now.waiting (λ k. unreached)
           (top_of 18446744073709551615 (min 0 c.start_at.new.least) (dart_heights seen.named seen.face c.args.work.now.to_start.heights)) reach reach seen.named.size
           (c.in_ok-start_at.ensures.relaxes.spreads (λ k. unreached)
@@ -61,12 +62,14 @@ returns g c =
     none_alone seen.named has seen.face heights c.spread.new.least (omega (arith, done.less, c.in_ok-start_at.ensures.relaxes.less))
     (subst (λ (xs : List ℕ). AreSums seen.named heights (dart_heights seen.named seen.face xs) c.spread.new.least) c.requires.alone done.sums) in
     record {
-      are_heights = are_heights seen.price seen.named lawful has c.args.v unreached heights done.costs.costs.capped
-          (meets_lower seen.named c.args.v (dart_heights seen.named seen.face c.start_at.new.self.heights) heights done.lower c.in_ok-start_at.ensures.ends)
-          (every_settled seen.price seen.named c.args.v heights done.costs.costs
-          (λ k l less. settled_nearer seen.price seen.named (reach_of c.spread.new.least) unreached heights k (omega arith) (done.settled k l (omega arith))))
-          (c.requires.right.promise c.requires.some) done.costs.costs;
-      in_range = done.costs.costs.capped;
-      one_each = done.costs.labelled.one_each;
+      heights = record {
+        are_heights = are_heights seen.price seen.named lawful has c.args.v unreached heights done.costs.costs.capped
+            (meets_lower seen.named c.args.v (dart_heights seen.named seen.face c.start_at.new.self.heights) heights done.lower c.in_ok-start_at.ensures.ends)
+            (every_settled seen.price seen.named c.args.v heights done.costs.costs
+            (λ k l less. settled_nearer seen.price seen.named (reach_of c.spread.new.least) unreached heights k (omega arith) (done.settled k l (omega arith))))
+            (c.requires.priced.right.promise c.requires.priced.some) done.costs.costs;
+        in_range = done.costs.costs.capped;
+        one_each = done.costs.labelled.one_each;
+      };
       alone = c.requires.alone;
     }

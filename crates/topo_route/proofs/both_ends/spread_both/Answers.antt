@@ -2,14 +2,15 @@ use Rattle.topo_route.specs.PricedFaces.{priced_faces}
 use Rattle.topo_route.proofs.meeting.Ending.{back_sums, stepped_back, stepped_on}
 use Rattle.topo_route.proofs.both_ends.spread_both.Goals as goal
 
-pub spread_next-requires-clause-known : goal.spread_next-requires-clause-known
-spread_next-requires-clause-known g c =
+pub spread_next-requires : goal.spread_next-requires
+spread_next-requires g c =
     let seen = priced_faces g.W.FaceGraph g.F.PriceFn c.args.priced.now in
     let graph = c.args.priced.now.graph.now in
     let lawful = g.met.W.FaceGraph.lawful graph in
     let has = g.met.W.FaceGraph.has_names graph in
     let has_faces = g.met.W.FaceGraph.has_faces graph in
     record {
+      right = c.requires.right;
       spreads = c.loop-least.invariant.back;
       sums = back_sums seen.price seen.named lawful has seen.face seen.faces has_faces c.args.u c.args.v c.loop-least.invariant;
     }

@@ -29,7 +29,7 @@ loop-dart-smaller g c =
     let has = g.met.W.FaceGraph.has_names c.args.priced.now.graph.now in
     let price = prices_of (g.F.PriceFn.may_return c.args.priced.now.tariff.now) in
     let heights = dart_heights (g.W.FaceGraph.named c.args.priced.now.graph.now) (g.W.FaceGraph.face_of c.args.priced.now.graph.now) c.args.heights.now in
-    let promise = c.requires.right.promise (name_some named c.args.from c.requires.name) in
+    let promise = c.requires.has.right.promise (name_some named c.args.from c.requires.name) in
     let known = c.loop-dart.invariant.known in
     let less = lower price named lawful has c.args.v known.top heights known.known promise c.args.from c.loop-dart.at c.in-Some.dart c.across-at.result
     c.loop-dart.crossed.items c.dart.result
@@ -43,7 +43,7 @@ loop-dart-preserved g c =
     let has = g.met.W.FaceGraph.has_names c.args.priced.now.graph.now in
     let price = prices_of (g.F.PriceFn.may_return c.args.priced.now.tariff.now) in
     let heights = dart_heights (g.W.FaceGraph.named c.args.priced.now.graph.now) (g.W.FaceGraph.face_of c.args.priced.now.graph.now) c.args.heights.now in
-    let promise = c.requires.right.promise (name_some named c.args.from c.requires.name) in
+    let promise = c.requires.has.right.promise (name_some named c.args.from c.requires.name) in
     let known = c.loop-dart.invariant.known in
     record {
       descends = subst (λ xs. Descends price named heights c.args.from xs c.across-at.result) (sym c.in_ok-push-in-Some.ensures.items)

@@ -27,13 +27,13 @@ returns-then-dart-at g c =
     let home : next_name named (after (next_name named) i c.args.at) ≡ c.args.at = ap (next_name named) (sym place) ∙ sym c.next_along-dart.ensures.next
     ∙ c.if-dart-at.true in
     first_home price named (dart_heights (g.W.FaceGraph.named c.args.priced.now.graph.now)
-    (g.W.FaceGraph.face_of c.args.priced.now.graph.now) c.args.heights.now) c.args.at lawful has c.requires.name i c.first_of-first.result
+    (g.W.FaceGraph.face_of c.args.priced.now.graph.now) c.args.heights.now) c.args.at lawful has c.requires.known.name i c.first_of-first.result
     (first_step price named (dart_heights (g.W.FaceGraph.named c.args.priced.now.graph.now) (g.W.FaceGraph.face_of c.args.priced.now.graph.now)
-    c.args.heights.now) c.args.at lawful has c.requires.name i c.loop-steps.dart c.loop-steps.first c.first_of-first.result place c.loop-steps.invariant.name
+    c.args.heights.now) c.args.at lawful has c.requires.known.name i c.loop-steps.dart c.loop-steps.first c.first_of-first.result place c.loop-steps.invariant.name
     c.loop-steps.invariant.so_far c.first_of-first.ensures)
-    home (has_tight price named lawful has c.args.v c.requires.known.top
+    home (has_tight price named lawful has c.args.v c.requires.known.known.top
     (dart_heights (g.W.FaceGraph.named c.args.priced.now.graph.now) (g.W.FaceGraph.face_of c.args.priced.now.graph.now) c.args.heights.now)
-    c.requires.known.known c.args.at c.requires.name c.requires.known.below c.requires.above)
+    c.requires.known.known.known c.args.at c.requires.known.name c.requires.known.known.below c.requires.above)
 
 pub loop-steps-preserved : goal.loop-steps-preserved
 loop-steps-preserved g c =
@@ -47,7 +47,7 @@ loop-steps-preserved g c =
       place = c.next_along-dart.ensures.next ∙ ap (next_name named) place ∙ sym (after-one (next_name named) i c.args.at);
       name = c.next_along-dart.ensures.name;
       so_far = first_step price named (dart_heights (g.W.FaceGraph.named c.args.priced.now.graph.now) (g.W.FaceGraph.face_of c.args.priced.now.graph.now)
-          c.args.heights.now) c.args.at lawful has c.requires.name i c.loop-steps.dart c.loop-steps.first c.first_of-first.result place
+          c.args.heights.now) c.args.at lawful has c.requires.known.name i c.loop-steps.dart c.loop-steps.first c.first_of-first.result place
           c.loop-steps.invariant.name c.loop-steps.invariant.so_far c.first_of-first.ensures;
     }
 
@@ -58,7 +58,7 @@ returns g c =
     let has = g.met.W.FaceGraph.has_names c.args.priced.now.graph.now in
     let price = prices_of (g.F.PriceFn.may_return c.args.priced.now.tariff.now) in
     first_all price named (dart_heights (g.W.FaceGraph.named c.args.priced.now.graph.now) (g.W.FaceGraph.face_of c.args.priced.now.graph.now)
-    c.args.heights.now) c.args.at lawful has c.requires.name c.loop-steps._steps c.loop-steps.first (omega arith) c.loop-steps.invariant.so_far
-    (has_tight price named lawful has c.args.v c.requires.known.top
+    c.args.heights.now) c.args.at lawful has c.requires.known.name c.loop-steps._steps c.loop-steps.first (omega arith) c.loop-steps.invariant.so_far
+    (has_tight price named lawful has c.args.v c.requires.known.known.top
     (dart_heights (g.W.FaceGraph.named c.args.priced.now.graph.now) (g.W.FaceGraph.face_of c.args.priced.now.graph.now) c.args.heights.now)
-    c.requires.known.known c.args.at c.requires.name c.requires.known.below c.requires.above)
+    c.requires.known.known.known c.args.at c.requires.known.name c.requires.known.known.below c.requires.above)

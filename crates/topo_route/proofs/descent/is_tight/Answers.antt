@@ -26,7 +26,7 @@ pub returns-then-height-other : goal.returns-then-height-other
 returns-then-height-other g c =
     let named = g.W.FaceGraph.named c.args.priced.now.graph.now in
     let heights = dart_heights (g.W.FaceGraph.named c.args.priced.now.graph.now) (g.W.FaceGraph.face_of c.args.priced.now.graph.now) c.args.heights.now in
-    let promise = c.requires.right.promise (name_some named c.args.dart c.requires.name) in
+    let promise = c.requires.has.right.promise (name_some named c.args.dart c.requires.name) in
     grind (arith, false≢true, height_named)
 
 pub returns-in-None : goal.returns-in-None

@@ -6,18 +6,22 @@ use Rattle.topo_route.proofs.meeting.Descending.{has_end, is_first, start_below}
 use Rattle.topo_route.proofs.names.Names.{height_named}
 use Rattle.topo_route.proofs.search.route_by_heights.Goals as goal
 
-pub descend-requires-clause-known : goal.descend-requires-clause-known
-descend-requires-clause-known g c =
+pub descend-requires : goal.descend-requires
+descend-requires g c =
     let named = g.W.FaceGraph.named c.args.priced.now.graph.now in
     let known = c.requires.known in
     let start = c.in-Some.ensures in
     record {
-      top = known.top;
-      known = known.known;
-      below = start_below (prices_of (g.F.PriceFn.may_return c.args.priced.now.tariff.now)) named (g.met.W.FaceGraph.lawful c.args.priced.now.graph.now)
-          (g.met.W.FaceGraph.has_names c.args.priced.now.graph.now) c.args.v known.top (dart_heights (g.W.FaceGraph.named c.args.priced.now.graph.now)
-          (g.W.FaceGraph.face_of c.args.priced.now.graph.now) c.args.heights.now) known.known c.args.u c.in-Some.start c.in-Some.from start
-          (known.start c.in-Some.start c.in-Some.from start);
+      has = c.requires.has;
+      name = start.name;
+      known = record {
+        top = known.top;
+        known = known.known;
+        below = start_below (prices_of (g.F.PriceFn.may_return c.args.priced.now.tariff.now)) named (g.met.W.FaceGraph.lawful c.args.priced.now.graph.now)
+            (g.met.W.FaceGraph.has_names c.args.priced.now.graph.now) c.args.v known.top (dart_heights (g.W.FaceGraph.named c.args.priced.now.graph.now)
+            (g.W.FaceGraph.face_of c.args.priced.now.graph.now) c.args.heights.now) known.known c.args.u c.in-Some.start c.in-Some.from start
+            (known.start c.in-Some.start c.in-Some.from start);
+      };
     }
 
 pub unreachable-requires : goal.unreachable-requires
@@ -29,7 +33,7 @@ unreachable-requires g c =
     let heights = dart_heights (g.W.FaceGraph.named c.args.priced.now.graph.now) (g.W.FaceGraph.face_of c.args.priced.now.graph.now) c.args.heights.now in
     let known = c.requires.known in
     let start = c.in-Some.ensures in
-    has_end price named lawful has c.args.v known.top heights known.known (c.requires.right.promise c.requires.some)
+    has_end price named lawful has c.args.v known.top heights known.known (c.requires.has.right.promise c.requires.some)
     c.in-Some.from c.in_ok-crossed-in-Some.last c.in_ok-crossed-in-Some.crossed.items start.name
     (start_below price named lawful has c.args.v known.top heights known.known c.args.u c.in-Some.start c.in-Some.from start
     (known.start c.in-Some.start c.in-Some.from start))
@@ -46,7 +50,7 @@ returns-in-Some-end_corner g c =
     let start = c.in-Some.ensures in
     let descent = c.in_ok-crossed-in-Some.ensures in
     let here = height_named named has heights c.in-Some.from start.name in
-    is_first price named lawful has c.args.v known.top heights known.known (c.requires.right.promise c.requires.some)
+    is_first price named lawful has c.args.v known.top heights known.known (c.requires.has.right.promise c.requires.some)
     c.args.u _ c.in-Some.from c.in_ok-crossed-in-Some.last
     start (c.height_at-price.ensures ∙ sym here) (known.start c.in-Some.start c.in-Some.from start)
     (subst (λ xs. IsDescent price named heights c.in-Some.from xs c.in_ok-crossed-in-Some.last) (sym c.from_vec.ensures) descent)

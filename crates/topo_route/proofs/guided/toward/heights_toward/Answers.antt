@@ -21,7 +21,7 @@ returns-clause-heights g c =
     let before = dart_heights seen.named seen.face c.start_both.new.work.to_end.heights in
     let heights = dart_heights seen.named seen.face c.spread_toward.new.self.heights in
     let distances = dart_heights seen.named seen.face c.start_both.new.work.to_start.heights in
-    for_toward seen.price seen.named lawful has c.args.u c.args.v (c.requires.right.promise c.requires.some) heights distances
+    for_toward seen.price seen.named lawful has c.args.u c.args.v (c.requires.priced.right.promise c.requires.priced.some) heights distances
     (λ k. bound_by guide (potentials (seen.face k))) c.spread_toward.new.least
     (are_bounds seen.price seen.named lawful has seen.face (g.W.FaceGraph.face_bound graph) (g.met.W.FaceGraph.has_faces graph) c.args.u guide potentials
     (g.W.FaceGraph.floor graph) consistent c.requires.floors c.requires.corners)

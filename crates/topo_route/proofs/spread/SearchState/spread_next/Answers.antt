@@ -11,9 +11,9 @@ next_pending-requires g c =
     let seen = priced_faces g.W.FaceGraph g.F.PriceFn c.args.priced.now in
     let now = c.args.self.now in
     record {
-      one_each = c.requires.known.spreads.costs.labelled.one_each;
+      one_each = c.requires.spreads.costs.labelled.one_each;
       names = waits_named seen.price seen.named seen.face seen.faces c.args.v now.heights now.names.items now.waiting (λ k. reach_of c.args.least.now)
-          (reach_of c.args.least.now) seen.named.size c.requires.known.spreads;
+          (reach_of c.args.least.now) seen.named.size c.requires.spreads;
     }
 
 pub relax_face-requires-clause-in_hand : goal.relax_face-requires-clause-in_hand
@@ -26,7 +26,7 @@ relax_face-requires-clause-in_hand g c =
     omega (arith, c.size-darts.ensures, c.size-darts.type_inv, name_below seen.named has c.in-Some.dart c.in-Some.ensures.taken.name) in
     record {
       reached = taken_reached seen.price seen.named seen.face seen.faces c.args.v now.heights now.names.items now.waiting (λ k. reach_of c.args.least.now)
-          (reach_of c.args.least.now) seen.named.size c.in-Some.dart short c.requires.known.spreads c.in-Some.ensures.taken.pending;
+          (reach_of c.args.least.now) seen.named.size c.in-Some.dart short c.requires.spreads c.in-Some.ensures.taken.pending;
       height = c.in-Some.ensures.taken.height;
     }
 
@@ -43,7 +43,7 @@ returns-in_ok-relax_face-in-Some-clause-goes_on g c =
     let relaxes = c.in_ok-relax_face-in-Some.ensures in
     record {
       spreads = taken_relaxes seen.price seen.named lawful has seen.face seen.faces has_faces c.args.v c.args.other.now (λ k. reach_of c.args.least.now)
-          (λ k. reach_of c.relax_face.new.least) small (λ j k lj lk e. refl) c.requires.known.spreads c.in-Some.ensures.taken.name
+          (λ k. reach_of c.relax_face.new.least) small (λ j k lj lk e. refl) c.requires.spreads c.in-Some.ensures.taken.name
           (λ k s l less. c.in-Some.ensures.taken.others k s l (omega (arith, c.saturating_add-reach.ensures))) c.in-Some.ensures.left relaxes
           (λ k. omega (arith, relaxes.less));
       sums = relaxes.sums;
@@ -60,9 +60,9 @@ returns-in-None-clause-goes_on g c =
     let small : seen.named.size < 2 ^ 32 = omega (arith, c.size-darts.ensures, c.size-darts.type_inv) in
     record {
       spreads = emptied seen.price seen.named seen.face seen.faces c.args.v now.heights now.names.items now.waiting has small (λ k. reach_of c.args.least.now) (reach_of c.args.least.now)
-          (λ j k lj lk e. refl) c.requires.known.spreads
+          (λ j k lj lk e. refl) c.requires.spreads
           c.next_pending.new.waiting (λ k s l less. c.in-None.ensures.taken k s l (omega (arith, c.saturating_add-reach.ensures))) c.in-None.ensures.left;
-      sums = c.requires.known.sums;
+      sums = c.requires.sums;
       less = omega arith;
       lower = λ k. omega arith;
     }

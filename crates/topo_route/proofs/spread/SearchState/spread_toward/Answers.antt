@@ -31,9 +31,9 @@ loop-dart-init g c =
     let now = c.args.self.now in
     record {
       spreads = narrowed seen.price seen.named seen.face seen.faces c.args.v now.heights now.names.items now.waiting (λ k. reach_of c.args.least.now)
-          (top_of_bound bound c.args.least.now) (reach_of c.args.least.now) (reach_of c.args.least.now) seen.named.size c.requires.known.spreads
+          (top_of_bound bound c.args.least.now) (reach_of c.args.least.now) (reach_of c.args.least.now) seen.named.size c.requires.spreads
           (λ k. omega arith) (omega arith);
-      sums = c.requires.known.sums;
+      sums = c.requires.sums;
       less = omega arith;
       lower = λ k. omega arith;
     }
