@@ -13,6 +13,7 @@ pub mod Potentials
 pub mod PricedFaces
 pub mod RegionEvidence
 pub mod Regions
+pub mod Searches
 pub mod Seen
 pub mod Settling
 pub mod StampedArrays

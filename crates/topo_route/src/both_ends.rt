@@ -1,8 +1,8 @@
 //! The search from both ends.
 
 ghost use Rattle.std.specs.Prelude.{◌≡◌, [], IfOk, OnOk};
-ghost use Rattle.topo_route.specs.PricedFaces.{BothMeet, HasLeastHeights, HasPrices, KeepsPrices};
-ghost use Rattle.topo_route.specs.PricedFaces.{SpreadsFrom, priced_faces};
+ghost use Rattle.topo_route.specs.Searches.{BothMeet, HasLeastHeights, HasPrices, KeepsPrices};
+ghost use Rattle.topo_route.specs.Searches.{SpreadsFrom, priced_faces};
 
 use crate::face_graph::FaceGraph;
 use crate::priced_graph::PricedGraph;

@@ -10,8 +10,9 @@ ghost use Rattle.topo_route.specs.Descents.{HasNoEnd, HasNoStart, IsDescent};
 ghost use Rattle.topo_route.specs.Descents.{IsEnd, IsFirstOf, IsFirstTight, IsStart};
 ghost use Rattle.topo_route.specs.Names.{IsName, dart_named, height_of};
 ghost use Rattle.topo_route.specs.Plans.{HasNoneBefore, IsLeastAt};
-ghost use Rattle.topo_route.specs.PricedFaces.{HasHeights, KnowsUpTo};
-ghost use Rattle.topo_route.specs.PricedFaces.{heights_on, heights_over, priced_faces};
+ghost use Rattle.topo_route.specs.PricedFaces.{heights_over};
+ghost use Rattle.topo_route.specs.Searches.{HasHeights, KnowsUpTo};
+ghost use Rattle.topo_route.specs.Searches.{heights_on, priced_faces};
 
 use crate::face_graph::FaceGraph;
 use crate::priced_graph::PricedGraph;

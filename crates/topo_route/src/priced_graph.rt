@@ -7,7 +7,7 @@ ghost use Rattle.topo_price.specs.Prices.{prices_of};
 ghost use Rattle.topo_route.specs.EachOnce.{AreAsked, IsEachAskedOnce};
 ghost use Rattle.topo_route.specs.Names.{IsName, dart_named};
 ghost use Rattle.topo_route.specs.Numbers.{IsPriceAt, IsPriceFor};
-ghost use Rattle.topo_route.specs.PricedFaces.{KeepsPrices, priced_faces};
+ghost use Rattle.topo_route.specs.Searches.{KeepsPrices, priced_faces};
 ghost use Rattle.topo_route.specs.Settling.{ArePrices};
 
 use crate::dual::Dual;

@@ -6,8 +6,9 @@ ghost use Rattle.topo_core.specs.Routes.{HasNoRoute, IsFirst, KeepsPromise};
 ghost use Rattle.topo_price.specs.Prices.{prices_of};
 ghost use Rattle.topo_route.specs.Descents.{AreHeightsFor, IsFirstRoute};
 ghost use Rattle.topo_route.specs.Plans.{IsPlan};
-ghost use Rattle.topo_route.specs.PricedFaces.{HasHeights, HasStopped, KeepsPrices, heights_on};
-ghost use Rattle.topo_route.specs.PricedFaces.{heights_over, priced_faces};
+ghost use Rattle.topo_route.specs.PricedFaces.{heights_over};
+ghost use Rattle.topo_route.specs.Searches.{HasHeights, HasStopped, KeepsPrices, heights_on};
+ghost use Rattle.topo_route.specs.Searches.{priced_faces};
 ghost use Rattle.topo_route.specs.Regions.{IsFirstWhileKept, IsRegionOf};
 ghost use Rattle.topo_route.specs.Seen.{RestsOn};
 

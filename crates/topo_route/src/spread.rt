@@ -6,10 +6,11 @@ ghost use Rattle.topo_core.specs.Routes.{unreached};
 ghost use Rattle.topo_route.specs.Names.{height_of};
 ghost use Rattle.topo_route.specs.Plans.{IsZeroAt};
 ghost use Rattle.topo_route.specs.Potentials.{bound_by};
-ghost use Rattle.topo_route.specs.PricedFaces.{AreLeft, AreOfDarts, GoesOn, IsInHand, IsSearch};
-ghost use Rattle.topo_route.specs.PricedFaces.{IsSpread, IsTaken, KeepsPrices, LeadsBeyond, Lowers};
-ghost use Rattle.topo_route.specs.PricedFaces.{NoneWaits, RelaxesFrom, RelaxesTwin, Settles};
-ghost use Rattle.topo_route.specs.PricedFaces.{heights_on, heights_over, priced_faces, top_toward};
+ghost use Rattle.topo_route.specs.PricedFaces.{heights_over};
+ghost use Rattle.topo_route.specs.Searches.{AreLeft, AreOfDarts, GoesOn, IsInHand, IsSearch};
+ghost use Rattle.topo_route.specs.Searches.{IsSpread, IsTaken, KeepsPrices, LeadsBeyond, Lowers};
+ghost use Rattle.topo_route.specs.Searches.{NoneWaits, RelaxesFrom, RelaxesTwin, Settles};
+ghost use Rattle.topo_route.specs.Searches.{heights_on, priced_faces, top_toward};
 ghost use Rattle.topo_route.specs.Settling.{effort, reach_of, top_of};
 ghost use Rattle.topo_route.specs.StampedArrays.{height_limit};
 

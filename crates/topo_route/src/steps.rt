@@ -8,7 +8,7 @@ ghost use Rattle.topo_core.specs.Systems.{SameFace};
 ghost use Rattle.topo_price.specs.Prices.{prices_of};
 ghost use Rattle.topo_route.specs.Names.{IsName, dart_named, next_name, twin_name};
 ghost use Rattle.topo_route.specs.Numbers.{IsPriceFor};
-ghost use Rattle.topo_route.specs.PricedFaces.{heights_on};
+ghost use Rattle.topo_route.specs.Searches.{heights_on};
 ghost use Rattle.topo_core.specs.declared.rows.TheConstants.{MAX_PRICE};
 
 use crate::face_graph::FaceGraph;

@@ -2,7 +2,7 @@
 
 ghost use Rattle.std.specs.Prelude.{◌≡◌, ◌<◌, [], IfOk, length};
 ghost use Rattle.topo_core.specs.Picture.{darts};
-ghost use Rattle.topo_route.specs.PricedFaces.{HasPrices, priced_faces};
+ghost use Rattle.topo_route.specs.Searches.{HasPrices, priced_faces};
 
 use crate::both_ends::least_heights;
 use crate::face_graph::FaceGraph;

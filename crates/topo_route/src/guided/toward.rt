@@ -8,7 +8,8 @@ ghost use Rattle.topo_core.specs.declared.rows.TheConstants.{KINDS};
 ghost use Rattle.topo_price.specs.Prices.{prices_of};
 ghost use Rattle.topo_route.specs.Descents.{AreHeightsFor};
 ghost use Rattle.topo_route.specs.Potentials.{IsOfGuide};
-ghost use Rattle.topo_route.specs.PricedFaces.{HasPrices, heights_over, priced_faces};
+ghost use Rattle.topo_route.specs.PricedFaces.{heights_over};
+ghost use Rattle.topo_route.specs.Searches.{HasPrices, priced_faces};
 
 use crate::both_ends::start_both;
 use crate::face_graph::FaceGraph;

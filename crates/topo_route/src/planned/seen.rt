@@ -3,7 +3,7 @@
 ghost use Rattle.std.specs.Prelude.{◌≡◌, ◌<◌, ◌≤◌, ℕ, IfOk, IfSome, IsSomeAnd, OnOk, true};
 ghost use Rattle.topo_core.specs.Routes.{unreached};
 ghost use Rattle.topo_route.specs.Names.{IsName, dart_named};
-ghost use Rattle.topo_route.specs.PricedFaces.{HasStopped, HoldsFaces, IsLabelled, heights_on};
+ghost use Rattle.topo_route.specs.Searches.{HasStopped, HoldsFaces, IsLabelled, heights_on};
 ghost use Rattle.topo_route.specs.Regions.{IsRegionOf, holds_edge};
 ghost use Rattle.topo_route.specs.Seen.{HoldsBelow, HoldsMore};
 

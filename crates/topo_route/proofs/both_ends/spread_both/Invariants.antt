@@ -1,5 +1,5 @@
 use Rattle.std.proofs.Common.{◌+◌}
-use Rattle.topo_route.specs.PricedFaces.{SpreadsFrom, priced_faces}
+use Rattle.topo_route.specs.Searches.{SpreadsFrom, priced_faces}
 use Rattle.topo_route.specs.Settling.{effort}
 use Rattle.topo_route.proofs.both_ends.spread_both.Given as goal
 

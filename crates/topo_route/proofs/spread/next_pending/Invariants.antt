@@ -1,7 +1,7 @@
 use Rattle.std.proofs.Common.{◌≡◌, ◌<◌, ◌≤◌, ◌^◌, ℕ, length}
 use Rattle.std.specs.Prelude.{slice_index}
 use Rattle.topo_route.specs.Names.{IsName}
-use Rattle.topo_route.specs.PricedFaces.{AreLeft, heights_on}
+use Rattle.topo_route.specs.Searches.{AreLeft, heights_on}
 use Rattle.topo_route.specs.Settling.{is_pending, top_of}
 use Rattle.topo_route.proofs.spread.next_pending.Given as goal
 

@@ -1,7 +1,7 @@
 use Rattle.std.proofs.Common.{◌≡◌, ◌<◌, ◌≤◌, ◌^◌, ℕ, length}
 use Rattle.std.specs.Prelude.{slice_index}
 use Rattle.topo_route.specs.Names.{IsName}
-use Rattle.topo_route.specs.PricedFaces.{AreLeft, heights_on, top_toward}
+use Rattle.topo_route.specs.Searches.{AreLeft, heights_on, top_toward}
 use Rattle.topo_route.specs.Settling.{is_pending}
 use Rattle.topo_route.proofs.spread.next_toward.Given as goal
 

@@ -2,7 +2,8 @@ use Rattle.std.proofs.Common.{◌≡◌, ◌<◌, ℕ}
 use Rattle.std.specs.Prelude.{slice_index}
 use Rattle.topo_core.specs.Cycles.{after}
 use Rattle.topo_route.specs.Names.{IsName, next_name}
-use Rattle.topo_route.specs.PricedFaces.{RelaxesFrom, heights_over, priced_faces}
+use Rattle.topo_route.specs.PricedFaces.{heights_over}
+use Rattle.topo_route.specs.Searches.{RelaxesFrom, priced_faces}
 use Rattle.topo_route.specs.Settling.{IsCrossed, reach_of}
 use Rattle.topo_route.proofs.spread.SearchState.relax_face.Given as goal
 

@@ -1,5 +1,6 @@
 use Rattle.std.specs.Prelude.{min}
-use Rattle.topo_route.specs.PricedFaces.{GoesOn, heights_over, priced_faces}
+use Rattle.topo_route.specs.PricedFaces.{heights_over}
+use Rattle.topo_route.specs.Searches.{GoesOn, priced_faces}
 use Rattle.topo_route.specs.Settling.{effort, top_of}
 use Rattle.topo_route.proofs.spread.SearchState.spread.Given as goal
 

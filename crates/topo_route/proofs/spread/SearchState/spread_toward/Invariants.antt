@@ -1,4 +1,4 @@
-use Rattle.topo_route.specs.PricedFaces.{GoesOn, priced_faces, top_toward}
+use Rattle.topo_route.specs.Searches.{GoesOn, priced_faces, top_toward}
 use Rattle.topo_route.specs.Settling.{effort}
 use Rattle.topo_route.proofs.spread.SearchState.spread_toward.Given as goal
 

@@ -2,7 +2,8 @@ use Rattle.std.proofs.Common.{◌≡◌, ◌<◌, ℕ, Some}
 use Rattle.topo_core.specs.declared.darts.Dart.{Dart}
 use Rattle.topo_core.specs.Picture.{corner}
 use Rattle.topo_route.specs.Names.{height_of}
-use Rattle.topo_route.specs.PricedFaces.{RelaxesFrom, heights_over, priced_faces}
+use Rattle.topo_route.specs.PricedFaces.{heights_over}
+use Rattle.topo_route.specs.Searches.{RelaxesFrom, priced_faces}
 use Rattle.topo_route.proofs.spread.SearchState.start_at.Given as goal
 
 abbrev pub invariant-loop-position : goal.invariant-loop-position
