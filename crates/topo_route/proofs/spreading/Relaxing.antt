@@ -1,5 +1,5 @@
 -- Steps of a search: a twin whose face is lowered and waits, and the face that is put down.
-use Rattle.std.proofs.Common.{◌≡◌, ◌≢◌, ℕ, ◌+◌, ◌^◌, ◌<◌, ◌≤◌, ◌||◌, ◌==◌, true, List, [], length, Some, inl, inr, refl, sym, ap, subst, ◌∙◌, arith}
+use Rattle.std.proofs.Common.{◌≡◌, ◌≢◌, ℕ, ◌+◌, ◌^◌, ◌<◌, ◌≤◌, ◌||◌, ◌==◌, List, [], length, Some, inl, inr, refl, sym, ap, subst, ◌∙◌, arith}
 use Rattle.std.specs.Prelude.{min, slice_index}
 use Rattle.std.proofs.Math.ListN.{set}
 use Rattle.std.proofs.lemmas.Bool.{cases_lt}
@@ -10,6 +10,7 @@ use Rattle.topo_core.specs.Routes.{KeepsPromise, Price, Reaches}
 use Rattle.topo_route.specs.FaceHeights.{with_name}
 use Rattle.topo_route.specs.Names.{IsName, dart_named, height_of, next_name, twin_name}
 use Rattle.topo_route.specs.PricedFaces.{AreFaces, PricedFaces, heights_over}
+use Rattle.topo_route.specs.Searches.{AreLeft}
 use Rattle.topo_route.specs.Settling.{AreFaceCosts, AreLowered, AreSums, IsCrossed, IsReached}
 use Rattle.topo_route.specs.Settling.{Relaxes, Spreads, is_pending, is_waiting, item_of, number_at, reach_of}
 use Rattle.topo_route.proofs.spreading.Crossings.{twin_costs, twin_waits}
@@ -212,7 +213,7 @@ module _ (seen : PricedFaces) (laws : AreFaces seen) (v : ℕ)
       → Spreads seen v top (reach_of l) hs ns ws seen.named.size → IsName seen.named d
       → ((k : ℕ) → k < 2 ^ 32 → IsName seen.named k → slice_index (heights_over seen hs) k < top k → k ≢ d
       → is_pending (heights_over seen hs) after k ≡ is_pending (heights_over seen hs) ws k)
-      → ((item : ℕ) → is_waiting after item ≡ true → is_waiting ws item ≡ true) → Relaxes seen v others hs ns after l d hs' ns' ws' l' seen.named.size
+      → AreLeft ws after → Relaxes seen v others hs ns after l d hs' ns' ws' l' seen.named.size
       → ((k : ℕ) → lower k ≤ top k)
       → Spreads seen v lower (reach_of l') hs' ns' ws' seen.named.size
   taken_relaxes top lower {hs} {ns} {ws} {after} {l} {d} {hs'} {ns'} {ws'} {l'} small even spreads there same fewer relaxes low =

@@ -12,6 +12,7 @@ use Rattle.topo_route.specs.FaceHeights.{AreLabelled, with_name}
 use Rattle.topo_route.specs.Names.{HasFaces, IsName, IsNamed, Named, dart_named, height_of, next_name, twin_name}
 use Rattle.topo_route.specs.Plans.{IsZeroAt}
 use Rattle.topo_route.specs.PricedFaces.{AreFaces, PricedFaces, heights_over}
+use Rattle.topo_route.specs.Searches.{AreLeft, NoneWaits}
 use Rattle.topo_route.specs.Settling.{AreCosts, AreFaceCosts, AreLowered, IsReached, IsSettled}
 use Rattle.topo_route.specs.Settling.{Spreads, dart_of_item, effort, is_pending, is_waiting, item_of, reached}
 use Rattle.topo_route.proofs.spreading.FaceHeights.{dart_capped, face_less, face_lowered, face_other, height_by_face, one_for_each, one_height, reached_named}
@@ -268,7 +269,7 @@ module _ (seen : PricedFaces) (v : ℕ) (heights names waiting : List ℕ) where
     -- a face is taken from those that wait
     pub taken_up : (left : List ℕ) (d : ℕ) → IsName seen.named d
         → ((k : ℕ) → k < 2 ^ 32 → IsName seen.named k → slice_index high k < top k → k ≢ d → is_pending high left k ≡ is_pending high waiting k)
-        → ((item : ℕ) → is_waiting left item ≡ true → is_waiting waiting item ≡ true) → Spreads seen v top reach heights names left d
+        → AreLeft waiting left → Spreads seen v top reach heights names left d
     taken_up left d there same fewer = record {
       costs = spreads.costs;
       others = λ k l ne less idle.
@@ -280,15 +281,14 @@ module _ (seen : PricedFaces) (v : ℕ) (heights names waiting : List ℕ) where
     }
 
     -- none waits with its height, so all below their tops are settled
-    pub all_settled : ((k : ℕ) → k < 2 ^ 32 → IsName seen.named k → slice_index high k < top k → is_pending high waiting k ≡ false)
+    pub all_settled : NoneWaits seen.named high top waiting
         → (k : ℕ) → IsName seen.named k → slice_index high k < top k → IsSettled seen.price seen.named reach high k
     all_settled none k l less =
         spreads.others k l (λ none. absurd (omega arith)) less
         (λ j lj e. let below = name_below seen.named has j lj in none j (omega arith) lj (below_top j k lj l e less))
 
     -- and whatever is left of it still spreads
-    pub emptied : (left : List ℕ) → ((k : ℕ) → k < 2 ^ 32 → IsName seen.named k → slice_index high k < top k → is_pending high waiting k ≡ false)
-        → ((item : ℕ) → is_waiting left item ≡ true → is_waiting waiting item ≡ true)
+    pub emptied : (left : List ℕ) → NoneWaits seen.named high top waiting → AreLeft waiting left
         → Spreads seen v top reach heights names left seen.named.size
     emptied left none fewer = record {
       costs = spreads.costs;
