@@ -12,3 +12,4 @@ pub mod Crossings
 pub mod Unreached
 pub mod FaceWalks
 pub mod Pending
+pub mod Shown

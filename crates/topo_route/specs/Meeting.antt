@@ -2,9 +2,9 @@
 use Rattle.std.specs.Prelude.{ℕ, ◌+◌, ◌<◌, ◌≤◌, List, slice_index}
 use Rattle.topo_core.specs.declared.routes.Route.{Route}
 use Rattle.topo_core.specs.Routes.{IsPricedRoute, Pricing, unreached}
-use Rattle.topo_route.specs.FaceHeights.{dart_heights}
 use Rattle.topo_route.specs.Names.{IsName, Named, height_of}
 use Rattle.topo_route.specs.Plans.{IsZeroAt}
+use Rattle.topo_route.specs.PricedFaces.{PricedFaces, heights_over}
 use Rattle.topo_route.specs.Settling.{AreCosts, AreSums, IsSettled, SpreadsTo, reach_of}
 
 -- Heights are costs of walks to v and distances costs of walks to u, which are those from u, since a segment costs the same
@@ -25,13 +25,13 @@ pub record Meets (price : Pricing) (g : Named) (u v : ℕ) (heights distances : 
   pub route : (r : Route) × IsPricedRoute price g.rows u v r least
 
 -- heights spread from v and distances from u, as far as the least sum of the two reaches
-pub record SpreadsBoth (price : Pricing) (g : Named) (face : ℕ → ℕ) (faces u v : ℕ) (heights names waiting distances names' coming : List ℕ)
+pub record SpreadsBoth (seen : PricedFaces) (u v : ℕ) (heights names waiting distances names' coming : List ℕ)
     (least : ℕ) : Type 0 where
-  pub on : SpreadsTo price g face faces v (reach_of least) heights names waiting
-  pub back : SpreadsTo price g face faces u (reach_of least) distances names' coming
-  pub sums : AreSums g (dart_heights g face heights) (dart_heights g face distances) least
-  pub at_target : IsZeroAt g.rows v (height_of g (dart_heights g face heights))
-  pub at_start : IsZeroAt g.rows u (height_of g (dart_heights g face distances))
+  pub on : SpreadsTo seen v (reach_of least) heights names waiting
+  pub back : SpreadsTo seen u (reach_of least) distances names' coming
+  pub sums : AreSums seen.named (heights_over seen heights) (heights_over seen distances) least
+  pub at_target : IsZeroAt seen.named.rows v (height_of seen.named (heights_over seen heights))
+  pub at_start : IsZeroAt seen.named.rows u (height_of seen.named (heights_over seen distances))
 
 -- Where the two ends have met, the level is no higher than the least price, unless that is 0.
 pub record HasMet (price : Pricing) (g : Named) (u v : ℕ) (heights distances : List ℕ) (level least : ℕ) : Type 0 where

@@ -5,9 +5,10 @@ use Rattle.std.specs.List.{list_any}
 use Rattle.topo_core.specs.declared.rows.Rows.{Rows}
 use Rattle.topo_core.specs.Picture.{darts}
 use Rattle.topo_core.specs.Routes.{KeepsPromise, Price, Pricing, Reaches, unreached}
-use Rattle.topo_route.specs.FaceHeights.{AreLabelled, dart_heights}
+use Rattle.topo_route.specs.FaceHeights.{AreLabelled}
 use Rattle.topo_route.specs.Names.{IsName, Named, dart_named, next_name, twin_name}
 use Rattle.topo_route.specs.Numbers.{IsPriceAt, IsPriceFor}
+use Rattle.topo_route.specs.PricedFaces.{PricedFaces, heights_over}
 
 -- ---- Prices
 
@@ -54,11 +55,11 @@ pub record AreCosts (price : Pricing) (g : Named) (v : ℕ) (heights : List ℕ)
   pub bounded : (k : ℕ) → IsName g k → slice_index heights k ≢ unreached → slice_index heights k ≤ 4294967296000
 
 -- Heights of faces, of which each dart has that of its face. They are no higher than 1000 for each face that has been reached.
-pub record AreFaceCosts (price : Pricing) (g : Named) (face : ℕ → ℕ) (faces v : ℕ) (heights names : List ℕ) : Type 0 where
-  pub labelled : AreLabelled g face faces heights names
+pub record AreFaceCosts (seen : PricedFaces) (v : ℕ) (heights names : List ℕ) : Type 0 where
+  pub labelled : AreLabelled seen.named seen.face seen.faces heights names
   pub capped : (f : ℕ) → slice_index heights f ≤ unreached
-  pub bounded : (f : ℕ) → f < faces → slice_index heights f ≢ unreached → slice_index heights f ≤ 1000 * reached heights
-  pub costs : AreCosts price g v (dart_heights g face heights)
+  pub bounded : (f : ℕ) → f < seen.faces → slice_index heights f ≢ unreached → slice_index heights f ≤ 1000 * reached heights
+  pub costs : AreCosts seen.price seen.named v (heights_over seen heights)
 
 -- where the dart has a price, its twin stands no higher above it than that, as far as the bound
 abbrev pub IsCrossed : Pricing → Named → ℕ → List ℕ → ℕ → Type 0
@@ -75,17 +76,17 @@ IsReached g heights k = IsName g k × (slice_index heights k ≢ unreached)
 
 -- Heights are costs. Each dart lower than its top is settled as far as the reach, but where its face is that in hand or one of the face's
 -- darts waits with its height. What waits is of darts that have been reached, and may be of a height from before.
-pub record Spreads (price : Pricing) (g : Named) (face : ℕ → ℕ) (faces v : ℕ) (top : ℕ → ℕ) (reach : ℕ) (heights names waiting : List ℕ)
+pub record Spreads (seen : PricedFaces) (v : ℕ) (top : ℕ → ℕ) (reach : ℕ) (heights names waiting : List ℕ)
     (in_hand : ℕ) : Type 0 where
-  pub costs : AreFaceCosts price g face faces v heights names
-  pub others : (k : ℕ) → IsName g k → (in_hand < g.size → face k ≢ face in_hand) → slice_index (dart_heights g face heights) k < top k
-      → ((j : ℕ) → IsName g j → face j ≡ face k → is_pending (dart_heights g face heights) waiting j ≡ false)
-      → IsSettled price g reach (dart_heights g face heights) k
-  pub reached_waits : (item : ℕ) → is_waiting waiting item ≡ true → IsReached g (dart_heights g face heights) (dart_of_item item)
+  pub costs : AreFaceCosts seen v heights names
+  pub others : (k : ℕ) → IsName seen.named k → (in_hand < seen.named.size → seen.face k ≢ seen.face in_hand) → slice_index (heights_over seen heights) k < top k
+      → ((j : ℕ) → IsName seen.named j → seen.face j ≡ seen.face k → is_pending (heights_over seen heights) waiting j ≡ false)
+      → IsSettled seen.price seen.named reach (heights_over seen heights) k
+  pub reached_waits : (item : ℕ) → is_waiting waiting item ≡ true → IsReached seen.named (heights_over seen heights) (dart_of_item item)
 
 -- all darts lower than the reach are settled or wait
-abbrev pub SpreadsTo : Pricing → Named → (ℕ → ℕ) → ℕ → ℕ → ℕ → List ℕ → List ℕ → List ℕ → Type 0
-SpreadsTo price g face faces v reach heights names waiting = Spreads price g face faces v (λ k. reach) reach heights names waiting g.size
+abbrev pub SpreadsTo : PricedFaces → ℕ → ℕ → List ℕ → List ℕ → List ℕ → Type 0
+SpreadsTo seen v reach heights names waiting = Spreads seen v (λ k. reach) reach heights names waiting seen.named.size
 
 -- ---- Heights from two ends
 
@@ -115,12 +116,12 @@ abbrev pub effort : List ℕ → List ℕ → ℕ
 effort heights waiting = sum_by (λ h. h) heights + length waiting
 
 -- One step of a search, or more: heights that spread below any tops still do, with another dart in hand
-pub record Relaxes (price : Pricing) (g : Named) (face : ℕ → ℕ) (faces v : ℕ) (others heights names waiting : List ℕ) (least in_hand : ℕ)
+pub record Relaxes (seen : PricedFaces) (v : ℕ) (others heights names waiting : List ℕ) (least in_hand : ℕ)
     (heights' names' waiting' : List ℕ) (least' in_hand' : ℕ) : Type 0 where
-  pub spreads : (top : ℕ → ℕ) → Spreads price g face faces v top (reach_of least) heights names waiting in_hand
-      → Spreads price g face faces v top (reach_of least') heights' names' waiting' in_hand'
-  pub costs : AreFaceCosts price g face faces v heights' names'
-  pub sums : AreSums g (dart_heights g face heights') (dart_heights g face others) least'
+  pub spreads : (top : ℕ → ℕ) → Spreads seen v top (reach_of least) heights names waiting in_hand
+      → Spreads seen v top (reach_of least') heights' names' waiting' in_hand'
+  pub costs : AreFaceCosts seen v heights' names'
+  pub sums : AreSums seen.named (heights_over seen heights') (heights_over seen others) least'
   pub less : least' ≤ least
   pub falls : effort heights' waiting' ≤ effort heights waiting
-  pub lower : AreLowered (dart_heights g face heights) (dart_heights g face heights')
+  pub lower : AreLowered (heights_over seen heights) (heights_over seen heights')

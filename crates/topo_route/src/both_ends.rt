@@ -1,14 +1,8 @@
 //! The search from both ends.
 
-ghost use Rattle.std.specs.Prelude.{◌≡◌, ◌<◌, ◌≤◌, [], ℕ, IfOk, OnOk, length, slice_index};
-ghost use Rattle.topo_core.specs.Picture.{darts};
-ghost use Rattle.topo_core.specs.Routes.{unreached};
-ghost use Rattle.topo_price.specs.Prices.{prices_of};
-ghost use Rattle.topo_route.specs.Descents.{AreHeightsFor};
-ghost use Rattle.topo_route.specs.FaceHeights.{AreLabelled, dart_heights};
-ghost use Rattle.topo_route.specs.Meeting.{HasMet, SpreadsBoth};
-ghost use Rattle.topo_route.specs.Plans.{AreHeights};
-ghost use Rattle.topo_route.specs.Settling.{ArePrices};
+ghost use Rattle.std.specs.Prelude.{◌≡◌, [], IfOk, OnOk};
+ghost use Rattle.topo_route.specs.Searches.{BothMeet, HasLeastHeights, HasPrices, KeepsPrices};
+ghost use Rattle.topo_route.specs.Searches.{SpreadsFrom, priced_faces};
 
 use crate::face_graph::FaceGraph;
 use crate::priced_graph::PricedGraph;
@@ -37,11 +31,8 @@ pub(crate) fn start_both<W: FaceGraph, F: PriceFn>(
     u: u32,
     v: u32,
 ) -> Result<u64, AllocError>
-    ensures { IfOk result (λ least. SpreadsBoth (prices_of (F.may_return priced.now.tariff.now))
-        (W.named priced.now.graph.now) (W.face_of priced.now.graph.now)
-        (W.face_bound priced.now.graph.now) u v work.new.to_end.heights work.new.to_end.names.items
-        work.new.to_end.waiting work.new.to_start.heights work.new.to_start.names.items
-        work.new.to_start.waiting least) }
+    ensures { IfOk result
+        (SpreadsFrom (priced_faces W.FaceGraph F.PriceFn priced.now) u v work.new) }
 {
     let faces = priced.graph.faces() as usize;
     work.to_end.clear(faces)?;
@@ -65,18 +56,11 @@ fn spread_both<W: FaceGraph, F: PriceFn>(
     u: u32,
     v: u32,
 ) -> Result<u64, AllocError>
-    requires right { ArePrices (prices_of (F.may_return priced.now.tariff.now))
-        (W.named priced.now.graph.now) priced.now.prices.items }
-    requires both { SpreadsBoth (prices_of (F.may_return priced.now.tariff.now))
-        (W.named priced.now.graph.now) (W.face_of priced.now.graph.now)
-        (W.face_bound priced.now.graph.now) u v work.old.to_end.heights work.old.to_end.names.items
-        work.old.to_end.waiting work.old.to_start.heights work.old.to_start.names.items
-        work.old.to_start.waiting least.old }
-    ensures { IfOk result (λ _. SpreadsBoth (prices_of (F.may_return priced.now.tariff.now))
-        (W.named priced.now.graph.now) (W.face_of priced.now.graph.now)
-        (W.face_bound priced.now.graph.now) u v work.new.to_end.heights work.new.to_end.names.items
-        work.new.to_end.waiting work.new.to_start.heights work.new.to_start.names.items
-        work.new.to_start.waiting least.new) }
+    requires right { KeepsPrices (priced_faces W.FaceGraph F.PriceFn priced.now) }
+    requires both { SpreadsFrom (priced_faces W.FaceGraph F.PriceFn priced.now)
+        u v work.old least.old }
+    ensures { IfOk result (λ _.
+        SpreadsFrom (priced_faces W.FaceGraph F.PriceFn priced.now) u v work.new least.new) }
 {
     let mut level = 0;
     let mut far = 0u64;
@@ -114,29 +98,10 @@ fn finish<W: FaceGraph, F: PriceFn>(
     v: u32,
     level: u64,
 ) -> Result<Stop, AllocError>
-    requires right { ArePrices (prices_of (F.may_return priced.now.tariff.now))
-        (W.named priced.now.graph.now) priced.now.prices.items }
-    requires some { 0 < length (darts (W.named priced.now.graph.now).rows) }
-    requires both { SpreadsBoth (prices_of (F.may_return priced.now.tariff.now))
-        (W.named priced.now.graph.now) (W.face_of priced.now.graph.now)
-        (W.face_bound priced.now.graph.now) u v work.old.to_end.heights work.old.to_end.names.items
-        work.old.to_end.waiting work.old.to_start.heights work.old.to_start.names.items
-        work.old.to_start.waiting least }
-    ensures heights { OnOk result (AreHeightsFor (prices_of (F.may_return priced.now.tariff.now))
-        (W.named priced.now.graph.now) u v (dart_heights (W.named priced.now.graph.now)
-        (W.face_of priced.now.graph.now) work.new.to_end.heights)) }
-    ensures met { IfOk result (λ stop. HasMet (prices_of (F.may_return priced.now.tariff.now))
-        (W.named priced.now.graph.now) u v
-        (dart_heights (W.named priced.now.graph.now) (W.face_of priced.now.graph.now)
-        work.new.to_end.heights) (dart_heights (W.named priced.now.graph.now)
-        (W.face_of priced.now.graph.now) work.new.to_start.heights) stop.level stop.least) }
-    ensures to_end { OnOk result
-        (AreLabelled (W.named priced.now.graph.now) (W.face_of priced.now.graph.now)
-        (W.face_bound priced.now.graph.now) work.new.to_end.heights work.new.to_end.names.items) }
-    ensures to_start { OnOk result
-        (AreLabelled (W.named priced.now.graph.now) (W.face_of priced.now.graph.now)
-        (W.face_bound priced.now.graph.now)
-        work.new.to_start.heights work.new.to_start.names.items) }
+    requires priced { HasPrices (priced_faces W.FaceGraph F.PriceFn priced.now) }
+    requires both { SpreadsFrom (priced_faces W.FaceGraph F.PriceFn priced.now) u v work.old least }
+    ensures { IfOk result
+        (BothMeet (priced_faces W.FaceGraph F.PriceFn priced.now) u v work.new) }
 {
     let reach = least.saturating_add(1);
     let level = level.clamp(1, least.clamp(1, MAX_HEIGHT_SUM));
@@ -169,24 +134,9 @@ pub(crate) fn heights_for<W: FaceGraph, F: PriceFn>(
     v: u32,
     work: &mut Workspace,
 ) -> Result<Stop, AllocError>
-    requires right { ArePrices (prices_of (F.may_return priced.now.tariff.now))
-        (W.named priced.now.graph.now) priced.now.prices.items }
-    requires some { 0 < length (darts (W.named priced.now.graph.now).rows) }
-    ensures heights { OnOk result (AreHeightsFor (prices_of (F.may_return priced.now.tariff.now))
-        (W.named priced.now.graph.now) u v (dart_heights (W.named priced.now.graph.now)
-        (W.face_of priced.now.graph.now) work.new.to_end.heights)) }
-    ensures met { IfOk result (λ stop. HasMet (prices_of (F.may_return priced.now.tariff.now))
-        (W.named priced.now.graph.now) u v
-        (dart_heights (W.named priced.now.graph.now) (W.face_of priced.now.graph.now)
-        work.new.to_end.heights) (dart_heights (W.named priced.now.graph.now)
-        (W.face_of priced.now.graph.now) work.new.to_start.heights) stop.level stop.least) }
-    ensures to_end { OnOk result
-        (AreLabelled (W.named priced.now.graph.now) (W.face_of priced.now.graph.now)
-        (W.face_bound priced.now.graph.now) work.new.to_end.heights work.new.to_end.names.items) }
-    ensures to_start { OnOk result
-        (AreLabelled (W.named priced.now.graph.now) (W.face_of priced.now.graph.now)
-        (W.face_bound priced.now.graph.now)
-        work.new.to_start.heights work.new.to_start.names.items) }
+    requires { HasPrices (priced_faces W.FaceGraph F.PriceFn priced.now) }
+    ensures { IfOk result
+        (BothMeet (priced_faces W.FaceGraph F.PriceFn priced.now) u v work.new) }
 {
     let mut least = start_both(priced, work, u, v)?;
     let level = spread_both(priced, work, &mut least, u, v)?;
@@ -199,18 +149,10 @@ pub(crate) fn least_heights<W: FaceGraph, F: PriceFn>(
     v: u32,
     work: &mut Workspace,
 ) -> Result<(), AllocError>
-    requires right { ArePrices (prices_of (F.may_return priced.now.tariff.now))
-        (W.named priced.now.graph.now) priced.now.prices.items }
-    requires some { 0 < length (darts (W.named priced.now.graph.now).rows) }
+    requires priced { HasPrices (priced_faces W.FaceGraph F.PriceFn priced.now) }
     requires alone { work.old.to_start.heights ≡ [] }
-    ensures are_heights { OnOk result (AreHeights (prices_of (F.may_return priced.now.tariff.now))
-        (W.named priced.now.graph.now) v (dart_heights (W.named priced.now.graph.now)
-        (W.face_of priced.now.graph.now) work.new.to_end.heights)) }
-    ensures in_range { OnOk result
-        ((k : ℕ) → slice_index (dart_heights (W.named priced.now.graph.now)
-        (W.face_of priced.now.graph.now) work.new.to_end.heights) k ≤ unreached) }
-    ensures one_each { OnOk result
-        (length work.new.to_end.heights ≡ W.face_bound priced.now.graph.now) }
+    ensures heights { OnOk result
+        (HasLeastHeights (priced_faces W.FaceGraph F.PriceFn priced.now) v work.new.to_end.heights) }
     ensures alone { work.new.to_start.heights ≡ [] }
 {
     let faces = priced.graph.faces();

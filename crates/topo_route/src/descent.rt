@@ -6,13 +6,13 @@ ghost use Rattle.topo_core.specs.declared.darts.Dart.{Dart};
 ghost use Rattle.topo_core.specs.Picture.{corner};
 ghost use Rattle.topo_core.specs.RouteLaws.{IsTight};
 ghost use Rattle.topo_core.specs.Routes.{unreached};
-ghost use Rattle.topo_price.specs.Prices.{prices_of};
-ghost use Rattle.topo_route.specs.Descents.{AreHeightsUpTo, HasNoEnd, HasNoStart, IsDescent};
+ghost use Rattle.topo_route.specs.Descents.{HasNoEnd, HasNoStart, IsDescent};
 ghost use Rattle.topo_route.specs.Descents.{IsEnd, IsFirstOf, IsFirstTight, IsStart};
-ghost use Rattle.topo_route.specs.FaceHeights.{dart_heights};
 ghost use Rattle.topo_route.specs.Names.{IsName, dart_named, height_of};
 ghost use Rattle.topo_route.specs.Plans.{HasNoneBefore, IsLeastAt};
-ghost use Rattle.topo_route.specs.Settling.{ArePrices};
+ghost use Rattle.topo_route.specs.PricedFaces.{heights_over};
+ghost use Rattle.topo_route.specs.Searches.{HasHeights, KnowsUpTo};
+ghost use Rattle.topo_route.specs.Searches.{heights_on, priced_faces};
 
 use crate::face_graph::FaceGraph;
 use crate::priced_graph::PricedGraph;
@@ -28,10 +28,9 @@ pub(crate) fn least_corner<W: FaceGraph>(graph: &W, u: u32, heights: &StampedArr
     requires { length heights.now ≡ W.face_bound graph.now }
     ensures low { (p : ℕ) → (c : Dart) → corner (W.named graph.now).rows u p ≡ Some c
         → result ≤ height_of (W.named graph.now)
-        (dart_heights (W.named graph.now) (W.face_of graph.now) heights.now) c }
-    ensures attained { result ≢ unreached
-        → IsLeastAt (W.named graph.now).rows u (height_of (W.named graph.now)
-        (dart_heights (W.named graph.now) (W.face_of graph.now) heights.now)) result }
+        (heights_on W.FaceGraph graph.now heights.now) c }
+    ensures attained { result ≢ unreached → IsLeastAt (W.named graph.now).rows u
+        (height_of (W.named graph.now) (heights_on W.FaceGraph graph.now heights.now)) result }
 {
     let mut least = u64::MAX;
     for position in 0..graph.degree(u) {
@@ -56,16 +55,12 @@ fn corner_of_height<W: FaceGraph>(
     height: u64,
 ) -> Option<(u32, u32)>
     requires { length heights.now ≡ W.face_bound graph.now }
-    ensures { MatchOption result
-        ((p : ℕ) → (c : Dart) → corner (W.named graph.now).rows u p ≡ Some c
-        → height_of (W.named graph.now)
-        (dart_heights (W.named graph.now) (W.face_of graph.now) heights.now) c ≢ height)
-        (λ r. IsName (W.named graph.now) r.1
-        × (corner (W.named graph.now).rows u r.0 ≡ Some (dart_named (W.named graph.now) r.1))
-        × (height_of (W.named graph.now) (dart_heights (W.named graph.now) (W.face_of graph.now)
-        heights.now) (dart_named (W.named graph.now) r.1) ≡ height)
-        × HasNoneBefore (W.named graph.now).rows u (height_of (W.named graph.now)
-        (dart_heights (W.named graph.now) (W.face_of graph.now) heights.now)) r.0 height) }
+    ensures { let g = W.named graph.now in
+        let high = height_of g (heights_on W.FaceGraph graph.now heights.now) in
+        MatchOption result
+        ((p : ℕ) → (c : Dart) → corner g.rows u p ≡ Some c → high c ≢ height)
+        (λ r. IsName g r.1 × (corner g.rows u r.0 ≡ Some (dart_named g r.1))
+        × (high (dart_named g r.1) ≡ height) × HasNoneBefore g.rows u high r.0 height) }
 {
     for position in 0..graph.degree(u) {
         if let Some(corner) = corner_at(graph, u, position) {
@@ -84,11 +79,9 @@ pub(crate) fn start_corner<W: FaceGraph>(
     heights: &StampedArray,
 ) -> Option<(u32, u32)>
     requires { length heights.now ≡ W.face_bound graph.now }
-    ensures { MatchOption result
-        (HasNoStart (W.named graph.now) u
-        (dart_heights (W.named graph.now) (W.face_of graph.now) heights.now))
-        (λ r. IsStart (W.named graph.now) u
-        (dart_heights (W.named graph.now) (W.face_of graph.now) heights.now) r.0 r.1) }
+    ensures { let high = heights_on W.FaceGraph graph.now heights.now in
+        MatchOption result (HasNoStart (W.named graph.now) u high)
+        (λ r. IsStart (W.named graph.now) u high r.0 r.1) }
 {
     let least = least_corner(graph, u, heights);
     if least == u64::MAX {
@@ -122,15 +115,11 @@ fn is_tight<W: FaceGraph, F: PriceFn>(
     heights: &StampedArray,
     dart: u32,
 ) -> bool
-    requires right { ArePrices (prices_of (F.may_return priced.now.tariff.now))
-        (W.named priced.now.graph.now) priced.now.prices.items }
-    requires one_each { length heights.now ≡ W.face_bound priced.now.graph.now }
+    requires has { HasHeights (priced_faces W.FaceGraph F.PriceFn priced.now) heights.now }
     requires name { IsName (W.named priced.now.graph.now) dart }
-    ensures { IsTrue result ↔ IsTight (prices_of (F.may_return priced.now.tariff.now))
-        (W.named priced.now.graph.now).rows
-        (height_of (W.named priced.now.graph.now)
-        (dart_heights (W.named priced.now.graph.now) (W.face_of priced.now.graph.now) heights.now))
-        (dart_named (W.named priced.now.graph.now) dart) }
+    ensures { let p = priced_faces W.FaceGraph F.PriceFn priced.now in
+        IsTrue result ↔ IsTight p.price p.named.rows
+        (height_of p.named (heights_over p heights.now)) (dart_named p.named dart) }
 {
     let twin = across(priced.graph, dart);
     let other = height_at(priced.graph, heights, twin);
@@ -152,14 +141,11 @@ fn first_of<W: FaceGraph, F: PriceFn>(
     first: Option<u32>,
     dart: u32,
 ) -> Option<u32>
-    requires right { ArePrices (prices_of (F.may_return priced.now.tariff.now))
-        (W.named priced.now.graph.now) priced.now.prices.items }
-    requires one_each { length heights.now ≡ W.face_bound priced.now.graph.now }
+    requires has { HasHeights (priced_faces W.FaceGraph F.PriceFn priced.now) heights.now }
     requires first_there { IfSome first (IsName (W.named priced.now.graph.now)) }
     requires name { IsName (W.named priced.now.graph.now) dart }
-    ensures { IsFirstOf (prices_of (F.may_return priced.now.tariff.now))
-        (W.named priced.now.graph.now) (dart_heights (W.named priced.now.graph.now)
-        (W.face_of priced.now.graph.now) heights.now) first dart result }
+    ensures { let p = priced_faces W.FaceGraph F.PriceFn priced.now in
+        IsFirstOf p.price p.named (heights_over p heights.now) first dart result }
 {
     if !is_tight(priced, heights, dart) {
         return first;
@@ -183,19 +169,11 @@ fn first_tight<W: FaceGraph, F: PriceFn>(
     v: u32,
     at: u32,
 ) -> Option<u32>
-    requires right { ArePrices (prices_of (F.may_return priced.now.tariff.now))
-        (W.named priced.now.graph.now) priced.now.prices.items }
-    requires known { AreHeightsUpTo (prices_of (F.may_return priced.now.tariff.now))
-        (W.named priced.now.graph.now) v (dart_heights (W.named priced.now.graph.now)
-        (W.face_of priced.now.graph.now) heights.now) at }
-    requires one_each { length heights.now ≡ W.face_bound priced.now.graph.now }
-    requires name { IsName (W.named priced.now.graph.now) at }
-    requires above { 0 < height_of (W.named priced.now.graph.now)
-        (dart_heights (W.named priced.now.graph.now) (W.face_of priced.now.graph.now) heights.now)
-        (dart_named (W.named priced.now.graph.now) at) }
-    ensures { IsSomeAnd result (IsFirstTight (prices_of (F.may_return priced.now.tariff.now))
-        (W.named priced.now.graph.now) (dart_heights (W.named priced.now.graph.now)
-        (W.face_of priced.now.graph.now) heights.now) at) }
+    requires known { KnowsUpTo (priced_faces W.FaceGraph F.PriceFn priced.now) v heights.now at }
+    requires above { let p = priced_faces W.FaceGraph F.PriceFn priced.now in
+        0 < height_of p.named (heights_over p heights.now) (dart_named p.named at) }
+    ensures { let p = priced_faces W.FaceGraph F.PriceFn priced.now in
+        IsSomeAnd result (IsFirstTight p.price p.named (heights_over p heights.now) at) }
 {
     let mut dart = at;
     let mut first = None;
@@ -218,16 +196,10 @@ pub(crate) fn descend<W: FaceGraph, F: PriceFn>(
     v: u32,
     from: u32,
 ) -> Result<(Vec<Dart>, u32), AllocError>
-    requires right { ArePrices (prices_of (F.may_return priced.now.tariff.now))
-        (W.named priced.now.graph.now) priced.now.prices.items }
-    requires known { AreHeightsUpTo (prices_of (F.may_return priced.now.tariff.now))
-        (W.named priced.now.graph.now) v (dart_heights (W.named priced.now.graph.now)
-        (W.face_of priced.now.graph.now) heights.now) from }
-    requires one_each { length heights.now ≡ W.face_bound priced.now.graph.now }
-    requires name { IsName (W.named priced.now.graph.now) from }
-    ensures { IfOk result (λ r. IsDescent (prices_of (F.may_return priced.now.tariff.now))
-        (W.named priced.now.graph.now) (dart_heights (W.named priced.now.graph.now)
-        (W.face_of priced.now.graph.now) heights.now) from r.0.items r.1) }
+    requires { KnowsUpTo (priced_faces W.FaceGraph F.PriceFn priced.now) v heights.now from }
+    ensures { let p = priced_faces W.FaceGraph F.PriceFn priced.now in
+        IfOk result
+        (λ r. IsDescent p.price p.named (heights_over p heights.now) from r.0.items r.1) }
 {
     let mut crossed = Vec::new(alloc);
     let mut at = from;

@@ -7,6 +7,7 @@ ghost use Rattle.topo_price.specs.Prices.{prices_of};
 ghost use Rattle.topo_route.specs.EachOnce.{AreAsked, IsEachAskedOnce};
 ghost use Rattle.topo_route.specs.Names.{IsName, dart_named};
 ghost use Rattle.topo_route.specs.Numbers.{IsPriceAt, IsPriceFor};
+ghost use Rattle.topo_route.specs.Searches.{KeepsPrices, priced_faces};
 ghost use Rattle.topo_route.specs.Settling.{ArePrices};
 
 use crate::dual::Dual;
@@ -30,11 +31,9 @@ impl<W: FaceGraph, F: PriceFn> PricedGraph<'_, W, F> {
     /// The price of crossing a dart.
     pub(crate) fn price(&self, dart: u32) -> Option<u32>
         requires name { IsName (W.named self.now.graph.now) dart }
-        requires right { ArePrices (prices_of (F.may_return self.now.tariff.now))
-            (W.named self.now.graph.now) self.now.prices.items }
-        ensures price { IsPriceFor (prices_of (F.may_return self.now.tariff.now))
-            (W.named self.now.graph.now).rows
-            (dart_named (W.named self.now.graph.now) dart) result }
+        requires right { KeepsPrices (priced_faces W.FaceGraph F.PriceFn self.now) }
+        ensures price { let p = priced_faces W.FaceGraph F.PriceFn self.now in
+            IsPriceFor p.price p.named.rows (dart_named p.named dart) result }
         ensures promise { KeepsPromise (prices_of (F.may_return self.now.tariff.now)) }
     {
         let segment = (dart / 2) as usize;

@@ -5,11 +5,12 @@ ghost use Rattle.topo_core.specs.Picture.{darts};
 ghost use Rattle.topo_core.specs.Routes.{HasNoRoute, IsFirst, KeepsPromise};
 ghost use Rattle.topo_price.specs.Prices.{prices_of};
 ghost use Rattle.topo_route.specs.Descents.{AreHeightsFor, IsFirstRoute};
-ghost use Rattle.topo_route.specs.FaceHeights.{dart_heights};
 ghost use Rattle.topo_route.specs.Plans.{IsPlan};
+ghost use Rattle.topo_route.specs.PricedFaces.{heights_over};
+ghost use Rattle.topo_route.specs.Searches.{HasHeights, HasStopped, KeepsPrices, heights_on};
+ghost use Rattle.topo_route.specs.Searches.{priced_faces};
 ghost use Rattle.topo_route.specs.Regions.{IsFirstWhileKept, IsRegionOf};
-ghost use Rattle.topo_route.specs.Seen.{HasSeen, RestsOn};
-ghost use Rattle.topo_route.specs.Settling.{ArePrices};
+ghost use Rattle.topo_route.specs.Seen.{RestsOn};
 
 use crate::both_ends::{Stop, heights_for, least_heights};
 use crate::descent::{descend, end_corner, start_corner};
@@ -38,19 +39,13 @@ fn route_by_heights<W: FaceGraph, F: PriceFn>(
     v: u32,
     heights: &StampedArray,
 ) -> Result<Option<PricedRoute>, AllocError>
-    requires right { ArePrices (prices_of (F.may_return priced.now.tariff.now))
-        (W.named priced.now.graph.now) priced.now.prices.items }
-    requires known { AreHeightsFor (prices_of (F.may_return priced.now.tariff.now))
-        (W.named priced.now.graph.now) u v
-        (dart_heights (W.named priced.now.graph.now) (W.face_of priced.now.graph.now) heights.now) }
-    requires one_each { length heights.now ≡ W.face_bound priced.now.graph.now }
+    requires has { HasHeights (priced_faces W.FaceGraph F.PriceFn priced.now) heights.now }
+    requires known { let p = priced_faces W.FaceGraph F.PriceFn priced.now in
+        AreHeightsFor p.price p.named u v (heights_over p heights.now) }
     requires some { 0 < length (darts (W.named priced.now.graph.now).rows) }
-    ensures { IfOk result (λ found. MatchOption found
-        (HasNoRoute (prices_of (F.may_return priced.now.tariff.now))
-        (W.named priced.now.graph.now).rows u v)
-        (IsFirstRoute (prices_of (F.may_return priced.now.tariff.now))
-        (W.named priced.now.graph.now) u v (dart_heights (W.named priced.now.graph.now)
-        (W.face_of priced.now.graph.now) heights.now))) }
+    ensures { let p = priced_faces W.FaceGraph F.PriceFn priced.now in
+        IfOk result (λ found. MatchOption found (HasNoRoute p.price p.named.rows u v)
+        (IsFirstRoute p.price p.named u v (heights_over p heights.now))) }
 {
     match start_corner(priced.graph, u, heights) {
         Some((start, from)) => {
@@ -80,8 +75,7 @@ fn numbers_of<D: Dual>(
 ) -> Result<Vec<u64>, AllocError>
     requires { length heights.now ≡ D.face_bound dual.now }
     ensures { IfOk result
-        (λ numbers. numbers.items
-        ≡ dart_heights (D.named dual.now) (D.face_of dual.now) heights.now) }
+        (λ numbers. numbers.items ≡ heights_on D.FaceGraph dual.now heights.now) }
 {
     let darts = dart_count(dual);
     let mut numbers = Vec::with_capacity(alloc, darts as usize)?;
@@ -99,15 +93,13 @@ fn plan_on<D: Dual, F: PriceFn>(
     v: u32,
     work: &mut Workspace,
 ) -> Result<Option<Plan>, AllocError>
-    requires right { ArePrices (prices_of (F.may_return priced.now.tariff.now))
-        (D.named priced.now.graph.now) priced.now.prices.items }
+    requires right { KeepsPrices (priced_faces D.FaceGraph F.PriceFn priced.now) }
     requires u_there { u < length (D.shows priced.now.graph.now).rotations }
     requires alone { work.old.to_start.heights ≡ [] }
-    ensures { IfOk result (λ found. MatchOption found
-        (HasNoRoute (prices_of (F.may_return priced.now.tariff.now))
-        (D.shows priced.now.graph.now) u v)
-        (IsPlan (prices_of (F.may_return priced.now.tariff.now))
-        (D.shows priced.now.graph.now) u v)) }
+    ensures { let price = prices_of (F.may_return priced.now.tariff.now) in
+        let rows = D.shows priced.now.graph.now in
+        IfOk result
+        (λ found. MatchOption found (HasNoRoute price rows u v) (IsPlan price rows u v)) }
 {
     least_heights(priced, v, work)?;
     let numbers = numbers_of(alloc, priced.graph, &work.to_end.heights)?;
@@ -170,19 +162,17 @@ fn find_route<W: FaceGraph, F: PriceFn>(
     requires u_there { u < length (W.named graph.now).rows.rotations }
     requires v_there { v < length (W.named graph.now).rows.rotations }
     requires apart { u ≢ v }
-    ensures first { IfOk result (λ found. MatchOption found
-        (HasNoRoute (prices_of (F.may_return tariff.now)) (W.named graph.now).rows u v)
-        (λ r. IsFirst (prices_of (F.may_return tariff.now))
-        (W.named graph.now).rows u v r.first.route r.first.price)) }
+    ensures first { let price = prices_of (F.may_return tariff.now) in
+        let rows = (W.named graph.now).rows in
+        IfOk result (λ found. MatchOption found (HasNoRoute price rows u v)
+        (λ r. IsFirst price rows u v r.first.route r.first.price)) }
     ensures stop { IfOk result (λ found. IfSome found (λ r. IfSome r.stop (λ stop.
         RestsOn (prices_of (F.may_return tariff.now)) (W.named graph.now) u v
-        (dart_heights (W.named graph.now) (W.face_of graph.now) work.new.to_end.heights)
-        (dart_heights (W.named graph.now) (W.face_of graph.now) work.new.to_start.heights)
+        (heights_on W.FaceGraph graph.now work.new.to_end.heights)
+        (heights_on W.FaceGraph graph.now work.new.to_start.heights)
         stop.level stop.least r.first.route r.first.price))) }
-    ensures seen { IfOk result (λ found. IfSome found (λ r. IfSome r.stop (λ stop.
-        HasSeen (W.named graph.now) (W.face_of graph.now) (W.face_bound graph.now)
-        work.new.to_end.heights work.new.to_end.names.items work.new.to_start.heights
-        work.new.to_start.names.items stop.level stop.least))) }
+    ensures seen { IfOk result (λ found. IfSome found
+        (λ r. IfSome r.stop (HasStopped W.FaceGraph graph.now work.new))) }
     ensures promise { KeepsPromise (prices_of (F.may_return tariff.now)) }
 {
     // For the proof: what the type keeps.

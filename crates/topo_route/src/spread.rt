@@ -1,20 +1,17 @@
 //! Heights spread from one end over the picture.
 
-ghost use Rattle.std.specs.Prelude.{◌≡◌, ◌≢◌, ◌+◌, ◌<◌, ◌≤◌, ◌^◌, [], ℕ, IfOk};
-ghost use Rattle.std.specs.Prelude.{◌↔◌, IfSome, IsTrue, MatchOption, OnOk, false, length};
-ghost use Rattle.std.specs.Prelude.{min, replicate, slice_index, slice_set, true};
-ghost use Rattle.topo_core.specs.Picture.{darts};
-ghost use Rattle.topo_price.specs.Prices.{prices_of};
+ghost use Rattle.std.specs.Prelude.{◌≡◌, ◌+◌, ◌<◌, ◌≤◌, ◌↔◌, [], IfOk, IfSome, IsTrue, MatchOption};
+ghost use Rattle.std.specs.Prelude.{OnOk, length, min, replicate, slice_index};
 ghost use Rattle.topo_core.specs.Routes.{unreached};
-ghost use Rattle.topo_route.specs.Guided.{top_of_bound};
-ghost use Rattle.topo_route.specs.FaceHeights.{dart_heights, with_name};
-ghost use Rattle.topo_route.specs.Names.{IsName, height_of, twin_name};
-ghost use Rattle.topo_route.specs.Plans.{AreHeights, IsZeroAt};
+ghost use Rattle.topo_route.specs.Names.{height_of};
+ghost use Rattle.topo_route.specs.Plans.{IsZeroAt};
 ghost use Rattle.topo_route.specs.Potentials.{bound_by};
-ghost use Rattle.topo_route.specs.Settling.{AreCosts, AreFaceCosts, AreLowered, ArePrices};
-ghost use Rattle.topo_route.specs.Settling.{AreSums, IsCrossed, IsReached, IsSettled, Relaxes};
-ghost use Rattle.topo_route.specs.Settling.{Spreads, SpreadsTo, dart_of_item, effort};
-ghost use Rattle.topo_route.specs.Settling.{is_pending, is_waiting, number_at, reach_of, top_of};
+ghost use Rattle.topo_route.specs.PricedFaces.{heights_over};
+ghost use Rattle.topo_route.specs.Searches.{AreLeft, AreOfDarts, GoesOn, IsInHand, IsSearch};
+ghost use Rattle.topo_route.specs.Searches.{IsSpread, IsTaken, KeepsPrices, LeadsBeyond, Lowers};
+ghost use Rattle.topo_route.specs.Searches.{NoneWaits, RelaxesFrom, RelaxesTwin, Settles};
+ghost use Rattle.topo_route.specs.Searches.{heights_on, priced_faces, top_toward};
+ghost use Rattle.topo_route.specs.Settling.{effort, reach_of, top_of};
 ghost use Rattle.topo_route.specs.StampedArrays.{height_limit};
 
 use crate::bucket_queue::{BucketQueue, dart_of_item, item_of, least_height};
@@ -98,14 +95,9 @@ impl SearchState {
         dart: u32,
         height: u64,
     ) -> Result<(), AllocError>
-        requires within { face < length self.old.heights }
-        ensures heights { OnOk result (self.new.heights ≡ slice_set self.old.heights face height) }
-        ensures names { OnOk result
-            (self.new.names.items
-            ≡ with_name self.old.heights face dart self.old.names.items) }
-        ensures waiting { OnOk result (self.new.waiting ≡ self.old.waiting) }
-        ensures least { OnOk result
-            (least.new ≡ min least.old (height + number_at other.now face)) }
+        requires { face < length self.old.heights }
+        ensures { OnOk result
+            (Lowers other.now self.old least.old face dart height self.new least.new) }
     {
         if self.heights.get(face) == u64::MAX {
             self.names.push(dart)?;
@@ -128,38 +120,15 @@ impl SearchState {
         least: &mut u64,
         crossing: Crossing,
     ) -> Result<(), AllocError>
-        requires beyond { crossing.beyond
-            ≡ W.face_of priced.now.graph.now
-            (twin_name (W.named priced.now.graph.now) crossing.dart) }
-        requires within { crossing.beyond < W.face_bound priced.now.graph.now }
-        requires right { ArePrices (prices_of (F.may_return priced.now.tariff.now))
-            (W.named priced.now.graph.now) priced.now.prices.items }
-        requires costs { AreFaceCosts (prices_of (F.may_return priced.now.tariff.now))
-            (W.named priced.now.graph.now) (W.face_of priced.now.graph.now)
-            (W.face_bound priced.now.graph.now) ends.now.v self.old.heights self.old.names.items }
-        requires in_hand { IsReached (W.named priced.now.graph.now)
-            (dart_heights (W.named priced.now.graph.now)
-            (W.face_of priced.now.graph.now) self.old.heights) crossing.dart }
-        requires height { crossing.height ≡ slice_index (dart_heights (W.named priced.now.graph.now)
-            (W.face_of priced.now.graph.now) self.old.heights) crossing.dart }
-        requires sums { AreSums (W.named priced.now.graph.now)
-            (dart_heights (W.named priced.now.graph.now) (W.face_of priced.now.graph.now)
-            self.old.heights) (dart_heights (W.named priced.now.graph.now)
-            (W.face_of priced.now.graph.now) ends.now.other.now) least.old }
-        ensures relaxes { IfOk result (λ _. Relaxes (prices_of (F.may_return priced.now.tariff.now))
-            (W.named priced.now.graph.now) (W.face_of priced.now.graph.now)
-            (W.face_bound priced.now.graph.now) ends.now.v ends.now.other.now
-            self.old.heights self.old.names.items self.old.waiting least.old crossing.dart
-            self.new.heights self.new.names.items self.new.waiting
-            least.new crossing.dart) }
-        ensures crossed { IfOk result
-            (λ _. IsCrossed (prices_of (F.may_return priced.now.tariff.now))
-            (W.named priced.now.graph.now) (reach_of least.new)
-            (dart_heights (W.named priced.now.graph.now)
-            (W.face_of priced.now.graph.now) self.new.heights) crossing.dart) }
-        ensures same { IfOk result
-            (λ _. slice_index (dart_heights (W.named priced.now.graph.now)
-            (W.face_of priced.now.graph.now) self.new.heights) crossing.dart ≡ crossing.height) }
+        requires right { KeepsPrices (priced_faces W.FaceGraph F.PriceFn priced.now) }
+        requires beyond { LeadsBeyond (priced_faces W.FaceGraph F.PriceFn priced.now) crossing }
+        requires in_hand { IsInHand (priced_faces W.FaceGraph F.PriceFn priced.now)
+            self.old crossing.dart crossing.height }
+        requires known { IsSearch (priced_faces W.FaceGraph F.PriceFn priced.now)
+            ends.now.v ends.now.other.now self.old least.old }
+        ensures { IfOk result (λ _. RelaxesTwin (priced_faces W.FaceGraph F.PriceFn priced.now)
+            ends.now.v ends.now.other.now self.old least.old
+            crossing.dart crossing.height self.new least.new) }
     {
         let twin = across(priced.graph, crossing.dart);
         if !self.is_lowered_by(*least, crossing.beyond, crossing.height + 1) {
@@ -191,25 +160,14 @@ impl SearchState {
         dart: u32,
         height: u64,
     ) -> Result<(), AllocError>
-        requires right { ArePrices (prices_of (F.may_return priced.now.tariff.now))
-            (W.named priced.now.graph.now) priced.now.prices.items }
-        requires costs { AreFaceCosts (prices_of (F.may_return priced.now.tariff.now))
-            (W.named priced.now.graph.now) (W.face_of priced.now.graph.now)
-            (W.face_bound priced.now.graph.now) ends.now.v self.old.heights self.old.names.items }
-        requires in_hand { IsReached (W.named priced.now.graph.now)
-            (dart_heights (W.named priced.now.graph.now)
-            (W.face_of priced.now.graph.now) self.old.heights) dart }
-        requires height { height ≡ slice_index (dart_heights (W.named priced.now.graph.now)
-            (W.face_of priced.now.graph.now) self.old.heights) dart }
-        requires sums { AreSums (W.named priced.now.graph.now)
-            (dart_heights (W.named priced.now.graph.now) (W.face_of priced.now.graph.now)
-            self.old.heights) (dart_heights (W.named priced.now.graph.now)
-            (W.face_of priced.now.graph.now) ends.now.other.now) least.old }
-        ensures { IfOk result (λ _. Relaxes (prices_of (F.may_return priced.now.tariff.now))
-            (W.named priced.now.graph.now) (W.face_of priced.now.graph.now)
-            (W.face_bound priced.now.graph.now) ends.now.v ends.now.other.now
-            self.old.heights self.old.names.items self.old.waiting least.old dart self.new.heights self.new.names.items self.new.waiting
-            least.new (W.named priced.now.graph.now).size) }
+        requires right { KeepsPrices (priced_faces W.FaceGraph F.PriceFn priced.now) }
+        requires in_hand { IsInHand (priced_faces W.FaceGraph F.PriceFn priced.now)
+            self.old dart height }
+        requires known { IsSearch (priced_faces W.FaceGraph F.PriceFn priced.now)
+            ends.now.v ends.now.other.now self.old least.old }
+        ensures { let p = priced_faces W.FaceGraph F.PriceFn priced.now in
+            IfOk result (λ _. RelaxesFrom p ends.now.v ends.now.other.now
+            self.old least.old dart self.new least.new p.named.size) }
     {
         let mut at = dart;
         for _steps in 0..priced.graph.size() {
@@ -238,44 +196,14 @@ impl SearchState {
         level: u64,
         most: u64,
     ) -> Result<(), AllocError>
-        requires right { ArePrices (prices_of (F.may_return priced.now.tariff.now))
-            (W.named priced.now.graph.now) priced.now.prices.items }
-        requires spreads { Spreads (prices_of (F.may_return priced.now.tariff.now))
-            (W.named priced.now.graph.now) (W.face_of priced.now.graph.now)
-            (W.face_bound priced.now.graph.now) ends.now.v
-            (top_of level (min most least.old)
-            (dart_heights (W.named priced.now.graph.now) (W.face_of priced.now.graph.now)
-            ends.now.other.now)) (reach_of least.old)
-            self.old.heights self.old.names.items self.old.waiting
-            (W.named priced.now.graph.now).size }
-        requires sums { AreSums (W.named priced.now.graph.now)
-            (dart_heights (W.named priced.now.graph.now) (W.face_of priced.now.graph.now)
-            self.old.heights) (dart_heights (W.named priced.now.graph.now)
-            (W.face_of priced.now.graph.now) ends.now.other.now) least.old }
-        ensures costs { IfOk result
-            (λ _. AreFaceCosts (prices_of (F.may_return priced.now.tariff.now))
-            (W.named priced.now.graph.now) (W.face_of priced.now.graph.now)
-            (W.face_bound priced.now.graph.now) ends.now.v self.new.heights self.new.names.items) }
-        ensures settled { IfOk result (λ _. (k : ℕ) → IsName (W.named priced.now.graph.now) k
-            → slice_index (dart_heights (W.named priced.now.graph.now)
-            (W.face_of priced.now.graph.now) self.new.heights) k < top_of level (min most least.new)
-            (dart_heights (W.named priced.now.graph.now) (W.face_of priced.now.graph.now)
-            ends.now.other.now)
-            k → IsSettled (prices_of (F.may_return priced.now.tariff.now))
-            (W.named priced.now.graph.now) (reach_of least.new)
-            (dart_heights (W.named priced.now.graph.now)
-            (W.face_of priced.now.graph.now) self.new.heights) k) }
-        ensures sums { IfOk result
-            (λ _. AreSums (W.named priced.now.graph.now)
-            (dart_heights (W.named priced.now.graph.now) (W.face_of priced.now.graph.now)
-            self.new.heights) (dart_heights (W.named priced.now.graph.now)
-            (W.face_of priced.now.graph.now) ends.now.other.now) least.new) }
-        ensures less { IfOk result (λ _. least.new ≤ least.old) }
-        ensures lower { IfOk result
-            (λ _. AreLowered (dart_heights (W.named priced.now.graph.now)
-            (W.face_of priced.now.graph.now) self.old.heights)
-            (dart_heights (W.named priced.now.graph.now)
-            (W.face_of priced.now.graph.now) self.new.heights)) }
+        requires { let p = priced_faces W.FaceGraph F.PriceFn priced.now in
+            IsSpread p ends.now.v ends.now.other.now
+            (top_of level (min most least.old) (heights_over p ends.now.other.now))
+            self.old least.old }
+        ensures { let p = priced_faces W.FaceGraph F.PriceFn priced.now in
+            IfOk result (λ _. Settles p ends.now.v ends.now.other.now
+            (top_of level (min most least.new) (heights_over p ends.now.other.now))
+            self.old least.old self.new least.new) }
     {
         // For the proof: what the type keeps.
         let _darts = priced.graph.size();
@@ -302,40 +230,11 @@ impl SearchState {
         least: &mut u64,
         v: u32,
     ) -> Result<(), AllocError>
-        requires right { ArePrices (prices_of (F.may_return priced.now.tariff.now))
-            (W.named priced.now.graph.now) priced.now.prices.items }
-        requires spreads { SpreadsTo (prices_of (F.may_return priced.now.tariff.now))
-            (W.named priced.now.graph.now) (W.face_of priced.now.graph.now)
-            (W.face_bound priced.now.graph.now) v (reach_of least.old)
-            self.old.heights self.old.names.items self.old.waiting }
-        requires sums { AreSums (W.named priced.now.graph.now)
-            (dart_heights (W.named priced.now.graph.now) (W.face_of priced.now.graph.now)
-            self.old.heights) (dart_heights (W.named priced.now.graph.now)
-            (W.face_of priced.now.graph.now) other.now) least.old }
-        ensures costs { IfOk result
-            (λ _. AreFaceCosts (prices_of (F.may_return priced.now.tariff.now))
-            (W.named priced.now.graph.now) (W.face_of priced.now.graph.now)
-            (W.face_bound priced.now.graph.now) v self.new.heights self.new.names.items) }
-        ensures settled { IfOk result (λ _. (k : ℕ) → IsName (W.named priced.now.graph.now) k
-            → slice_index (dart_heights (W.named priced.now.graph.now)
-            (W.face_of priced.now.graph.now) self.new.heights) k
-            < top_of_bound (λ j. bound_by guide.now
-            (W.potentials priced.now.graph.now (W.face_of priced.now.graph.now j))) least.new k
-            → IsSettled (prices_of (F.may_return priced.now.tariff.now))
-            (W.named priced.now.graph.now) (reach_of least.new)
-            (dart_heights (W.named priced.now.graph.now)
-            (W.face_of priced.now.graph.now) self.new.heights) k) }
-        ensures sums { IfOk result
-            (λ _. AreSums (W.named priced.now.graph.now)
-            (dart_heights (W.named priced.now.graph.now) (W.face_of priced.now.graph.now)
-            self.new.heights) (dart_heights (W.named priced.now.graph.now)
-            (W.face_of priced.now.graph.now) other.now) least.new) }
-        ensures less { IfOk result (λ _. least.new ≤ least.old) }
-        ensures lower { IfOk result
-            (λ _. AreLowered (dart_heights (W.named priced.now.graph.now)
-            (W.face_of priced.now.graph.now) self.old.heights)
-            (dart_heights (W.named priced.now.graph.now)
-            (W.face_of priced.now.graph.now) self.new.heights)) }
+        requires { IsSpread (priced_faces W.FaceGraph F.PriceFn priced.now)
+            v other.now (λ _. reach_of least.old) self.old least.old }
+        ensures { IfOk result (λ _. Settles (priced_faces W.FaceGraph F.PriceFn priced.now)
+            v other.now (top_toward W.FaceGraph priced.now.graph.now guide.now least.new)
+            self.old least.old self.new least.new) }
     {
         // For the proof: what the type keeps.
         let _darts = priced.graph.size();
@@ -365,35 +264,12 @@ impl SearchState {
         least: &mut u64,
         v: u32,
     ) -> Result<Option<u64>, AllocError>
-        requires right { ArePrices (prices_of (F.may_return priced.now.tariff.now))
-            (W.named priced.now.graph.now) priced.now.prices.items }
-        requires spreads { SpreadsTo (prices_of (F.may_return priced.now.tariff.now))
-            (W.named priced.now.graph.now) (W.face_of priced.now.graph.now)
-            (W.face_bound priced.now.graph.now) v (reach_of least.old)
-            self.old.heights self.old.names.items self.old.waiting }
-        requires sums { AreSums (W.named priced.now.graph.now)
-            (dart_heights (W.named priced.now.graph.now) (W.face_of priced.now.graph.now)
-            self.old.heights) (dart_heights (W.named priced.now.graph.now)
-            (W.face_of priced.now.graph.now) other.now) least.old }
-        ensures spreads { IfOk result
-            (λ _. SpreadsTo (prices_of (F.may_return priced.now.tariff.now))
-            (W.named priced.now.graph.now) (W.face_of priced.now.graph.now)
-            (W.face_bound priced.now.graph.now) v (reach_of least.new)
-            self.new.heights self.new.names.items self.new.waiting) }
-        ensures sums { IfOk result
-            (λ _. AreSums (W.named priced.now.graph.now)
-            (dart_heights (W.named priced.now.graph.now) (W.face_of priced.now.graph.now)
-            self.new.heights) (dart_heights (W.named priced.now.graph.now)
-            (W.face_of priced.now.graph.now) other.now) least.new) }
-        ensures less { IfOk result (λ _. least.new ≤ least.old) }
-        ensures falls { IfOk result
-            (λ found. IfSome found (λ _. effort self.new.heights self.new.waiting
-            < effort self.old.heights self.old.waiting)) }
-        ensures lower { IfOk result
-            (λ _. AreLowered (dart_heights (W.named priced.now.graph.now)
-            (W.face_of priced.now.graph.now) self.old.heights)
-            (dart_heights (W.named priced.now.graph.now)
-            (W.face_of priced.now.graph.now) self.new.heights)) }
+        requires { IsSpread (priced_faces W.FaceGraph F.PriceFn priced.now)
+            v other.now (λ _. reach_of least.old) self.old least.old }
+        ensures goes_on { IfOk result (λ _. GoesOn (priced_faces W.FaceGraph F.PriceFn priced.now)
+            v other.now (λ _. reach_of least.new) self.old least.old self.new least.new) }
+        ensures falls { IfOk result (λ found. IfSome found (λ _.
+            effort self.new.heights self.new.waiting < effort self.old.heights self.old.waiting)) }
     {
         // For the proof: what the type keeps.
         let _darts = priced.graph.size();
@@ -427,22 +303,14 @@ impl SearchState {
         least: &mut u64,
         v: u32,
     ) -> Result<(), AllocError>
-        requires costs { AreFaceCosts (prices_of (F.may_return priced.now.tariff.now))
-            (W.named priced.now.graph.now) (W.face_of priced.now.graph.now)
-            (W.face_bound priced.now.graph.now) v self.old.heights self.old.names.items }
-        requires sums { AreSums (W.named priced.now.graph.now)
-            (dart_heights (W.named priced.now.graph.now) (W.face_of priced.now.graph.now)
-            self.old.heights) (dart_heights (W.named priced.now.graph.now)
-            (W.face_of priced.now.graph.now) other.now) least.old }
-        ensures relaxes { IfOk result (λ _. Relaxes (prices_of (F.may_return priced.now.tariff.now))
-            (W.named priced.now.graph.now) (W.face_of priced.now.graph.now)
-            (W.face_bound priced.now.graph.now) v other.now self.old.heights self.old.names.items
-            self.old.waiting least.old (W.named priced.now.graph.now).size self.new.heights
-            self.new.names.items self.new.waiting least.new (W.named priced.now.graph.now).size) }
-        ensures ends { IfOk result
-            (λ _. IsZeroAt (W.named priced.now.graph.now).rows v
-            (height_of (W.named priced.now.graph.now) (dart_heights (W.named priced.now.graph.now)
-            (W.face_of priced.now.graph.now) self.new.heights))) }
+        requires { IsSearch (priced_faces W.FaceGraph F.PriceFn priced.now)
+            v other.now self.old least.old }
+        ensures relaxes { let p = priced_faces W.FaceGraph F.PriceFn priced.now in
+            IfOk result (λ _. RelaxesFrom p v other.now
+            self.old least.old p.named.size self.new least.new p.named.size) }
+        ensures ends { let p = priced_faces W.FaceGraph F.PriceFn priced.now in
+            IfOk result (λ _. IsZeroAt p.named.rows v
+            (height_of p.named (heights_over p self.new.heights))) }
     {
         for position in 0..priced.graph.degree(v) {
             if let Some(corner) = corner_at(priced.graph, v, position) {
@@ -470,28 +338,12 @@ fn next_pending<W: FaceGraph>(
     most: u64,
 ) -> Option<(u32, u64)>
     requires one_each { length heights.now ≡ W.face_bound graph.now }
-    requires names { (item : ℕ) → is_waiting waiting.old item ≡ true
-        → IsName (W.named graph.now) (dart_of_item item) }
-    ensures name { IfSome result (λ r. IsName (W.named graph.now) r.0) }
-    ensures pending { IfSome result
-        (λ r. is_pending (dart_heights (W.named graph.now) (W.face_of graph.now) heights.now)
-        waiting.old r.0 ≡ true) }
-    ensures height { IfSome result (λ r. r.1
-        ≡ slice_index (dart_heights (W.named graph.now) (W.face_of graph.now) heights.now) r.0) }
-    ensures others { MatchOption result ((k : ℕ) → k < 2 ^ 32 → IsName (W.named graph.now) k
-        → slice_index (dart_heights (W.named graph.now) (W.face_of graph.now) heights.now) k
-        < top_of level most (dart_heights (W.named graph.now) (W.face_of graph.now) other.now) k
-        → is_pending (dart_heights (W.named graph.now) (W.face_of graph.now) heights.now)
-        waiting.old k ≡ false)
-        (λ r. (k : ℕ) → k < 2 ^ 32 → IsName (W.named graph.now) k
-        → slice_index (dart_heights (W.named graph.now) (W.face_of graph.now) heights.now) k
-        < top_of level most (dart_heights (W.named graph.now) (W.face_of graph.now) other.now) k
-        → k ≢ r.0 → is_pending (dart_heights (W.named graph.now) (W.face_of graph.now) heights.now)
-        waiting.new k ≡ is_pending
-        (dart_heights (W.named graph.now) (W.face_of graph.now) heights.now) waiting.old k) }
-    ensures fewer { (item : ℕ) → is_waiting waiting.new item ≡ true
-        → is_waiting waiting.old item ≡ true }
-    ensures len { IfSome result (λ _. length waiting.new < length waiting.old) }
+    requires names { AreOfDarts (W.named graph.now) waiting.old }
+    ensures taken { let high = heights_on W.FaceGraph graph.now heights.now in
+        let top = top_of level most (heights_on W.FaceGraph graph.now other.now) in
+        MatchOption result (NoneWaits (W.named graph.now) high top waiting.old)
+        (λ r. IsTaken (W.named graph.now) high top waiting.old waiting.new r.0 r.1) }
+    ensures left { AreLeft waiting.old waiting.new }
 {
     let bound = level.max(most.saturating_add(1));
     while let Some(item) = waiting.pop() {
@@ -535,30 +387,12 @@ fn next_toward<W: FaceGraph>(
     least: u64,
 ) -> Option<(u32, u64)>
     requires one_each { length heights.now ≡ W.face_bound graph.now }
-    requires names { (item : ℕ) → is_waiting waiting.old item ≡ true
-        → IsName (W.named graph.now) (dart_of_item item) }
-    ensures name { IfSome result (λ r. IsName (W.named graph.now) r.0) }
-    ensures pending { IfSome result
-        (λ r. is_pending (dart_heights (W.named graph.now) (W.face_of graph.now) heights.now)
-        waiting.old r.0 ≡ true) }
-    ensures height { IfSome result (λ r. r.1
-        ≡ slice_index (dart_heights (W.named graph.now) (W.face_of graph.now) heights.now) r.0) }
-    ensures others { MatchOption result ((k : ℕ) → k < 2 ^ 32 → IsName (W.named graph.now) k
-        → slice_index (dart_heights (W.named graph.now) (W.face_of graph.now) heights.now) k
-        < top_of_bound
-        (λ j. bound_by guide.now (W.potentials graph.now (W.face_of graph.now j))) least k
-        → is_pending (dart_heights (W.named graph.now) (W.face_of graph.now) heights.now)
-        waiting.old k ≡ false)
-        (λ r. (k : ℕ) → k < 2 ^ 32 → IsName (W.named graph.now) k
-        → slice_index (dart_heights (W.named graph.now) (W.face_of graph.now) heights.now) k
-        < top_of_bound
-        (λ j. bound_by guide.now (W.potentials graph.now (W.face_of graph.now j))) least k
-        → k ≢ r.0 → is_pending (dart_heights (W.named graph.now) (W.face_of graph.now) heights.now)
-        waiting.new k ≡ is_pending
-        (dart_heights (W.named graph.now) (W.face_of graph.now) heights.now) waiting.old k) }
-    ensures fewer { (item : ℕ) → is_waiting waiting.new item ≡ true
-        → is_waiting waiting.old item ≡ true }
-    ensures len { IfSome result (λ _. length waiting.new < length waiting.old) }
+    requires names { AreOfDarts (W.named graph.now) waiting.old }
+    ensures taken { let high = heights_on W.FaceGraph graph.now heights.now in
+        let top = top_toward W.FaceGraph graph.now guide.now least in
+        MatchOption result (NoneWaits (W.named graph.now) high top waiting.old)
+        (λ r. IsTaken (W.named graph.now) high top waiting.old waiting.new r.0 r.1) }
+    ensures left { AreLeft waiting.old waiting.new }
 {
     while let Some(item) = waiting.pop() {
         if least_height(item) <= least {

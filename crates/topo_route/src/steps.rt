@@ -6,9 +6,9 @@ ghost use Rattle.topo_core.specs.Picture.{corner, system};
 ghost use Rattle.topo_core.specs.Routes.{KeepsPromise};
 ghost use Rattle.topo_core.specs.Systems.{SameFace};
 ghost use Rattle.topo_price.specs.Prices.{prices_of};
-ghost use Rattle.topo_route.specs.FaceHeights.{dart_heights};
 ghost use Rattle.topo_route.specs.Names.{IsName, dart_named, next_name, twin_name};
 ghost use Rattle.topo_route.specs.Numbers.{IsPriceFor};
+ghost use Rattle.topo_route.specs.Searches.{heights_on};
 ghost use Rattle.topo_core.specs.declared.rows.TheConstants.{MAX_PRICE};
 
 use crate::face_graph::FaceGraph;
@@ -57,8 +57,7 @@ pub(crate) fn step<W: FaceGraph>(graph: &W, dart: u32) -> (u32, u32)
 pub(crate) fn height_at<W: FaceGraph>(graph: &W, heights: &StampedArray, dart: u32) -> u64
     requires one_each { length heights.now ≡ W.face_bound graph.now }
     requires name { IsName (W.named graph.now) dart }
-    ensures { result ≡ slice_index
-        (dart_heights (W.named graph.now) (W.face_of graph.now) heights.now) dart }
+    ensures { result ≡ slice_index (heights_on W.FaceGraph graph.now heights.now) dart }
 {
     heights.get(face_at(graph, dart))
 }

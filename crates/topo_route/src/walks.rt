@@ -32,10 +32,9 @@ fn number_of<D: Dual>(dual: &D, dart: Dart) -> Option<u32>
 /// What is left of an amount when the price of a dart is taken from it.
 fn pay<D: Dual, F: PriceFn>(dual: &D, tariff: &Tariff<F>, number: u32, left: u64) -> Option<u64>
     requires { number < length (darts (D.shows dual.now)) }
-    ensures { MatchOption result (CannotPay (prices_of (F.may_return tariff.now)) (D.shows dual.now)
-        (dart_of (D.shows dual.now) number) left)
-        (Payment (prices_of (F.may_return tariff.now)) (D.shows dual.now)
-        (dart_of (D.shows dual.now) number) left) }
+    ensures { let price = prices_of (F.may_return tariff.now) in let rows = D.shows dual.now in
+        MatchOption result (CannotPay price rows (dart_of rows number) left)
+        (Payment price rows (dart_of rows number) left) }
 {
     match price_at(dual, tariff, number) {
         Some(price) => {
@@ -59,10 +58,9 @@ fn cross<D: Dual, F: PriceFn>(
     left: u64,
 ) -> Option<(u32, u64)>
     requires { at < length (darts (D.shows dual.now)) }
-    ensures { MatchOption result
-        (CannotCross (prices_of (F.may_return tariff.now)) (D.shows dual.now) at dart left)
-        (λ r. Crossing (prices_of (F.may_return tariff.now))
-        (D.shows dual.now) at dart left r.0 r.1) }
+    ensures { let price = prices_of (F.may_return tariff.now) in let rows = D.shows dual.now in
+        MatchOption result (CannotCross price rows at dart left)
+        (λ r. Crossing price rows at dart left r.0 r.1) }
 {
     match number_of(dual, dart) {
         Some(number) => {
@@ -115,12 +113,10 @@ pub(crate) fn start_of_route<D: Dual, F: PriceFn>(
     route: &Route,
     price: u64,
 ) -> Option<u32>
-    ensures { MatchOption result
-        (IsPricedRoute (prices_of (F.may_return tariff.now)) (D.shows dual.now) u v route.now price
-        → ⊥)
-        (λ from. (from < length (darts (D.shows dual.now)))
-        × (priced : IsPricedRoute (prices_of (F.may_return tariff.now)) (D.shows dual.now)
-        u v route.now price) × (priced.route.from ≡ dart_of (D.shows dual.now) from)) }
+    ensures { let rows = D.shows dual.now in
+        let P = IsPricedRoute (prices_of (F.may_return tariff.now)) rows u v route.now price in
+        MatchOption result (P → ⊥) (λ from. (from < length (darts rows))
+        × (priced : P) × (priced.route.from ≡ dart_of rows from)) }
 {
     match (
         corner_at(dual, u, route.start),
@@ -195,14 +191,11 @@ fn first_walk<D: Dual, F: PriceFn>(
     requires within { from < length (darts (D.shows dual.now)) }
     requires walk { (to : Dart)
         × Crosses (system (D.shows dual.now)) (dart_of (D.shows dual.now) from) crossed.now to }
-    ensures { MatchOption result
-        (TakesFirstDarts (prices_of (F.may_return tariff.now)) (D.shows dual.now)
-        (height_in (D.shows dual.now) heights.now) (dart_of (D.shows dual.now) from) crossed.now
-        → ⊥)
-        (λ last. (last < length (darts (D.shows dual.now)))
-        × (dart_of (D.shows dual.now) last ≡ arrival (dart_of (D.shows dual.now) from) crossed.now)
-        × TakesFirstDarts (prices_of (F.may_return tariff.now)) (D.shows dual.now)
-        (height_in (D.shows dual.now) heights.now) (dart_of (D.shows dual.now) from) crossed.now) }
+    ensures { let rows = D.shows dual.now in
+        let P = TakesFirstDarts (prices_of (F.may_return tariff.now)) rows
+        (height_in rows heights.now) (dart_of rows from) crossed.now in
+        MatchOption result (P → ⊥) (λ last. (last < length (darts rows))
+        × (dart_of rows last ≡ arrival (dart_of rows from) crossed.now) × P) }
 {
     let mut at = from;
     for dart in crossed {

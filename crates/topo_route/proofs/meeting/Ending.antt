@@ -8,9 +8,9 @@ use Rattle.topo_core.specs.Lawful.{Lawful}
 use Rattle.topo_core.specs.Routes.{HasNoRoute, IsPricedRoute, KeepsPromise, Pricing, unreached}
 use Rattle.topo_route.specs.Descents.{AreHeightsFor, HasNoStart}
 use Rattle.topo_route.specs.Meeting.{HasMet, Meets, SpreadsBoth}
-use Rattle.topo_route.specs.FaceHeights.{dart_heights}
-use Rattle.topo_route.specs.Names.{HasFaces, IsName, IsNamed, Named, dart_named, height_of}
+use Rattle.topo_route.specs.Names.{IsName, IsNamed, Named, dart_named, height_of}
 use Rattle.topo_route.specs.Plans.{IsZeroAt}
+use Rattle.topo_route.specs.PricedFaces.{AreFaces, PricedFaces, heights_over}
 use Rattle.topo_route.specs.Settling.{AreCosts, AreFaceCosts, AreLowered, AreSums, IsSettled, Relaxes}
 use Rattle.topo_route.specs.Settling.{Spreads, SpreadsTo, is_waiting, number_at, reach_of, top_of}
 use Rattle.topo_route.proofs.spreading.FaceHeights.{dart_capped, height_by_face, one_for_each, reached_named}
@@ -22,31 +22,31 @@ use Rattle.topo_route.proofs.spreading.Sums.{number_within, sums_swapped}
 use Rattle.topo_route.proofs.meeting.Turned.{joined}
 use Rattle.topo_route.proofs.spreading.Unreached.{none_from_u, none_from_v}
 
-module _ (price : Pricing) (g : Named) (lawful : Lawful g.rows) (has : IsNamed g) (face : ℕ → ℕ) (faces : ℕ) (has_faces : HasFaces g face faces) (u v : ℕ) where
-  nearer : (w l l' : ℕ) (heights names waiting : List ℕ) → l' ≤ l → SpreadsTo price g face faces w (reach_of l) heights names waiting
-      → SpreadsTo price g face faces w (reach_of l') heights names waiting
-  nearer w l l' heights names waiting less spreads = narrowed price g face faces w heights names waiting (λ k. reach_of l) (λ k. reach_of l') (reach_of l)
-      (reach_of l') g.size spreads (λ k. omega arith) (omega arith)
+module _ (seen : PricedFaces) (laws : AreFaces seen) (u v : ℕ) where
+  nearer : (w l l' : ℕ) (heights names waiting : List ℕ) → l' ≤ l → SpreadsTo seen w (reach_of l) heights names waiting
+      → SpreadsTo seen w (reach_of l') heights names waiting
+  nearer w l l' heights names waiting less spreads = narrowed seen w heights names waiting (λ k. reach_of l) (λ k. reach_of l') (reach_of l)
+      (reach_of l') seen.named.size spreads (λ k. omega arith) (omega arith)
 
   -- ---- The start
 
-  module _ (heights names : List ℕ) (few : faces < 2 ^ 32) (blank : heights ≡ replicate faces unreached) (none : names ≡ []) where
-    blank_face : (f : ℕ) → f < faces → slice_index heights f ≡ unreached
-    blank_face f l = ap (λ (xs : List ℕ). slice_index xs f) blank ∙ get_or-replicate faces f unreached 0 l
+  module _ (heights names : List ℕ) (few : seen.faces < 2 ^ 32) (blank : heights ≡ replicate seen.faces unreached) (none : names ≡ []) where
+    blank_face : (f : ℕ) → f < seen.faces → slice_index heights f ≡ unreached
+    blank_face f l = ap (λ (xs : List ℕ). slice_index xs f) blank ∙ get_or-replicate seen.faces f unreached 0 l
 
-    one_each : length heights ≡ faces
-    one_each = ap length blank ∙ length-replicate faces unreached
+    one_each : length heights ≡ seen.faces
+    one_each = ap length blank ∙ length-replicate seen.faces unreached
 
     face_capped : (f : ℕ) → slice_index heights f ≤ unreached
-    face_capped f = elim (cases_lt f faces) [
+    face_capped f = elim (cases_lt f seen.faces) [
       | inl l ↦ omega (arith, blank_face f l)
       | inr past ↦ omega (arith, get_or_past heights f 0 (omega (arith, one_each)))
     ]
 
-    blank_dart : (k : ℕ) → IsName g k → slice_index (dart_heights g face heights) k ≡ unreached
-    blank_dart k l = height_by_face g face heights has k l (omega (arith, one_each, has_faces.within k l)) ∙ blank_face (face k) (has_faces.within k l)
+    blank_dart : (k : ℕ) → IsName seen.named k → slice_index (heights_over seen heights) k ≡ unreached
+    blank_dart k l = height_by_face seen.named seen.face heights laws.names k l (omega (arith, one_each, laws.labels.within k l)) ∙ blank_face (seen.face k) (laws.labels.within k l)
 
-    pub blank_costs : (w : ℕ) → AreFaceCosts price g face faces w heights names
+    pub blank_costs : (w : ℕ) → AreFaceCosts seen w heights names
     blank_costs w = record {
       labelled = record {
         few = few;
@@ -57,15 +57,15 @@ module _ (price : Pricing) (g : Named) (lawful : Lawful g.rows) (has : IsNamed g
       capped = face_capped;
       bounded = λ f l some. absurd (some (blank_face f l));
       costs = record {
-        one_each = one_for_each g face heights;
-        named = reached_named g face heights;
-        capped = dart_capped g face heights face_capped;
+        one_each = one_for_each seen.named seen.face heights;
+        named = reached_named seen.named seen.face heights;
+        capped = dart_capped seen.named seen.face heights face_capped;
         costs = λ k l some. absurd (some (blank_dart k l));
         bounded = λ k l some. absurd (some (blank_dart k l));
       };
     }
 
-    pub blank_spreads : (w reach : ℕ) (waiting : List ℕ) → waiting ≡ [] → Spreads price g face faces w (λ k. unreached) reach heights names waiting g.size
+    pub blank_spreads : (w reach : ℕ) (waiting : List ℕ) → waiting ≡ [] → Spreads seen w (λ k. unreached) reach heights names waiting seen.named.size
     blank_spreads w reach waiting empty = record {
       costs = blank_costs w;
       others = λ k l ne less idle. absurd (omega (arith, blank_dart k l));
@@ -73,33 +73,33 @@ module _ (price : Pricing) (g : Named) (lawful : Lawful g.rows) (has : IsNamed g
     }
 
     -- there are no sums yet
-    pub blank_sums : (others : List ℕ) → AreSums g (dart_heights g face heights) (dart_heights g face others) unreached
+    pub blank_sums : (others : List ℕ) → AreSums seen.named (heights_over seen heights) (heights_over seen others) unreached
     blank_sums others = record { sums = λ k l. omega (arith, blank_dart k l); attained = λ some. absurd (some refl) }
 
   -- no face is reached, and none waits
   pub record IsBlank (heights names waiting : List ℕ) : Type 0 where
-    pub heights_are : heights ≡ replicate faces unreached
+    pub heights_are : heights ≡ replicate seen.faces unreached
     pub none_named : names ≡ []
     pub none_waits : waiting ≡ []
 
   -- the corners of v are reached, and then those of u
-  pub started_both : {blank names none others names' coming heights on_names waiting distances back_names coming' : List ℕ} {l l' l'' : ℕ} → faces < 2 ^ 32
+  pub started_both : {blank names none others names' coming heights on_names waiting distances back_names coming' : List ℕ} {l l' l'' : ℕ} → seen.faces < 2 ^ 32
       → IsBlank blank names none → IsBlank others names' coming
-      → Relaxes price g face faces v others blank names none l g.size heights on_names waiting l' g.size
-      → IsZeroAt g.rows v (height_of g (dart_heights g face heights))
-      → Relaxes price g face faces u heights others names' coming l' g.size distances back_names coming' l'' g.size
-      → IsZeroAt g.rows u (height_of g (dart_heights g face distances))
-      → SpreadsBoth price g face faces u v heights on_names waiting distances back_names coming' l''
+      → Relaxes seen v others blank names none l seen.named.size heights on_names waiting l' seen.named.size
+      → IsZeroAt seen.named.rows v (height_of seen.named (heights_over seen heights))
+      → Relaxes seen u heights others names' coming l' seen.named.size distances back_names coming' l'' seen.named.size
+      → IsZeroAt seen.named.rows u (height_of seen.named (heights_over seen distances))
+      → SpreadsBoth seen u v heights on_names waiting distances back_names coming' l''
   started_both {blank} {names} {none} {others} {names'} {coming} {heights} {on_names} {waiting} {distances} {back_names} {coming'} {l} {l'} {l''} few
       empty empty' on at_target back at_start = record {
-        on = narrowed price g face faces v heights on_names waiting (λ k. unreached) (λ k. reach_of l'') (reach_of l') (reach_of l'') g.size
+        on = narrowed seen v heights on_names waiting (λ k. unreached) (λ k. reach_of l'') (reach_of l') (reach_of l'') seen.named.size
             (on.spreads (λ k. unreached) (blank_spreads blank names few empty.heights_are empty.none_named v (reach_of l) none empty.none_waits))
             (λ k. omega arith) (omega (arith, back.less));
-        back = narrowed price g face faces u distances back_names coming' (λ k. unreached) (λ k. reach_of l'') (reach_of l'') (reach_of l'') g.size
+        back = narrowed seen u distances back_names coming' (λ k. unreached) (λ k. reach_of l'') (reach_of l'') (reach_of l'') seen.named.size
             (back.spreads (λ k. unreached) (blank_spreads others names' few empty'.heights_are empty'.none_named u (reach_of l') coming empty'.none_waits))
             (λ k. omega arith) (omega arith);
-        sums = sums_swapped g has (dart_heights g face distances) (dart_heights g face heights) l'' (one_for_each g face distances)
-            (one_for_each g face heights) back.sums;
+        sums = sums_swapped seen.named laws.names (heights_over seen distances) (heights_over seen heights) l'' (one_for_each seen.named seen.face distances)
+            (one_for_each seen.named seen.face heights) back.sums;
         at_target = at_target;
         at_start = at_start;
       }
@@ -107,35 +107,35 @@ module _ (price : Pricing) (g : Named) (lawful : Lawful g.rows) (has : IsNamed g
   -- ---- A step of either end
 
   module _ {heights names waiting distances names' coming : List ℕ} {least : ℕ}
-      (both : SpreadsBoth price g face faces u v heights names waiting distances names' coming least) where
-    pub stepped_on : (heights' names'' waiting' : List ℕ) (least' : ℕ) → SpreadsTo price g face faces v (reach_of least') heights' names'' waiting'
-        → AreSums g (dart_heights g face heights') (dart_heights g face distances) least' → least' ≤ least
-        → AreLowered (dart_heights g face heights) (dart_heights g face heights')
-        → SpreadsBoth price g face faces u v heights' names'' waiting' distances names' coming least'
+      (both : SpreadsBoth seen u v heights names waiting distances names' coming least) where
+    pub stepped_on : (heights' names'' waiting' : List ℕ) (least' : ℕ) → SpreadsTo seen v (reach_of least') heights' names'' waiting'
+        → AreSums seen.named (heights_over seen heights') (heights_over seen distances) least' → least' ≤ least
+        → AreLowered (heights_over seen heights) (heights_over seen heights')
+        → SpreadsBoth seen u v heights' names'' waiting' distances names' coming least'
     stepped_on heights' names'' waiting' least' on sums less lower = record {
       on = on;
       back = nearer u least least' distances names' coming less both.back;
       sums = sums;
-      at_target = meets_lower g v (dart_heights g face heights) (dart_heights g face heights') lower both.at_target;
+      at_target = meets_lower seen.named v (heights_over seen heights) (heights_over seen heights') lower both.at_target;
       at_start = both.at_start;
     }
 
-    pub stepped_back : (distances' names'' coming' : List ℕ) (least' : ℕ) → SpreadsTo price g face faces u (reach_of least') distances' names'' coming'
-        → AreSums g (dart_heights g face distances') (dart_heights g face heights) least' → least' ≤ least
-        → AreLowered (dart_heights g face distances) (dart_heights g face distances')
-        → SpreadsBoth price g face faces u v heights names waiting distances' names'' coming' least'
+    pub stepped_back : (distances' names'' coming' : List ℕ) (least' : ℕ) → SpreadsTo seen u (reach_of least') distances' names'' coming'
+        → AreSums seen.named (heights_over seen distances') (heights_over seen heights) least' → least' ≤ least
+        → AreLowered (heights_over seen distances) (heights_over seen distances')
+        → SpreadsBoth seen u v heights names waiting distances' names'' coming' least'
     stepped_back distances' names'' coming' least' back sums less lower = record {
       on = nearer v least least' heights names waiting less both.on;
       back = back;
-      sums = sums_swapped g has (dart_heights g face distances') (dart_heights g face heights) least' (one_for_each g face distances')
-          (one_for_each g face heights) sums;
+      sums = sums_swapped seen.named laws.names (heights_over seen distances') (heights_over seen heights) least' (one_for_each seen.named seen.face distances')
+          (one_for_each seen.named seen.face heights) sums;
       at_target = both.at_target;
-      at_start = meets_lower g u (dart_heights g face distances) (dart_heights g face distances') lower both.at_start;
+      at_start = meets_lower seen.named u (heights_over seen distances) (heights_over seen distances') lower both.at_start;
     }
 
-    pub back_sums : AreSums g (dart_heights g face distances) (dart_heights g face heights) least
-    back_sums = sums_swapped g has (dart_heights g face heights) (dart_heights g face distances) least (one_for_each g face heights)
-        (one_for_each g face distances) both.sums
+    pub back_sums : AreSums seen.named (heights_over seen distances) (heights_over seen heights) least
+    back_sums = sums_swapped seen.named laws.names (heights_over seen heights) (heights_over seen distances) least (one_for_each seen.named seen.face heights)
+        (one_for_each seen.named seen.face distances) both.sums
 
 module _ (price : Pricing) (g : Named) (lawful : Lawful g.rows) (has : IsNamed g) (u v : ℕ) where
   -- ---- The end

@@ -2,59 +2,62 @@
 use Rattle.std.proofs.Common.{◌≡◌, ℕ, ◌+◌, ◌*◌, ◌^◌, ◌<◌, ◌≤◌, ◌||◌, ◌==◌, ◌∙◌, List, length, arith, ap, refl, sym, subst}
 use Rattle.std.specs.Prelude.{min, slice_index}
 use Rattle.std.proofs.Math.ListN.{set}
-use Rattle.topo_core.specs.Lawful.{Lawful}
 use Rattle.topo_core.specs.Routes.{KeepsPromise, Price, Pricing, Reaches}
 use Rattle.topo_core.proofs.Interface.{single_price}
-use Rattle.topo_route.specs.FaceHeights.{dart_heights, with_name}
-use Rattle.topo_route.specs.Names.{HasFaces, IsName, IsNamed, Named, dart_named, twin_name}
+use Rattle.topo_route.specs.FaceHeights.{with_name}
+use Rattle.topo_route.specs.Names.{IsName, Named, dart_named, twin_name}
+use Rattle.topo_route.specs.PricedFaces.{AreFaces, PricedFaces, heights_over}
 use Rattle.topo_route.specs.Settling.{AreFaceCosts, IsCrossed, IsReached, Spreads, is_waiting, item_of, reached}
 use Rattle.topo_route.proofs.spreading.FaceHeights.{face_lowered, face_other, one_height}
 use Rattle.topo_route.proofs.spreading.Reaching.{reaches_twin}
 use Rattle.topo_route.proofs.spreading.Settled.{has_face, lowered_costs, lowered_waits, near_dart}
 
-module _ (price : Pricing) (g : Named) (lawful : Lawful g.rows) (has : IsNamed g) (face : ℕ → ℕ) (faces : ℕ) (has_faces : HasFaces g face faces) (v reach : ℕ)
+module _ (seen : PricedFaces) (laws : AreFaces seen) (v reach : ℕ)
     (heights names waiting : List ℕ) (d other p : ℕ)
-    (costs : AreFaceCosts price g face faces v heights names) (in_hand : IsReached g (dart_heights g face heights) d) (promise : KeepsPromise price)
-    (asked : Price price g.rows (dart_named g d) p) (is : other ≡ twin_name g d)
-    (there : IsName g other) (low : slice_index (dart_heights g face heights) d + p < min (slice_index (dart_heights g face heights) other) reach) where
+    (costs : AreFaceCosts seen v heights names) (in_hand : IsReached seen.named (heights_over seen heights) d) (promise : KeepsPromise seen.price)
+    (asked : Price seen.price seen.named.rows (dart_named seen.named d) p) (is : other ≡ twin_name seen.named d)
+    (there : IsName seen.named other) (low : slice_index (heights_over seen heights) d + p < min (slice_index (heights_over seen heights) other) reach) where
   abbrev x : ℕ
-  x = slice_index (dart_heights g face heights) d + p
+  x = slice_index (heights_over seen heights) d + p
 
   abbrev after : List ℕ
-  after = dart_heights g face (set heights (face other) x)
+  after = heights_over seen (set heights (seen.face other) x)
 
-  walk : Reaches price g.rows v (dart_named g other) x
+  walk : Reaches seen.price seen.named.rows v (dart_named seen.named other) x
   walk =
-      let here = slice_index (dart_heights g face heights) d in
+      let here = slice_index (heights_over seen heights) d in
       let order : p + here ≡ x = omega arith in
-      let over = reaches_twin price g lawful has v d here p in_hand.0 asked (costs.costs.costs d in_hand.0 in_hand.1) in
-      subst (λ k. Reaches price g.rows v (dart_named g k) x) (sym is) (subst (λ m. Reaches price g.rows v (dart_named g (twin_name g d)) m) order over)
+      let over = reaches_twin seen.price seen.named laws.lawful laws.names v d here p in_hand.0 asked (costs.costs.costs d in_hand.0 in_hand.1) in
+      subst (λ k. Reaches seen.price seen.named.rows v (dart_named seen.named k) x) (sym is)
+      (subst (λ m. Reaches seen.price seen.named.rows v (dart_named seen.named (twin_name seen.named d)) m) order over)
 
   near : x ≤ 1000 * reached heights + 1000
-  near = omega (arith, promise.at_most asked.facts p asked.asked, near_dart price g has face faces has_faces v heights names costs d in_hand.0 in_hand.1)
+  near = omega (arith, promise.at_most asked.facts p asked.asked, near_dart seen laws v heights names costs d in_hand.0 in_hand.1)
 
-  inside : face other < length heights
-  inside = has_face has_faces costs other there
+  inside : seen.face other < length heights
+  inside = has_face laws.labels costs other there
 
-  pub twin_costs : AreFaceCosts price g face faces v (set heights (face other) x) (with_name heights (face other) other names)
-  twin_costs = lowered_costs price g has face faces has_faces v heights names costs other x there (omega arith) walk near
+  pub twin_costs : AreFaceCosts seen v (set heights (seen.face other) x) (with_name heights (seen.face other) other names)
+  twin_costs = lowered_costs seen laws v heights names costs other x there (omega arith) walk near
 
   -- the twin waits
   pub twin_waits : (top : ℕ → ℕ) (waiting' : List ℕ) → other < 2 ^ 32 → ((i : ℕ) → is_waiting waiting' i ≡ (item_of other x == i || is_waiting waiting i))
-      → Spreads price g face faces v top reach heights names waiting d
-      → Spreads price g face faces v top reach (set heights (face other) x) (with_name heights (face other) other names) waiting' d
+      → Spreads seen v top reach heights names waiting d
+      → Spreads seen v top reach (set heights (seen.face other) x) (with_name heights (seen.face other) other names) waiting' d
   twin_waits top waiting' short added spreads =
-      lowered_waits price g has face faces has_faces v heights names costs other x there (omega arith)
+      lowered_waits seen laws v heights names costs other x there (omega arith)
       walk near top reach waiting waiting' d short spreads added
 
   -- it is of another face
-  pub twin_same : slice_index after d ≡ slice_index (dart_heights g face heights) d
-  twin_same = face_other g has face heights other x inside d (λ l e. omega (arith, one_height g face heights has d other in_hand.0 there e))
+  pub twin_same : slice_index after d ≡ slice_index (heights_over seen heights) d
+  twin_same = face_other seen.named laws.names seen.face heights other x inside d
+      (λ l e. omega (arith, one_height seen.named seen.face heights laws.names d other in_hand.0 there e))
 
-  pub is_crossed : (nearer : ℕ) → IsCrossed price g nearer after d
+  pub is_crossed : (nearer : ℕ) → IsCrossed seen.price seen.named nearer after d
   is_crossed nearer q priced =
-      let same = single_price price g.rows promise (dart_named g d) q p priced asked in
-      let now : slice_index after (twin_name g d) ≡ x = ap (slice_index after) (sym is) ∙ face_lowered g has face heights other x inside other there refl in
+      let same = single_price seen.price seen.named.rows promise (dart_named seen.named d) q p priced asked in
+      let now : slice_index after (twin_name seen.named d) ≡ x = ap (slice_index after) (sym is)
+      ∙ face_lowered seen.named laws.names seen.face heights other x inside other there refl in
       let kept = twin_same in
       omega arith
 

@@ -8,9 +8,11 @@ use Rattle.std.proofs.lemmas.List.{length-set}
 use Rattle.std.proofs.lemmas.List.Sums.{sum_by-set}
 use Rattle.topo_core.specs.Routes.{Pricing, Reaches, unreached}
 use Rattle.topo_core.proofs.Interface.{either}
-use Rattle.topo_route.specs.FaceHeights.{AreLabelled, dart_heights, with_name}
+use Rattle.topo_route.specs.FaceHeights.{AreLabelled, with_name}
 use Rattle.topo_route.specs.Names.{HasFaces, IsName, IsNamed, Named, dart_named, height_of, next_name, twin_name}
 use Rattle.topo_route.specs.Plans.{IsZeroAt}
+use Rattle.topo_route.specs.PricedFaces.{AreFaces, PricedFaces, heights_over}
+use Rattle.topo_route.specs.Searches.{AreLeft, NoneWaits}
 use Rattle.topo_route.specs.Settling.{AreCosts, AreFaceCosts, AreLowered, IsReached, IsSettled}
 use Rattle.topo_route.specs.Settling.{Spreads, dart_of_item, effort, is_pending, is_waiting, item_of, reached}
 use Rattle.topo_route.proofs.spreading.FaceHeights.{dart_capped, face_less, face_lowered, face_other, height_by_face, one_for_each, one_height, reached_named}
@@ -63,163 +65,166 @@ module _ (heights : List ℕ) (t x : ℕ) (within : t < length heights) where
 -- ---- Faces and their labels
 
 -- labels have a height for each dart's face
-pub has_face : {price : Pricing} {g : Named} {face : ℕ → ℕ} {faces v : ℕ} {heights names : List ℕ} → HasFaces g face faces
-    → AreFaceCosts price g face faces v heights names → (k : ℕ) → IsName g k → face k < length heights
+pub has_face : {seen : PricedFaces} {v : ℕ} {heights names : List ℕ} → HasFaces seen.named seen.face seen.faces → AreFaceCosts seen v heights names → (k : ℕ)
+    → IsName seen.named k → seen.face k < length heights
 has_face has_faces costs k l = omega (arith, costs.labelled.one_each, has_faces.within k l)
 
-module _ (price : Pricing) (g : Named) (has : IsNamed g) (face : ℕ → ℕ) (faces : ℕ) (has_faces : HasFaces g face faces) (v : ℕ) (heights names : List ℕ)
-    (costs : AreFaceCosts price g face faces v heights names) where
+module _ (seen : PricedFaces) (laws : AreFaces seen) (v : ℕ) (heights names : List ℕ)
+    (costs : AreFaceCosts seen v heights names) where
   abbrev of_darts : List ℕ
-  of_darts = dart_heights g face heights
+  of_darts = heights_over seen heights
 
-  pub of_face : (k : ℕ) → IsName g k → slice_index of_darts k ≡ slice_index heights (face k)
-  of_face k l = height_by_face g face heights has k l (has_face has_faces costs k l)
+  pub of_face : (k : ℕ) → IsName seen.named k → slice_index of_darts k ≡ slice_index heights (seen.face k)
+  of_face k l = height_by_face seen.named seen.face heights laws.names k l (has_face laws.labels costs k l)
 
   -- a dart is no higher than 1000 for each face that has been reached
-  pub near_dart : (k : ℕ) → IsName g k → slice_index of_darts k ≢ unreached → slice_index of_darts k ≤ 1000 * reached heights
-  near_dart k l some = let is = of_face k l in let near = costs.bounded (face k) (has_faces.within k l) (λ e. some (is ∙ e)) in omega arith
+  pub near_dart : (k : ℕ) → IsName seen.named k → slice_index of_darts k ≢ unreached → slice_index of_darts k ≤ 1000 * reached heights
+  near_dart k l some = let is = of_face k l in let near = costs.bounded (seen.face k) (laws.labels.within k l) (λ e. some (is ∙ e)) in omega arith
 
-  module _ (t x : ℕ) (there : IsName g t) (low : x < slice_index of_darts t) (walk : Reaches price g.rows v (dart_named g t) x)
+  module _ (t x : ℕ) (there : IsName seen.named t) (low : x < slice_index of_darts t) (walk : Reaches seen.price seen.named.rows v (dart_named seen.named t) x)
       (near : x ≤ 1000 * reached heights + 1000) where
     abbrev heights' : List ℕ
-    heights' = set heights (face t) x
+    heights' = set heights (seen.face t) x
 
     abbrev after : List ℕ
-    after = dart_heights g face heights'
+    after = heights_over seen heights'
 
-    inside : face t < length heights
-    inside = has_face has_faces costs t there
+    inside : seen.face t < length heights
+    inside = has_face laws.labels costs t there
 
     some : x ≢ unreached
     some e = let cap = costs.costs.capped t in omega arith
 
-    low_face : x < slice_index heights (face t)
+    low_face : x < slice_index heights (seen.face t)
     low_face = omega (arith, of_face t there)
 
-    pub face_near : (f : ℕ) → f < faces → slice_index heights' f ≢ unreached → slice_index heights' f ≤ 1000 * reached heights'
+    pub face_near : (f : ℕ) → f < seen.faces → slice_index heights' f ≢ unreached → slice_index heights' f ≤ 1000 * reached heights'
     face_near f l = grind
         (arith, cases_eq, inside, low_face, lowered_there, lowered_other, lowered_more, some, lowered_reached, counts_unreached, costs.bounded f l)
 
     face_capped : (f : ℕ) → slice_index heights' f ≤ unreached
-    face_capped f = let cap = costs.capped f in let less = lowered_less heights (face t) x inside f (omega (arith, low_face)) in omega arith
+    face_capped f = let cap = costs.capped f in let less = lowered_less heights (seen.face t) x inside f (omega (arith, low_face)) in omega arith
 
-    labelled_anew : AreLabelled g face faces heights' (names ++ t ∷ [])
+    labelled_anew : AreLabelled seen.named seen.face seen.faces heights' (names ++ t ∷ [])
     labelled_anew =
         let lists = lists_added names t in
         let was = costs.labelled in record {
           few = was.few;
-          one_each = length-set heights (face t) x ∙ was.one_each;
+          one_each = length-set heights (seen.face t) x ∙ was.one_each;
           named = λ k h. elim (lists.came k h) [
-            | inl is ↦ subst (IsName g) (sym is) there
+            | inl is ↦ subst (IsName seen.named) (sym is) there
             | inr earlier ↦ was.named k earlier
           ];
-          inside = λ f l reached. elim (cases_eq f (face t)) [
+          inside = λ f l reached. elim (cases_eq f (seen.face t)) [
             | inl e ↦ (t, lists.itself, sym e)
             | inr ne ↦
-                let (k, h, is) = was.inside f l (λ e. reached (lowered_other heights (face t) x inside f ne ∙ e)) in
+                let (k, h, is) = was.inside f l (λ e. reached (lowered_other heights (seen.face t) x inside f ne ∙ e)) in
                 (k, lists.stays k h, is)
           ];
         }
 
-    labelled_again : slice_index heights (face t) ≢ unreached → AreLabelled g face faces heights' names
+    labelled_again : slice_index heights (seen.face t) ≢ unreached → AreLabelled seen.named seen.face seen.faces heights' names
     labelled_again again =
         let was = costs.labelled in record {
           few = was.few;
-          one_each = length-set heights (face t) x ∙ was.one_each;
+          one_each = length-set heights (seen.face t) x ∙ was.one_each;
           named = was.named;
-          inside = λ f l reached. elim (cases_eq f (face t)) [
+          inside = λ f l reached. elim (cases_eq f (seen.face t)) [
             | inl e ↦ was.inside f l (λ z. again (ap (slice_index heights) (sym e) ∙ z))
-            | inr ne ↦ was.inside f l (λ e. reached (lowered_other heights (face t) x inside f ne ∙ e))
+            | inr ne ↦ was.inside f l (λ e. reached (lowered_other heights (seen.face t) x inside f ne ∙ e))
           ];
         }
 
-    labelled : AreLabelled g face faces heights' (with_name heights (face t) t names)
+    labelled : AreLabelled seen.named seen.face seen.faces heights' (with_name heights (seen.face t) t names)
     labelled =
-        let Labelled = λ (b : Bool). AreLabelled g face faces heights' (cond {A = List ℕ} b (names ++ t ∷ []) names) in
-        elim (cases_Bool (slice_index heights (face t) == unreached)) [
+        let Labelled = λ (b : Bool). AreLabelled seen.named seen.face seen.faces heights' (cond {A = List ℕ} b (names ++ t ∷ []) names) in
+        elim (cases_Bool (slice_index heights (seen.face t) == unreached)) [
           | inl anew ↦ subst Labelled (sym anew) labelled_anew
-          | inr again ↦ subst Labelled (sym again) (labelled_again (λ e. false≢true (sym again ∙ eq-eqb (slice_index heights (face t)) unreached e)))
+          | inr again ↦ subst Labelled (sym again) (labelled_again (λ e. false≢true (sym again ∙ eq-eqb (slice_index heights (seen.face t)) unreached e)))
         ]
 
     -- darts that were reached are
     pub lowered_stays : (k : ℕ) → slice_index of_darts k ≢ unreached → slice_index after k ≢ unreached
-    lowered_stays k was now = let less = face_less g has face heights t x inside there (omega arith) k in let cap = costs.costs.capped k in was (omega arith)
+    lowered_stays k was now = let less = face_less seen.named laws.names seen.face heights t x inside there (omega arith) k in let cap = costs.costs.capped k in was (omega arith)
 
     -- each dart of the face reaches the target at the cost at which one of them does
-    walk_of_face : (k : ℕ) → IsName g k → face k ≡ face t → Reaches price g.rows v (dart_named g k) x
-    walk_of_face k l e = let same = has_faces.one k t l there e in record {
+    walk_of_face : (k : ℕ) → IsName seen.named k → seen.face k ≡ seen.face t → Reaches seen.price seen.named.rows v (dart_named seen.named k) x
+    walk_of_face k l e = let same = laws.labels.one k t l there e in record {
       crossed = walk.crossed;
       position = walk.position;
       to = walk.to;
       ends = walk.ends;
-      walk = crosses_from g.rows (dart_named g k) (dart_named g t) walk.crossed walk.to same walk.walk;
+      walk = crosses_from seen.named.rows (dart_named seen.named k) (dart_named seen.named t) walk.crossed walk.to same walk.walk;
       cost = walk.cost;
     }
 
-    dart_costs : AreCosts price g v after
+    dart_costs : AreCosts seen.price seen.named v after
     dart_costs = record {
-      one_each = one_for_each g face heights';
-      named = reached_named g face heights';
-      capped = dart_capped g face heights' face_capped;
-      costs = λ k l reached. elim (cases_eq (face k) (face t)) [
-        | inl e ↦ subst (Reaches price g.rows v (dart_named g k)) (sym (face_lowered g has face heights t x inside k l e)) (walk_of_face k l e)
+      one_each = one_for_each seen.named seen.face heights';
+      named = reached_named seen.named seen.face heights';
+      capped = dart_capped seen.named seen.face heights' face_capped;
+      costs = λ k l reached. elim (cases_eq (seen.face k) (seen.face t)) [
+        | inl e ↦ subst (Reaches seen.price seen.named.rows v (dart_named seen.named k)) (sym (face_lowered seen.named laws.names seen.face heights t x inside k l e))
+            (walk_of_face k l e)
         | inr ne ↦
-            let same = face_other g has face heights t x inside k (λ l. ne) in
-            subst (Reaches price g.rows v (dart_named g k)) (sym same) (costs.costs.costs k l (λ e. reached (same ∙ e)))
+            let same = face_other seen.named laws.names seen.face heights t x inside k (λ l. ne) in
+            subst (Reaches seen.price seen.named.rows v (dart_named seen.named k)) (sym same) (costs.costs.costs k l (λ e. reached (same ∙ e)))
       ];
       bounded = λ k l reached.
           let within = labelled.one_each in
-          let is = height_by_face g face heights' has k l (omega (arith, has_faces.within k l)) in
-          let near' = face_near (face k) (has_faces.within k l) (λ e. reached (is ∙ e)) in
+          let is = height_by_face seen.named seen.face heights' laws.names k l (omega (arith, laws.labels.within k l)) in
+          let near' = face_near (seen.face k) (laws.labels.within k l) (λ e. reached (is ∙ e)) in
           let most = reached_within heights' in
           let few = costs.labelled.few in omega arith;
     }
 
     -- a lower cost keeps heights costs
-    pub lowered_costs : AreFaceCosts price g face faces v heights' (with_name heights (face t) t names)
+    pub lowered_costs : AreFaceCosts seen v heights' (with_name heights (seen.face t) t names)
     lowered_costs = record { labelled = labelled; capped = face_capped; bounded = face_near; costs = dart_costs }
 
-    pub lowered_settled : (bound k : ℕ) → (IsName g k → face k ≢ face t) → IsSettled price g bound of_darts k → IsSettled price g bound after k
+    pub lowered_settled : (bound k : ℕ) → (IsName seen.named k → seen.face k ≢ seen.face t) → IsSettled seen.price seen.named bound of_darts k
+        → IsSettled seen.price seen.named bound after k
     lowered_settled bound k ne (next, crossed) =
-        let same = face_other g has face heights t x inside k ne in (
-          (let less = face_less g has face heights t x inside there (omega arith) (next_name g k) in omega arith),
-          (λ p e. let bound = crossed p e in let less = face_less g has face heights t x inside there (omega arith) (twin_name g k) in omega arith),
+        let same = face_other seen.named laws.names seen.face heights t x inside k ne in (
+          (let less = face_less seen.named laws.names seen.face heights t x inside there (omega arith) (next_name seen.named k) in omega arith),
+          (λ p e. let bound = crossed p e in let less = face_less seen.named laws.names seen.face heights t x inside there (omega arith) (twin_name seen.named k) in omega arith),
         )
 
     -- the face is lowered, and its dart t waits
     pub lowered_waits : (top : ℕ → ℕ) (reach : ℕ) (waiting waiting' : List ℕ) (in_hand : ℕ) → t < 2 ^ 32
-        → Spreads price g face faces v top reach heights names waiting in_hand
+        → Spreads seen v top reach heights names waiting in_hand
         → ((i : ℕ) → is_waiting waiting' i ≡ (item_of t x == i || is_waiting waiting i))
-        → Spreads price g face faces v top reach heights' (with_name heights (face t) t names) waiting' in_hand
+        → Spreads seen v top reach heights' (with_name heights (seen.face t) t names) waiting' in_hand
     lowered_waits top reach waiting waiting' in_hand short spreads added = record {
       costs = lowered_costs;
       others = λ k l ne less idle.
           let own : is_waiting waiting' (item_of t x) ≡ true = added (item_of t x)
           ∙ ap (λ b. b || is_waiting waiting (item_of t x)) (eq-eqb (item_of t x) (item_of t x) refl) in
-          let here = face_lowered g has face heights t x inside t there refl in
-          let apart : face k ≢ face t = λ e. false≢true (sym (idle t there (sym e)) ∙ ap (λ h. is_waiting waiting' (item_of t h)) here ∙ own) in
-          let same = face_other g has face heights t x inside k (λ l. apart) in
+          let here = face_lowered seen.named laws.names seen.face heights t x inside t there refl in
+          let apart : seen.face k ≢ seen.face t = λ e. false≢true (sym (idle t there (sym e)) ∙ ap (λ h. is_waiting waiting' (item_of t h)) here ∙ own) in
+          let same = face_other seen.named laws.names seen.face heights t x inside k (λ l. apart) in
           lowered_settled reach k (λ l. apart) (spreads.others k l ne (omega arith) (λ j lj e.
-          let still = face_other g has face heights t x inside j (λ l. λ c. apart (sym e ∙ c)) in
+          let still = face_other seen.named laws.names seen.face heights t x inside j (λ l. λ c. apart (sym e ∙ c)) in
           let item = item_of j (slice_index of_darts j) in
           (either_false (item_of t x == item) (is_waiting waiting item)
           (sym (added item) ∙ ap (λ h. is_waiting waiting' (item_of j h)) (sym still) ∙ idle j lj e)).1));
       reached_waits = λ item waits. elim (either (item_of t x == item) (is_waiting waiting item) (sym (added item) ∙ waits)) [
         | inl here ↦
             let is : t ≡ dart_of_item item = sym (dart_of_own t x short) ∙ ap dart_of_item (eqb-true (item_of t x) item here) in (
-              subst (IsName g) is there,
-              subst (λ j. slice_index after j ≢ unreached) is (λ e. some (sym (face_lowered g has face heights t x inside t there refl) ∙ e)),
+              subst (IsName seen.named) is there,
+              subst (λ j. slice_index after j ≢ unreached) is (λ e. some (sym (face_lowered seen.named laws.names seen.face heights t x inside t there refl) ∙ e)),
             )
         | inr before ↦ let was = spreads.reached_waits item before in (was.0, lowered_stays (dart_of_item item) was.1)
       ];
     }
 
   -- the face in hand is settled
-  pub put_down : (top : ℕ → ℕ) (reach : ℕ) (waiting : List ℕ) (d : ℕ) → IsName g d → Spreads price g face faces v top reach heights names waiting d
-      → ((k : ℕ) → IsName g k → face k ≡ face d → IsSettled price g reach of_darts k) → Spreads price g face faces v top reach heights names waiting g.size
+  pub put_down : (top : ℕ → ℕ) (reach : ℕ) (waiting : List ℕ) (d : ℕ) → IsName seen.named d → Spreads seen v top reach heights names waiting d
+      → ((k : ℕ) → IsName seen.named k → seen.face k ≡ seen.face d → IsSettled seen.price seen.named reach of_darts k)
+      → Spreads seen v top reach heights names waiting seen.named.size
   put_down top reach waiting d there spreads settled = record {
     costs = spreads.costs;
-    others = λ k l ne less idle. elim (cases_eq (face k) (face d)) [
+    others = λ k l ne less idle. elim (cases_eq (seen.face k) (seen.face d)) [
       | inl e ↦ settled k l e
       | inr other ↦ spreads.others k l (λ within. other) less idle
     ];
@@ -231,60 +236,60 @@ pub settled_nearer : (price : Pricing) (g : Named) (reach nearer : ℕ) (heights
     → IsSettled price g nearer heights k
 settled_nearer price g reach nearer heights k near (face, crossed) = (face, λ p asked. let climb = crossed p asked in omega arith)
 
-module _ (price : Pricing) (g : Named) (face : ℕ → ℕ) (faces v : ℕ) (heights names waiting : List ℕ) where
+module _ (seen : PricedFaces) (v : ℕ) (heights names waiting : List ℕ) where
   abbrev high : List ℕ
-  high = dart_heights g face heights
+  high = heights_over seen heights
 
   -- lower tops and a lower reach
-  pub narrowed : (top lower : ℕ → ℕ) (reach nearer : ℕ) (in_hand : ℕ) → Spreads price g face faces v top reach heights names waiting in_hand
-      → ((k : ℕ) → lower k ≤ top k) → nearer ≤ reach → Spreads price g face faces v lower nearer heights names waiting in_hand
+  pub narrowed : (top lower : ℕ → ℕ) (reach nearer : ℕ) (in_hand : ℕ) → Spreads seen v top reach heights names waiting in_hand
+      → ((k : ℕ) → lower k ≤ top k) → nearer ≤ reach → Spreads seen v lower nearer heights names waiting in_hand
   narrowed top lower reach nearer in_hand spreads low near = record {
     costs = spreads.costs;
-    others = λ k l ne less idle. settled_nearer price g reach nearer high k near (spreads.others k l ne (omega (arith, low k)) idle);
+    others = λ k l ne less idle. settled_nearer seen.price seen.named reach nearer high k near (spreads.others k l ne (omega (arith, low k)) idle);
     reached_waits = spreads.reached_waits;
   }
 
   -- what waits is of darts, and has been reached
-  pub waits_named : (top : ℕ → ℕ) (reach : ℕ) (in_hand : ℕ) → Spreads price g face faces v top reach heights names waiting in_hand → (item : ℕ)
-      → is_waiting waiting item ≡ true → IsName g (dart_of_item item)
+  pub waits_named : (top : ℕ → ℕ) (reach : ℕ) (in_hand : ℕ) → Spreads seen v top reach heights names waiting in_hand → (item : ℕ)
+      → is_waiting waiting item ≡ true → IsName seen.named (dart_of_item item)
   waits_named top reach in_hand spreads item waits = (spreads.reached_waits item waits).0
 
-  pub taken_reached : (top : ℕ → ℕ) (reach : ℕ) (in_hand d : ℕ) → d < 2 ^ 32 → Spreads price g face faces v top reach heights names waiting in_hand
-      → is_pending high waiting d ≡ true → IsReached g high d
+  pub taken_reached : (top : ℕ → ℕ) (reach : ℕ) (in_hand d : ℕ) → d < 2 ^ 32 → Spreads seen v top reach heights names waiting in_hand
+      → is_pending high waiting d ≡ true → IsReached seen.named high d
   taken_reached top reach in_hand d short spreads pending =
-      subst (IsReached g high) (dart_of_own d (slice_index high d) short) (spreads.reached_waits (item_of d (slice_index high d)) pending)
+      subst (IsReached seen.named high) (dart_of_own d (slice_index high d) short) (spreads.reached_waits (item_of d (slice_index high d)) pending)
 
   -- tops that are the same for the darts of a face
-  module _ (has : IsNamed g) (small : g.size < 2 ^ 32) (top : ℕ → ℕ) (reach : ℕ) (even : (j k : ℕ) → IsName g j → IsName g k → face j ≡ face k → top j ≡ top k)
-      (spreads : Spreads price g face faces v top reach heights names waiting g.size) where
-    below_top : (j k : ℕ) → IsName g j → IsName g k → face j ≡ face k → slice_index high k < top k → slice_index high j < top j
-    below_top j k lj lk e less = omega (arith, one_height g face heights has j k lj lk e, even j k lj lk e)
+  module _ (has : IsNamed seen.named) (small : seen.named.size < 2 ^ 32) (top : ℕ → ℕ) (reach : ℕ)
+      (even : (j k : ℕ) → IsName seen.named j → IsName seen.named k → seen.face j ≡ seen.face k → top j ≡ top k)
+      (spreads : Spreads seen v top reach heights names waiting seen.named.size) where
+    below_top : (j k : ℕ) → IsName seen.named j → IsName seen.named k → seen.face j ≡ seen.face k → slice_index high k < top k → slice_index high j < top j
+    below_top j k lj lk e less = omega (arith, one_height seen.named seen.face heights has j k lj lk e, even j k lj lk e)
 
     -- a face is taken from those that wait
-    pub taken_up : (left : List ℕ) (d : ℕ) → IsName g d
-        → ((k : ℕ) → k < 2 ^ 32 → IsName g k → slice_index high k < top k → k ≢ d → is_pending high left k ≡ is_pending high waiting k)
-        → ((item : ℕ) → is_waiting left item ≡ true → is_waiting waiting item ≡ true) → Spreads price g face faces v top reach heights names left d
+    pub taken_up : (left : List ℕ) (d : ℕ) → IsName seen.named d
+        → ((k : ℕ) → k < 2 ^ 32 → IsName seen.named k → slice_index high k < top k → k ≢ d → is_pending high left k ≡ is_pending high waiting k)
+        → AreLeft waiting left → Spreads seen v top reach heights names left d
     taken_up left d there same fewer = record {
       costs = spreads.costs;
       others = λ k l ne less idle.
-          let within = name_below g has d there in
+          let within = name_below seen.named has d there in
           spreads.others k l (λ none. absurd (omega arith)) less (λ j lj e.
-          let below = name_below g has j lj in
-          sym (same j (omega arith) lj (below_top j k lj l e less) (λ is. ne within (sym e ∙ ap face is))) ∙ idle j lj e);
+          let below = name_below seen.named has j lj in
+          sym (same j (omega arith) lj (below_top j k lj l e less) (λ is. ne within (sym e ∙ ap seen.face is))) ∙ idle j lj e);
       reached_waits = λ item waits. spreads.reached_waits item (fewer item waits);
     }
 
     -- none waits with its height, so all below their tops are settled
-    pub all_settled : ((k : ℕ) → k < 2 ^ 32 → IsName g k → slice_index high k < top k → is_pending high waiting k ≡ false) → (k : ℕ) → IsName g k
-        → slice_index high k < top k → IsSettled price g reach high k
+    pub all_settled : NoneWaits seen.named high top waiting
+        → (k : ℕ) → IsName seen.named k → slice_index high k < top k → IsSettled seen.price seen.named reach high k
     all_settled none k l less =
         spreads.others k l (λ none. absurd (omega arith)) less
-        (λ j lj e. let below = name_below g has j lj in none j (omega arith) lj (below_top j k lj l e less))
+        (λ j lj e. let below = name_below seen.named has j lj in none j (omega arith) lj (below_top j k lj l e less))
 
     -- and whatever is left of it still spreads
-    pub emptied : (left : List ℕ) → ((k : ℕ) → k < 2 ^ 32 → IsName g k → slice_index high k < top k → is_pending high waiting k ≡ false)
-        → ((item : ℕ) → is_waiting left item ≡ true → is_waiting waiting item ≡ true)
-        → Spreads price g face faces v top reach heights names left g.size
+    pub emptied : (left : List ℕ) → NoneWaits seen.named high top waiting → AreLeft waiting left
+        → Spreads seen v top reach heights names left seen.named.size
     emptied left none fewer = record {
       costs = spreads.costs;
       others = λ k l ne less idle. all_settled none k l less;

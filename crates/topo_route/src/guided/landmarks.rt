@@ -2,8 +2,7 @@
 
 ghost use Rattle.std.specs.Prelude.{◌≡◌, ◌<◌, [], IfOk, length};
 ghost use Rattle.topo_core.specs.Picture.{darts};
-ghost use Rattle.topo_price.specs.Prices.{prices_of};
-ghost use Rattle.topo_route.specs.Settling.{ArePrices};
+ghost use Rattle.topo_route.specs.Searches.{HasPrices, priced_faces};
 
 use crate::both_ends::least_heights;
 use crate::face_graph::FaceGraph;
@@ -100,9 +99,7 @@ fn measure<W: FaceGraph, F: PriceFn>(
     faces: &mut [Potentials],
     work: &mut Workspace,
 ) -> Result<(), AllocError>
-    requires right { ArePrices (prices_of (F.may_return priced.now.tariff.now))
-        (W.named priced.now.graph.now) priced.now.prices.items }
-    requires some { 0 < length (darts (W.named priced.now.graph.now).rows) }
+    requires priced { HasPrices (priced_faces W.FaceGraph F.PriceFn priced.now) }
     requires one_each { length faces.old ≡ W.face_bound priced.now.graph.now }
     requires alone { work.old.to_start.heights ≡ [] }
     ensures same { length faces.new ≡ length faces.old }

@@ -1,15 +1,15 @@
 //! The search that is guided to the start.
 
 ghost use Rattle.std.specs.Prelude.{◌≡◌, ◌<◌, ◌≤◌, ℕ, OnOk, length, Some};
-ghost use Rattle.topo_core.specs.Picture.{corner, darts};
+ghost use Rattle.topo_core.specs.Picture.{corner};
 ghost use Rattle.topo_core.specs.declared.darts.Dart.{Dart};
 ghost use Rattle.topo_core.specs.declared.rows.Facts.{Facts};
 ghost use Rattle.topo_core.specs.declared.rows.TheConstants.{KINDS};
 ghost use Rattle.topo_price.specs.Prices.{prices_of};
 ghost use Rattle.topo_route.specs.Descents.{AreHeightsFor};
-ghost use Rattle.topo_route.specs.FaceHeights.{dart_heights};
 ghost use Rattle.topo_route.specs.Potentials.{IsOfGuide};
-ghost use Rattle.topo_route.specs.Settling.{ArePrices};
+ghost use Rattle.topo_route.specs.PricedFaces.{heights_over};
+ghost use Rattle.topo_route.specs.Searches.{HasPrices, priced_faces};
 
 use crate::both_ends::start_both;
 use crate::face_graph::FaceGraph;
@@ -28,19 +28,15 @@ pub(crate) fn heights_toward<W: FaceGraph, F: PriceFn>(
     guide: &Guide,
     work: &mut Workspace,
 ) -> Result<(), AllocError>
-    requires right { ArePrices (prices_of (F.may_return priced.now.tariff.now))
-        (W.named priced.now.graph.now) priced.now.prices.items }
-    requires some { 0 < length (darts (W.named priced.now.graph.now).rows) }
-    requires corners { (p : ℕ) (c : Dart)
-        → corner (W.named priced.now.graph.now).rows u p ≡ Some c → IsOfGuide guide.now
-        (W.potentials priced.now.graph.now
-        (W.face_of priced.now.graph.now ((W.named priced.now.graph.now).name c))) }
+    requires priced { HasPrices (priced_faces W.FaceGraph F.PriceFn priced.now) }
+    requires corners { let p = priced_faces W.FaceGraph F.PriceFn priced.now in
+        (n : ℕ) (c : Dart) → corner p.named.rows u n ≡ Some c → IsOfGuide guide.now
+        (W.potentials priced.now.graph.now (p.face (p.named.name c))) }
     requires floors { (facts : Facts) (n : ℕ) → facts.kind < KINDS
         → prices_of (F.may_return priced.now.tariff.now) facts n
         → W.floor priced.now.graph.now facts.kind ≤ n }
-    ensures heights { OnOk result (AreHeightsFor (prices_of (F.may_return priced.now.tariff.now))
-        (W.named priced.now.graph.now) u v (dart_heights (W.named priced.now.graph.now)
-        (W.face_of priced.now.graph.now) work.new.to_end.heights)) }
+    ensures heights { let p = priced_faces W.FaceGraph F.PriceFn priced.now in
+        OnOk result (AreHeightsFor p.price p.named u v (heights_over p work.new.to_end.heights)) }
     ensures one_each { OnOk result
         (length work.new.to_end.heights ≡ W.face_bound priced.now.graph.now) }
 {

@@ -2,10 +2,10 @@
 
 ghost use Rattle.std.specs.Prelude.{◌≡◌, ◌<◌, ◌≤◌, ℕ, IfOk, IfSome, IsSomeAnd, OnOk, true};
 ghost use Rattle.topo_core.specs.Routes.{unreached};
-ghost use Rattle.topo_route.specs.FaceHeights.{AreLabelled, dart_heights};
 ghost use Rattle.topo_route.specs.Names.{IsName, dart_named};
+ghost use Rattle.topo_route.specs.Searches.{HasStopped, HoldsFaces, IsLabelled, heights_on};
 ghost use Rattle.topo_route.specs.Regions.{IsRegionOf, holds_edge};
-ghost use Rattle.topo_route.specs.Seen.{HasSeen, HoldsBelow, HoldsMore, HoldsSeen};
+ghost use Rattle.topo_route.specs.Seen.{HoldsBelow, HoldsMore};
 
 use crate::both_ends::Stop;
 use crate::face_graph::FaceGraph;
@@ -59,14 +59,12 @@ fn mark_below<W: FaceGraph>(
     bound: u64,
     region: &mut Region,
 ) -> Result<(), AllocError>
-    requires labelled { AreLabelled (W.named graph.now) (W.face_of graph.now)
-        (W.face_bound graph.now) labels.now.heights labels.now.names.items }
+    requires labelled { IsLabelled W.FaceGraph graph.now labels.now }
     requires of_rows { IsRegionOf (W.named graph.now).rows region.old }
     ensures of_rows { OnOk result (IsRegionOf (W.named graph.now).rows region.new) }
     ensures more { OnOk result (HoldsMore region.old region.new) }
     ensures below { OnOk result (HoldsBelow (W.named graph.now)
-        (dart_heights (W.named graph.now) (W.face_of graph.now) labels.now.heights)
-        bound region.new) }
+        (heights_on W.FaceGraph graph.now labels.now.heights) bound region.new) }
 {
     let names = labels.names.as_slice();
     for i in 0..names.len() {
@@ -86,17 +84,11 @@ fn region_of<W: FaceGraph>(
     work: &Workspace,
     stop: Stop,
 ) -> Result<Region, AllocError>
-    requires to_end { AreLabelled (W.named graph.now) (W.face_of graph.now)
-        (W.face_bound graph.now) work.now.to_end.heights work.now.to_end.names.items }
-    requires to_start { AreLabelled (W.named graph.now) (W.face_of graph.now)
-        (W.face_bound graph.now) work.now.to_start.heights work.now.to_start.names.items }
+    requires to_end { IsLabelled W.FaceGraph graph.now work.now.to_end }
+    requires to_start { IsLabelled W.FaceGraph graph.now work.now.to_start }
     requires within { stop.level ≤ stop.least }
     requires some { stop.least < unreached }
-    ensures { IfOk result
-        (λ region. HoldsSeen (W.named graph.now)
-        (dart_heights (W.named graph.now) (W.face_of graph.now) work.now.to_end.heights)
-        (dart_heights (W.named graph.now) (W.face_of graph.now) work.now.to_start.heights)
-        stop.level stop.least region) }
+    ensures { IfOk result (HoldsFaces W.FaceGraph graph.now work.now stop) }
 {
     let mut region = Region::new(alloc);
     mark_below(graph, &work.to_end, stop.level, &mut region)?;
@@ -112,15 +104,10 @@ pub(crate) fn seen_region<W: FaceGraph>(
     work: &Workspace,
     stop: Option<Stop>,
 ) -> Result<Option<Region>, AllocError>
-    requires { IfSome stop (λ s. HasSeen (W.named graph.now) (W.face_of graph.now)
-        (W.face_bound graph.now) work.now.to_end.heights work.now.to_end.names.items
-        work.now.to_start.heights work.now.to_start.names.items s.level s.least) }
-    ensures { IfOk result
-        (λ found. IfSome found
+    requires { IfSome stop (HasStopped W.FaceGraph graph.now work.now) }
+    ensures { IfOk result (λ found. IfSome found
         (λ region. IsSomeAnd stop (λ s. (0 < s.least) × (s.least < unreached)
-        × HoldsSeen (W.named graph.now) (dart_heights (W.named graph.now) (W.face_of graph.now)
-        work.now.to_end.heights) (dart_heights (W.named graph.now)
-        (W.face_of graph.now) work.now.to_start.heights) s.level s.least region))) }
+        × HoldsFaces W.FaceGraph graph.now work.now s region))) }
 {
     match stop {
         Some(stop) => {

@@ -24,7 +24,6 @@ loop-position-preserved g c = grind (
 
 pub returns-then-height-eq0-clause-attained : goal.returns-then-height-eq0-clause-attained
 returns-then-height-eq0-clause-attained g c = λ some.
-    let named = g.W.FaceGraph.named c.args.graph.now in
     let has = g.met.W.FaceGraph.has_names c.args.graph.now in grind (arith, height_named)
 
 pub returns-clause-low : goal.returns-clause-low

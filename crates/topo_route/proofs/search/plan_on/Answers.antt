@@ -12,12 +12,15 @@ use Rattle.topo_route.proofs.meeting.Known.{for_all}
 use Rattle.topo_route.proofs.names.Canonical.{lawful_shown}
 use Rattle.topo_route.proofs.search.plan_on.Goals as goal
 
-pub least_heights-requires-clause-some : goal.least_heights-requires-clause-some
-least_heights-requires-clause-some g c =
+pub least_heights-requires-clause-priced : goal.least_heights-requires-clause-priced
+least_heights-requires-clause-priced g c =
     let dual = c.args.priced.now.graph.now in
     let numbered = g.met.D.Dual.numbered dual in
-    subst (λ (n : Named). 0 < length (darts n.rows)) (sym numbered)
-    (has_darts (g.D.Dual.shows dual) (lawful_shown numbered (g.met.D.FaceGraph.lawful dual)) c.args.u c.requires.u_there)
+    record {
+      right = c.requires.right;
+      some = subst (λ (n : Named). 0 < length (darts n.rows)) (sym numbered)
+          (has_darts (g.D.Dual.shows dual) (lawful_shown numbered (g.met.D.FaceGraph.lawful dual)) c.args.u c.requires.u_there);
+    }
 
 pub route_by_heights-requires-clause-some : goal.route_by_heights-requires-clause-some
 route_by_heights-requires-clause-some g c =
@@ -29,7 +32,7 @@ route_by_heights-requires-clause-some g c =
 pub route_by_heights-requires-clause-known : goal.route_by_heights-requires-clause-known
 route_by_heights-requires-clause-known g c =
     let dual = c.args.priced.now.graph.now in
-    let done = c.in_ok-least_heights.ensures in
+    let done = c.in_ok-least_heights.ensures.heights in
     let named = g.D.FaceGraph.named dual in
     let heights = dart_heights named (g.D.FaceGraph.face_of dual) c.least_heights.new.work.to_end.heights in
     for_all (prices_of (g.F.PriceFn.may_return c.args.priced.now.tariff.now)) named (g.met.D.FaceGraph.lawful dual) (g.met.D.FaceGraph.has_names dual)
@@ -47,7 +50,7 @@ returns-in-Some g c =
     let found = subst (λ o. MatchOption o (HasNoRoute price rows c.args.u c.args.v) (IsFirstRoute price (canonical rows) c.args.u c.args.v heights))
     c.in-Some.is by_numbers in
     is_plan (subst (λ (n : Named). AreHeights price n c.args.v heights)
-    numbered c.in_ok-least_heights.ensures.are_heights) found refl refl (c.from_vec.ensures ∙ c.in_ok-numbers.ensures)
+    numbered c.in_ok-least_heights.ensures.heights.are_heights) found refl refl (c.from_vec.ensures ∙ c.in_ok-numbers.ensures)
 
 pub returns-in-None : goal.returns-in-None
 returns-in-None g c =

@@ -4,52 +4,39 @@ use Rattle.std.proofs.Math.Bool.{or-true}
 use Rattle.topo_route.specs.FaceHeights.{dart_heights}
 use Rattle.topo_route.specs.Names.{IsName}
 use Rattle.topo_route.specs.Potentials.{bound_by}
-use Rattle.topo_route.specs.Settling.{is_waiting, item_of}
+use Rattle.topo_route.specs.Settling.{dart_of_item, is_waiting, item_of}
 use Rattle.topo_route.proofs.spreading.FaceHeights.{height_by_face}
-use Rattle.topo_route.proofs.spreading.Pending.{not_toward, other_height}
+use Rattle.topo_route.proofs.spreading.Settled.{dart_of_own}
+use Rattle.topo_route.proofs.spreading.Pending.{not_toward, other_height, passed_over}
 use Rattle.topo_route.proofs.spread.next_toward.Goals as goal
 use Rattle.topo_route.proofs.spread.next_toward.Goals.{else-item_of-item-via-then-item_of-item+else-is_near, else-item_of-item-via-else-item_of-item}
 
-pub returns-then-is_near-clause-name : goal.returns-then-is_near-clause-name
-returns-then-is_near-clause-name g c =
-    let named = g.W.FaceGraph.named c.args.graph.now in
-    let item = c.in-Some.item in
-    let waits : is_waiting c.loop-item.waiting item ≡ true = c.in-Some.ensures.waits item
-    ∙ ap (λ b. b || is_waiting c.pop.new.self item) (eq-eqb item item refl) in
-    subst (IsName named) (sym c.dart_of_item-dart.ensures) (c.requires.names item (c.loop-item.invariant.fewer item waits))
-
-pub returns-then-is_near-clause-pending : goal.returns-then-is_near-clause-pending
-returns-then-is_near-clause-pending g c =
+pub returns-then-is_near-clause-taken : goal.returns-then-is_near-clause-taken
+returns-then-is_near-clause-taken g c =
     let named = g.W.FaceGraph.named c.args.graph.now in
     let face = g.W.FaceGraph.face_of c.args.graph.now in
     let has = g.met.W.FaceGraph.has_names c.args.graph.now in
     let item = c.in-Some.item in
     let dart = c.dart_of_item-dart.result in
     let heights = dart_heights named face c.args.heights.now in
+    let was = c.loop-item.invariant in
     let waits : is_waiting c.loop-item.waiting item ≡ true = c.in-Some.ensures.waits item
     ∙ ap (λ b. b || is_waiting c.pop.new.self item) (eq-eqb item item refl) in
-    let early : is_waiting c.args.waiting.now item ≡ true = c.loop-item.invariant.fewer item waits in
+    let early : is_waiting c.args.waiting.now item ≡ true = was.left item waits in
     let name : IsName named dart = subst (IsName named) (sym c.dart_of_item-dart.ensures) (c.requires.names item early) in
     let label : c.face_at-face.result ≡ face dart = c.face_at-face.ensures.face in
     let within : face dart < length c.args.heights.now = omega (arith, label, c.face_at-face.ensures.within, c.requires.one_each) in
     let at : c.get-height.result ≡ slice_index heights dart = c.get-height.ensures ∙ ap (slice_index c.args.heights.now) label
     ∙ sym (height_by_face named face c.args.heights.now has dart name within) in
     let is : item_of dart (slice_index heights dart) ≡ item = ap (λ (h : ℕ). item_of dart h) (sym at) ∙ sym c.item_of.ensures ∙ c.if-item_of-item.true in
-    ap (is_waiting c.args.waiting.now) is ∙ early
-
-pub returns-then-is_near-clause-height : goal.returns-then-is_near-clause-height
-returns-then-is_near-clause-height g c =
-    let named = g.W.FaceGraph.named c.args.graph.now in
-    let face = g.W.FaceGraph.face_of c.args.graph.now in
-    let has = g.met.W.FaceGraph.has_names c.args.graph.now in
-    let item = c.in-Some.item in
-    let dart = c.dart_of_item-dart.result in
-    let waits : is_waiting c.loop-item.waiting item ≡ true = c.in-Some.ensures.waits item
-    ∙ ap (λ b. b || is_waiting c.pop.new.self item) (eq-eqb item item refl) in
-    let name : IsName named dart = subst (IsName named) (sym c.dart_of_item-dart.ensures) (c.requires.names item (c.loop-item.invariant.fewer item waits)) in
-    let label : c.face_at-face.result ≡ face dart = c.face_at-face.ensures.face in
-    let within : face dart < length c.args.heights.now = omega (arith, label, c.face_at-face.ensures.within, c.requires.one_each) in
-    c.get-height.ensures ∙ ap (slice_index c.args.heights.now) label ∙ sym (height_by_face named face c.args.heights.now has dart name within)
+    record {
+      name = name;
+      pending = ap (is_waiting c.args.waiting.now) is ∙ early;
+      height = at;
+      others = λ k short l less ne. passed_over heights c.loop-item.waiting c.pop.new.self item c.in-Some.ensures.waits k
+          (λ e. ne (sym (c.dart_of_item-dart.ensures ∙ ap dart_of_item e ∙ dart_of_own k (slice_index heights k) short))) ∙ was.same k short l less;
+      len = omega (arith, was.len, c.in-Some.ensures.len);
+    }
 
 pub loop-item-preserved-else-item_of-item : goal.loop-item-preserved-else-item_of-item
 loop-item-preserved-else-item_of-item g c =
@@ -64,7 +51,7 @@ loop-item-preserved-else-item_of-item g c =
     let was = c.loop-item.invariant in
     let waits : is_waiting c.loop-item.waiting item ≡ true = c.in-Some.ensures.waits item
     ∙ ap (λ b. b || is_waiting c.pop.new.self item) (eq-eqb item item refl) in
-    let name : IsName named dart = subst (IsName named) (sym c.dart_of_item-dart.ensures) (c.requires.names item (was.fewer item waits)) in
+    let name : IsName named dart = subst (IsName named) (sym c.dart_of_item-dart.ensures) (c.requires.names item (was.left item waits)) in
     let label : c.face_at-face.result ≡ face dart = c.face_at-face.ensures.face in
     let within : face dart < length c.args.heights.now = omega (arith, label, c.face_at-face.ensures.within, c.requires.one_each) in
     let at : height ≡ slice_index heights dart = c.get-height.ensures ∙ ap (slice_index c.args.heights.now) label
@@ -81,6 +68,6 @@ loop-item-preserved-else-item_of-item g c =
             other_height heights c.loop-item.waiting c.pop.new.self item c.in-Some.ensures.waits dart height k short c.dart_of_item-dart.ensures at
             (λ e. w.if-item_of-item.false (c.item_of.ensures ∙ e)) ∙ was.same k short l less
       ];
-      fewer = λ i w. was.fewer i (c.in-Some.ensures.waits i ∙ ap (λ b. item == i || b) w ∙ or-true (item == i));
+      left = λ i w. was.left i (c.in-Some.ensures.waits i ∙ ap (λ b. item == i || b) w ∙ or-true (item == i));
       len = omega (arith, was.len, c.in-Some.ensures.len);
     }

@@ -1,9 +1,10 @@
-use Rattle.std.proofs.Common.{arith, ◌≡◌, ◌+◌, ◌∷◌, ◌∙◌, List, sym, ap, subst, drop}
+use Rattle.std.proofs.Common.{arith, ◌≡◌, ◌+◌, ◌∷◌, ◌∙◌, List, sym, ap, subst, drop, true}
 use Rattle.std.proofs.lemmas.Bool.{false≢true}
 use Rattle.topo_core.specs.declared.darts.Dart.{Dart}
-use Rattle.topo_core.specs.Picture.{system}
+use Rattle.topo_core.specs.Picture.{darts, system}
 use Rattle.topo_core.specs.RouteLaws.{TakesFirstDarts, arrival}
 use Rattle.topo_core.specs.Routes.{Crosses}
+use Rattle.topo_core.specs.Systems.{has_dart}
 use Rattle.topo_price.specs.Prices.{prices_of}
 use Rattle.topo_route.specs.Numbers.{HasTightBefore, dart_of}
 use Rattle.topo_route.specs.Plans.{height_in}
@@ -17,7 +18,14 @@ returns-then-has_tight_before g c takes =
     let rows = g.D.Dual.shows c.args.dual.now in
     let price = prices_of (g.F.PriceFn.may_return c.args.tariff.now) in
     let lawful = lawful_shown (g.met.D.Dual.numbered c.args.dual.now) (g.met.D.FaceGraph.lawful c.args.dual.now) in
-    grind (arith, from_item, dart_in, first_fails)
+    let heights = c.args.heights.now in
+    let i = c.loop-dart.dart-index in
+    let rest = from_item c.args.crossed.now i c.dart-item.result c.loop-dart-test.true c.dart-item.is in
+    let (within, is, of) = c.in-Some.ensures in
+    first_fails price rows lawful heights c.loop-dart.at c.dart-item.result (drop (i + 1) c.args.crossed.now) c.loop-dart.invariant.within
+    (subst (λ d. has_dart (darts rows) d ≡ true) is (dart_in rows lawful c.in-Some.number within))
+    (subst (HasTightBefore price rows heights c.loop-dart.at) (sym of) (c.has_tight_before.ensures.0 c.if-has_tight_before.true))
+    (subst (λ (ys : List Dart). TakesFirstDarts price rows (height_in rows heights) (dart_of rows c.loop-dart.at) ys) rest (c.loop-dart.invariant.forth takes))
 
 pub returns-in-None : goal.returns-in-None
 returns-in-None g c takes = grind (arith, lawful_shown, from_item, false≢true, face_has, dart_in)

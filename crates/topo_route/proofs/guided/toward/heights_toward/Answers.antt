@@ -1,7 +1,8 @@
 use Rattle.std.proofs.Common.{arith}
-use Rattle.topo_price.specs.Prices.{prices_of}
-use Rattle.topo_route.specs.FaceHeights.{dart_heights}
+use Rattle.topo_route.specs.PricedFaces.{heights_over}
 use Rattle.topo_route.specs.Potentials.{bound_by}
+use Rattle.topo_route.specs.Searches.{priced_faces}
+use Rattle.topo_route.proofs.spreading.Shown.{are_faces}
 use Rattle.topo_route.proofs.meeting.Bounds.{are_bounds, bound_small}
 use Rattle.topo_route.proofs.meeting.Guided.{for_toward}
 use Rattle.topo_route.proofs.spreading.Settled.{meets_lower}
@@ -9,24 +10,21 @@ use Rattle.topo_route.proofs.guided.toward.heights_toward.Goals as goal
 
 pub returns-clause-heights : goal.returns-clause-heights
 returns-clause-heights g c =
-    let price = prices_of (g.F.PriceFn.may_return c.args.priced.now.tariff.now) in
+    let seen = priced_faces g.W.FaceGraph g.F.PriceFn c.args.priced.now in
+    let laws = are_faces g.W.FaceGraph g.F.PriceFn g.met.W.FaceGraph.lawful g.met.W.FaceGraph.has_names g.met.W.FaceGraph.has_faces c.args.priced.now in
     let graph = c.args.priced.now.graph.now in
-    let named = g.W.FaceGraph.named graph in
-    let lawful = g.met.W.FaceGraph.lawful graph in
-    let has = g.met.W.FaceGraph.has_names graph in
-    let face = g.W.FaceGraph.face_of graph in
     let potentials = g.W.FaceGraph.potentials graph in
     let consistent = g.met.W.FaceGraph.is_consistent graph in
     let guide = c.args.guide.now in
     let both = c.in_ok-least.ensures in
     let on = c.in_ok-spread_toward.ensures in
-    let before = dart_heights named face c.start_both.new.work.to_end.heights in
-    let heights = dart_heights named face c.spread_toward.new.self.heights in
-    let distances = dart_heights named face c.start_both.new.work.to_start.heights in
-    for_toward price named lawful has c.args.u c.args.v (c.requires.right.promise c.requires.some) heights distances
-    (λ k. bound_by guide (potentials (face k))) c.spread_toward.new.least
-    (are_bounds price named lawful has face (g.W.FaceGraph.face_bound graph) (g.met.W.FaceGraph.has_faces graph) c.args.u guide potentials
+    let before = heights_over seen c.start_both.new.work.to_end.heights in
+    let heights = heights_over seen c.spread_toward.new.self.heights in
+    let distances = heights_over seen c.start_both.new.work.to_start.heights in
+    for_toward seen.price seen.named laws.lawful laws.names c.args.u c.args.v (c.requires.priced.right.promise c.requires.priced.some) heights distances
+    (λ k. bound_by guide (potentials (seen.face k))) c.spread_toward.new.least
+    (are_bounds seen.price seen.named laws.lawful laws.names seen.face (g.W.FaceGraph.face_bound graph) (g.met.W.FaceGraph.has_faces graph) c.args.u guide potentials
     (g.W.FaceGraph.floor graph) consistent c.requires.floors c.requires.corners)
-    (λ k l. bound_small guide (potentials (face k)))
-    on.costs.costs both.back.costs.costs (meets_lower named c.args.v before heights on.lower both.at_target) both.at_start
+    (λ k l. bound_small guide (potentials (seen.face k)))
+    on.costs.costs both.back.costs.costs (meets_lower seen.named c.args.v before heights on.lower both.at_target) both.at_start
     on.sums (omega (arith, on.less, c.spread_toward.auto.least)) on.settled

@@ -20,11 +20,6 @@ pub loop-steps-preserved : goal.loop-steps-preserved
 loop-steps-preserved g c =
     let graph = c.args.graph.now in
     let named = g.W.FaceGraph.named graph in
-    let lawful = g.met.W.FaceGraph.lawful graph in
-    let has = g.met.W.FaceGraph.has_names graph in
-    let face = g.W.FaceGraph.face_of graph in
-    let faces = g.W.FaceGraph.face_bound graph in
-    let has_faces = g.met.W.FaceGraph.has_faces graph in
     let dart = c.args.dart in
     let i = c.loop-steps._steps in
     let was = c.loop-steps.invariant in

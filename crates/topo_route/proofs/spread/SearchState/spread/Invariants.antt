@@ -1,23 +1,13 @@
-use Rattle.std.proofs.Common.{◌≤◌}
 use Rattle.std.specs.Prelude.{min}
-use Rattle.topo_price.specs.Prices.{prices_of}
-use Rattle.topo_route.specs.FaceHeights.{dart_heights}
-use Rattle.topo_route.specs.Settling.{AreLowered, AreSums, Spreads, effort, reach_of, top_of}
+use Rattle.topo_route.specs.PricedFaces.{heights_over}
+use Rattle.topo_route.specs.Searches.{GoesOn, priced_faces}
+use Rattle.topo_route.specs.Settling.{effort, top_of}
 use Rattle.topo_route.proofs.spread.SearchState.spread.Given as goal
 
 abbrev pub invariant-loop-dart : goal.invariant-loop-dart
 invariant-loop-dart g l =
-    let named = g.W.FaceGraph.named l.priced.graph.now in
-    let face = g.W.FaceGraph.face_of l.priced.graph.now in
-    let faces = g.W.FaceGraph.face_bound l.priced.graph.now in
-    record {
-      spreads : Spreads (prices_of (g.F.PriceFn.may_return l.priced.tariff.now)) named face faces l.ends.v
-          (top_of l.level (min l.most l.least) (dart_heights named face l.ends.other.now))
-          (reach_of l.least) l.self.heights l.self.names.items l.self.waiting named.size;
-      sums : AreSums named (dart_heights named face l.self.heights) (dart_heights named face l.ends.other.now) l.least;
-      less : l.least ≤ l.initial.least;
-      lower : AreLowered (dart_heights named face l.initial.self.heights) (dart_heights named face l.self.heights);
-    }
+    let p = priced_faces g.W.FaceGraph g.F.PriceFn l.priced in
+    GoesOn p l.ends.v l.ends.other.now (top_of l.level (min l.most l.least) (heights_over p l.ends.other.now)) l.initial.self l.initial.least l.self l.least
 
 abbrev pub decreases-loop-dart : goal.decreases-loop-dart
 decreases-loop-dart g l = effort l.self.heights l.self.waiting

@@ -1,8 +1,9 @@
 use Rattle.std.proofs.Common.{◌<◌, ◌^◌, ℕ, arith}
-use Rattle.topo_price.specs.Prices.{prices_of}
 use Rattle.topo_route.specs.Guided.{top_of_bound}
 use Rattle.topo_route.specs.Potentials.{bound_by}
 use Rattle.topo_route.specs.Settling.{reach_of}
+use Rattle.topo_route.specs.Searches.{priced_faces}
+use Rattle.topo_route.proofs.spreading.Shown.{are_faces}
 use Rattle.topo_route.proofs.meeting.Bounds.{label_bound}
 use Rattle.topo_route.proofs.names.Names.{name_below}
 use Rattle.topo_route.proofs.spreading.Relaxing.{taken_relaxes}
@@ -11,36 +12,27 @@ use Rattle.topo_route.proofs.spread.SearchState.spread_toward.Goals as goal
 
 pub next_toward-requires : goal.next_toward-requires
 next_toward-requires g c =
-    let price = prices_of (g.F.PriceFn.may_return c.args.priced.now.tariff.now) in
+    let seen = priced_faces g.W.FaceGraph g.F.PriceFn c.args.priced.now in
     let graph = c.args.priced.now.graph.now in
-    let named = g.W.FaceGraph.named graph in
-    let lawful = g.met.W.FaceGraph.lawful graph in
-    let has = g.met.W.FaceGraph.has_names graph in
-    let face = g.W.FaceGraph.face_of graph in
-    let faces = g.W.FaceGraph.face_bound graph in
-    let has_faces = g.met.W.FaceGraph.has_faces graph in
     let now = c.loop-dart.self in
     let bound_of = λ (f : ℕ). bound_by c.args.guide.now (g.W.FaceGraph.potentials graph f) in
-    let bound = λ (j : ℕ). bound_of (face j) in
+    let bound = λ (j : ℕ). bound_of (seen.face j) in
     record {
       one_each = c.loop-dart.invariant.spreads.costs.labelled.one_each;
-      names = waits_named price named face faces c.args.v now.heights now.names.items now.waiting
-          (top_of_bound bound c.loop-dart.least) (reach_of c.loop-dart.least) named.size
+      names = waits_named seen c.args.v now.heights now.names.items now.waiting
+          (top_of_bound bound c.loop-dart.least) (reach_of c.loop-dart.least) seen.named.size
           c.loop-dart.invariant.spreads;
     }
 
 pub loop-dart-init : goal.loop-dart-init
 loop-dart-init g c =
-    let price = prices_of (g.F.PriceFn.may_return c.args.priced.now.tariff.now) in
+    let seen = priced_faces g.W.FaceGraph g.F.PriceFn c.args.priced.now in
     let graph = c.args.priced.now.graph.now in
-    let named = g.W.FaceGraph.named graph in
-    let face = g.W.FaceGraph.face_of graph in
-    let faces = g.W.FaceGraph.face_bound graph in
-    let bound = λ (j : ℕ). bound_by c.args.guide.now (g.W.FaceGraph.potentials graph (face j)) in
+    let bound = λ (j : ℕ). bound_by c.args.guide.now (g.W.FaceGraph.potentials graph (seen.face j)) in
     let now = c.args.self.now in
     record {
-      spreads = narrowed price named face faces c.args.v now.heights now.names.items now.waiting (λ k. reach_of c.args.least.now)
-          (top_of_bound bound c.args.least.now) (reach_of c.args.least.now) (reach_of c.args.least.now) named.size c.requires.spreads
+      spreads = narrowed seen c.args.v now.heights now.names.items now.waiting (λ k. reach_of c.args.least.now)
+          (top_of_bound bound c.args.least.now) (reach_of c.args.least.now) (reach_of c.args.least.now) seen.named.size c.requires.spreads
           (λ k. omega arith) (omega arith);
       sums = c.requires.sums;
       less = omega arith;
@@ -49,45 +41,37 @@ loop-dart-init g c =
 
 pub relax_face-requires-clause-in_hand : goal.relax_face-requires-clause-in_hand
 relax_face-requires-clause-in_hand g c =
-    let price = prices_of (g.F.PriceFn.may_return c.args.priced.now.tariff.now) in
+    let seen = priced_faces g.W.FaceGraph g.F.PriceFn c.args.priced.now in
+    let laws = are_faces g.W.FaceGraph g.F.PriceFn g.met.W.FaceGraph.lawful g.met.W.FaceGraph.has_names g.met.W.FaceGraph.has_faces c.args.priced.now in
     let graph = c.args.priced.now.graph.now in
-    let named = g.W.FaceGraph.named graph in
-    let lawful = g.met.W.FaceGraph.lawful graph in
-    let has = g.met.W.FaceGraph.has_names graph in
-    let face = g.W.FaceGraph.face_of graph in
-    let faces = g.W.FaceGraph.face_bound graph in
-    let has_faces = g.met.W.FaceGraph.has_faces graph in
     let now = c.loop-dart.self in
     let bound_of = λ (f : ℕ). bound_by c.args.guide.now (g.W.FaceGraph.potentials graph f) in
-    let bound = λ (j : ℕ). bound_of (face j) in
+    let bound = λ (j : ℕ). bound_of (seen.face j) in
     let short : c.in-Some.dart < 2 ^ 32 =
-    omega (arith, c.size-darts.ensures, c.size-darts.type_inv, name_below named has c.in-Some.dart c.in-Some.ensures.name) in
-    taken_reached price named face faces c.args.v now.heights now.names.items now.waiting (top_of_bound bound c.loop-dart.least)
-    (reach_of c.loop-dart.least) named.size c.in-Some.dart short
-    c.loop-dart.invariant.spreads c.in-Some.ensures.pending
+    omega (arith, c.size-darts.ensures, c.size-darts.type_inv, name_below seen.named laws.names c.in-Some.dart c.in-Some.ensures.taken.name) in
+    record {
+      reached = taken_reached seen c.args.v now.heights now.names.items now.waiting (top_of_bound bound c.loop-dart.least)
+          (reach_of c.loop-dart.least) seen.named.size c.in-Some.dart short
+          c.loop-dart.invariant.spreads c.in-Some.ensures.taken.pending;
+      height = c.in-Some.ensures.taken.height;
+    }
 
 pub loop-dart-preserved : goal.loop-dart-preserved
 loop-dart-preserved g c =
-    let price = prices_of (g.F.PriceFn.may_return c.args.priced.now.tariff.now) in
+    let seen = priced_faces g.W.FaceGraph g.F.PriceFn c.args.priced.now in
+    let laws = are_faces g.W.FaceGraph g.F.PriceFn g.met.W.FaceGraph.lawful g.met.W.FaceGraph.has_names g.met.W.FaceGraph.has_faces c.args.priced.now in
     let graph = c.args.priced.now.graph.now in
-    let named = g.W.FaceGraph.named graph in
-    let lawful = g.met.W.FaceGraph.lawful graph in
-    let has = g.met.W.FaceGraph.has_names graph in
-    let face = g.W.FaceGraph.face_of graph in
-    let faces = g.W.FaceGraph.face_bound graph in
-    let has_faces = g.met.W.FaceGraph.has_faces graph in
-    let now = c.loop-dart.self in
     let bound_of = λ (f : ℕ). bound_by c.args.guide.now (g.W.FaceGraph.potentials graph f) in
-    let bound = λ (j : ℕ). bound_of (face j) in
-    let small : named.size < 2 ^ 32 = omega (arith, c.size-darts.ensures, c.size-darts.type_inv) in
+    let bound = λ (j : ℕ). bound_of (seen.face j) in
+    let small : seen.named.size < 2 ^ 32 = omega (arith, c.size-darts.ensures, c.size-darts.type_inv) in
     let relaxes = c.in_ok-relax_face.ensures in
     let short : c.in-Some.dart < 2 ^ 32 =
-    omega (arith, c.size-darts.ensures, c.size-darts.type_inv, name_below named has c.in-Some.dart c.in-Some.ensures.name) in
+    omega (arith, c.size-darts.ensures, c.size-darts.type_inv, name_below seen.named laws.names c.in-Some.dart c.in-Some.ensures.taken.name) in
     let top = top_of_bound bound in
     record {
-      spreads = taken_relaxes price named lawful has face faces has_faces c.args.v c.args.other.now (top c.loop-dart.least) (top c.relax_face.new.least) small
-          (λ j k lj lk e. label_bound face bound_of c.loop-dart.least j k e) c.loop-dart.invariant.spreads c.in-Some.ensures.name
-          (λ k s l less. c.in-Some.ensures.others k s l less) c.in-Some.ensures.fewer relaxes
+      spreads = taken_relaxes seen laws c.args.v c.args.other.now (top c.loop-dart.least) (top c.relax_face.new.least) small
+          (λ j k lj lk e. label_bound seen.face bound_of c.loop-dart.least j k e) c.loop-dart.invariant.spreads c.in-Some.ensures.taken.name
+          (λ k s l less. c.in-Some.ensures.taken.others k s l less) c.in-Some.ensures.left relaxes
           (λ k. omega (arith, relaxes.less));
       sums = relaxes.sums;
       less = omega (arith, relaxes.less, c.loop-dart.invariant.less);
@@ -96,24 +80,19 @@ loop-dart-preserved g c =
 
 pub returns : goal.returns
 returns g c =
-    let price = prices_of (g.F.PriceFn.may_return c.args.priced.now.tariff.now) in
+    let seen = priced_faces g.W.FaceGraph g.F.PriceFn c.args.priced.now in
+    let laws = are_faces g.W.FaceGraph g.F.PriceFn g.met.W.FaceGraph.lawful g.met.W.FaceGraph.has_names g.met.W.FaceGraph.has_faces c.args.priced.now in
     let graph = c.args.priced.now.graph.now in
-    let named = g.W.FaceGraph.named graph in
-    let lawful = g.met.W.FaceGraph.lawful graph in
-    let has = g.met.W.FaceGraph.has_names graph in
-    let face = g.W.FaceGraph.face_of graph in
-    let faces = g.W.FaceGraph.face_bound graph in
-    let has_faces = g.met.W.FaceGraph.has_faces graph in
     let now = c.loop-dart.self in
     let bound_of = λ (f : ℕ). bound_by c.args.guide.now (g.W.FaceGraph.potentials graph f) in
-    let bound = λ (j : ℕ). bound_of (face j) in
-    let small : named.size < 2 ^ 32 = omega (arith, c.size-darts.ensures, c.size-darts.type_inv) in
+    let bound = λ (j : ℕ). bound_of (seen.face j) in
+    let small : seen.named.size < 2 ^ 32 = omega (arith, c.size-darts.ensures, c.size-darts.type_inv) in
     let top = top_of_bound bound c.loop-dart.least in
     record {
       costs = c.loop-dart.invariant.spreads.costs;
-      settled = all_settled price named face faces c.args.v now.heights now.names.items now.waiting has small top (reach_of c.loop-dart.least)
-          (λ j k lj lk e. label_bound face bound_of c.loop-dart.least j k e)
-          c.loop-dart.invariant.spreads (λ k s l less. c.in_default.ensures.others k s l less);
+      settled = all_settled seen c.args.v now.heights now.names.items now.waiting laws.names small top (reach_of c.loop-dart.least)
+          (λ j k lj lk e. label_bound seen.face bound_of c.loop-dart.least j k e)
+          c.loop-dart.invariant.spreads (λ k s l less. c.in_default.ensures.taken k s l less);
       sums = c.loop-dart.invariant.sums;
       less = c.loop-dart.invariant.less;
       lower = c.loop-dart.invariant.lower;
