@@ -18,7 +18,7 @@ use Rattle.topo_core.specs.declared.rows.Rows.{Rows}
 use Rattle.topo_core.specs.Picture.{edge_row}
 use Rattle.topo_core.specs.Changes.{uncrossed_row}
 use Rattle.topo_core.specs.Items.{has_id, IsIn, rises_below}
-use Rattle.topo_table.specs.Places.{AreBelow, IsChangedAt, IsLiveAt, KeepsPlaces, Places, entries}
+use Rattle.topo_table.specs.Places.{AreBelow, IsLiveAt, KeepsPlaces, Places, entries}
 use Rattle.topo_table.specs.Places.{entry_at, ids_in, ids_of, present, value_of, with_value, without_id}
 use Rattle.std.proofs.lemmas.Bool.Decides.{nat_tests}
 use Rattle.topo_table.proofs.Interface.{AreBelow-push, EntriesRise-present, IsBelowAll, Rises, Rises-from_increasing, is_changed, present-push, set_value_at-same, slot_value, value_of-below}
@@ -134,55 +134,29 @@ repathed_entries e row change (x ∷ es) own up at =
           ∙ ap (λ (rows : List EdgeRow). x.1 ∷ rows) (rest there)
           ∙ ap (λ (r : EdgeRow). r ∷ map (repathed e change) (map (λ e. e.1) es)) (sym (repathed_other e change x.1 other))
 
--- an edge is taken out of its place, and put back with this path
-pub record IsPutBack (was taken now : Places EdgeRow) (e place : ℕ) (row : EdgeRow) (path : List ℕ) : Type 0 where
-  pub own : HaveOwnIds was
-  pub live : IsLiveAt e place was.slots
-  pub rise : IsStrictlyIncreasing (ids_of was.slots)
-  pub taken_out : taken.slots ≡ set_value_at was.slots place None
-  pub taken_room : taken.room ≡ was.room
-  pub read : slice_get (values_of was.slots) place ≡ Some (Some row)
-  pub put : now.slots ≡ set_value_at taken.slots place (Some (record row { crossings = path }))
-  pub put_room : now.room ≡ taken.room
+-- an edge has another path, and all else is as it was
+pub record IsRepathed (was now : Places EdgeRow) (e : ℕ) (row : EdgeRow) (path : List ℕ) : Type 0 where
+  pub edges : (change : List ℕ → List ℕ) → path ≡ change row.crossings → edges_of now ≡ map (repathed e change) (edges_of was)
+  pub places : KeepsPlaces was now
+  pub own : HaveOwnIds now
 
+-- so it is where the edge is taken out of its place, and put back with that path
 pub put_back : (was taken now : Places EdgeRow) (e place : ℕ) (row : EdgeRow) (path : List ℕ) → HaveOwnIds was → IsLiveAt e place was.slots
     → IsStrictlyIncreasing (ids_of was.slots) → taken.slots ≡ set_value_at was.slots place None → taken.room ≡ was.room
     → slice_get (values_of was.slots) place ≡ Some (Some row) → now.slots ≡ set_value_at taken.slots place (Some (record row { crossings = path }))
-    → now.room ≡ taken.room → IsPutBack was taken now e place row path
-put_back was taken now e place row path own live rise out room read put put_room = record {
-  own = own;
-  live = live;
-  rise = rise;
-  taken_out = out;
-  taken_room = room;
-  read = read;
-  put = put;
-  put_room = put_room;
-}
-
-module _ {was taken now : Places EdgeRow} {e place : ℕ} {row : EdgeRow} {path : List ℕ} (back : IsPutBack was taken now e place row path) where
-  found_there : value_of e (entries was) ≡ Some row
-  found_there = was_value was taken now e place back.live back.rise back.taken_out back.taken_room row back.read
-
-  changed_there : IsChangedAt e (record row { crossings = path }) was now
-  changed_there = is_changed was taken now e place back.live back.rise back.taken_out back.taken_room (record row { crossings = path }) back.put back.put_room
-
-  -- the rows with one path changed
-  pub repathed_there : (change : List ℕ → List ℕ) → path ≡ change row.crossings → edges_of now ≡ map (repathed e change) (edges_of was)
-  repathed_there change is = ap (map (λ e. e.1)) changed_there.entries_are
-      ∙ ap (λ (xs : List ℕ). map (λ e. e.1) (with_value e (record row { crossings = xs }) (entries was))) is
-      ∙ repathed_entries e row change (entries was) back.own (Rises-from_increasing _ (EntriesRise-present was.slots back.rise)) found_there
-
-  -- the places as they were
-  pub places_back : KeepsPlaces was now
-  places_back = changed_there.places
-
-  -- under their own ids, whatever the path
-  pub own_back : HaveOwnIds now
-  own_back =
-      let at : find (λ row. row.id == e) (edges_of was) ≡ Some row = edge_kept e (entries was) back.own ∙ found_there in
-      All-same IsOwn (entries now) _ changed_there.entries_are (own_with e (record row { crossings = path }) (entries was) back.own
-      (eqb-true row.id e (found (λ (r : EdgeRow). r.id == e) row (edges_of was) at).1))
+    → now.room ≡ taken.room → IsRepathed was now e row path
+put_back was taken now e place row path own live rise out room read put put_room =
+    let there = was_value was taken now e place live rise out room row read in
+    let done = is_changed was taken now e place live rise out room (record row { crossings = path }) put put_room in
+    let at : find (λ row. row.id == e) (edges_of was) ≡ Some row = edge_kept e (entries was) own ∙ there in
+    record {
+      edges = λ change is. ap (map (λ e. e.1)) done.entries_are
+          ∙ ap (λ (xs : List ℕ). map (λ e. e.1) (with_value e (record row { crossings = xs }) (entries was))) is
+          ∙ repathed_entries e row change (entries was) own (Rises-from_increasing _ (EntriesRise-present was.slots rise)) there;
+      places = done.places;
+      own = All-same IsOwn (entries now) _ done.entries_are (own_with e (record row { crossings = path }) (entries was) own
+          (eqb-true row.id e (found (λ (r : EdgeRow). r.id == e) row (edges_of was) at).1));
+    }
 
 -- where there is no such edge nothing changes
 pub repathed_nowhere : (table : Places EdgeRow) (e : ℕ) (change : List ℕ → List ℕ) → HaveOwnIds table → value_of e (entries table) ≡ None

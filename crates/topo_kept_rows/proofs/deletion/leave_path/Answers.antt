@@ -2,7 +2,7 @@ use Rattle.std.proofs.Common.{arith, not, sym, ◌∙◌}
 use Rattle.std.specs.Prelude.{◌==◌, filter}
 use Rattle.topo_table.proofs.Interface.{is_empty}
 use Rattle.topo_kept_rows.specs.Keeping.{edges_of}
-use Rattle.topo_kept_rows.proofs.rows.KeepingEdges.{no_edge_kept, own_back, places_back, put_back, repathed_out, repathed_there}
+use Rattle.topo_kept_rows.proofs.rows.KeepingEdges.{no_edge_kept, put_back, repathed_out}
 use Rattle.topo_kept_rows.proofs.deletion.leave_path.Goals as goal
 
 pub take-row-requires : goal.take-row-requires
@@ -22,9 +22,9 @@ returns c =
     c.in-Some.ensures.there c.in-Some.ensures.rise c.take-row.ensures.slots c.take-row.ensures.room c.take-row.ensures.value c.put.ensures.slots
     c.put.ensures.room in
     record {
-      edges = repathed_there back (filter (λ y. not (y == c.args.x))) c.take_id.ensures
+      edges = back.edges (filter (λ y. not (y == c.args.x))) c.take_id.ensures
           ∙ repathed_out c.args.x c.edge_across-other.result (edges_of c.args.edges.now)
           (λ row there differs. c.requires.crossed.elsewhere row there (λ same. differs (same ∙ sym c.edge_across-other.ensures)));
-      ids = (places_back back).0;
-      own = own_back back;
+      ids = back.places.0;
+      own = back.own;
     }

@@ -3,7 +3,7 @@ use Rattle.indexmap.specs.IndexMap.{set_value_at}
 use Rattle.topo_table.proofs.Interface.{is_back, is_empty}
 use Rattle.topo_kept_rows.specs.Inserting.{crossed_path}
 use Rattle.topo_kept_rows.proofs.rows.CrossedRows.{err_more, ok_more}
-use Rattle.topo_kept_rows.proofs.rows.KeepingEdges.{edges_same, own_back, places_back, put_back, repathed_nowhere, repathed_there}
+use Rattle.topo_kept_rows.proofs.rows.KeepingEdges.{edges_same, put_back, repathed_nowhere}
 use Rattle.topo_kept_rows.proofs.insertion.cross_edge.Goals as goal
 
 pub take-row-requires : goal.take-row-requires
@@ -20,14 +20,14 @@ returns-in-Some c =
     c.in-Some.ensures.there c.in-Some.ensures.rise c.take-row.ensures.slots c.take-row.ensures.room c.take-row.ensures.value c.put.ensures.slots
     c.put.ensures.room in
     record {
-      ok = ok_more c.cross_path-done.result (repathed_there back (crossed_path c.args.first c.args.segment c.args.x)) c.cross_path-done.ensures.ok;
+      ok = ok_more c.cross_path-done.result (back.edges (crossed_path c.args.first c.args.segment c.args.x)) c.cross_path-done.ensures.ok;
       err = err_more c.cross_path-done.result (λ same. edges_same c.args.edges.now c.put.new.self
           (is_back c.args.edges.now c.take-row.new.self c.put.new.self c.args.e c.in-Some.place c.in-Some.ensures.there c.in-Some.ensures.rise
           c.take-row.ensures.slots c.take-row.ensures.room c.take-row.result c.take-row.ensures.value (c.put.ensures.slots
           ∙ ap (λ (path : List ℕ). set_value_at c.take-row.new.self.slots c.in-Some.place (Some (record c.take-row.result { crossings = path }))) same)))
           c.cross_path-done.ensures.err;
-      places = places_back back;
-      own = own_back back;
+      places = back.places;
+      own = back.own;
     }
 
 pub returns-in-None-clause-ok : goal.returns-in-None-clause-ok

@@ -1,7 +1,7 @@
 use Rattle.std.proofs.Common.{refl}
 use Rattle.std.specs.Prelude.{filter, nat_lt}
 use Rattle.topo_table.proofs.Interface.{is_empty}
-use Rattle.topo_kept_rows.proofs.rows.KeepingEdges.{own_back, places_back, put_back, repathed_nowhere, repathed_there}
+use Rattle.topo_kept_rows.proofs.rows.KeepingEdges.{put_back, repathed_nowhere}
 use Rattle.topo_kept_rows.proofs.insertion.uncross_edge.Goals as goal
 
 pub take-row-requires : goal.take-row-requires
@@ -18,9 +18,9 @@ returns-in-Some c =
     c.in-Some.ensures.there c.in-Some.ensures.rise c.take-row.ensures.slots c.take-row.ensures.room c.take-row.ensures.value c.put.ensures.slots
     c.put.ensures.room in
     record {
-      edges = repathed_there back (filter (λ x. nat_lt x c.args.first)) c.keep_below.ensures;
-      places = places_back back;
-      own = own_back back;
+      edges = back.edges (filter (λ x. nat_lt x c.args.first)) c.keep_below.ensures;
+      places = back.places;
+      own = back.own;
     }
 
 pub returns-in-None-clause-edges : goal.returns-in-None-clause-edges
