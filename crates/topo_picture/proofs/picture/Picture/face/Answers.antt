@@ -13,7 +13,7 @@ face_from-requires-clause-there c =
     let rows = c.self.inside.embedded.rows in
     let row : EdgeRow = c.in-Some.edge.now in
     let there : edge_row rows c.args.dart.edge ≡ Some row = search (rules, c.find_edge.ensures, c.number.ensures, c.in-Some.ensures) in
-    let inside : c.args.dart.seg < segment_count row = omega (arith, c.if-dart-edge.false) in
+    let inside : c.args.dart.seg < segment_count row = omega (arith, c.if-dart-len.false) in
     listed_test rows c.self.invariant.lawful.embedding.well_formed.paths c.args.dart ∙ is_dart_of_rows rows c.args.dart (row, there, inside)
 
 pub returns : goal.returns
@@ -21,6 +21,6 @@ returns c =
     let rows = c.self.inside.embedded.rows in
     let row : EdgeRow = c.in-Some.edge.now in
     let there : edge_row rows c.args.dart.edge ≡ Some row = search (rules, c.find_edge.ensures, c.number.ensures, c.in-Some.ensures) in
-    let inside : c.args.dart.seg < segment_count row = omega (arith, c.if-dart-edge.false) in
+    let inside : c.args.dart.seg < segment_count row = omega (arith, c.if-dart-len.false) in
     in_view c.self.inside.limits rows c.args.self.now c.self.view_is (λ p. IsDart p c.args.dart × IsFaceFrom (system p) c.args.dart c.in_ok-found.found)
     ((row, there, inside), c.in_ok-found.ensures)
