@@ -1,8 +1,7 @@
 //! Rows with their embedding.
 
 ghost use Rattle.std.specs.Prelude.{◌≡◌, ◌*◌, ◌<◌, ◌≤◌, ◌^◌, true, ℕ, IfOk, Some};
-ghost use Rattle.std.specs.Prelude.{is_some, length, option_map, sum_by};
-ghost use Rattle.topo_kept_rows.specs.Keeping.{viewed_row};
+ghost use Rattle.std.specs.Prelude.{is_some, length, option_copied, option_map, sum_by};
 ghost use Rattle.topo_core.specs.declared.darts.Dart.{Dart};
 ghost use Rattle.topo_core.specs.Lawful.{IsWellFormed};
 ghost use Rattle.topo_core.specs.Picture.{corner, darts, edge_at, edge_row};
@@ -34,16 +33,16 @@ use topo_core::darts::{Dart, Way};
 use topo_core::ids::EdgeId;
 use topo_core::listed::Listed;
 use topo_core::routes::Route;
-use topo_core::rows::{Facts, Rows};
-use topo_kept_rows::{EdgeView, KeptRows};
+use topo_core::rows::{EdgeRow, Facts, Rows};
+use topo_kept_rows::KeptRows;
 use topo_map::{Embedding, Half};
 use topo_route::guided::potentials::Potentials;
 use topo_rows::Turns;
 
 /// The facts of an edge of a known kind.
-fn facts_of(edge: EdgeView<'_>) -> Facts
-    requires { edge.kind < KINDS }
-    ensures { AreFactsOf (viewed_row edge.entry) result }
+fn facts_of(edge: &EdgeRow) -> Facts
+    requires { edge.now.kind < KINDS }
+    ensures { AreFactsOf edge.now result }
 {
     let (id, a, b, kind) = (edge.id, edge.a, edge.b, edge.kind);
     Facts {
@@ -189,16 +188,16 @@ impl Embedded {
     }
 
     /// The edge with an id.
-    pub fn find_edge(&self, id: u32) -> Option<EdgeView<'_>>
-        ensures { option_map viewed_row result ≡ edge_row self.now.rows id }
+    pub fn find_edge(&self, id: u32) -> Option<&EdgeRow>
+        ensures { option_copied result ≡ edge_row self.now.rows id }
     {
         self.parts.edge(id)
     }
 
     // An edge that is there.
-    fn known_edge(&self, e: u32) -> EdgeView<'_>
+    fn known_edge(&self, e: u32) -> &EdgeRow
         requires { is_some (edge_row self.now.rows e) ≡ true }
-        ensures { edge_row self.now.rows e ≡ Some (viewed_row result) }
+        ensures { edge_row self.now.rows e ≡ Some result.now }
     {
         match self.parts.edge(e) {
             Some(edge) => edge,

@@ -1,14 +1,14 @@
 //! Rows, the halves along each edge, and the segments that these are halves of.
 
-ghost use Rattle.std.specs.Prelude.{◌≡◌, option_copied, option_map};
-ghost use Rattle.topo_kept_rows.specs.Keeping.{viewed_row};
+ghost use Rattle.std.specs.Prelude.{◌≡◌, option_copied};
 ghost use Rattle.topo_core.specs.Picture.{edge_row};
 ghost use Rattle.topo_table.specs.Places.{entries, value_of};
 
 use crate::bounds::Bounds;
 use crate::kinds::Kinds;
 use crate::path::Path;
-use topo_kept_rows::{EdgeView, KeptRows};
+use topo_core::rows::EdgeRow;
+use topo_kept_rows::KeptRows;
 use topo_map::Embedding;
 use topo_table::NumberedTable;
 
@@ -25,8 +25,8 @@ pub(crate) struct Parts {
 
 impl Parts {
     /// The edge with an id.
-    pub(crate) fn edge(&self, id: u32) -> Option<EdgeView<'_>>
-        ensures { option_map viewed_row result ≡ edge_row self.now.rows id }
+    pub(crate) fn edge(&self, id: u32) -> Option<&EdgeRow>
+        ensures { option_copied result ≡ edge_row self.now.rows id }
     {
         self.rows.edge(id)
     }

@@ -2,7 +2,6 @@
 
 ghost use Rattle.std.specs.Prelude.{◌≡◌, ◌==◌, ◌↔◌, ◌<◌, ◌^◌, IsTrue, length, slice_index_or, true};
 ghost use Rattle.std.specs.declared.cmp.Ordering.TheVariants.{Less};
-ghost use Rattle.topo_kept_rows.specs.Keeping.{viewed_row};
 ghost use Rattle.topo_core.specs.Darts.{dart_cmp};
 ghost use Rattle.topo_core.specs.Lawful.{Lawful};
 ghost use Rattle.topo_core.specs.Picture.{darts, system};
@@ -20,8 +19,7 @@ use crate::embedded::Embedded;
 use crate::path::Path;
 use std::marker::Model;
 use topo_core::darts::{Dart, Way};
-use topo_core::rows::Facts;
-use topo_kept_rows::EdgeView;
+use topo_core::rows::{EdgeRow, Facts};
 use topo_map::{Embedding, Half};
 use topo_route::face_graph::FaceGraph;
 use topo_route::guided::potentials::Potentials;
@@ -52,9 +50,9 @@ pub(crate) fn led(half: Half, way: Way) -> Half
 }
 
 /// The segment of an edge that ends at its end `v`, and the way along it from there.
-pub(crate) fn end_of(edge: EdgeView<'_>, v: u32) -> (usize, Way)
-    ensures seg { result.0 ≡ end_seg (viewed_row edge.entry) (edge.entry.a == v) }
-    ensures way { result.1 ≡ end_way (edge.entry.a == v) }
+pub(crate) fn end_of(edge: &EdgeRow, v: u32) -> (usize, Way)
+    ensures seg { result.0 ≡ end_seg edge.now (edge.now.a == v) }
+    ensures way { result.1 ≡ end_way (edge.now.a == v) }
 {
     if edge.a == v {
         (0, Way::Forward)

@@ -7,12 +7,12 @@ ghost use Rattle.topo_core.specs.Changes.{uncrossed_row, without};
 ghost use Rattle.topo_core.specs.Items.{IsIn, has_id};
 ghost use Rattle.topo_core.specs.Lawful.{IsWellFormed};
 ghost use Rattle.topo_core.specs.Picture.{edge_row, rotation};
-ghost use Rattle.topo_kept_rows.specs.Keeping.{edge_of, edges_of, rows_of};
+ghost use Rattle.topo_kept_rows.specs.Keeping.{HaveOwnIds, edges_of, rows_of};
 ghost use Rattle.topo_table.specs.Places.{AreBelow, entries, ids_of};
 ghost use Rattle.topo_kept_rows.specs.Deleting.{IsCrossed, IsRotation};
 ghost use Rattle.topo_kept_rows.specs.Deleting.{left_by, other_edge};
 
-use crate::kept::{Crossing, EdgeBody, KeptRows};
+use crate::kept::{Crossing, KeptRows};
 use crate::rotation::Rotation;
 use topo_core::listed::Listed;
 use topo_core::rows::EdgeRow;
@@ -46,50 +46,35 @@ fn edge_across(crossings: &Table<Crossing>, e: u32, x: u32) -> u32
 }
 
 /// Takes a crossing of `e` out of the path of the other edge.
-fn leave_path(edges: &mut Table<EdgeBody>, crossings: &Table<Crossing>, e: u32, x: u32)
+fn leave_path(edges: &mut Table<EdgeRow>, crossings: &Table<Crossing>, e: u32, x: u32)
+    requires own { HaveOwnIds edges.old }
     requires crossed { IsCrossed (rows_of crossings.now) e (edges_of edges.old) x }
     ensures edges { edges_of edges.new ≡ map (uncrossed_row (x ∷ [])) (edges_of edges.old) }
     ensures ids { ids_of edges.new.slots ≡ ids_of edges.old.slots }
+    ensures own { HaveOwnIds edges.new }
 {
     let other = edge_across(crossings, e, x);
     match edges.place_of(other) {
         Some(place) => {
-            let mut body = edges.take(place);
-            take_id(&mut body.crossings, x);
-            edges.put(place, body);
+            let mut row = edges.take(place);
+            take_id(&mut row.crossings, x);
+            edges.put(place, row);
         }
         None => unreachable!(),
     }
 }
 
 /// Takes the crossings of `e` out of the paths of the other edges.
-fn leave_paths(edges: &mut Table<EdgeBody>, crossings: &Table<Crossing>, e: u32, path: &[u32])
+fn leave_paths(edges: &mut Table<EdgeRow>, crossings: &Table<Crossing>, e: u32, path: &[u32])
+    requires own { HaveOwnIds edges.old }
     requires crossed { (x : ℕ) → IsIn x path.now
         → IsCrossed (rows_of crossings.now) e (edges_of edges.old) x }
     ensures edges { edges_of edges.new ≡ map (uncrossed_row path.now) (edges_of edges.old) }
     ensures ids { ids_of edges.new.slots ≡ ids_of edges.old.slots }
+    ensures own { HaveOwnIds edges.new }
 {
     for x in path {
         leave_path(edges, crossings, e, *x);
-    }
-}
-
-/// An edge with its id.
-fn with_id(id: u32, body: EdgeBody) -> EdgeRow
-    ensures { result ≡ edge_of (id, body) }
-{
-    let EdgeBody {
-        a,
-        b,
-        kind,
-        crossings,
-    } = body;
-    EdgeRow {
-        id,
-        a,
-        b,
-        kind,
-        crossings,
     }
 }
 
@@ -103,10 +88,9 @@ fn delete_edge(rows: &mut KeptRows, e: u32) -> EdgeRow
           map (uncrossed_row result.crossings) (filter (λ row. not (row.id == e)) rows.old.edges);
     } }
 {
-    let Some(body) = rows.edges.remove(e) else {
+    let Some(row) = rows.edges.remove(e) else {
         unreachable!()
     };
-    let row = with_id(e, body);
     let path = row.crossings.as_slice();
     leave_paths(&mut rows.edges, &rows.crossings, e, path);
     row

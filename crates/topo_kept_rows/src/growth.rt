@@ -4,10 +4,10 @@ ghost use Rattle.std.specs.Prelude.{◌≡◌, ◌+◌, ◌<◌, ◌≤◌, ◌^
 ghost use Rattle.std.specs.Prelude.{length, slice_index_or, [], ◌∷◌, ◌++◌};
 ghost use Rattle.topo_core.specs.Picture.{rotation};
 ghost use Rattle.topo_core.specs.Changes.{put_in, with_end, grown};
-ghost use Rattle.topo_kept_rows.specs.Keeping.{edges_of};
+ghost use Rattle.topo_kept_rows.specs.Keeping.{HaveOwnIds, edges_of};
 ghost use Rattle.topo_table.specs.Places.{AreBelow};
 
-use crate::kept::{EdgeBody, KeptRows, put_edge};
+use crate::kept::{KeptRows, put_edge};
 use crate::rotation::Rotation;
 use std::alloc::{AllocError, Global};
 use topo_core::listed::Listed;
@@ -77,17 +77,19 @@ pub fn grow_rows(
 fn grow_lists(
     alloc: Global,
     rotations: &mut Vec<Rotation>,
-    edges: &mut Table<EdgeBody>,
+    edges: &mut Table<EdgeRow>,
     row: EdgeRow,
     position: u32,
 ) -> Result<(), AllocError>
     requires vertex { row.a < length rotations.old.items }
     requires position { position ≤ length (slice_index_or rotations.old.items row.a []) }
     requires below { AreBelow row.id edges.old.slots }
+    requires own { HaveOwnIds edges.old }
     ensures rotations { OnOk result (rotations.new.items
         ≡ with_end rotations.old.items row.a position row.id ++ (row.id ∷ []) ∷ []) }
     ensures edges { OnOk result (edges_of edges.new ≡ edges_of edges.old ++ row ∷ []) }
     ensures edges_below { OnOk result (AreBelow (row.id + 1) edges.new.slots) }
+    ensures own { HaveOwnIds edges.new }
     ensures rotations_stay { OnErr result (rotations.new.items ≡ rotations.old.items) }
     ensures edges_stay { OnErr result (edges.new.slots ≡ edges.old.slots) }
 {

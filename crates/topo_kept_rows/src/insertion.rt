@@ -8,12 +8,12 @@ ghost use Rattle.std.specs.List.{count_by, enumerate_from, list_all};
 ghost use Rattle.topo_core.specs.Changes.{shown, sign_of, with_end};
 ghost use Rattle.topo_core.specs.Insertions.{IsInsertable};
 ghost use Rattle.topo_core.specs.Lawful.{IsWellFormed};
-ghost use Rattle.topo_kept_rows.specs.Keeping.{edges_of, new_entry};
+ghost use Rattle.topo_kept_rows.specs.Keeping.{HaveOwnIds, edges_of, new_entry};
 ghost use Rattle.topo_table.specs.Places.{AreBelow, KeepsPlaces, entries, ids_of};
 ghost use Rattle.topo_kept_rows.specs.Inserting.{AreOnPaths, crossed_by, crossed_path};
 ghost use Rattle.topo_kept_rows.specs.Inserting.{paths_below, repathed, segment_end};
 
-use crate::kept::{Crossing, EdgeBody, KeptRows, put_edge};
+use crate::kept::{Crossing, KeptRows, put_edge};
 use crate::rotation::Rotation;
 use std::alloc::{AllocError, Global};
 use topo_core::darts::{Dart, Sign, Way};
@@ -93,23 +93,25 @@ fn keep_below(list: &mut Listed<u32>, first: u32)
 
 /// Puts crossing `x` on the path of edge `e`.
 fn cross_edge(
-    edges: &mut Table<EdgeBody>,
+    edges: &mut Table<EdgeRow>,
     e: u32,
     segment: u32,
     first: u32,
     x: u32,
 ) -> Result<(), AllocError>
+    requires { HaveOwnIds edges.old }
     ensures ok { OnOk result
         (edges_of edges.new
         ≡ map (repathed e (crossed_path first segment x)) (edges_of edges.old)) }
     ensures err { OnErr result (edges_of edges.new ≡ edges_of edges.old) }
     ensures places { KeepsPlaces edges.old edges.new }
+    ensures own { HaveOwnIds edges.new }
 {
     match edges.place_of(e) {
         Some(place) => {
-            let mut body = edges.take(place);
-            let done = cross_path(&mut body.crossings, segment, first, x);
-            edges.put(place, body);
+            let mut row = edges.take(place);
+            let done = cross_path(&mut row.crossings, segment, first, x);
+            edges.put(place, row);
             done
         }
         None => Ok(()),
@@ -117,16 +119,18 @@ fn cross_edge(
 }
 
 /// Takes the crossings from `first` on out of the path of edge `e`.
-fn uncross_edge(edges: &mut Table<EdgeBody>, e: u32, first: u32)
+fn uncross_edge(edges: &mut Table<EdgeRow>, e: u32, first: u32)
+    requires { HaveOwnIds edges.old }
     ensures edges { edges_of edges.new
         ≡ map (repathed e (filter (λ x. nat_lt x first))) (edges_of edges.old) }
     ensures places { KeepsPlaces edges.old edges.new }
+    ensures own { HaveOwnIds edges.new }
 {
     match edges.place_of(e) {
         Some(place) => {
-            let mut body = edges.take(place);
-            keep_below(&mut body.crossings, first);
-            edges.put(place, body);
+            let mut row = edges.take(place);
+            keep_below(&mut row.crossings, first);
+            edges.put(place, row);
         }
         None => {}
     }
@@ -134,7 +138,8 @@ fn uncross_edge(edges: &mut Table<EdgeBody>, e: u32, first: u32)
 
 /// Puts crossings on the segments of the darts, with ids from `first` on, as far as there is
 /// memory, and answers how many.
-fn cross_some(edges: &mut Table<EdgeBody>, darts: &[Dart], first: u32) -> usize
+fn cross_some(edges: &mut Table<EdgeRow>, darts: &[Dart], first: u32) -> usize
+    requires own { HaveOwnIds edges.old }
     requires below { paths_below first (edges_of edges.old) ≡ true }
     requires there { AreOnPaths (edges_of edges.old) darts.now }
     requires ids { first + length darts.now < 2 ^ 32 }
@@ -142,6 +147,7 @@ fn cross_some(edges: &mut Table<EdgeBody>, darts: &[Dart], first: u32) -> usize
     ensures crossed { edges_of edges.new
         ≡ map (crossed_by first (take result darts.now)) (edges_of edges.old) }
     ensures places { KeepsPlaces edges.old edges.new }
+    ensures own { HaveOwnIds edges.new }
 {
     for (i, dart) in darts.iter().enumerate() {
         let x = first + i as u32;
@@ -153,11 +159,13 @@ fn cross_some(edges: &mut Table<EdgeBody>, darts: &[Dart], first: u32) -> usize
 }
 
 /// Takes the crossings of the darts out again, the last one first.
-fn uncross(edges: &mut Table<EdgeBody>, darts: &[Dart], first: u32)
+fn uncross(edges: &mut Table<EdgeRow>, darts: &[Dart], first: u32)
+    requires own { HaveOwnIds edges.old }
     requires ids { first + length darts.now < 2 ^ 32 }
     ensures edges { (was : List EdgeRow) → paths_below first was ≡ true
         → edges_of edges.old ≡ map (crossed_by first darts.now) was → edges_of edges.new ≡ was }
     ensures places { KeepsPlaces edges.old edges.new }
+    ensures own { HaveOwnIds edges.new }
 {
     let mut n = darts.len();
     while n > 0 {
@@ -168,7 +176,8 @@ fn uncross(edges: &mut Table<EdgeBody>, darts: &[Dart], first: u32)
 
 /// Puts crossings on the segments of the darts, with ids from `first` on, or none where memory is
 /// short.
-fn cross(edges: &mut Table<EdgeBody>, darts: &[Dart], first: u32) -> Result<(), AllocError>
+fn cross(edges: &mut Table<EdgeRow>, darts: &[Dart], first: u32) -> Result<(), AllocError>
+    requires own { HaveOwnIds edges.old }
     requires below { paths_below first (edges_of edges.old) ≡ true }
     requires there { AreOnPaths (edges_of edges.old) darts.now }
     requires ids { first + length darts.now < 2 ^ 32 }
@@ -176,6 +185,7 @@ fn cross(edges: &mut Table<EdgeBody>, darts: &[Dart], first: u32) -> Result<(), 
         (edges_of edges.new ≡ map (crossed_by first darts.now) (edges_of edges.old)) }
     ensures err { OnErr result (edges_of edges.new ≡ edges_of edges.old) }
     ensures places { KeepsPlaces edges.old edges.new }
+    ensures own { HaveOwnIds edges.new }
 {
     let done = cross_some(edges, darts, first);
     if done < darts.len() {
@@ -254,7 +264,7 @@ fn add_crossings(crossings: &mut Table<Crossing>, darts: &[Dart], first: u32, ed
 /// were.
 fn insert_lists(
     rotations: &mut [Rotation],
-    edges: &mut Table<EdgeBody>,
+    edges: &mut Table<EdgeRow>,
     crossings: &mut Table<Crossing>,
     row: EdgeRow,
     route: &Route,
@@ -269,6 +279,7 @@ fn insert_lists(
     requires below { paths_below first (edges_of edges.old) ≡ true }
     requires there { AreOnPaths (edges_of edges.old) route.now.crossed }
     requires edges_below { AreBelow row.id edges.old.slots }
+    requires own { HaveOwnIds edges.old }
     requires crossings_below { AreBelow first crossings.old.slots }
     requires ids { first + length route.now.crossed < 2 ^ 32 }
     ensures rotations { OnOk result (rotations.new
@@ -277,6 +288,7 @@ fn insert_lists(
     ensures edges { OnOk result (edges_of edges.new
         ≡ map (crossed_by first route.now.crossed) (edges_of edges.old) ++ row ∷ []) }
     ensures edges_below { OnOk result (AreBelow (row.id + 1) edges.new.slots) }
+    ensures own { HaveOwnIds edges.new }
     ensures crossings { OnOk result (entries crossings.new ≡ entries crossings.old
         ++ map (new_entry row.id) (enumerate_from first route.now.crossed)) }
     ensures crossings_below { OnOk result

@@ -2,16 +2,13 @@
 //! look, and goes at its own cost.
 
 ghost use Rattle.std.specs.Prelude.{◌≡◌, ◌==◌, ◌+◌, ◌<◌, ◌++◌, ◌∷◌, [], true};
-ghost use Rattle.std.specs.Prelude.{IfOk, None, OnOk, Some};
-ghost use Rattle.std.specs.Prelude.{if◌then◌else◌, length, map, option_map, slice_get};
-ghost use Rattle.std.specs.Option.{option_map_or};
-ghost use Rattle.indexmap.specs.IndexMap.{set_value_at};
+ghost use Rattle.std.specs.Prelude.{IfOk, OnOk, Some, if◌then◌else◌};
+ghost use Rattle.std.specs.Prelude.{length, map, option_copied};
 ghost use Rattle.topo_core.specs.Items.{rises_below};
 ghost use Rattle.topo_core.specs.Lawful.{has_good_crossings, has_good_paths};
 ghost use Rattle.topo_core.specs.Picture.{cross_row, edge_row, rotation};
-ghost use Rattle.topo_kept_rows.specs.Keeping.{body_of, crossing_row, edge_of, edges_of};
-ghost use Rattle.topo_kept_rows.specs.Keeping.{rows_of, viewed_row};
-ghost use Rattle.topo_table.specs.Places.{AreBelow, entry_at};
+ghost use Rattle.topo_kept_rows.specs.Keeping.{HaveOwnIds, crossing_row, edges_of, rows_of};
+ghost use Rattle.topo_table.specs.Places.{AreBelow, entries};
 
 use crate::rotation::{
     Rotation, copied_rotations, listed_rotations, rotations_as_lists, rotations_of,
@@ -21,7 +18,7 @@ use std::marker::Model;
 use topo_core::darts::Sign;
 use topo_core::listed::Listed;
 use topo_core::rows::{CrossRow, EdgeRow, Rows};
-use topo_table::{Table, TryCopy};
+use topo_table::Table;
 
 /// A crossing without its id.
 #[derive(Clone, Copy, Debug, PartialEq, Eq)]
@@ -44,15 +41,6 @@ impl Crossing {
     }
 }
 
-/// An edge without its id.
-#[derive(Drop)]
-pub(crate) struct EdgeBody {
-    pub(crate) a: u32,
-    pub(crate) b: u32,
-    pub(crate) kind: u32,
-    pub(crate) crossings: Listed<u32>,
-}
-
 /// A copy of a path.
 fn copy_path(alloc: Global, path: &[u32]) -> Result<Listed<u32>, AllocError>
     ensures { IfOk result (λ copy. copy ≡ path.now) }
@@ -64,32 +52,24 @@ fn copy_path(alloc: Global, path: &[u32]) -> Result<Listed<u32>, AllocError>
     Ok(Listed::from_vec(crossings))
 }
 
-impl TryCopy for EdgeBody {
-    fn try_copy(&self, alloc: Global) -> Result<Self, AllocError> {
-        let crossings = copy_path(alloc, self.crossings.as_slice())?;
-        Ok(EdgeBody {
-            a: self.a,
-            b: self.b,
-            kind: self.kind,
-            crossings,
-        })
-    }
-}
-
-/// An edge as it is read: its id, its ends, its kind, and the crossings on its path.
-#[derive(Clone, Copy)]
-pub struct EdgeView<'a> {
-    pub id: u32,
-    pub a: u32,
-    pub b: u32,
-    pub kind: u32,
-    pub crossings: &'a [u32],
+/// A copy of an edge.
+fn copy_edge(alloc: Global, row: &EdgeRow) -> Result<EdgeRow, AllocError>
+    ensures { IfOk result (λ copy. copy ≡ row.now) }
+{
+    let crossings = copy_path(alloc, row.crossings.as_slice())?;
+    Ok(EdgeRow {
+        id: row.id,
+        a: row.a,
+        b: row.b,
+        kind: row.kind,
+        crossings,
+    })
 }
 
 /// The rows of a picture, which contracts see. Its edges and its crossings are in tables.
 pub struct KeptRows {
     pub(crate) rotations: Listed<Rotation>,
-    pub(crate) edges: Table<EdgeBody>,
+    pub(crate) edges: Table<EdgeRow>,
     pub(crate) crossings: Table<Crossing>,
     pub(crate) next_edge: u32,
     pub(crate) next_crossing: u32,
@@ -115,7 +95,7 @@ impl Drop for KeptRows {
 impl Model for KeptRows {
     ghost use Rattle.topo_core.specs.declared.rows.Rows.{Rows};
     ghost use Rattle.topo_table.specs.Places.{AreBelow};
-    ghost use Rattle.topo_kept_rows.specs.Keeping.{edges_of, rows_of};
+    ghost use Rattle.topo_kept_rows.specs.Keeping.{HaveOwnIds, edges_of, rows_of};
 
     ghost Value = { Rows };
 
@@ -128,7 +108,8 @@ impl Model for KeptRows {
     } };
 
     ghost invariant = { λ k. AreBelow k.next_crossing k.crossings.slots
-        × AreBelow k.next_edge k.edges.slots };
+        × AreBelow k.next_edge k.edges.slots
+        × HaveOwnIds k.edges };
 }
 
 impl KeptRows {
@@ -195,7 +176,7 @@ impl KeptRows {
         ensures { IfOk result (λ kept. kept ≡ self.now) }
     {
         let rotations = copied_rotations(alloc, self.rotations.as_slice())?;
-        let edges = self.edges.try_copy(alloc)?;
+        let edges = copied_edges(alloc, &self.edges, self.next_edge)?;
         let crossings = self.crossings.copy()?;
         Ok(KeptRows {
             rotations: Listed::from_vec(rotations),
@@ -239,17 +220,10 @@ impl KeptRows {
     }
 
     /// The edge with an id.
-    pub fn edge(&self, id: u32) -> Option<EdgeView<'_>>
-        ensures { option_map viewed_row result ≡ edge_row self.now id }
+    pub fn edge(&self, id: u32) -> Option<&EdgeRow>
+        ensures { option_copied result ≡ edge_row self.now id }
     {
-        let body = self.edges.get(id)?;
-        Some(EdgeView {
-            id,
-            a: body.a,
-            b: body.b,
-            kind: body.kind,
-            crossings: body.crossings.as_slice(),
-        })
+        self.edges.get(id)
     }
 
     /// How many crossings there are.
@@ -328,51 +302,34 @@ fn list_of(alloc: Global, table: &Table<Crossing>) -> Result<Vec<CrossRow>, Allo
 }
 
 /// Puts an edge behind the others. There is room for it.
-pub(crate) fn put_edge(edges: &mut Table<EdgeBody>, row: EdgeRow)
+pub(crate) fn put_edge(edges: &mut Table<EdgeRow>, row: EdgeRow)
     requires room { 0 < edges.old.room }
     requires below { AreBelow row.id edges.old.slots }
+    requires own { HaveOwnIds edges.old }
     ensures edges { edges_of edges.new ≡ edges_of edges.old ++ row ∷ [] }
     ensures below { AreBelow (row.id + 1) edges.new.slots }
+    ensures own { HaveOwnIds edges.new }
 {
-    let EdgeRow {
-        id,
-        a,
-        b,
-        kind,
-        crossings,
-    } = row;
-    let body = EdgeBody {
-        a,
-        b,
-        kind,
-        crossings,
-    };
-    edges.push(id, body);
+    edges.push(row.id, row);
 }
 
 /// Puts a copy of an edge behind the others.
-fn push_copy(alloc: Global, table: &mut Table<EdgeBody>, row: &EdgeRow) -> Result<(), AllocError>
-    requires { AreBelow row.now.id table.old.slots }
+fn push_copy(alloc: Global, edges: &mut Table<EdgeRow>, row: &EdgeRow) -> Result<(), AllocError>
+    requires { AreBelow row.now.id edges.old.slots }
     ensures { OnOk result
-        (table.new.slots ≡ table.old.slots ++ (row.now.id, Some (body_of row.now)) ∷ []) }
+        (edges.new.slots ≡ edges.old.slots ++ (row.now.id, Some row.now) ∷ []) }
 {
-    let crossings = copy_path(alloc, row.crossings.as_slice())?;
-    let body = EdgeBody {
-        a: row.a,
-        b: row.b,
-        kind: row.kind,
-        crossings,
-    };
-    table.reserve(1)?;
-    table.push(row.id, body);
+    edges.reserve(1)?;
+    edges.push(row.id, copy_edge(alloc, row)?);
     Ok(())
 }
 
 /// The table of edges whose ids rise and are below `limit`. Each id below it is its own place.
-fn edge_table(alloc: Global, rows: &[EdgeRow], limit: u32) -> Result<Table<EdgeBody>, AllocError>
+fn edge_table(alloc: Global, rows: &[EdgeRow], limit: u32) -> Result<Table<EdgeRow>, AllocError>
     requires { rises_below limit (map (λ row. row.id) rows.now) ≡ true }
     ensures rows { IfOk result (λ table. edges_of table ≡ rows.now) }
     ensures below { IfOk result (λ table. AreBelow limit table.slots) }
+    ensures own { IfOk result HaveOwnIds }
 {
     let mut table = Table::new(alloc);
     table.reserve(limit as usize)?;
@@ -384,70 +341,54 @@ fn edge_table(alloc: Global, rows: &[EdgeRow], limit: u32) -> Result<Table<EdgeB
     Ok(table)
 }
 
-/// A copy of an edge, with its id.
-fn edge_copy(alloc: Global, id: u32, body: &EdgeBody) -> Result<EdgeRow, AllocError>
-    ensures { IfOk result (λ row. row ≡ edge_of (id, body.now)) }
+/// A copy of a table of edges with ids below `limit`. Each id below it is its own place.
+fn copied_edges(
+    alloc: Global,
+    edges: &Table<EdgeRow>,
+    limit: u32,
+) -> Result<Table<EdgeRow>, AllocError>
+    requires below { AreBelow limit edges.now.slots }
+    requires own { HaveOwnIds edges.now }
+    ensures entries { IfOk result (λ copy. entries copy ≡ entries edges.now) }
+    ensures below { IfOk result (λ copy. AreBelow limit copy.slots) }
 {
-    let crossings = copy_path(alloc, body.crossings.as_slice())?;
-    Ok(EdgeRow {
-        id,
-        a: body.a,
-        b: body.b,
-        kind: body.kind,
-        crossings,
-    })
-}
-
-/// Takes the edge at a place out, if there is one, and puts it behind the rows. There is room.
-fn move_edge(
-    edges: &mut Table<EdgeBody>,
-    rows: &mut Vec<EdgeRow>,
-    place: usize,
-) -> Result<(), AllocError>
-    requires { place < length edges.old.slots }
-    ensures rows { OnOk result (rows.new.items ≡ rows.old.items
-        ++ map edge_of (option_map_or entry_at (slice_get edges.old.slots place) [])) }
-    ensures emptied { edges.new.slots ≡ set_value_at edges.old.slots place None }
-{
-    let Some((id, _body)) = edges.at(place) else {
-        return Ok(());
-    };
-    let EdgeBody {
-        a,
-        b,
-        kind,
-        crossings,
-    } = edges.take(place);
-    rows.push(EdgeRow {
-        id,
-        a,
-        b,
-        kind,
-        crossings,
-    })?;
-    Ok(())
+    let mut copy = Table::new(alloc);
+    copy.reserve(limit as usize)?;
+    for place in 0..edges.places() {
+        match edges.at(place) {
+            Some((_, row)) => {
+                copy.skip_to(row.id)?;
+                push_copy(alloc, &mut copy, row)?;
+            }
+            None => {}
+        }
+    }
+    copy.skip_to(limit)?;
+    Ok(copy)
 }
 
 /// The rows of a table of edges, which ends.
-fn edges_as_list(alloc: Global, edges: Table<EdgeBody>) -> Result<Vec<EdgeRow>, AllocError>
+fn edges_as_list(alloc: Global, edges: Table<EdgeRow>) -> Result<Vec<EdgeRow>, AllocError>
     ensures { IfOk result (λ rows. rows.items ≡ edges_of edges) }
 {
     let mut rows = Vec::with_capacity(alloc, edges.len())?;
     let mut left = edges;
     for place in 0..left.places() {
-        move_edge(&mut left, &mut rows, place)?;
+        if left.at(place).is_some() {
+            rows.push(left.take(place))?;
+        }
     }
     Ok(rows)
 }
 
 /// A copy of the rows of a table of edges.
-fn edge_list(alloc: Global, table: &Table<EdgeBody>) -> Result<Vec<EdgeRow>, AllocError>
-    ensures { IfOk result (λ rows. rows.items ≡ edges_of table.now) }
+fn edge_list(alloc: Global, edges: &Table<EdgeRow>) -> Result<Vec<EdgeRow>, AllocError>
+    ensures { IfOk result (λ rows. rows.items ≡ edges_of edges.now) }
 {
-    let mut rows = Vec::with_capacity(alloc, table.len())?;
-    for place in 0..table.places() {
-        match table.at(place) {
-            Some((id, body)) => rows.push(edge_copy(alloc, id, body)?)?,
+    let mut rows = Vec::with_capacity(alloc, edges.len())?;
+    for place in 0..edges.places() {
+        match edges.at(place) {
+            Some((_, row)) => rows.push(copy_edge(alloc, row)?)?,
             None => {}
         }
     }

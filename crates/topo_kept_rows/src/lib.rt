@@ -14,5 +14,5 @@ pub mod insertion;
 pub mod kept;
 pub mod rotation;
 
-pub use kept::{EdgeView, KeptRows};
+pub use kept::KeptRows;
 pub use rotation::Rotation;

@@ -2,11 +2,11 @@
 
 ghost use Rattle.std.specs.Prelude.{◌≡◌};
 ghost use Rattle.std.specs.List.{list_all};
-ghost use Rattle.topo_kept_rows.specs.Keeping.{viewed_row};
 ghost use Rattle.topo_core.specs.Picture.{cross_row};
 ghost use Rattle.topo_picture.specs.Apart.{is_of_others, lies_apart};
 
-use topo_kept_rows::{EdgeView, KeptRows};
+use topo_core::rows::EdgeRow;
+use topo_kept_rows::KeptRows;
 use topo_route::planned::region::Region;
 
 /// Whether a crossing, if it is there, is of two edges that are not of the region.
@@ -30,11 +30,11 @@ fn are_of_others(rows: &KeptRows, region: &Region, crossings: &[u32]) -> bool
 }
 
 /// Whether an edge is not of the region, ends at no vertex of it, and crosses no edge of it.
-pub(crate) fn lies_apart(rows: &KeptRows, region: &Region, edge: EdgeView<'_>) -> bool
-    ensures { result ≡ lies_apart rows.now region.now (viewed_row edge.entry) }
+pub(crate) fn lies_apart(rows: &KeptRows, region: &Region, edge: &EdgeRow) -> bool
+    ensures { result ≡ lies_apart rows.now region.now edge.now }
 {
     !region.has_edge(edge.id)
         && !region.has_vertex(edge.a)
         && !region.has_vertex(edge.b)
-        && are_of_others(rows, region, edge.crossings)
+        && are_of_others(rows, region, edge.crossings.as_slice())
 }

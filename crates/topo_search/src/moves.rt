@@ -137,7 +137,7 @@ pub(crate) fn crossings_of<F: PriceFn>(board: &Board<F>, edge: u32) -> u32 {
         return 0;
     };
     match board.picture.kept_rows().edge(id) {
-        Some(row) => length_of(row.crossings),
+        Some(row) => length_of(row.crossings.as_slice()),
         None => 0,
     }
 }
@@ -177,7 +177,7 @@ pub(crate) fn add_crossed<F: PriceFn>(
         return Ok(());
     };
     match board.picture.kept_rows().edge(id) {
-        Some(row) => add_others(board, id, row.crossings, list),
+        Some(row) => add_others(board, id, row.crossings.as_slice(), list),
         None => Ok(()),
     }
 }

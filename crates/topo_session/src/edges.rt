@@ -1,7 +1,6 @@
 //! What a session answers about an edge.
 
 ghost use Rattle.std.specs.Prelude.{◌≡◌, ℕ, IfOk, List, Option};
-ghost use Rattle.topo_kept_rows.specs.Keeping.{viewed_row};
 ghost use Rattle.topo_core.specs.Picture.{cross_row};
 ghost use Rattle.topo_io.specs.Settings.{price_of_kind};
 ghost use Rattle.topo_session.specs.Questions.{edge_found, meeting_of, meetings_on};
@@ -10,8 +9,8 @@ ghost use Rattle.topo_session.specs.Questions.{other_edge, sign_along};
 use std::alloc::{AllocError, Global};
 use topo_core::darts::Sign;
 use topo_core::listed::Listed;
-use topo_core::rows::CrossRow;
-use topo_kept_rows::{EdgeView, KeptRows};
+use topo_core::rows::{CrossRow, EdgeRow};
+use topo_kept_rows::KeptRows;
 
 /// A crossing as it is met along an edge.
 #[derive(Clone, Copy, Debug, PartialEq, Eq)]
@@ -77,14 +76,14 @@ fn meetings_on(
 pub(crate) fn edge_found(
     alloc: Global,
     rows: &KeptRows,
-    edge: EdgeView<'_>,
+    edge: &EdgeRow,
     price: Option<u32>,
 ) -> Result<EdgeAnswer, AllocError>
     ensures { IfOk result (λ found. (prices : List (Option ℕ))
-        → price ≡ price_of_kind prices edge.entry.kind
-        → found ≡ edge_found prices rows.now (viewed_row edge.entry)) }
+        → price ≡ price_of_kind prices edge.now.kind
+        → found ≡ edge_found prices rows.now edge.now) }
 {
-    let crossings = meetings_on(alloc, rows, edge.id, edge.crossings)?;
+    let crossings = meetings_on(alloc, rows, edge.id, edge.crossings.as_slice())?;
     Ok(EdgeAnswer {
         a: edge.a,
         b: edge.b,

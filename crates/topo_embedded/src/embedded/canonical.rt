@@ -3,7 +3,6 @@
 ghost use Rattle.std.specs.Prelude.{◌≡◌, ◌+◌, ◌++◌, ◌<◌, ◌≤◌, ℕ, true, IfOk};
 ghost use Rattle.std.specs.Prelude.{None, OnOk, Some, flat_map, if◌then◌else◌};
 ghost use Rattle.std.specs.Prelude.{length, map, slice_index, slice_index_or};
-ghost use Rattle.topo_kept_rows.specs.Keeping.{viewed_row};
 ghost use Rattle.topo_core.specs.declared.darts.Dart.{Dart};
 ghost use Rattle.topo_core.specs.Picture.{darts, points_of, rotation, start, start_place};
 ghost use Rattle.topo_core.specs.Systems.{has_dart};
@@ -20,8 +19,7 @@ use crate::walking::led;
 use std::alloc::{AllocError, Global};
 use topo_core::darts::{Dart, Point, Way};
 use topo_core::ids::{CrossId, VertexId};
-use topo_core::rows::Rows;
-use topo_kept_rows::EdgeView;
+use topo_core::rows::{EdgeRow, Rows};
 use topo_map::{Embedding, Half};
 use topo_table::NumberedTable;
 
@@ -65,11 +63,11 @@ fn write_faces(faces: &mut [u32], segments: &Embedding, halves: &[u32])
 }
 
 /// The point at a place along an edge: its end `a`, the crossings of its path, its end `b`.
-fn point_on(edge: EdgeView<'_>, place: usize) -> Point
-    requires { place ≤ length edge.crossings.now + 1 }
-    ensures { result ≡ slice_index_or (points_of (viewed_row edge.entry)) place (Point.Vertex 0) }
+fn point_on(edge: &EdgeRow, place: usize) -> Point
+    requires { place ≤ length edge.now.crossings + 1 }
+    ensures { result ≡ slice_index_or (points_of edge.now) place (Point.Vertex 0) }
 {
-    let path = edge.crossings;
+    let path = edge.crossings.as_slice();
     if place == 0 {
         Point::Vertex(VertexId::new(edge.a))
     } else if place <= path.len() {

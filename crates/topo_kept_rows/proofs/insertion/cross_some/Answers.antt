@@ -9,7 +9,7 @@ use Rattle.topo_kept_rows.proofs.rows.CrossedRows.{crossed_by_none, one_more, wh
 use Rattle.topo_kept_rows.proofs.insertion.cross_some.Goals as goal
 
 pub loop-i-init : goal.loop-i-init
-loop-i-init c = record { crossed = sym (crossed_by_none c.args.first (edges_of c.args.edges.now)); places = (refl, refl) }
+loop-i-init c = record { crossed = sym (crossed_by_none c.args.first (edges_of c.args.edges.now)); places = (refl, refl); own = c.requires.own }
 
 pub returns-then-is_err-clause-crossed : goal.returns-then-is_err-clause-crossed
 returns-then-is_err-clause-crossed c = when_err c.cross_edge.result (sym c.if-is_err.ensures.value) c.cross_edge.ensures.err ∙ c.loop-i.invariant.crossed
@@ -32,6 +32,7 @@ loop-i-preserved c =
           ∙ ap (λ e. map (repathed e (crossed_path first d.seg (first + i))) edges) c.number.ensures
           ∙ ap (λ (d : Dart). map (repathed d.edge (crossed_path first d.seg (first + i))) edges) c.index-darts-i.is);
       places = places_on c.args.edges.now c.loop-i.edges c.cross_edge.new.edges c.loop-i.invariant.places c.cross_edge.ensures.places;
+      own = c.cross_edge.ensures.own;
     }
 
 pub returns-clause-crossed : goal.returns-clause-crossed

@@ -21,6 +21,7 @@ loop-n-preserved c =
           (c.uncross_edge.ensures.edges
           ∙ ap (λ e. map (repathed e (filter (λ x. nat_lt x (first + n)))) edges) c.number.ensures);
       places = places_on c.args.edges.now c.loop-n.edges c.uncross_edge.new.edges c.loop-n.invariant.places c.uncross_edge.ensures.places;
+      own = c.uncross_edge.ensures.own;
     }
 
 pub returns-clause-edges : goal.returns-clause-edges

@@ -6,7 +6,6 @@ use Rattle.topo_core.specs.Picture.{darts, edge_at, edge_row}
 use Rattle.topo_core.specs.Routes.{AreFactsOf}
 use Rattle.topo_core.specs.Systems.{has_dart}
 use Rattle.topo_core.proofs.Interface.{edge_at_row, edge_of_dart}
-use Rattle.topo_kept_rows.specs.Keeping.{viewed_row}
 use Rattle.topo_embedded.specs.Halves.{RowsWithPaths, IsHalf, half_in}
 use Rattle.topo_embedded.specs.Parts.{with_paths}
 use Rattle.topo_embedded.proofs.halves.Apart.{label_is}
@@ -27,17 +26,17 @@ known_edge-requires c =
     ∙ edge_of_dart p.rows c.self.invariant.0 half.dart half.there
 
 pub facts_of-requires : goal.facts_of-requires
-facts_of-requires c = kind_known c.self.inside.parts.rows c.self.invariant.0.paths c.edge.result (viewed_row c.known_edge.result)
+facts_of-requires c = kind_known c.self.inside.parts.rows c.self.invariant.0.paths c.edge.result c.known_edge.result.now
     (ap (λ (q : RowsWithPaths). edge_row q.rows c.edge.result) c.self.view_is ∙ c.known_edge.ensures)
 
 pub returns : goal.returns
 returns c =
     let p : RowsWithPaths = with_paths c.self.inside.parts in
-    let found : edge_row p.rows c.edge.result ≡ Some (viewed_row c.known_edge.result) =
+    let found : edge_row p.rows c.edge.result ≡ Some c.known_edge.result.now =
     ap (λ (q : RowsWithPaths). edge_row q.rows c.edge.result) c.self.view_is ∙ c.known_edge.ensures in
     subst (λ (q : RowsWithPaths). (d : Dart) → has_dart (darts q.rows) d ≡ true → half_in q d ≡ c.args.half
     → AreFactsOf (edge_at q.rows d.edge) c.facts_of.result) c.self.view_is
     (λ d h is.
     let label = label_is p c.self.invariant.0 c.self.inside.parts.segments c.self.invariant.1 d h c.args.half is c.edge.result c.edge.ensures in
-    subst (λ (x : EdgeRow). AreFactsOf x c.facts_of.result) (sym (edge_at_row p.rows c.edge.result (viewed_row c.known_edge.result) found)
+    subst (λ (x : EdgeRow). AreFactsOf x c.facts_of.result) (sym (edge_at_row p.rows c.edge.result c.known_edge.result.now found)
     ∙ ap (edge_at p.rows) label) c.facts_of.ensures)

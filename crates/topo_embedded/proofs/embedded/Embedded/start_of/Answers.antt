@@ -6,7 +6,6 @@ use Rattle.topo_core.specs.declared.darts.Point.TheVariants.{Vertex}
 use Rattle.topo_core.specs.Picture.{darts, edge_row, points_of, start, start_place}
 use Rattle.topo_core.specs.Systems.{has_dart}
 use Rattle.topo_core.proofs.Interface.{edge_of_dart}
-use Rattle.topo_kept_rows.specs.Keeping.{viewed_row}
 use Rattle.topo_embedded.specs.Halves.{RowsWithPaths}
 use Rattle.topo_embedded.specs.Parts.{with_paths}
 use Rattle.topo_embedded.proofs.halves.FoundHalves.{start_inside, start_told}
@@ -31,10 +30,10 @@ point_on-requires c =
     let is : c.dart_of-dart.result ≡ c.requires.dart = c.dart_of-dart.ensures c.requires.dart c.requires.there c.requires.is in
     let found = sym c.in-Some.ensures in
     let e = edge_there p.rows c.number.result (ap is_some found) in
-    let row = edge_found p.rows c.number.result _ e.row (viewed_row c.in-Some.edge) e.read found in
-    let inside = start_inside p.rows c.number.result _ e.row (viewed_row c.in-Some.edge) e.read row
+    let row = edge_found p.rows c.number.result _ e.row c.in-Some.edge.now e.read found in
+    let inside = start_inside p.rows c.number.result _ e.row c.in-Some.edge.now e.read row
     c.requires.dart (c.number.ensures ∙ ap (λ (d : Dart). d.edge) is) c.self.invariant.0 there in
-    subst (λ (n : ℕ). n ≤ length (viewed_row c.in-Some.edge).crossings + 1)
+    subst (λ (n : ℕ). n ≤ length c.in-Some.edge.now.crossings + 1)
     (sym (c.place_of_start.ensures ∙ ap (λ (d : Dart). start_place d.seg d.way) is)) inside
 
 pub returns : goal.returns
@@ -42,7 +41,7 @@ returns c =
     let p : RowsWithPaths = with_paths c.self.inside.parts in
     let found = sym c.in-Some.ensures in
     let e = edge_there p.rows c.number.result (ap is_some found) in
-    let read = viewed_row c.in-Some.edge in
+    let read = c.in-Some.edge.now in
     let row = edge_found p.rows c.number.result _ e.row read e.read found in
     λ d h is.
     let same : c.dart_of-dart.result ≡ d = c.dart_of-dart.ensures d h is in

@@ -1,6 +1,5 @@
 use Rattle.std.proofs.Common.{◌≡◌, ℕ, false, true, ap, arith, inr, is_some, None, not, Option, refl, Some, sym, ◌∙◌}
 use Rattle.std.specs.Option.{option_map}
-use Rattle.topo_kept_rows.specs.Keeping.{viewed_row}
 use Rattle.topo_core.specs.Changes.{IsCut, IsLocalCut}
 use Rattle.topo_core.specs.Picture.{edge_row}
 use Rattle.topo_picture.proofs.DeletedPicture.{cut_of_picture, in_view, whole_of_picture}
@@ -17,7 +16,7 @@ some_there (Some x) h = refl
 pub returns-in-None-clause-whole : goal.returns-in-None-clause-whole
 returns-in-None-clause-whole c =
     let there : is_some (edge_row c.self.inside.embedded.rows c.args.edge) ≡ true =
-    ap is_some (sym c.find_edge.ensures) ∙ still_some viewed_row c.find_edge.result
+    ap is_some (sym c.find_edge.ensures) ∙ still_some (λ x. x.now) c.find_edge.result
     ∙ some_there c.find_edge.result (let none = c.if-is_none.false in grind arith) in
     in_view c.self.inside.limits c.self.inside.embedded.rows c.args.self.now c.self.view_is (λ rows. (i : ℕ) → IsCut rows c.args.edge i → ⊥)
     (whole_of_picture c.self.inside.limits c.self.inside.embedded.rows c.args.edge c.self.invariant there
@@ -26,7 +25,7 @@ returns-in-None-clause-whole c =
 pub returns-in-Some-clause-refused : goal.returns-in-Some-clause-refused
 returns-in-Some-clause-refused c =
     let there : is_some (edge_row c.self.inside.embedded.rows c.args.edge) ≡ true =
-    ap is_some (sym c.find_edge.ensures) ∙ still_some viewed_row c.find_edge.result
+    ap is_some (sym c.find_edge.ensures) ∙ still_some (λ x. x.now) c.find_edge.result
     ∙ some_there c.find_edge.result (let none = c.if-is_none.false in grind arith) in
     let cut : IsLocalCut c.self.inside.embedded.rows c.args.edge c.in-Some.segment = c.in-Some.ensures in
     inr (
