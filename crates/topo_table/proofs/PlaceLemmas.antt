@@ -457,37 +457,6 @@ module _ {V : Type 0} where
 
   -- ---- A copy, place by place
 
-  -- those before a place are below the id there
-  before_below : (slots : List (ℕ × Option V)) (place id : ℕ) (w : Option V) → Rises (ids_of slots) → slice_get slots place ≡ Some (id, w)
-      → AreBelow id (take place slots)
-  before_below [] place id w h at = absurd (search (rules, at))
-  before_below (s ∷ slots) zero id w h at = refl
-  before_below (s ∷ slots) (suc place) id w h at =
-      let lt = below_later s.0 id slots place w h.0 at in
-      let q : ltb s.0 id ≡ true = grind (arith, nat_tests) in
-      rw q (before_below slots place id w h.1 at)
-
-  one_more : (slots : List (ℕ × Option V)) (place : ℕ) (s : ℕ × Option V) → slice_get slots place ≡ Some s → take (suc place) slots ≡ take place slots ++ s ∷ []
-  one_more [] place s at = absurd (is_none_not (sym at))
-  one_more (t ∷ slots) zero s at = ap (λ (t : ℕ × Option V). t ∷ []) (option_some_same at)
-  one_more (t ∷ slots) (suc place) s at = ap (λ l. t ∷ l) (one_more slots place s at)
-
-  -- the places so far are in the copy, and there is room for the others
-  pub record AreCopied (was : Places V) (place : ℕ) (copy : Places V) : Type 0 where
-    pub slots_are : copy.slots ≡ take place was.slots
-    pub room : length was.slots ≤ length copy.slots + copy.room
-
-  module _ (was copy : Places V) (place id : ℕ) (w : Option V) (up : IsStrictlyIncreasing (ids_of was.slots)) (so_far : AreCopied was place copy)
-      (at : slice_get was.slots place ≡ Some (id, w)) where
-    pub copied_below : AreBelow id copy.slots
-    copied_below = subst (AreBelow id) (sym so_far.slots_are) (before_below was.slots place id w (Rises-from_increasing _ up) at)
-
-    pub copied_more : (more : Places V) → more.slots ≡ copy.slots ++ (id, w) ∷ [] → copy.room ≤ more.room + 1 → AreCopied was (place + 1) more
-    copied_more more is room = record {
-      slots_are = rw add-one (is ∙ ap (λ l. l ++ (id, w) ∷ []) so_far.slots_are ∙ sym (one_more was.slots place (id, w) at));
-      room = let r = so_far.room in let long = ap length is ∙ length-append copy.slots ((id, w) ∷ []) in omega arith;
-    }
-
   -- the ids of both are the same, and so are the values up to a place
   abbrev pub IsCopiedTo : ℕ → List (ℕ × Option V) → List (ℕ × Option V) → Type 0
   IsCopiedTo n [] [] = Unit {0}

@@ -18,5 +18,5 @@
 mod numbered;
 mod table;
 
-pub use numbered::NumberedTable;
-pub use table::{Table, TryCopy};
+pub use numbered::{NumberedTable, TryCopy};
+pub use table::Table;

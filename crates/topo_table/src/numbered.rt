@@ -9,9 +9,15 @@ ghost use Rattle.indexmap.specs.IndexMap.{set_value_at};
 ghost use Rattle.topo_table.specs.Places.{AreBelow, IsEmptyAt, IsLiveAt, entries, ids_of};
 ghost use Rattle.topo_table.specs.Places.{value_of, without_id};
 
-use crate::table::TryCopy;
 use std::alloc::{AllocError, Global};
 use std::marker::Model;
+
+/// A value that can be copied where there is memory for it.
+pub trait TryCopy {
+    /// An equal value, in memory of its own.
+    fn try_copy(&self, alloc: Global) -> Result<Self, AllocError>
+        ensures { IfOk result (λ copy. copy ≡ self.now) };
+}
 
 /// Values by ids that are numbers from 0 on. Each number that was ever given has the place with its
 /// number, so a value is found in one look, and by no hash. A place whose value was taken out

@@ -13,13 +13,6 @@ use indexmap::IndexMap;
 use std::alloc::{AllocError, Global};
 use std::marker::Model;
 
-/// A value that can be copied where there is memory for it.
-pub trait TryCopy {
-    /// An equal value, in memory of its own.
-    fn try_copy(&self, alloc: Global) -> Result<Self, AllocError>
-        ensures { IfOk result (λ copy. copy ≡ self.now) };
-}
-
 /// Values by ids, in rising order of the ids. A place whose value was taken out stays, empty, until
 /// the empty ones are closed up. A value is looked for at the place with the number of its id, and
 /// by the hash of the id where another id is there.
@@ -257,41 +250,6 @@ impl<V> Table<V> {
             slots,
             live: self.live,
         })
-    }
-
-    /// As `copy`, for values that take memory.
-    pub fn try_copy(&self, alloc: Global) -> Result<Self, AllocError>
-    where
-        V: TryCopy + Drop,
-        ensures { IfOk result (λ copy. copy.slots ≡ self.now.slots) }
-    {
-        let mut copy = Table::new(alloc);
-        copy.reserve(self.places())?;
-        for place in 0..self.places() {
-            match self.slots.get_index(place) {
-                Some((id, value)) => copy.push_copy(alloc, *id, value)?,
-                None => {}
-            }
-        }
-        Ok(copy)
-    }
-
-    // Adds a place for an id behind the others, with an equal value or empty. There is room for it.
-    fn push_copy(&mut self, alloc: Global, id: u32, value: &Option<V>) -> Result<(), AllocError>
-    where
-        V: TryCopy + Drop,
-        requires room { 0 < self.old.room }
-        requires last { AreBelow id self.old.slots }
-        ensures slots { OnOk result (self.new.slots ≡ self.old.slots ++ (id, value.now) ∷ []) }
-        ensures room { OnOk result (self.old.room ≤ self.new.room + 1) }
-    {
-        match value {
-            Some(value) => {
-                self.push(id, value.try_copy(alloc)?);
-            }
-            None => self.push_empty(id),
-        }
-        Ok(())
     }
 
     /// Takes out the value with an id, if there is one. Its place stays, empty. It takes no memory,
