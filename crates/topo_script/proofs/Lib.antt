@@ -1,5 +1,6 @@
 pub mod Interface
 mod Bytes
+mod FormKeys
 mod Fronts
 mod Items
 mod Letters

@@ -1,6 +1,7 @@
 -- What the lines of a session are read as.
-use Rattle.std.proofs.Common.{◌≡◌, ℕ, ◌<◌, ◌≤◌, Bool, true, false, ◌||◌, ◌&&◌, ◌==◌, if◌then◌else◌, List, [], ◌∷◌, length, nat_lt, bytes_eq, codes, Option, Some, None, option_map, unwrap_or}
+use Rattle.std.proofs.Common.{◌≡◌, ℕ, ◌<◌, ◌≤◌, Bool, true, false, not, ◌&&◌, ◌==◌, if◌then◌else◌, List, [], ◌∷◌, length, nat_lt, bytes_eq, codes, Option, Some, None, option_map, unwrap_or}
 use Rattle.std.proofs.Common.{Ordering, Less, Equal, Greater, Ok, Err, inl, inr, refl, sym, ap, subst, ◌∙◌, arith}
+use Rattle.std.specs.Prelude.{⊤}
 use Rattle.std.specs.Ordering.{nat_cmp, is_eq, match_ordering}
 use Rattle.std.specs.Cmp.Lexicographic.{slice_cmp}
 use Rattle.std.proofs.lemmas.Bool.{and_parts, and_right, ltb-true, ltb-false}
@@ -11,8 +12,11 @@ use Rattle.serde_json.specs.Find.{at, as_object, as_str, get_member}
 use Rattle.topo_core.specs.declared.calls.Command.{Command}
 use Rattle.topo_script.specs.declared.fault.ScriptFault.{ScriptFault}
 use Rattle.topo_script.specs.declared.fault.ScriptFault.TheVariants.{Memory, BadShape}
+use Rattle.topo_script.specs.declared.keys.FormKey.{FormKey}
+use Rattle.topo_script.specs.declared.keys.FormKey.TheVariants.{Due}
+use Rattle.topo_script.specs.declared.keys.TheConstants.{OPENING_KEYS}
 use Rattle.topo_script.specs.declared.path.Key.{Key}
-use Rattle.topo_script.specs.declared.path.Key.TheVariants.{Call, Limits, Open, Planarize, Prices, Reopen, Start, Version}
+use Rattle.topo_script.specs.declared.path.Key.TheVariants.{Call, Open, Planarize, Reopen}
 use Rattle.topo_script.specs.declared.path.JsonPath.{JsonPath}
 use Rattle.topo_script.specs.declared.lines.Asked.{Asked}
 use Rattle.topo_script.specs.declared.lines.Frame.{Frame}
@@ -24,8 +28,9 @@ use Rattle.topo_script.specs.declared.sessions.Request.{Request}
 use Rattle.topo_script.specs.declared.sessions.Request.TheVariants.{Carry, Open as OpenRequest}
 use Rattle.topo_script.specs.CallForms.{begins, call_form, command_form, plain_form}
 use Rattle.topo_script.specs.Paths.{key_name, member_of, whole}
-use Rattle.topo_script.specs.Reads.{Read, and_then, due, passes, json_of, is_text, element_count, has_key, is_known, all_known, all_there, has_keys, value_of, IsFirstFault, Gives}
-use Rattle.topo_script.specs.Scripts.{nulls_in}
+use Rattle.topo_script.specs.Reads.{Read, and_then, due, passes, json_of, is_text, element_count, has_key, is_known, all_known, all_there, has_keys, only_form, value_of, IsFirstFault, Gives}
+use Rattle.topo_script.specs.Graphs.{graph_form}
+use Rattle.topo_script.specs.Scripts.{nulls_in, report_form}
 use Rattle.topo_script.specs.Sessions.{text_id, number_id, id_form, open_form, reopen_form, planarize_form, is_keyed, keyed_form, carry_form, look_form, request_form}
 use Rattle.topo_script.specs.Sessions.{opening_form, opened_form, bare_asked, envelope_head, envelope_asked, envelope_line}
 use Rattle.topo_script.specs.Sessions.{is_opening, bare_line, object_line, line_form, line_limit, line_or, line_of, command_line, frame_without, has_brace, ReadsLine}
@@ -87,36 +92,33 @@ equal_names : (name other : List ℕ) → slice_cmp nat_cmp name other ≡ Equal
 equal_names name other e = (bytes_eq-Decides name other).0 (sym (is_eq-slice_cmp name other) ∙ ap is_eq e)
 
 -- a name that is none of the keys is that of no member
-unknown_name : (required optional : List Key) (name : List ℕ) (ms : Members) → is_known required name ≡ false → is_known optional name ≡ false
-    → all_known required optional ms ≡ true → get_member name ms ≡ None
-unknown_name required optional name no_members r o known = refl
-unknown_name required optional name (member other d ms) r o known =
-    let both = and_parts (is_known required other || is_known optional other) (all_known required optional ms) known in
-    by (slice_cmp nat_cmp name other) refl both.0 (unknown_name required optional name ms r o both.1)
+unknown_name : (keys : List FormKey) (name : List ℕ) (ms : Members) → is_known keys name ≡ false → all_known keys ms ≡ true → get_member name ms ≡ None
+unknown_name keys name no_members none known = refl
+unknown_name keys name (member other d ms) none known =
+    let both = and_parts (is_known keys other) (all_known keys ms) known in
+    by (slice_cmp nat_cmp name other) refl both.0 (unknown_name keys name ms none both.1)
   where
-    by : (is : Ordering) → slice_cmp nat_cmp name other ≡ is → (is_known required other || is_known optional other) ≡ true → get_member name ms ≡ None
+    by : (is : Ordering) → slice_cmp nat_cmp name other ≡ is → is_known keys other ≡ true → get_member name ms ≡ None
         → match_ordering is (get_member name ms) (Some d) (get_member name ms) ≡ None
     by Less e some rest = rest
     by Greater e some rest = rest
     by Equal e some rest =
         let same = equal_names name other e in
-        let none : (is_known required other || is_known optional other) ≡ false =
-        subst (λ n. (is_known required n || is_known optional n) ≡ false) same (rw (r, o) refl) in
+        let never : is_known keys other ≡ false = subst (λ n. is_known keys n ≡ false) same none in
         absurd cc
 
-has_keys_by : (required optional : List Key) (path : JsonPath) (key : Key) (ms : Members) (b : Bool) → all_known required optional ms ≡ b
-    → is_known required (key_name key) ≡ false → is_known optional (key_name key) ≡ false → has_keys path required optional (object ms) ≡ Ok tt
-    → has_key key (object ms) ≡ false
+has_keys_by : (keys : List FormKey) (path : JsonPath) (key : Key) (ms : Members) (b : Bool) → all_known keys ms ≡ b → is_known keys (key_name key) ≡ false
+    → has_keys path keys (object ms) ≡ Ok tt → has_key key (object ms) ≡ false
 unfolding has_keys and_then
-has_keys_by required optional path key ms true e r o h = rw (unknown_name required optional (key_name key) ms r o e) refl
-has_keys_by required optional path key ms false e r o h =
-    let wrong = subst (λ b. and_then (passes (BadShape path) b) (λ _. all_there path required (object ms)) ≡ Ok tt) e h in absurd cc
+has_keys_by keys path key ms true e none h = rw (unknown_name keys (key_name key) ms none e) refl
+has_keys_by keys path key ms false e none h =
+    let wrong = subst (λ b. and_then (passes (BadShape path) b) (λ _. all_there path keys (object ms)) ≡ Ok tt) e h in absurd cc
 
 -- what has these keys alone has no other one
-other_key : (required optional : List Key) (path : JsonPath) (key : Key) (d : Data) → is_known required (key_name key) ≡ false
-    → is_known optional (key_name key) ≡ false → has_keys path required optional d ≡ Ok tt → has_key key d ≡ false
-other_key required optional path key (object ms) r o h = has_keys_by required optional path key ms (all_known required optional ms) refl r o h
-other_key required optional path key _ r o h = refl
+other_key : (keys : List FormKey) (path : JsonPath) (key : Key) (d : Data) → is_known keys (key_name key) ≡ false → has_keys path keys d ≡ Ok tt
+    → has_key key d ≡ false
+other_key keys path key (object ms) none h = has_keys_by keys path key ms (all_known keys ms) refl none h
+other_key keys path key _ none h = refl
 
 -- ---- Openings
 
@@ -126,12 +128,11 @@ unfolding and_then
 went_back (Ok a) next b e = (a, refl, e)
 went_back (Err fault) next b e = absurd cc
 
-opening_keys : (path : JsonPath) (d : Data) (o : Opening) → opening_form path d ≡ Ok o
-    → has_keys path (Version ∷ []) (Limits ∷ Prices ∷ Start ∷ []) d ≡ Ok tt
+opening_keys : (path : JsonPath) (d : Data) (o : Opening) → opening_form path d ≡ Ok o → has_keys path OPENING_KEYS d ≡ Ok tt
 unfolding opening_form
 opening_keys path d o e =
     let nulls = went_back (nulls_in path d) _ o e in
-    let keys = went_back (has_keys path (Version ∷ []) (Limits ∷ Prices ∷ Start ∷ []) d) _ o nulls.2 in
+    let keys = went_back (has_keys path OPENING_KEYS d) _ o nulls.2 in
     keys.1
 
 no_text_opens : (text : List ℕ) (path : JsonPath) (d : Data) (o : Opening) → opening_form path d ≡ Ok o → is_text text d ≡ false
@@ -150,10 +151,10 @@ opening_line : (d : Data) (o : Opening) → opening_form whole d ≡ Ok o
 unfolding line_form
 opening_line d o e =
     let keys = opening_keys whole d o e in
-    let no_call = other_key (Version ∷ []) (Limits ∷ Prices ∷ Start ∷ []) whole Call d refl refl keys in
-    let no_open = other_key (Version ∷ []) (Limits ∷ Prices ∷ Start ∷ []) whole Open d refl refl keys in
-    let no_reopen = other_key (Version ∷ []) (Limits ∷ Prices ∷ Start ∷ []) whole Reopen d refl refl keys in
-    let no_graph = other_key (Version ∷ []) (Limits ∷ Prices ∷ Start ∷ []) whole Planarize d refl refl keys in
+    let no_call = other_key OPENING_KEYS whole Call d refl keys in
+    let no_open = other_key OPENING_KEYS whole Open d refl keys in
+    let no_reopen = other_key OPENING_KEYS whole Reopen d refl keys in
+    let no_graph = other_key OPENING_KEYS whole Planarize d refl keys in
     rw (no_call, no_open, no_reopen, no_graph, no_text_opens (codes "about") whole d o e, opening_asked d o e) refl
 
 first_found : (found : Read Data) (o : Opening) → and_then found (opening_form whole) ≡ Ok o
@@ -252,17 +253,25 @@ carry_read path d command e =
 
 -- ---- Objects that ask by their key
 
-passed : (fault : ScriptFault) (b : Bool) → passes fault b ≡ Ok tt → b ≡ true
-passed fault true e = refl
-passed fault false e = absurd cc
+abbrev unless_there : ScriptFault → Bool → Read ⊤
+unless_there fault b = if not b then Err fault else Ok tt
 
--- what has this key alone has it
-key_there : (path : JsonPath) (key : Key) (d : Data) → has_keys path (key ∷ []) [] d ≡ Ok tt → has_key key d ≡ true
+there : (fault : ScriptFault) (b : Bool) → unless_there fault b ≡ Ok tt → b ≡ true
+there fault true e = refl
+there fault false e = absurd cc
+
+-- what has this key alone has it, and no other one
+only_keys : {A : Type 0} (form : JsonPath → Data → Read A) (path : JsonPath) (key : Key) (d : Data) (a : A) → only_form form path key d ≡ Ok a
+    → has_keys path (Due key ∷ []) d ≡ Ok tt
+unfolding only_form
+only_keys form path key d a e = (went_back (has_keys path (Due key ∷ []) d) _ a e).1
+
+key_there : (path : JsonPath) (key : Key) (d : Data) → has_keys path (Due key ∷ []) d ≡ Ok tt → has_key key d ≡ true
 unfolding has_keys
 key_there path key d h =
     let members = went_back (due (BadShape path) (as_object d)) _ tt h in
-    let known = went_back (passes (BadShape path) (all_known (key ∷ []) [] members.0)) _ tt members.2 in
-    passed (BadShape (member_of path key)) (has_key key d) known.2
+    let known = went_back (passes (BadShape path) (all_known (Due key ∷ []) members.0)) _ tt members.2 in
+    there (BadShape (member_of path key)) (has_key key d) known.2
 
 -- what asks by its key has one of the three keys, and is no envelope
 keyed_keys : (path : JsonPath) (d : Data) (request : Request) → keyed_form path d ≡ Ok request → (is_keyed d ≡ true) × (has_key Call d ≡ false)
@@ -272,17 +281,18 @@ keyed_keys path d request e = by (has_key Open d) refl e
     by_reopen : (b : Bool) → has_key Reopen d ≡ b → has_key Open d ≡ false → (if b then reopen_form path d else planarize_form path d) ≡ Ok request
         → (is_keyed d ≡ true) × (has_key Call d ≡ false)
     by_reopen true h no_open e =
-        let keys = went_back (has_keys path (Reopen ∷ []) [] d) _ request e in
-        (rw (no_open, h) refl, other_key (Reopen ∷ []) [] path Call d refl refl keys.1)
+        let read = went_back (only_form report_form path Reopen d) _ request e in
+        (rw (no_open, h) refl, other_key (Due Reopen ∷ []) path Call d refl (only_keys report_form path Reopen d read.0 read.1))
     by_reopen false h no_open e =
-        let keys = went_back (has_keys path (Planarize ∷ []) [] d) _ request e in
-        (rw (no_open, h) (key_there path Planarize d keys.1), other_key (Planarize ∷ []) [] path Call d refl refl keys.1)
+        let read = went_back (only_form (λ _. graph_form) path Planarize d) _ request e in
+        let keys = only_keys (λ _. graph_form) path Planarize d read.0 read.1 in
+        (rw (no_open, h) (key_there path Planarize d keys), other_key (Due Planarize ∷ []) path Call d refl keys)
 
     by : (b : Bool) → has_key Open d ≡ b → (if b then open_form path d else (if has_key Reopen d then reopen_form path d else planarize_form path d)) ≡ Ok request
         → (is_keyed d ≡ true) × (has_key Call d ≡ false)
     by true h e =
-        let keys = went_back (has_keys path (Open ∷ []) [] d) _ request e in
-        (rw h refl, other_key (Open ∷ []) [] path Call d refl refl keys.1)
+        let read = went_back (only_form opening_form path Open d) _ request e in
+        (rw h refl, other_key (Due Open ∷ []) path Call d refl (only_keys opening_form path Open d read.0 read.1))
     by false h e = by_reopen (has_key Reopen d) refl h e
 
 pub keyed_read : (path : JsonPath) (d : Data) (request : Request) → keyed_form path d ≡ Ok request → request_form path d ≡ Ok request

@@ -9,20 +9,21 @@ use Rattle.json.specs.Json as json
 use Rattle.json.specs.Json.{parse_map, read_key, value}
 use Rattle.json.proofs.Grammar.{left, value-begin_object, skip_value-shorter, read_key-shorter, members_end, members_more}
 use Rattle.serde_json.specs.Data.{Data, object, Members, no_members, member, put}
+use Rattle.topo_script.specs.declared.keys.FormKey.{FormKey}
+use Rattle.topo_script.specs.declared.keys.FormKey.TheVariants.{Due as DueKey}
 use Rattle.topo_script.specs.declared.path.Key.{Key}
 use Rattle.topo_script.specs.declared.path.JsonPath.{JsonPath}
-use Rattle.topo_script.specs.Paths.{key_name}
-use Rattle.topo_script.specs.Reads.{Read}
+use Rattle.topo_script.specs.Reads.{Read, name_of}
 use Rattle.topo_script.specs.declared.slots.Slot.{Slot}
-use Rattle.topo_script.specs.Slots.{members_of, is_before, are_behind, are_sorted, Fills, FillsOne, HoldsSlot, IsHeld, SpellsValue, MembersTo}
+use Rattle.topo_script.specs.Slots.{members_of, is_before, are_behind, are_sorted, Fills, FillsOne, HoldsSlot, IsHeld, SpellsValue, SpellsOnly, MembersTo}
 use Rattle.topo_script.specs.Tokens.{Spells}
 
 -- ---- Keys in order
 
 -- a member with the first key stands before one with the second, whichever comes first
-record IsBefore (k l : Key) : Type 0 where
-  pub front : (d e : Data) (ms : Members) → put (key_name k) d (member (key_name l) e ms) ≡ member (key_name k) d (member (key_name l) e ms)
-  pub behind : (d e : Data) (ms : Members) → put (key_name l) d (member (key_name k) e ms) ≡ member (key_name k) e (put (key_name l) d ms)
+record IsBefore (k l : FormKey) : Type 0 where
+  pub front : (d e : Data) (ms : Members) → put (name_of k) d (member (name_of l) e ms) ≡ member (name_of k) d (member (name_of l) e ms)
+  pub behind : (d e : Data) (ms : Members) → put (name_of l) d (member (name_of k) e ms) ≡ member (name_of k) e (put (name_of l) d ms)
 
 at_front : {A : Type 0} (o : Ordering) (a b c : A) → match_ordering o true false false ≡ true → match_ordering o a b c ≡ a
 at_front Less a b c h = refl
@@ -32,32 +33,32 @@ at_back : {A : Type 0} (o : Ordering) (a b c : A) → match_ordering o false fal
 at_back Greater a b c h = refl
 at_back _ a b c h = absurd cc
 
-before : (k l : Key) → is_before k l ≡ true → IsBefore k l
+before : (k l : FormKey) → is_before k l ≡ true → IsBefore k l
 before k l h =
     let both = and_parts _ _ h in record {
-      front = λ d e ms. at_front (slice_cmp nat_cmp (key_name k) (key_name l)) _ _ _ both.0;
-      behind = λ d e ms. at_back (slice_cmp nat_cmp (key_name l) (key_name k)) _ _ _ both.1;
+      front = λ d e ms. at_front (slice_cmp nat_cmp (name_of k) (name_of l)) _ _ _ both.0;
+      behind = λ d e ms. at_back (slice_cmp nat_cmp (name_of l) (name_of k)) _ _ _ both.1;
     }
 
 -- a key before the others goes to the front
-pub put_front : (k : Key) (d : Data) (ks : List Key) (os : List (Option Data)) → are_behind k ks ≡ true
-    → put (key_name k) d (members_of ks os) ≡ member (key_name k) d (members_of ks os)
+pub put_front : (k : FormKey) (d : Data) (ks : List FormKey) (os : List (Option Data)) → are_behind k ks ≡ true
+    → put (name_of k) d (members_of ks os) ≡ member (name_of k) d (members_of ks os)
 put_front k d [] os behind = refl
 put_front k d (l ∷ ls) [] behind = refl
 put_front k d (l ∷ ls) (None ∷ os) behind = put_front k d ls os (and_parts (is_before k l) (are_behind k ls) behind).1
 put_front k d (l ∷ ls) (Some e ∷ os) behind = (before k l (and_parts (is_before k l) (are_behind k ls) behind).0).front d e (members_of ls os)
 
 -- the name of one of these keys goes behind a key that they come behind
-name_behind : (k : Key) (name : List ℕ) (d : Data) (ks : List Key) (os ps : List (Option Data)) → Fills name d ks os ps → are_behind k ks ≡ true
-    → (e : Data) (ms : Members) → put name d (member (key_name k) e ms) ≡ member (key_name k) e (put name d ms)
+name_behind : (k : FormKey) (name : List ℕ) (d : Data) (ks : List FormKey) (os ps : List (Option Data)) → Fills name d ks os ps → are_behind k ks ≡ true
+    → (e : Data) (ms : Members) → put name d (member (name_of k) e ms) ≡ member (name_of k) e (put name d ms)
 name_behind k name d (l ∷ ls) (o ∷ os) (p ∷ ps) (inl here) behind e ms =
-    subst (λ n. put n d (member (key_name k) e ms) ≡ member (key_name k) e (put n d ms)) (sym here.0)
+    subst (λ n. put n d (member (name_of k) e ms) ≡ member (name_of k) e (put n d ms)) (sym here.0)
     ((before k l (and_parts (is_before k l) (are_behind k ls) behind).0).behind d e ms)
 name_behind k name d (l ∷ ls) (o ∷ os) (p ∷ ps) (inr there) behind e ms =
     name_behind k name d ls os ps there.1 (and_parts (is_before k l) (are_behind k ls) behind).1 e ms
 name_behind k name d _ _ _ fills behind e ms = absurd fills
 
-pub fills_put : (name : List ℕ) (d : Data) (ks : List Key) (os ps : List (Option Data)) → are_sorted ks ≡ true → Fills name d ks os ps
+pub fills_put : (name : List ℕ) (d : Data) (ks : List FormKey) (os ps : List (Option Data)) → are_sorted ks ≡ true → Fills name d ks os ps
     → put name d (members_of ks os) ≡ members_of ks ps
 fills_put name d (k ∷ ks) (None ∷ os) (p ∷ ps) sorted (inl here) = rw (here.0, here.2, sym here.3)
     (put_front k d ks os (and_parts (are_behind k ks) (are_sorted ks) sorted).0)
@@ -67,7 +68,7 @@ fills_put name d (k ∷ ks) (None ∷ os) (p ∷ ps) sorted (inr there) = rw (sy
 fills_put name d (k ∷ ks) (Some e ∷ os) (p ∷ ps) sorted (inr there) =
     let both = and_parts (are_behind k ks) (are_sorted ks) sorted in
     name_behind k name d ks os ps there.1 both.0 e (members_of ks os)
-    ∙ ap (member (key_name k) e) (fills_put name d ks os ps both.1 there.1) ∙ ap (λ o. members_of (k ∷ ks) (o ∷ ps)) there.0
+    ∙ ap (member (name_of k) e) (fills_put name d ks os ps both.1 there.1) ∙ ap (λ o. members_of (k ∷ ks) (o ∷ ps)) there.0
 fills_put name d _ _ _ sorted fills = absurd fills
 
 -- ---- Objects
@@ -126,37 +127,37 @@ value_deeper v within = record { written = v.written; begins = λ depth le. v.be
 
 -- ---- Slots
 
-pub none_there : (keys : List Key) → members_of keys [] ≡ no_members
+pub none_there : (keys : List FormKey) → members_of keys [] ≡ no_members
 none_there [] = refl
 none_there (k ∷ ks) = refl
 
-pub none_more : (values : List (Option Data)) → ((keys : List Key) → members_of keys values ≡ no_members) → (keys : List Key)
+pub none_more : (values : List (Option Data)) → ((keys : List FormKey) → members_of keys values ≡ no_members) → (keys : List FormKey)
     → members_of keys (None ∷ values) ≡ no_members
 none_more values none [] = refl
 none_more values none (k ∷ ks) = none ks
 
 module _ {A R : Type 0} (form : JsonPath → Data → Read A) (holds : R → List (Option Data) → Type 0) where
   -- a value goes into a slot that was empty
-  pub filled_here : {inner nesting : ℕ} {keys more : List Key} {k : Key} {ts mid after : List Token} {value : A} (rest : R) (found : Option A)
-      → keys ≡ k ∷ more → ts ≡ key (key_name k) ∷ mid → is_some found ≡ false → Spells inner form mid value after → inner ≤ nesting → (os : List (Option Data))
+  pub filled_here : {inner nesting : ℕ} {keys more : List FormKey} {k : FormKey} {ts mid after : List Token} {value : A} (rest : R) (found : Option A)
+      → keys ≡ k ∷ more → ts ≡ key (name_of k) ∷ mid → is_some found ≡ false → Spells inner form mid value after → inner ≤ nesting → (os : List (Option Data))
       → HoldsSlot form holds found rest os → FillsOne nesting keys ts after os (λ ps. HoldsSlot form holds (Some value) rest ps)
   unfolding HoldsSlot
   filled_here rest (Some a) are named empty s within os held = absurd cc
   filled_here rest None are named empty s within [] held = absurd held
   filled_here rest None are named empty s within (Some d ∷ os) held = absurd held.0
   filled_here {keys} {more} {k} {mid = mid} rest None are named empty s within (None ∷ os) held = record {
-    name = key_name k;
+    name = name_of k;
     behind = mid;
     named = named;
     spelled = s.spelled;
     values = Some s.spelled ∷ os;
     value = tokens_value s within;
-    fills = subst (λ ks. Fills (key_name k) s.spelled ks (None ∷ os) (Some s.spelled ∷ os)) (sym are) (inl (refl, refl, refl, refl));
+    fills = subst (λ ks. Fills (name_of k) s.spelled ks (None ∷ os) (Some s.spelled ∷ os)) (sym are) (inl (refl, refl, refl, refl));
     held = (s.reads, held.1);
   }
 
   -- a value goes into one of the slots behind
-  pub filled_behind : {inner nesting : ℕ} {keys more : List Key} {k : Key} {ts same after : List Token} {old : R} (new : R) (found : Option A)
+  pub filled_behind : {inner nesting : ℕ} {keys more : List FormKey} {k : FormKey} {ts same after : List Token} {old : R} (new : R) (found : Option A)
       → keys ≡ k ∷ more → same ≡ ts → ((os : List (Option Data)) → holds old os → FillsOne inner more same after os (holds new)) → inner ≤ nesting
       → (os : List (Option Data)) → HoldsSlot form holds found old os → FillsOne nesting keys ts after os (λ ps. HoldsSlot form holds found new ps)
   unfolding HoldsSlot
@@ -251,10 +252,16 @@ then due e = due.is ∙ ap (λ ps. Some due.spelled ∷ ps) e
 
 -- an object with these values, which a form reads
 pub object_tokens : {A : Type 0} {n nesting : ℕ} {form : JsonPath → Data → Read A} {ts rest : List Token} {a : A} {os : List (Option Data)}
-    (keys : List Key) (values : List (Option Data)) → SpellsValue n ts (object (members_of keys os)) rest → n ≤ nesting → os ≡ values
+    (keys : List FormKey) (values : List (Option Data)) → SpellsValue n ts (object (members_of keys os)) rest → n ≤ nesting → os ≡ values
     → ((path : JsonPath) → form path (object (members_of keys values)) ≡ Ok a) → Spells nesting form ts a rest
 object_tokens {n} {ts} {rest} keys values v within are read =
     value_tokens (object (members_of keys values)) (subst (λ ps. SpellsValue n ts (object (members_of keys ps)) rest) are v) within read
+
+-- an object with one member
+pub only_spelled : {A : Type 0} {inner : ℕ} {form : JsonPath → Data → Read A} {ts rest : List Token} {a : A} {os : List (Option Data)} (nesting : ℕ) (k : Key)
+    → SpellsValue inner ts (object (members_of (DueKey k ∷ []) os)) rest → inner ≤ nesting + 1 → IsDue form a os [] → SpellsOnly nesting form k ts a rest
+only_spelled {inner = inner} {ts = ts} {rest} nesting k v within due =
+    (due.spelled, value_deeper (subst (λ ps. SpellsValue inner ts (object (members_of (DueKey k ∷ []) ps)) rest) due.is v) within, due.reads)
 
 -- ---- Slots that may be empty
 
@@ -271,10 +278,20 @@ pub record Maybe {A R : Type 0} (form : JsonPath → Data → Read A) (holds : R
   pub held : holds r values
 
 module _ {A R : Type 0} (form : JsonPath → Data → Read A) (holds : R → List (Option Data) → Type 0) where
-  pub maybe_held : {o : Option A} {r : R} (os : List (Option Data)) → HoldsSlot form holds o r os → Maybe form holds o r os
+  maybe_found : {o : Option A} {r rest : R} (found : Option A) → found ≡ o → rest ≡ r → (os : List (Option Data)) → HoldsSlot form holds found rest os
+      → Maybe form holds o r os
   unfolding HoldsSlot
-  maybe_held [] held = absurd held
-  maybe_held (d ∷ os) held = record { values = os; first = record { spelled = d; is = refl; read = held.0 }; held = held.1 }
+  maybe_found found is same [] held = absurd held
+  maybe_found found is same (d ∷ os) held = record {
+    values = os;
+    first = record { spelled = d; is = refl; read = subst (λ p. IsHeld form p d) is held.0 };
+    held = subst (λ q. holds q os) same held.1;
+  }
+
+  -- a slot, and those behind it
+  pub maybe_held : {o : Option A} {r : R} {slot : Slot A R} {os : List (Option Data)} → (slot.found ≡ o) × (slot.rest ≡ r)
+      → HoldsSlot form holds slot.found slot.rest os → Maybe form holds o r os
+  maybe_held {slot} {os} e held = maybe_found slot.found e.0 e.1 os held
 
 -- one value more at the front, if there is one
 pub maybe : {A : Type 0} {form : JsonPath → Data → Read A} {o : Option A} {os ps qs : List (Option Data)} (m : IsMaybe form o os ps) → ps ≡ qs → os ≡ m.spelled ∷ qs

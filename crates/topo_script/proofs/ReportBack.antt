@@ -22,11 +22,11 @@ use Rattle.topo_script.specs.declared.path.JsonPath.{JsonPath}
 use Rattle.topo_script.specs.declared.scripts.LimitRows.{LimitRows}
 use Rattle.topo_script.specs.declared.reports.Report.{Report}
 use Rattle.topo_script.specs.declared.fault.ScriptFault.TheVariants.{BadShape}
-use Rattle.topo_script.specs.Paths.{whole, element_of}
+use Rattle.topo_script.specs.Paths.{whole, element_of, member_of}
 use Rattle.topo_script.specs.Pictures.{number_data, list_data}
 use Rattle.topo_script.specs.Prices.{without_ones}
 use Rattle.topo_script.specs.Ranges.{LimitsFit, PriceFits, CallFits, DartFits, InsertedFits, RefusalFits, ReplyFits, EntryFits, ReportFits}
-use Rattle.topo_script.specs.Reads.{Read, and_then, passes, element_count, number_below, number_form, long_form, list_form, has_keys, element}
+use Rattle.topo_script.specs.Reads.{Read, and_then, passes, element_count, number_below, number_form, long_form, list_form, has_keys, element, member_form, only_form}
 use Rattle.topo_script.specs.ReportTexts.{limits_data, price_data, prices_data, has_null, version_of, way_data, dart_data}
 use Rattle.topo_script.specs.ReportTexts.{call_data, refusal_data, inserted_data, reply_data, entry_data, report_data}
 use Rattle.topo_script.specs.RowForms.{rows_form}
@@ -34,6 +34,7 @@ use Rattle.topo_script.specs.CallForms.{call_form, grow_form, insert_form, delet
 use Rattle.topo_script.specs.ReplyForms.{way_form, dart_form, plain_refusal, cut_form, refusal_form, deleted_form}
 use Rattle.topo_script.specs.ReplyForms.{refused_form, grown_form, inserted_form, reply_form, entry_form}
 use Rattle.topo_script.specs.Scripts.{limits_form, nulls_of, nulls_in, some_price, price_form, prices_form, report_form}
+use Rattle.topo_script.proofs.FormKeys.{entry_keys, grown_keys, inserted_keys, limits_keys, report_keys}
 use Rattle.topo_script.proofs.Interface.{went}
 use Rattle.topo_script.proofs.RowsBack.{short_back, list_back, member_back, all_map, rows_back}
 use Rattle.topo_core.specs.declared.rows.TheConstants.{KINDS}
@@ -49,14 +50,10 @@ element_back : {A : Type 0} (form : JsonPath → Data → Read A) (path : JsonPa
 unfolding element and_then
 element_back form path i d found x there h = rw there h
 
-limits_keys : (path : JsonPath) (limits : LimitRows) → has_keys path (key.Crossings ∷ key.Edges ∷ key.Vertices ∷ []) [] (limits_data limits) ≡ Ok tt
-unfolding has_keys and_then
-limits_keys path limits = refl
-
 limits_back : (path : JsonPath) (limits : LimitRows) → LimitsFit limits → limits_form path (limits_data limits) ≡ Ok limits
 unfolding limits_form
 limits_back path limits h =
-    went _ _ tt (limits_keys path limits)
+    went _ _ tt (limits_keys path _ _ _)
     ∙ went _ _ limits.crossings
     (member_back number_form path key.Crossings (limits_data limits) _ limits.crossings refl (short_back _ limits.crossings h.crossings))
     ∙ went _ _ limits.edges (member_back number_form path key.Edges (limits_data limits) _ limits.edges refl (short_back _ limits.edges h.edges))
@@ -118,44 +115,26 @@ refusal_back path Full h = refl
 refusal_back path Memory h = absurd h
 refusal_back path NoRoute h = refl
 
-deleted_keys : (path : JsonPath) (edge : ℕ) → has_keys path (key.Deleted ∷ []) [] (reply_data (Deleted edge)) ≡ Ok tt
-unfolding has_keys and_then
-deleted_keys path edge = refl
-
 deleted_back : (path : JsonPath) (edge : ℕ) → edge < 2 ^ 32 → deleted_form path (reply_data (Deleted edge)) ≡ Ok (Deleted edge)
-unfolding deleted_form
-deleted_back path edge h = went _ _ tt (deleted_keys path edge)
-    ∙ went _ _ edge (member_back number_form path key.Deleted (reply_data (Deleted edge)) _ edge refl (short_back _ edge h))
-
-refused_keys : (path : JsonPath) (why : Refusal) → has_keys path (key.Refused ∷ []) [] (reply_data (Refused why)) ≡ Ok tt
-unfolding has_keys and_then
-refused_keys path why = refl
+unfolding deleted_form only_form has_keys member_form and_then
+deleted_back path edge h = rw (short_back (member_of path key.Deleted) edge h) refl
 
 refused_back : (path : JsonPath) (why : Refusal) → RefusalFits why → refused_form path (reply_data (Refused why)) ≡ Ok (Refused why)
-unfolding refused_form
-refused_back path why h = went _ _ tt (refused_keys path why)
-    ∙ went _ _ why (member_back refusal_form path key.Refused (reply_data (Refused why)) _ why refl (refusal_back _ why h))
-
-grown_keys : (path : JsonPath) (vertex edge : ℕ) → has_keys path (key.Edge ∷ key.Vertex ∷ []) [] (reply_data (Grown vertex edge)) ≡ Ok tt
-unfolding has_keys and_then
-grown_keys path vertex edge = refl
+unfolding refused_form only_form has_keys member_form and_then
+refused_back path why h = rw (refusal_back (member_of path key.Refused) why h) refl
 
 grown_back : (path : JsonPath) (vertex edge : ℕ) → (vertex < 2 ^ 32) → (edge < 2 ^ 32) → grown_form path (reply_data (Grown vertex edge)) ≡ Ok (Grown vertex edge)
 unfolding grown_form
 grown_back path vertex edge h k =
-    went _ _ tt (grown_keys path vertex edge)
+    went _ _ tt (grown_keys path _ _)
     ∙ went _ _ edge (member_back number_form path key.Edge (reply_data (Grown vertex edge)) _ edge refl (short_back _ edge k))
     ∙ went _ _ vertex (member_back number_form path key.Vertex (reply_data (Grown vertex edge)) _ vertex refl (short_back _ vertex h))
-
-inserted_keys : (path : JsonPath) (made : Made) → has_keys path (key.Crossed ∷ key.Edge ∷ key.End ∷ key.Price ∷ key.Start ∷ []) [] (inserted_data made) ≡ Ok tt
-unfolding has_keys and_then
-inserted_keys path made = refl
 
 inserted_back : (path : JsonPath) (made : Made) → InsertedFits made → inserted_form path (inserted_data made) ≡ Ok (Inserted made)
 unfolding inserted_form
 inserted_back path made h =
     let darts = all_map DartFits (λ d. (p : JsonPath) → dart_form p (dart_data d) ≡ Ok d) made.route.crossed (λ d k p. dart_back p d k) h.crossed in
-    went _ _ tt (inserted_keys path made)
+    went _ _ tt (inserted_keys path _ _ _ _ _)
     ∙ went _ _ made.route.crossed (member_back (list_form dart_form) path key.Crossed (inserted_data made) _ made.route.crossed refl
     (list_back dart_form dart_data _ made.route.crossed darts))
     ∙ went _ _ made.id (member_back number_form path key.Edge (inserted_data made) _ made.id refl (short_back _ made.id h.id))
@@ -170,14 +149,10 @@ reply_back path (Inserted made) h = inserted_back path made h
 reply_back path (Deleted edge) h = deleted_back path edge h
 reply_back path (Refused why) h = refused_back path why h
 
-entry_keys : (path : JsonPath) (entry : Entry) → has_keys path (key.Call ∷ key.Caller ∷ key.Reply ∷ []) [] (entry_data entry) ≡ Ok tt
-unfolding has_keys and_then
-entry_keys path entry = refl
-
 pub entry_back : (path : JsonPath) (entry : Entry) → EntryFits entry → entry_form path (entry_data entry) ≡ Ok entry
 unfolding entry_form
 entry_back path entry h =
-    went _ _ tt (entry_keys path entry)
+    went _ _ tt (entry_keys path _ _ _)
     ∙ went _ _ entry.call (member_back call_form path key.Call (entry_data entry) _ entry.call refl (call_back _ entry.call h.call))
     ∙ went _ _ entry.caller (member_back number_form path key.Caller (entry_data entry) _ entry.caller refl (short_back _ entry.caller h.caller))
     ∙ went _ _ entry.reply (member_back reply_form path key.Reply (entry_data entry) _ entry.reply refl (reply_back _ entry.reply h.reply))
@@ -250,10 +225,6 @@ nulls_back r =
     (short_back _ (version_of r.prices) (small_version (has_null r.prices))))
     ∙ version_back (has_null r.prices)
 
-report_keys : (r : Report) → has_keys whole (key.History ∷ key.Limits ∷ key.Picture ∷ key.Prices ∷ key.Start ∷ key.Version ∷ []) [] (report_data r) ≡ Ok tt
-unfolding has_keys and_then
-report_keys r = refl
-
 pub report_back : (r : Report) → ReportFits r → length r.prices ≤ KINDS → without_ones r.prices ≡ r.prices → report_form whole (report_data r) ≡ Ok r
 unfolding report_form
 report_back r h short kept =
@@ -261,7 +232,7 @@ report_back r h short kept =
     (λ entry k p. entry_back p entry k) h.history in
     let nulls = has_null r.prices in
     went _ _ nulls (nulls_back r)
-    ∙ went _ _ tt (report_keys r)
+    ∙ went _ _ tt (report_keys whole _ _ _ _ _ _)
     ∙ went _ _ r.history
     (member_back (list_form entry_form) whole key.History (report_data r) _ r.history refl (list_back entry_form entry_data _ r.history entries))
     ∙ went _ _ r.limits (member_back limits_form whole key.Limits (report_data r) _ r.limits refl (limits_back _ r.limits h.limits))

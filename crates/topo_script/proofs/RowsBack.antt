@@ -17,8 +17,9 @@ use Rattle.topo_script.specs.declared.path.JsonPath.{JsonPath}
 use Rattle.topo_script.specs.Paths.{key_name, member_of, element_of, whole}
 use Rattle.topo_script.specs.Pictures.{number_data, list_data, sign_data, edge_data, crossing_data, rows_data, rows_text}
 use Rattle.topo_script.specs.Ranges.{AreShort, EdgeFits, CrossingFits, RowsFit}
-use Rattle.topo_script.specs.Reads.{Read, and_then, number_below, number_form, items_from, list_form, has_keys, member_form, value_of}
+use Rattle.topo_script.specs.Reads.{Read, and_then, number_below, number_form, items_from, list_form, member_form, value_of}
 use Rattle.topo_script.specs.RowForms.{sign_form, edge_form, crossing_form, rows_form, rows_of}
+use Rattle.topo_script.proofs.FormKeys.{crossing_keys, edge_keys, rows_keys}
 use Rattle.topo_script.proofs.Interface.{json_of-read, went, within}
 use Rattle.topo_script.proofs.Texts.{IsPlain, plain_number, plain_string, plain_list, plain_object, no_plain_members, one_plain_member, read_back}
 
@@ -60,36 +61,24 @@ unfolding sign_form
 sign_back path LeftToRight = refl
 sign_back path RightToLeft = refl
 
-edge_keys : (path : JsonPath) (row : EdgeRow) → has_keys path (A ∷ B ∷ Crossings ∷ Id ∷ Kind ∷ []) [] (edge_data row) ≡ Ok tt
-unfolding has_keys and_then
-edge_keys path row = refl
-
 pub edge_back : (path : JsonPath) (row : EdgeRow) → EdgeFits row → edge_form path (edge_data row) ≡ Ok row
 unfolding edge_form
 edge_back path row h =
-    went _ _ tt (edge_keys path row)
+    went _ _ tt (edge_keys path _ _ _ _ _)
     ∙ went _ _ row.a (member_back number_form path A (edge_data row) _ row.a refl (short_back _ row.a h.a))
     ∙ went _ _ row.b (member_back number_form path B (edge_data row) _ row.b refl (short_back _ row.b h.b))
     ∙ went _ _ row.crossings (member_back (list_form number_form) path Crossings (edge_data row) _ row.crossings refl (shorts_back _ row.crossings h.crossings))
     ∙ went _ _ row.id (member_back number_form path Id (edge_data row) _ row.id refl (short_back _ row.id h.id))
     ∙ went _ _ row.kind (member_back number_form path Kind (edge_data row) _ row.kind refl (short_back _ row.kind h.kind))
 
-crossing_keys : (path : JsonPath) (x : CrossRow) → has_keys path (Crossed ∷ Id ∷ Newcomer ∷ SignKey ∷ []) [] (crossing_data x) ≡ Ok tt
-unfolding has_keys and_then
-crossing_keys path x = refl
-
 pub crossing_back : (path : JsonPath) (x : CrossRow) → CrossingFits x → crossing_form path (crossing_data x) ≡ Ok x
 unfolding crossing_form
 crossing_back path x h =
-    went _ _ tt (crossing_keys path x)
+    went _ _ tt (crossing_keys path _ _ _ _)
     ∙ went _ _ x.crossed (member_back number_form path Crossed (crossing_data x) _ x.crossed refl (short_back _ x.crossed h.crossed))
     ∙ went _ _ x.id (member_back number_form path Id (crossing_data x) _ x.id refl (short_back _ x.id h.id))
     ∙ went _ _ x.newcomer (member_back number_form path Newcomer (crossing_data x) _ x.newcomer refl (short_back _ x.newcomer h.newcomer))
     ∙ went _ _ x.sign (member_back sign_form path SignKey (crossing_data x) _ x.sign refl (sign_back _ x.sign))
-
-rows_keys : (path : JsonPath) (rows : Rows) → has_keys path (Crossings ∷ Edges ∷ NextCrossing ∷ NextEdge ∷ Rotations ∷ []) [] (rows_data rows) ≡ Ok tt
-unfolding has_keys and_then
-rows_keys path rows = refl
 
 pub rows_back : (path : JsonPath) (rows : Rows) → RowsFit rows → rows_form path (rows_data rows) ≡ Ok rows
 unfolding rows_form
@@ -99,7 +88,7 @@ rows_back path rows h =
     let edges = all_map EdgeFits (λ row. (p : JsonPath) → edge_form p (edge_data row) ≡ Ok row) rows.edges (λ row k p. edge_back p row k) h.edges in
     let rotations = all_map AreShort (λ ns. (p : JsonPath) → list_form number_form p (list_data number_data ns) ≡ Ok ns) rows.rotations
     (λ ns k p. shorts_back p ns k) h.rotations in
-    went _ _ tt (rows_keys path rows)
+    went _ _ tt (rows_keys path _ _ _ _ _)
     ∙ went _ _ rows.crossings (member_back (list_form crossing_form) path Crossings (rows_data rows) _ rows.crossings refl
     (list_back crossing_form crossing_data _ rows.crossings crossings))
     ∙ went _ _ rows.edges (member_back (list_form edge_form) path Edges (rows_data rows) _ rows.edges refl (list_back edge_form edge_data _ rows.edges edges))

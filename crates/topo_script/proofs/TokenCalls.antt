@@ -1,18 +1,20 @@
 -- Tokens that spell calls and commands.
 use Rattle.std.proofs.Common.{◌≡◌, ℕ, List, ◌∷◌, codes, Option, Some, None, IfSome, refl, sym, subst, ◌∙◌, arith}
 use Rattle.json.specs.Token.{Token, begin_array, string as text_token}
-use Rattle.json.specs.Json.{after_end_array}
 use Rattle.serde_json.specs.Data.{array, item, no_items, string}
 use Rattle.topo_core.specs.declared.calls.Call.{Call}
 use Rattle.topo_core.specs.declared.calls.Call.TheVariants.{Grow, Insert, Delete}
 use Rattle.topo_core.specs.declared.calls.Command.TheVariants.{Plain, Planned}
 use Rattle.topo_script.specs.CallForms.{call_form, grow_form, insert_form, delete_form, command_form, plain_form, planned_form}
 use Rattle.topo_script.specs.Reads.{number_form}
-use Rattle.topo_script.specs.Tokens.{Spells, SpellsNumbers, GoesOn}
+use Rattle.topo_script.specs.Tokens.{Spells, SpellsLast, SpellsNumbers, GoesOn}
 use Rattle.topo_script.specs.TokenParts.{SpellsCall}
 use Rattle.topo_script.proofs.Lookups.{element_read}
 use Rattle.topo_script.proofs.Spellings.{few_done, element_then, numbers_then, text_then, few_tokens}
 use Rattle.topo_script.proofs.Steps.{went}
+
+pub for_word : {word name : List ℕ} {call : Call} {ts rest : List Token} → word ≡ name → SpellsCall name ts call rest → SpellsCall word ts call rest
+for_word {call = call} {ts} {rest} is s = subst (λ w. SpellsCall w ts call rest) (sym is) s
 
 pub grow_tokens : {u position kind : ℕ} {ts rest : List Token} → SpellsNumbers ts u position kind rest
     → SpellsCall (codes "grow") ts (Grow u position kind) rest
@@ -42,14 +44,13 @@ insert_tokens {u} {v} {kind} s =
       refl,
     )
 
-pub delete_tokens : {edge : ℕ} {ts r1 rest : List Token} → Spells 0 number_form ts edge r1 → after_end_array r1 ≡ Some rest
-    → SpellsCall (codes "delete") ts (Delete edge) rest
+pub delete_tokens : {edge : ℕ} {ts rest : List Token} → SpellsLast ts edge rest → SpellsCall (codes "delete") ts (Delete edge) rest
 unfolding call_form delete_form
-delete_tokens {edge} first close =
-    let ds = item (string (codes "delete")) (item first.spelled no_items) in (
+delete_tokens {edge} s =
+    let ds = item (string (codes "delete")) (item s.spelled.spelled no_items) in (
       ds,
-      text_then refl (element_then first (omega arith) (few_done close)),
-      λ path. went _ _ edge (element_read number_form path 1 (array ds) refl first.reads),
+      text_then refl (element_then s.spelled (omega arith) (few_done s.closed)),
+      λ path. went _ _ edge (element_read number_form path 1 (array ds) refl s.spelled.reads),
       refl,
     )
 

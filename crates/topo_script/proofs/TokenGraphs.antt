@@ -1,31 +1,31 @@
 -- Tokens that spell graphs.
-use Rattle.std.proofs.Common.{◌≡◌, ℕ, ◌<◌, ◌≤◌, Bool, true, false, List, [], ◌∷◌, Option, Some, None, Ok, unwrap_or, refl, sym, subst, ◌∙◌, arith, lt-ltb, le-leb}
+use Rattle.std.proofs.Common.{◌≡◌, ℕ, ◌<◌, ◌≤◌, Bool, true, false, List, [], ◌∷◌, drop, Option, Some, None, Ok, unwrap_or, refl, sym, ap, subst, ◌∙◌, lt-ltb, le-leb}
 use Rattle.json.specs.Token.{Token, begin_array}
 use Rattle.serde_json.specs.Data.{Data, array, item, no_items, object}
-use Rattle.serde_json.specs.Find.{get}
 use Rattle.topo_core.specs.declared.rows.TheConstants.{KINDS}
 use Rattle.topo_graph.specs.declared.Effort.{Effort}
 use Rattle.topo_graph.specs.declared.Effort.TheVariants.{Default}
-use Rattle.topo_graph.specs.declared.GraphEdge.{GraphEdge}
 use Rattle.topo_script.specs.declared.graph_forms.TheConstants.{MAX_THREADS}
 use Rattle.topo_script.specs.declared.graphs.GraphAsked.{GraphAsked}
-use Rattle.topo_script.specs.declared.path.Key.{Key}
+use Rattle.topo_script.specs.declared.keys.FormKey.TheVariants.{Due}
+use Rattle.topo_script.specs.declared.keys.TheConstants.{GRAPH_KEYS}
 use Rattle.topo_script.specs.declared.path.Key.TheVariants.{Edges, Effort as EffortKey, Prices, Progress, Seconds, Seed, Start, Threads, Version, Vertices}
 use Rattle.topo_script.specs.declared.path.JsonPath.{JsonPath}
-use Rattle.topo_script.specs.declared.slots.Slot.{Slot}
+use Rattle.topo_script.specs.declared.token_graphs.Unread.{Unread}
 use Rattle.topo_script.specs.Graphs.{edge_form, effort_form, graph_form, some_answer, threads_form, truth_form}
 use Rattle.topo_script.specs.Paths.{key_name, whole}
-use Rattle.topo_script.specs.Reads.{Read, number_form, list_form, has_keys}
+use Rattle.topo_script.specs.Reads.{number_form, list_form}
 use Rattle.topo_script.specs.Scripts.{nulls_of, price_form, prices_form, some_price}
 use Rattle.topo_script.specs.Slots.{members_of, IsHeld, SpellsValue}
 use Rattle.topo_script.specs.Tokens.{Spells, SpellsNumbers}
-use Rattle.topo_script.specs.TokenParts.{ArePricesOf}
+use Rattle.topo_script.specs.TokenParts.{ArePricesOf, unread_form}
 use Rattle.topo_script.proofs.Lookups.{element_read, member_read}
-use Rattle.topo_script.proofs.Members.{found_at, keys_there, none_behind, one_there}
-use Rattle.topo_script.proofs.Objects.{due_held, due_last, held_by, maybe, maybe_held, object_tokens, then}
+use Rattle.topo_script.proofs.Members.{found_at, keys_there, one_there}
+use Rattle.topo_script.proofs.Objects.{IsDue, IsMaybe, maybe, object_tokens, then}
 use Rattle.topo_script.proofs.Spellings.{few_tokens, numbers_then}
 use Rattle.topo_script.proofs.Steps.{went}
-use Rattle.topo_script.proofs.TokenScripts.{AreRead, optional_read, or_default, prices_or_none, version_read}
+use Rattle.topo_script.proofs.TokenReports.{version_read}
+use Rattle.topo_script.proofs.TokenScripts.{AreRead, optional_found, or_default, prices_or_none}
 
 -- ---- Edges
 
@@ -44,9 +44,6 @@ graph_edge_tokens {a} {b} {kind} e s few =
 
 -- ---- Graphs
 
-abbrev pub graph_order : List Key
-graph_order = Edges ∷ EffortKey ∷ Prices ∷ Seconds ∷ Seed ∷ Threads ∷ Version ∷ Vertices ∷ []
-
 -- the values of a graph's members, without pictures to begin with and without telling how far it is
 record Values : Type 0 where
   pub edges : Data
@@ -59,44 +56,10 @@ record Values : Type 0 where
   pub vertices : Data
 
 abbrev listed : Values → List (Option Data)
-listed v = Some v.edges ∷ v.effort ∷ v.prices ∷ v.seconds ∷ v.seed ∷ v.threads ∷ Some v.version ∷ Some v.vertices ∷ []
+listed v = Some v.edges ∷ v.effort ∷ v.prices ∷ None ∷ v.seconds ∷ v.seed ∷ None ∷ v.threads ∷ Some v.version ∷ Some v.vertices ∷ []
 
 abbrev graph_object : Values → Data
-graph_object v = object (members_of graph_order (listed v))
-
-record Found (v : Values) (d : Data) : Type 0 where
-  pub edges : get (key_name Edges) d ≡ Some v.edges
-  pub effort : get (key_name EffortKey) d ≡ v.effort
-  pub prices : get (key_name Prices) d ≡ v.prices
-  pub progress : get (key_name Progress) d ≡ None
-  pub seconds : get (key_name Seconds) d ≡ v.seconds
-  pub seed : get (key_name Seed) d ≡ v.seed
-  pub start : get (key_name Start) d ≡ None
-  pub threads : get (key_name Threads) d ≡ v.threads
-  pub version : get (key_name Version) d ≡ Some v.version
-  pub vertices : get (key_name Vertices) d ≡ Some v.vertices
-
-all_found : (v : Values) → Found v (graph_object v)
-all_found v = record {
-  edges = found_at (key_name Edges) graph_order (listed v);
-  effort = found_at (key_name EffortKey) graph_order (listed v) ∙ none_behind v.effort;
-  prices = found_at (key_name Prices) graph_order (listed v) ∙ none_behind v.prices;
-  progress = found_at (key_name Progress) graph_order (listed v);
-  seconds = found_at (key_name Seconds) graph_order (listed v) ∙ none_behind v.seconds;
-  seed = found_at (key_name Seed) graph_order (listed v) ∙ none_behind v.seed;
-  start = found_at (key_name Start) graph_order (listed v);
-  threads = found_at (key_name Threads) graph_order (listed v) ∙ none_behind v.threads;
-  version = found_at (key_name Version) graph_order (listed v);
-  vertices = found_at (key_name Vertices) graph_order (listed v);
-}
-
-graph_keys : (v : Values) → Found v (graph_object v)
-    → has_keys whole (Edges ∷ Version ∷ Vertices ∷ []) (EffortKey ∷ Prices ∷ Progress ∷ Seconds ∷ Seed ∷ Start ∷ Threads ∷ []) (graph_object v) ≡ Ok tt
-graph_keys v there =
-    keys_there whole (Edges ∷ Version ∷ Vertices ∷ []) (EffortKey ∷ Prices ∷ Progress ∷ Seconds ∷ Seed ∷ Start ∷ Threads ∷ []) graph_order (listed v) refl
-    (one_there whole Edges (Version ∷ Vertices ∷ []) (graph_object v) v.edges there.edges
-    (one_there whole Version (Vertices ∷ []) (graph_object v) v.version there.version
-    (one_there whole Vertices [] (graph_object v) v.vertices there.vertices refl)))
+graph_object v = object (members_of GRAPH_KEYS (listed v))
 
 seconds_or_none : (o : Option ℕ) (d : Option Data) → IsHeld number_form o d → AreRead some_price None d o
 unfolding some_price
@@ -128,74 +91,65 @@ graph_read : {x : GraphAsked} {n : ℕ} (v : Values) {nulls : Bool} → nulls_of
     → AreMembers x nulls v → graph_form (graph_object v) ≡ Ok x
 unfolding graph_form
 graph_read {x} {n} v {nulls} of version are =
+    let os = listed v in
     let d = graph_object v in
-    let there = all_found v in
-    went _ _ nulls (version_read whole n nulls (members_of graph_order (listed v)) v.version there.version version of)
-    ∙ went _ _ tt (graph_keys v there)
-    ∙ went _ _ x.edges (member_read (list_form edge_form) whole Edges d there.edges are.of_edges)
-    ∙ went _ _ x.effort (optional_read effort_form Default whole EffortKey d v.effort x.effort there.effort are.of_effort)
-    ∙ went _ _ x.prices (optional_read (prices_form nulls) [] whole Prices d v.prices x.prices there.prices are.of_prices)
-    ∙ went _ _ x.progress (optional_read truth_form false whole Progress d None x.progress there.progress are.of_progress)
-    ∙ went _ _ x.seconds (optional_read some_price None whole Seconds d v.seconds x.seconds there.seconds are.of_seconds)
-    ∙ went _ _ x.seed (optional_read number_form 1 whole Seed d v.seed x.seed there.seed are.of_seed)
-    ∙ went _ _ x.start (optional_read some_answer None whole Start d None x.start there.start are.of_start)
-    ∙ went _ _ x.threads (optional_read threads_form 1 whole Threads d v.threads x.threads there.threads are.of_threads)
-    ∙ went _ _ x.vertices (member_read number_form whole Vertices d there.vertices are.of_vertices)
+    let has_edges = found_at (key_name Edges) GRAPH_KEYS os in
+    let has_version = found_at (key_name Version) GRAPH_KEYS os in
+    let has_vertices = found_at (key_name Vertices) GRAPH_KEYS os in
+    went _ _ nulls (version_read whole n nulls (members_of GRAPH_KEYS os) v.version has_version version of)
+    ∙ went _ _ tt (keys_there whole GRAPH_KEYS os refl (one_there whole Edges (drop 1 GRAPH_KEYS) d v.edges has_edges
+    (one_there whole Version (Due Vertices ∷ []) d v.version has_version (one_there whole Vertices [] d v.vertices has_vertices refl))))
+    ∙ went _ _ x.edges (member_read (list_form edge_form) whole Edges d has_edges are.of_edges)
+    ∙ went _ _ x.effort (optional_found effort_form Default whole EffortKey GRAPH_KEYS os v.effort x.effort refl are.of_effort)
+    ∙ went _ _ x.prices (optional_found (prices_form nulls) [] whole Prices GRAPH_KEYS os v.prices x.prices refl are.of_prices)
+    ∙ went _ _ x.progress (optional_found truth_form false whole Progress GRAPH_KEYS os None x.progress refl are.of_progress)
+    ∙ went _ _ x.seconds (optional_found some_price None whole Seconds GRAPH_KEYS os v.seconds x.seconds refl are.of_seconds)
+    ∙ went _ _ x.seed (optional_found number_form 1 whole Seed GRAPH_KEYS os v.seed x.seed refl are.of_seed)
+    ∙ went _ _ x.start (optional_found some_answer None whole Start GRAPH_KEYS os None x.start refl are.of_start)
+    ∙ went _ _ x.threads (optional_found threads_form 1 whole Threads GRAPH_KEYS os v.threads x.threads refl are.of_threads)
+    ∙ went _ _ x.vertices (member_read number_form whole Vertices d has_vertices are.of_vertices)
 
-abbrev BackSlots : Type 0 → Type 0
-BackSlots R = Slot Effort (Slot (List (Option ℕ)) (Slot ℕ (Slot ℕ (Slot ℕ (Slot ℕ (Slot ℕ R))))))
+-- nothing was read into a slot for what is not read
+unread_none : {o : Option Unread} {os ps qs : List (Option Data)} (m : IsMaybe unread_form o os ps) → ps ≡ qs → os ≡ None ∷ qs
+unread_none {o} {qs = qs} m e = maybe m e ∙ ap (λ d. d ∷ qs) (by o m.spelled m.read)
+  where
+    by : (o : Option Unread) (d : Option Data) → IsHeld unread_form o d → d ≡ None
+    by None None held = refl
+    by (Some u) (Some d) held = let wrong = held whole in absurd cc
+    by _ _ held = absurd held
 
-abbrev no_more : {R : Type 0} → R → List (Option Data) → Type 0
-no_more r os = os ≡ []
-
-abbrev front_hold : {R : Type 0} → Slot (List GraphEdge) (BackSlots R) → List (Option Data) → Type 0
-front_hold = held_by (list_form edge_form) (held_by effort_form (held_by (list_form (price_form true)) (held_by number_form (held_by number_form
-    (held_by number_form (held_by number_form (held_by number_form no_more)))))))
-
-pub graph_tokens : {R : Type 0} {x : GraphAsked} {n version : ℕ} {ts rest : List Token} (os : List (Option Data)) {slots : Slot (List GraphEdge) (BackSlots R)}
-    {back : BackSlots R} {last : Slot ℕ R} {none : R}
-    → SpellsValue n ts (object (members_of graph_order os)) rest → n ≤ 3 → front_hold slots os
-    → (slots.found ≡ Some x.edges) × (slots.rest ≡ back)
-    → (back.rest.rest.rest.rest.rest.found ≡ Some version) × (back.rest.rest.rest.rest.rest.rest ≡ last)
-    → (last.found ≡ Some x.vertices) × (last.rest ≡ none)
-    → x.effort ≡ unwrap_or back.found Default
-    → ArePricesOf version (unwrap_or back.rest.found []) x.prices
-    → x.seconds ≡ back.rest.rest.found
-    → x.seed ≡ unwrap_or back.rest.rest.rest.found 1
-    → x.threads ≡ unwrap_or back.rest.rest.rest.rest.found 1
-    → 0 < x.threads → x.threads ≤ MAX_THREADS → false ≡ x.progress → None ≡ x.start
+pub graph_tokens : {x : GraphAsked} {n version : ℕ} {ts rest : List Token} {os p1 p2 p3 p4 p5 p6 p7 p8 p9 : List (Option Data)}
+    {effort : Option Effort} {prices : Option (List (Option ℕ))} {progress start : Option Unread} {seed threads : Option ℕ}
+    → SpellsValue n ts (object (members_of GRAPH_KEYS os)) rest → n ≤ 3
+    → IsDue (list_form edge_form) x.edges os p1 → IsMaybe effort_form effort p1 p2 → IsMaybe (list_form (price_form true)) prices p2 p3
+    → IsMaybe unread_form progress p3 p4 → IsMaybe number_form x.seconds p4 p5 → IsMaybe number_form seed p5 p6 → IsMaybe unread_form start p6 p7
+    → IsMaybe number_form threads p7 p8 → IsDue number_form version p8 p9 → IsDue number_form x.vertices p9 []
+    → x.effort ≡ unwrap_or effort Default → ArePricesOf version (unwrap_or prices []) x.prices → x.seed ≡ unwrap_or seed 1
+    → x.threads ≡ unwrap_or threads 1 → 0 < x.threads → x.threads ≤ MAX_THREADS → false ≡ x.progress → None ≡ x.start
     → Spells 3 (λ path. graph_form) ts x rest
-graph_tokens {x = x} {version = version} os {back = back} v within held edges versions vertices effort prices seconds seed threads some few progress start =
-    let e = due_held (list_form edge_form) _ edges held in
-    let f = maybe_held effort_form _ e.values e.held in
-    let p = maybe_held (list_form (price_form true)) _ f.values f.held in
-    let s = maybe_held number_form _ p.values p.held in
-    let r = maybe_held number_form _ s.values s.held in
-    let t = maybe_held number_form (held_by number_form (held_by number_form no_more)) r.values r.held in
-    let n = due_held number_form (held_by number_form no_more) versions t.held in
-    let w = due_last (due_held number_form no_more vertices n.held) in
+graph_tokens {x = x} {version = version} {effort = effort} {prices = prices} {seed = seed} {threads = threads}
+    v within e f p g s r b t n w is_effort are_prices is_seed is_threads some few no_progress no_start =
     let values : Values = record {
-      edges = e.first.spelled;
-      effort = f.first.spelled;
-      prices = p.first.spelled;
-      seconds = s.first.spelled;
-      seed = r.first.spelled;
-      threads = t.first.spelled;
-      version = n.first.spelled;
+      edges = e.spelled;
+      effort = f.spelled;
+      prices = p.spelled;
+      seconds = s.spelled;
+      seed = r.spelled;
+      threads = t.spelled;
+      version = n.spelled;
       vertices = w.spelled;
     } in
-    let own = back.rest.rest.rest.rest.found in
-    object_tokens graph_order (listed values) v within
-    (then e.first (maybe f.first (maybe p.first (maybe s.first (maybe r.first (maybe t.first (then n.first w.is)))))))
-    (λ path. graph_read values prices.1 n.first.reads (record {
-      of_edges = e.first.reads;
-      of_effort = subst (AreRead effort_form Default f.first.spelled) (sym effort) (or_default effort_form Default back.found f.first.spelled f.first.read);
-      of_prices = prices_or_none version back.rest.found p.first.spelled x.prices p.first.read prices;
-      of_progress = progress;
-      of_seconds = subst (AreRead some_price None s.first.spelled) (sym seconds) (seconds_or_none back.rest.rest.found s.first.spelled s.first.read);
-      of_seed = subst (AreRead number_form 1 r.first.spelled) (sym seed) (or_default number_form 1 back.rest.rest.rest.found r.first.spelled r.first.read);
-      of_start = start;
-      of_threads = subst (AreRead threads_form 1 t.first.spelled) (sym threads)
-          (threads_or_one own t.first.spelled t.first.read (subst (λ k. 0 < k) threads some) (subst (λ k. k ≤ MAX_THREADS) threads few));
+    object_tokens GRAPH_KEYS (listed values) v within
+    (then e (maybe f (maybe p (unread_none g (maybe s (maybe r (unread_none b (maybe t (then n w.is)))))))))
+    (λ path. graph_read values are_prices.1 n.reads (record {
+      of_edges = e.reads;
+      of_effort = subst (AreRead effort_form Default f.spelled) (sym is_effort) (or_default effort_form Default effort f.spelled f.read);
+      of_prices = prices_or_none version prices p.spelled x.prices p.read are_prices;
+      of_progress = no_progress;
+      of_seconds = seconds_or_none x.seconds s.spelled s.read;
+      of_seed = subst (AreRead number_form 1 r.spelled) (sym is_seed) (or_default number_form 1 seed r.spelled r.read);
+      of_start = no_start;
+      of_threads = subst (AreRead threads_form 1 t.spelled) (sym is_threads)
+          (threads_or_one threads t.spelled t.read (subst (λ k. 0 < k) is_threads some) (subst (λ k. k ≤ MAX_THREADS) is_threads few));
       of_vertices = w.reads;
     }))

@@ -1,11 +1,11 @@
 -- Tokens that spell lines of sessions which are objects.
-use Rattle.std.proofs.Common.{◌≡◌, ℕ, ◌<◌, ◌≤◌, ◌^◌, nat_le, nat_lt, Bool, true, false, List, [], ◌∷◌, length, Option, Some, None, Ok, Err, unwrap_or}
+use Rattle.std.proofs.Common.{◌≡◌, ℕ, ◌<◌, ◌≤◌, ◌^◌, nat_le, nat_lt, Bool, true, false, List, [], ◌∷◌, drop, length, Option, Some, None, Ok, Err, unwrap_or}
 use Rattle.std.proofs.Common.{if◌then◌else◌, refl, sym, ap, subst, ◌∙◌, arith, lt-ltb}
 use Rattle.json.specs.Token.{Token, string as text_token}
 use Rattle.serde_json.specs.Data.{Data, number, unsigned, string, object}
-use Rattle.serde_json.specs.Find.{get, as_str}
+use Rattle.serde_json.specs.Find.{as_str}
 use Rattle.topo_script.specs.declared.fault.ScriptFault.TheVariants.{BadShape, BadNumber}
-use Rattle.topo_script.specs.declared.path.Key.{Key}
+use Rattle.topo_script.specs.declared.keys.TheConstants.{ENVELOPE_KEYS}
 use Rattle.topo_script.specs.declared.path.Key.TheVariants.{Call, Caller, Id}
 use Rattle.topo_script.specs.declared.path.JsonPath.{JsonPath}
 use Rattle.topo_script.specs.declared.lines.Frame.TheVariants.{Envelope}
@@ -14,16 +14,17 @@ use Rattle.topo_script.specs.declared.lines.LineId.{LineId}
 use Rattle.topo_script.specs.declared.lines.LineId.TheVariants.{Number}
 use Rattle.topo_script.specs.declared.sessions.Request.{Request}
 use Rattle.topo_script.specs.Paths.{key_name, whole}
-use Rattle.topo_script.specs.Reads.{and_then, number_below, number_form, has_keys}
+use Rattle.topo_script.specs.Reads.{and_then, number_below, number_form}
 use Rattle.topo_script.specs.Sessions.{text_id, number_id, id_form, some_id, caller_form, request_form, keyed_form, envelope_head, envelope_asked, bare_line, object_line}
 use Rattle.topo_script.specs.Slots.{members_of, IsHeld, SpellsValue}
 use Rattle.topo_script.specs.Tokens.{Spells}
 use Rattle.topo_script.proofs.LineLaws.{keyed_line, envelope_read}
 use Rattle.topo_script.proofs.Lookups.{member_read}
+use Rattle.topo_script.proofs.Members.{found_at, keys_there, one_there}
 use Rattle.topo_script.proofs.Objects.{IsDue, IsMaybe, then, maybe, object_tokens}
 use Rattle.topo_script.proofs.Spellings.{word_tokens, read_so}
 use Rattle.topo_script.proofs.Steps.{went}
-use Rattle.topo_script.proofs.TokenScripts.{AreRead, optional_read, or_default}
+use Rattle.topo_script.proofs.TokenScripts.{AreRead, optional_found, or_default}
 
 -- ---- Ids
 
@@ -76,40 +77,23 @@ caller_or _ _ caller held is small = absurd held
 
 -- ---- Envelopes
 
-abbrev envelope_order : List Key
-envelope_order = Call ∷ Caller ∷ Id ∷ []
-
-abbrev envelope_object : Data → Option Data → Option Data → Data
-envelope_object c k i = object (members_of envelope_order (Some c ∷ k ∷ i ∷ []))
-
-record Found (c : Data) (k i : Option Data) (d : Data) : Type 0 where
-  pub keys : has_keys whole (Call ∷ []) (Caller ∷ Id ∷ []) d ≡ Ok tt
-  pub call : get (key_name Call) d ≡ Some c
-  pub caller : get (key_name Caller) d ≡ k
-  pub id : get (key_name Id) d ≡ i
-
-all_found : (c : Data) (k i : Option Data) → Found c k i (envelope_object c k i)
-unfolding has_keys and_then
-all_found c None None = record { keys = refl; call = refl; caller = refl; id = refl }
-all_found c None (Some i) = record { keys = refl; call = refl; caller = refl; id = refl }
-all_found c (Some k) None = record { keys = refl; call = refl; caller = refl; id = refl }
-all_found c (Some k) (Some i) = record { keys = refl; call = refl; caller = refl; id = refl }
-
 pub envelope_tokens : {request : Request} {o : Option ℕ} {p : Option (Option LineId)} {caller : ℕ} {id : Option LineId} {n : ℕ} {ts rest : List Token}
-    {os p1 p2 p3 : List (Option Data)} → SpellsValue n ts (object (members_of envelope_order os)) rest → n ≤ 8 → IsDue request_form request os p1
+    {os p1 p2 p3 : List (Option Data)} → SpellsValue n ts (object (members_of ENVELOPE_KEYS os)) rest → n ≤ 8 → IsDue request_form request os p1
     → IsMaybe number_form o p1 p2 → IsMaybe some_id p p2 p3 → p3 ≡ [] → caller ≡ unwrap_or o 0 → id ≡ unwrap_or p None → caller < 16
     → Spells 8 (λ path. object_line) ts (record { frame = Envelope id; asked = Ok (record { caller = caller; request = request }) }) rest
 unfolding envelope_head envelope_asked
 envelope_tokens {request} {o} {p} {caller} {id} v within first second third end is_caller is_id small =
-    let d = envelope_object first.spelled second.spelled third.spelled in
-    let found = all_found first.spelled second.spelled third.spelled in
+    let os : List (Option Data) = Some first.spelled ∷ second.spelled ∷ third.spelled ∷ [] in
+    let d = object (members_of ENVELOPE_KEYS os) in
+    let has_call = found_at (key_name Call) ENVELOPE_KEYS os in
     let id_read = subst (AreRead some_id None third.spelled) (sym is_id) (or_default some_id None p third.spelled third.read) in
-    let head : envelope_head d ≡ Ok id = went _ _ tt found.keys ∙ optional_read some_id None whole Id d third.spelled id found.id id_read in
+    let head : envelope_head d ≡ Ok id = went _ _ tt (keys_there whole ENVELOPE_KEYS os refl
+    (one_there whole Call (drop 1 ENVELOPE_KEYS) d first.spelled has_call refl)) ∙ optional_found some_id None whole Id ENVELOPE_KEYS os third.spelled id refl id_read in
     let asked : envelope_asked d ≡ Ok (record { caller = caller; request = request }) =
     went _ _ caller
-    (optional_read caller_form 0 whole Caller d second.spelled caller found.caller (caller_or o second.spelled caller second.read is_caller small))
-    ∙ went _ _ request (member_read request_form whole Call d found.call first.reads) in
-    object_tokens envelope_order (Some first.spelled ∷ second.spelled ∷ third.spelled ∷ []) v within ((then) first (maybe second (maybe third end)))
+    (optional_found caller_form 0 whole Caller ENVELOPE_KEYS os second.spelled caller refl (caller_or o second.spelled caller second.read is_caller small))
+    ∙ went _ _ request (member_read request_form whole Call d has_call first.reads) in
+    object_tokens ENVELOPE_KEYS os v within ((then) first (maybe second (maybe third end)))
     (λ path. envelope_read d id _ refl head asked)
 
 pub bare_tokens : {r : Request} {line : Line} {ts rest : List Token} → line ≡ bare_line r → Spells 7 keyed_form ts r rest

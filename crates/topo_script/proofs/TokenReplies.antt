@@ -2,26 +2,28 @@
 use Rattle.std.proofs.Common.{◌≡◌, ℕ, ◌≤◌, List, [], ◌∷◌, codes, Option, Some, None, IfSome, Ok, refl, ap, ◌∙◌, arith}
 use Rattle.json.specs.Token.{Token, begin_array, string as text_token}
 use Rattle.json.specs.Json.{after_end_array}
-use Rattle.serde_json.specs.Data.{Data, array, item, no_items, number, string, unsigned, object}
+use Rattle.serde_json.specs.Data.{Data, array, item, no_items, number, string, unsigned, object, no_members, member}
 use Rattle.topo_core.specs.declared.darts.Dart.{Dart}
 use Rattle.topo_core.specs.declared.calls.Entry.{Entry}
 use Rattle.topo_core.specs.declared.calls.Refusal.{Refusal}
 use Rattle.topo_core.specs.declared.calls.Refusal.TheVariants.{Cut}
 use Rattle.topo_core.specs.declared.calls.Reply.TheVariants.{Grown, Inserted, Deleted, Refused}
 use Rattle.topo_core.specs.declared.routes.Inserted.{Inserted as InsertedEdge}
-use Rattle.topo_script.specs.declared.path.Key.{Key}
+use Rattle.topo_script.specs.declared.keys.TheConstants.{ENTRY_KEYS, GROWN_KEYS, INSERTED_KEYS}
 use Rattle.topo_script.specs.declared.path.Key.TheVariants.{Call, Caller, Crossed, Deleted as DeletedKey, Edge, End, Price}
 use Rattle.topo_script.specs.declared.path.Key.TheVariants.{Refused as RefusedKey, Reply as ReplyKey, Start, Vertex}
 use Rattle.topo_script.specs.declared.path.JsonPath.{JsonPath}
 use Rattle.topo_script.specs.CallForms.{call_form}
-use Rattle.topo_script.specs.Reads.{number_form, long_form, list_form, has_keys, and_then}
+use Rattle.topo_script.specs.Paths.{key_name, member_of}
+use Rattle.topo_script.specs.Reads.{number_form, long_form, list_form, has_keys, and_then, member_form, only_form}
 use Rattle.topo_script.specs.ReplyForms.{way_form, dart_form, refusal_form, cut_form, reply_form}
 use Rattle.topo_script.specs.ReplyForms.{deleted_form, refused_form, grown_form, inserted_form, entry_form}
-use Rattle.topo_script.specs.Slots.{members_of, SpellsValue}
-use Rattle.topo_script.specs.Tokens.{Spells, SpellsNumber}
+use Rattle.topo_script.specs.Slots.{members_of, SpellsValue, SpellsOnly}
+use Rattle.topo_script.specs.Tokens.{Spells, SpellsLast, SpellsNumber}
 use Rattle.topo_script.specs.TokenParts.{SpellsRefusal}
+use Rattle.topo_script.proofs.FormKeys.{entry_keys, grown_keys, inserted_keys}
 use Rattle.topo_script.proofs.Lookups.{element_read, member_read}
-use Rattle.topo_script.proofs.Objects.{IsDue, then, object_tokens}
+use Rattle.topo_script.proofs.Objects.{IsDue, then, object_tokens, value_tokens}
 use Rattle.topo_script.proofs.Spellings.{few_done, element_then, text_then, number_then, few_tokens}
 use Rattle.topo_script.proofs.Steps.{went}
 
@@ -46,14 +48,13 @@ pub plain_tokens : (n : ℕ) {name text : List ℕ} {why : Refusal} {ts rest : L
 plain_tokens n read same close =
     (no_items, few_done close, λ path. ap (λ s. refusal_form path (array (item (number (unsigned n)) (item (string s) no_items)))) same ∙ read path)
 
-pub cut_tokens : {segment : ℕ} {ts mid rest : List Token} → Spells 0 number_form ts segment mid → after_end_array mid ≡ Some rest
-    → SpellsRefusal 6 (codes "Cut") ts (Cut segment) rest
+pub cut_tokens : {segment : ℕ} {ts rest : List Token} → SpellsLast ts segment rest → SpellsRefusal 6 (codes "Cut") ts (Cut segment) rest
 unfolding cut_form
-cut_tokens {segment} s close = (
-  item s.spelled no_items,
-  element_then s (omega arith) (few_done close),
-  λ path. went _ _ segment (element_read number_form path 2 (array (item (number (unsigned 6)) (item (string (codes "Cut")) (item s.spelled no_items))))
-      refl s.reads),
+cut_tokens {segment} s = (
+  item s.spelled.spelled no_items,
+  element_then s.spelled (omega arith) (few_done s.closed),
+  λ path. went _ _ segment (element_read number_form path 2 (array (item (number (unsigned 6)) (item (string (codes "Cut")) (item s.spelled.spelled no_items))))
+      refl s.spelled.reads),
 )
 
 pub refusal_tokens : {n : ℕ} {name : List ℕ} (o : Option Refusal) {ts r0 r1 r2 : List Token} (rest : List Token) → ts ≡ begin_array ∷ r0 → SpellsNumber r0 n r1
@@ -65,66 +66,35 @@ refusal_tokens {n} {name} (Some why) rest e first second s =
 
 -- ---- Replies
 
-deleted_keys : (path : JsonPath) (edge : Data) → has_keys path (DeletedKey ∷ []) [] (object (members_of (DeletedKey ∷ []) (Some edge ∷ []))) ≡ Ok tt
-unfolding has_keys and_then
-deleted_keys path edge = refl
+pub deleted_tokens : {edge : ℕ} {ts rest : List Token} → SpellsOnly 0 number_form DeletedKey ts edge rest → Spells 3 reply_form ts (Deleted edge) rest
+unfolding reply_form deleted_form only_form has_keys member_form and_then
+deleted_tokens s = value_tokens (object (member (key_name DeletedKey) s.0 no_members)) s.1 (omega arith) (λ path. rw (s.2 (member_of path DeletedKey)) refl)
 
-pub deleted_tokens : {edge n : ℕ} {ts rest : List Token} {os : List (Option Data)} → SpellsValue n ts (object (members_of (DeletedKey ∷ []) os)) rest → n ≤ 3
-    → IsDue number_form edge os [] → Spells 3 reply_form ts (Deleted edge) rest
-unfolding reply_form deleted_form
-deleted_tokens {edge} v within due =
-    let d = object (members_of (DeletedKey ∷ []) (Some due.spelled ∷ [])) in
-    object_tokens (DeletedKey ∷ []) (Some due.spelled ∷ []) v within due.is
-    (λ path. went _ _ tt (deleted_keys path due.spelled) ∙ went _ _ edge (member_read number_form path DeletedKey d refl due.reads))
+pub refused_tokens : {why : Refusal} {ts rest : List Token} → SpellsOnly 1 refusal_form RefusedKey ts why rest → Spells 3 reply_form ts (Refused why) rest
+unfolding reply_form refused_form only_form has_keys member_form and_then
+refused_tokens s = value_tokens (object (member (key_name RefusedKey) s.0 no_members)) s.1 (omega arith) (λ path. rw (s.2 (member_of path RefusedKey)) refl)
 
-refused_keys : (path : JsonPath) (why : Data) → has_keys path (RefusedKey ∷ []) [] (object (members_of (RefusedKey ∷ []) (Some why ∷ []))) ≡ Ok tt
-unfolding has_keys and_then
-refused_keys path why = refl
-
-pub refused_tokens : {why : Refusal} {n : ℕ} {ts rest : List Token} {os : List (Option Data)} → SpellsValue n ts (object (members_of (RefusedKey ∷ []) os)) rest
-    → n ≤ 3 → IsDue refusal_form why os [] → Spells 3 reply_form ts (Refused why) rest
-unfolding reply_form refused_form
-refused_tokens {why} v within due =
-    let d = object (members_of (RefusedKey ∷ []) (Some due.spelled ∷ [])) in
-    object_tokens (RefusedKey ∷ []) (Some due.spelled ∷ []) v within due.is
-    (λ path. went _ _ tt (refused_keys path due.spelled) ∙ went _ _ why (member_read refusal_form path RefusedKey d refl due.reads))
-
-abbrev grown_order : List Key
-grown_order = Edge ∷ Vertex ∷ []
-
-grown_keys : (path : JsonPath) (edge vertex : Data) → has_keys path grown_order [] (object (members_of grown_order (Some edge ∷ Some vertex ∷ []))) ≡ Ok tt
-unfolding has_keys and_then
-grown_keys path edge vertex = refl
-
-pub grown_tokens : {vertex edge n : ℕ} {ts rest : List Token} {os p1 : List (Option Data)} → SpellsValue n ts (object (members_of grown_order os)) rest → n ≤ 3
+pub grown_tokens : {vertex edge n : ℕ} {ts rest : List Token} {os p1 : List (Option Data)} → SpellsValue n ts (object (members_of GROWN_KEYS os)) rest → n ≤ 3
     → IsDue number_form edge os p1 → IsDue number_form vertex p1 [] → Spells 3 reply_form ts (Grown vertex edge) rest
 unfolding reply_form grown_form
 grown_tokens {vertex} {edge} v within first second =
     let values = Some first.spelled ∷ Some second.spelled ∷ [] in
-    let d = object (members_of grown_order values) in
-    object_tokens grown_order values v within (then first second.is)
+    let d = object (members_of GROWN_KEYS values) in
+    object_tokens GROWN_KEYS values v within (then first second.is)
     (λ path.
     went _ _ tt (grown_keys path _ _)
     ∙ went _ _ edge (member_read number_form path Edge d refl first.reads)
     ∙ went _ _ vertex (member_read number_form path Vertex d refl second.reads))
 
-abbrev inserted_order : List Key
-inserted_order = Crossed ∷ Edge ∷ End ∷ Price ∷ Start ∷ []
-
-inserted_keys : (path : JsonPath) (crossed edge end price start : Data)
-    → has_keys path inserted_order [] (object (members_of inserted_order (Some crossed ∷ Some edge ∷ Some end ∷ Some price ∷ Some start ∷ []))) ≡ Ok tt
-unfolding has_keys and_then
-inserted_keys path crossed edge end price start = refl
-
 pub inserted_tokens : {x : InsertedEdge} {n : ℕ} {ts rest : List Token} {os p1 p2 p3 p4 : List (Option Data)}
-    → SpellsValue n ts (object (members_of inserted_order os)) rest → n ≤ 3
+    → SpellsValue n ts (object (members_of INSERTED_KEYS os)) rest → n ≤ 3
     → IsDue (list_form dart_form) x.route.crossed os p1 → IsDue number_form x.id p1 p2 → IsDue number_form x.route.end p2 p3
     → IsDue long_form x.price p3 p4 → IsDue number_form x.route.start p4 [] → Spells 3 reply_form ts (Inserted x) rest
 unfolding reply_form inserted_form
 inserted_tokens {x} v within crossed edge end price start =
     let values = Some crossed.spelled ∷ Some edge.spelled ∷ Some end.spelled ∷ Some price.spelled ∷ Some start.spelled ∷ [] in
-    let d = object (members_of inserted_order values) in
-    object_tokens inserted_order values v within (then crossed (then edge (then end (then price start.is))))
+    let d = object (members_of INSERTED_KEYS values) in
+    object_tokens INSERTED_KEYS values v within (then crossed (then edge (then end (then price start.is))))
     (λ path.
     went _ _ tt (inserted_keys path _ _ _ _ _)
     ∙ went _ _ x.route.crossed (member_read (list_form dart_form) path Crossed d refl crossed.reads)
@@ -135,22 +105,14 @@ inserted_tokens {x} v within crossed edge end price start =
 
 -- ---- Entries
 
-abbrev entry_order : List Key
-entry_order = Call ∷ Caller ∷ ReplyKey ∷ []
-
-entry_keys : (path : JsonPath) (call caller reply : Data)
-    → has_keys path entry_order [] (object (members_of entry_order (Some call ∷ Some caller ∷ Some reply ∷ []))) ≡ Ok tt
-unfolding has_keys and_then
-entry_keys path call caller reply = refl
-
 pub entry_tokens : {x : Entry} {n : ℕ} {ts rest : List Token} {os p1 p2 : List (Option Data)} → SpellsValue n ts
-    (object (members_of entry_order os)) rest → n ≤ 4
+    (object (members_of ENTRY_KEYS os)) rest → n ≤ 4
     → IsDue call_form x.call os p1 → IsDue number_form x.caller p1 p2 → IsDue reply_form x.reply p2 [] → Spells 4 entry_form ts x rest
 unfolding entry_form
 entry_tokens {x} v within call caller reply =
     let values = Some call.spelled ∷ Some caller.spelled ∷ Some reply.spelled ∷ [] in
-    let d = object (members_of entry_order values) in
-    object_tokens entry_order values v within (then call (then caller reply.is))
+    let d = object (members_of ENTRY_KEYS values) in
+    object_tokens ENTRY_KEYS values v within (then call (then caller reply.is))
     (λ path.
     went _ _ tt (entry_keys path _ _ _)
     ∙ went _ _ x.call (member_read call_form path Call d refl call.reads)

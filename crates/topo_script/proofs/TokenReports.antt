@@ -6,22 +6,24 @@ use Rattle.std.specs.List.{list_any}
 use Rattle.json.specs.Token.{Token}
 use Rattle.json.specs.Json as json
 use Rattle.json.proofs.Grammar.{value_is}
-use Rattle.serde_json.specs.Data.{Data, null, array, object, Items, no_items, item}
+use Rattle.serde_json.specs.Data.{Data, Members, null, array, object, Items, no_items, item}
 use Rattle.serde_json.specs.Events.{items_len}
-use Rattle.topo_script.specs.declared.path.Key.{Key}
+use Rattle.serde_json.specs.Find.{get}
+use Rattle.topo_script.specs.declared.keys.TheConstants.{LIMITS_KEYS, REPORT_KEYS}
 use Rattle.topo_script.specs.declared.path.Key.TheVariants.{Crossings, Edges, History, Limits, Picture, Prices, Start, Version, Vertices}
 use Rattle.topo_script.specs.declared.path.JsonPath.{JsonPath}
 use Rattle.topo_script.specs.declared.reports.Report.{Report}
 use Rattle.topo_script.specs.declared.scripts.LimitRows.{LimitRows}
-use Rattle.topo_script.specs.Paths.{element_of}
+use Rattle.topo_script.specs.Paths.{element_of, key_name}
 use Rattle.topo_script.specs.Prices.{without_ones}
-use Rattle.topo_script.specs.Reads.{Read, and_then, number_below, number_form, list_form, items_from, has_keys}
+use Rattle.topo_script.specs.Reads.{Read, and_then, number_below, number_form, list_form, items_from}
 use Rattle.topo_script.specs.ReplyForms.{entry_form}
 use Rattle.topo_script.specs.RowForms.{rows_form}
 use Rattle.topo_script.specs.Scripts.{limits_form, nulls_of, nulls_in, some_price, price_form, prices_form, report_form}
 use Rattle.topo_script.specs.Slots.{members_of, SpellsValue}
 use Rattle.topo_script.specs.Tokens.{Spells}
 use Rattle.topo_script.specs.TokenParts.{ArePricesOf}
+use Rattle.topo_script.proofs.FormKeys.{limits_keys, report_keys}
 use Rattle.topo_script.proofs.Lookups.{member_read}
 use Rattle.topo_script.proofs.Objects.{IsDue, then, object_tokens}
 use Rattle.topo_script.proofs.Spellings.{read_so}
@@ -30,21 +32,13 @@ use Rattle.topo_core.specs.declared.rows.TheConstants.{KINDS}
 
 -- ---- Limits
 
-abbrev limits_order : List Key
-limits_order = Crossings ∷ Edges ∷ Vertices ∷ []
-
-limits_keys : (path : JsonPath) (crossings edges vertices : Data)
-    → has_keys path limits_order [] (object (members_of limits_order (Some crossings ∷ Some edges ∷ Some vertices ∷ []))) ≡ Ok tt
-unfolding has_keys and_then
-limits_keys path crossings edges vertices = refl
-
-pub limits_tokens : {x : LimitRows} {n : ℕ} {ts rest : List Token} {os p1 p2 : List (Option Data)} → SpellsValue n ts (object (members_of limits_order os)) rest
+pub limits_tokens : {x : LimitRows} {n : ℕ} {ts rest : List Token} {os p1 p2 : List (Option Data)} → SpellsValue n ts (object (members_of LIMITS_KEYS os)) rest
     → n ≤ 1 → IsDue number_form x.crossings os p1 → IsDue number_form x.edges p1 p2 → IsDue number_form x.vertices p2 [] → Spells 1 limits_form ts x rest
 unfolding limits_form
 limits_tokens {x} v within crossings edges vertices =
     let values = Some crossings.spelled ∷ Some edges.spelled ∷ Some vertices.spelled ∷ [] in
-    let d = object (members_of limits_order values) in
-    object_tokens limits_order values v within (then crossings (then edges vertices.is))
+    let d = object (members_of LIMITS_KEYS values) in
+    object_tokens LIMITS_KEYS values v within (then crossings (then edges vertices.is))
     (λ path.
     went _ _ tt (limits_keys path _ _ _)
     ∙ went _ _ x.crossings (member_read number_form path Crossings d refl crossings.reads)
@@ -131,37 +125,23 @@ prices_read nulls path _ ps kept e short none is = absurd cc
 
 -- ---- Reports
 
-abbrev report_order : List Key
-report_order = History ∷ Limits ∷ Picture ∷ Prices ∷ Start ∷ Version ∷ []
-
-abbrev report_object : Data → Data → Data → Data → Data → Data → Data
-report_object history limits picture prices start version =
-    object (members_of report_order (Some history ∷ Some limits ∷ Some picture ∷ Some prices ∷ Some start ∷ Some version ∷ []))
-
-report_keys : (path : JsonPath) (history limits picture prices start version : Data)
-    → has_keys path report_order [] (report_object history limits picture prices start version) ≡ Ok tt
-unfolding has_keys and_then
-report_keys path history limits picture prices start version = refl
-
-version_read : (path : JsonPath) (n : ℕ) (nulls : Bool) (history limits picture prices start version : Data) → ((path : JsonPath) → number_form path version ≡ Ok n)
-    → nulls_of n ≡ Ok nulls → nulls_in path (report_object history limits picture prices start version) ≡ Ok nulls
+pub version_read : (path : JsonPath) (n : ℕ) (nulls : Bool) (ms : Members) (v : Data) → get (key_name Version) (object ms) ≡ Some v → ((path : JsonPath) → number_form path v ≡ Ok n)
+    → nulls_of n ≡ Ok nulls → nulls_in path (object ms) ≡ Ok nulls
 unfolding nulls_in
-version_read path n nulls history limits picture prices start version read of =
-    went _ _ tt refl ∙ went _ _ n
-    (member_read number_form path Version (report_object history limits picture prices start version) refl read) ∙ of
+version_read path n nulls ms v there read of = went _ _ tt refl ∙ went _ _ n (member_read number_form path Version (object ms) there read) ∙ of
 
 pub report_tokens : {x : Report} {m n : ℕ} {ps : List (Option ℕ)} {ts rest : List Token} {os p1 p2 p3 p4 p5 : List (Option Data)}
-    → SpellsValue n ts (object (members_of report_order os)) rest → n ≤ 6
+    → SpellsValue n ts (object (members_of REPORT_KEYS os)) rest → n ≤ 6
     → IsDue (list_form entry_form) x.history os p1 → IsDue limits_form x.limits p1 p2 → IsDue rows_form x.picture p2 p3
     → IsDue (list_form (price_form true)) ps p3 p4 → IsDue rows_form x.start p4 p5 → IsDue number_form m p5 [] → ArePricesOf m ps x.prices
     → Spells 6 report_form ts x rest
 unfolding report_form
 report_tokens {x} {m} {ps = ps} v within history limits picture prices start version kept =
-    let values = Some history.spelled ∷ Some limits.spelled ∷ Some picture.spelled ∷ Some prices.spelled ∷ Some start.spelled ∷ Some version.spelled ∷ [] in
-    let d = object (members_of report_order values) in
-    object_tokens report_order values v within (then history (then limits (then picture (then prices (then start version.is)))))
+    let values : List (Option Data) = Some history.spelled ∷ Some limits.spelled ∷ Some picture.spelled ∷ Some prices.spelled ∷ Some start.spelled ∷ Some version.spelled ∷ [] in
+    let d = object (members_of REPORT_KEYS values) in
+    object_tokens REPORT_KEYS values v within (then history (then limits (then picture (then prices (then start version.is)))))
     (λ path.
-    went _ _ kept.0 (version_read path m kept.0 _ _ _ _ _ _ version.reads kept.1)
+    went _ _ kept.0 (version_read path m kept.0 (members_of REPORT_KEYS values) version.spelled refl version.reads kept.1)
     ∙ went _ _ tt (report_keys path _ _ _ _ _ _)
     ∙ went _ _ x.history (member_read (list_form entry_form) path History d refl history.reads)
     ∙ went _ _ x.limits (member_read limits_form path Limits d refl limits.reads)

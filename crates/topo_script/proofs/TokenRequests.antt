@@ -1,12 +1,11 @@
 -- Tokens that spell what a line of a session asks for.
-use Rattle.std.proofs.Common.{◌≡◌, ℕ, ◌≤◌, true, List, [], ◌∷◌, codes, Option, Some, None, is_none, IfSome, Ok, refl, sym, ap, subst, ◌∙◌, arith}
+use Rattle.std.proofs.Common.{◌≡◌, ℕ, true, List, ◌∷◌, codes, Option, Some, None, is_none, IfSome, Ok, refl, sym, ap, subst, ◌∙◌, arith}
 use Rattle.json.specs.Token.{Token, begin_array, string as text_token}
 use Rattle.json.specs.Json.{after_end_array}
-use Rattle.serde_json.specs.Data.{Data, array, item, no_items, string, object}
+use Rattle.serde_json.specs.Data.{Data, array, item, no_items, string, object, no_members, member}
 use Rattle.topo_core.specs.declared.calls.Command.{Command}
 use Rattle.topo_core.specs.declared.darts.Dart.{Dart}
-use Rattle.topo_script.specs.declared.path.Key.TheVariants.{Open, Planarize, Reopen, Seconds}
-use Rattle.topo_script.specs.declared.fault.ScriptFault.TheVariants.{BadShape}
+use Rattle.topo_script.specs.declared.path.Key.TheVariants.{Open, Planarize, Reopen}
 use Rattle.topo_script.specs.declared.graphs.GraphAsked.{GraphAsked}
 use Rattle.topo_script.specs.declared.path.JsonPath.{JsonPath}
 use Rattle.topo_script.specs.declared.reports.Report.{Report}
@@ -15,45 +14,46 @@ use Rattle.topo_script.specs.declared.sessions.Request.{Request}
 use Rattle.topo_script.specs.declared.sessions.Request.TheVariants.{Carry, Route, Edge, Vertex, Face, Undo, Open as OpenRequest, Planarize as PlanarizeRequest, Reopen as ReopenRequest}
 use Rattle.topo_script.specs.CallForms.{command_form}
 use Rattle.topo_script.specs.Graphs.{graph_form}
-use Rattle.topo_script.specs.Paths.{member_of, whole}
-use Rattle.topo_script.specs.Reads.{◌>>=◌, and_then, number_form, element, has_keys, passes}
+use Rattle.topo_script.specs.Paths.{key_name, member_of}
+use Rattle.topo_script.specs.Reads.{◌>>=◌, and_then, number_form, element, has_keys, member_form, only_form}
 use Rattle.topo_script.specs.ReplyForms.{way_form}
 use Rattle.topo_script.specs.Scripts.{report_form}
 use Rattle.topo_script.specs.Sessions.{opening_form, route_form, edge_form, vertex_form, face_form, undo_form, open_form, reopen_form, planarize_form, keyed_form, look_form, request_form}
-use Rattle.topo_script.specs.Slots.{members_of, SpellsValue}
-use Rattle.topo_script.specs.Tokens.{Spells}
+use Rattle.topo_script.specs.Slots.{SpellsOnly}
+use Rattle.topo_script.specs.Tokens.{Spells, SpellsLast}
 use Rattle.topo_script.specs.TokenParts.{SpellsAsked}
 use Rattle.topo_script.proofs.LineLaws.{carry_read, keyed_read}
-use Rattle.topo_script.proofs.Lookups.{element_read, member_read}
-use Rattle.topo_script.proofs.Objects.{IsDue, object_tokens}
+use Rattle.topo_script.proofs.Lookups.{element_read}
+use Rattle.topo_script.proofs.Objects.{value_tokens}
 use Rattle.topo_script.proofs.Spellings.{few_done, element_then, text_then, few_tokens, word_tokens, read_so, deeper}
 use Rattle.topo_script.proofs.Steps.{went}
 
 -- ---- Arrays
 
+pub for_word : {word name : List ℕ} {request : Request} {ts rest : List Token} → word ≡ name → SpellsAsked name ts request rest
+    → SpellsAsked word ts request rest
+for_word {request = request} {ts} {rest} is s = subst (λ w. SpellsAsked w ts request rest) (sym is) s
+
 -- a word and a number
 one_asked : (word : List ℕ) (make : ℕ → Request) → ((path : JsonPath) (d : Data) → request_form path (array (item (string word) (item d no_items)))
     ≡ (element number_form path 1 (array (item (string word) (item d no_items))) >>= λ n. Ok (make n)))
-    → {n : ℕ} {ts mid rest : List Token} → Spells 0 number_form ts n mid → after_end_array mid ≡ Some rest → SpellsAsked word ts (make n) rest
-one_asked word make is {n} first close =
-    let ds = item (string word) (item first.spelled no_items) in
-    few_tokens 6 ds refl (text_then refl (element_then first (omega arith) (few_done close)))
-    (λ path. is path first.spelled ∙ went _ _ n (element_read number_form path 1 (array ds) refl first.reads))
+    → {n : ℕ} {ts rest : List Token} → SpellsLast ts n rest → SpellsAsked word ts (make n) rest
+one_asked word make is {n} s =
+    let ds = item (string word) (item s.spelled.spelled no_items) in
+    few_tokens 6 ds refl (text_then refl (element_then s.spelled (omega arith) (few_done s.closed)))
+    (λ path. is path s.spelled.spelled ∙ went _ _ n (element_read number_form path 1 (array ds) refl s.spelled.reads))
 
-pub edge_asked : {n : ℕ} {ts mid rest : List Token} → Spells 0 number_form ts n mid → after_end_array mid ≡ Some rest
-    → SpellsAsked (codes "edge") ts (Edge n) rest
+pub edge_asked : {n : ℕ} {ts rest : List Token} → SpellsLast ts n rest → SpellsAsked (codes "edge") ts (Edge n) rest
 unfolding request_form look_form edge_form
-edge_asked first close = one_asked (codes "edge") Edge (λ path d. refl) first close
+edge_asked s = one_asked (codes "edge") Edge (λ path d. refl) s
 
-pub vertex_asked : {n : ℕ} {ts mid rest : List Token} → Spells 0 number_form ts n mid → after_end_array mid ≡ Some rest
-    → SpellsAsked (codes "vertex") ts (Vertex n) rest
+pub vertex_asked : {n : ℕ} {ts rest : List Token} → SpellsLast ts n rest → SpellsAsked (codes "vertex") ts (Vertex n) rest
 unfolding request_form look_form vertex_form
-vertex_asked first close = one_asked (codes "vertex") Vertex (λ path d. refl) first close
+vertex_asked s = one_asked (codes "vertex") Vertex (λ path d. refl) s
 
-pub undo_asked : {n : ℕ} {ts mid rest : List Token} → Spells 0 number_form ts n mid → after_end_array mid ≡ Some rest
-    → SpellsAsked (codes "undo") ts (Undo n) rest
+pub undo_asked : {n : ℕ} {ts rest : List Token} → SpellsLast ts n rest → SpellsAsked (codes "undo") ts (Undo n) rest
 unfolding request_form look_form undo_form
-undo_asked first close = one_asked (codes "undo") Undo (λ path d. refl) first close
+undo_asked s = one_asked (codes "undo") Undo (λ path d. refl) s
 
 pub route_asked : {u v : ℕ} {ts r1 r2 rest : List Token} → Spells 0 number_form ts u r1 → Spells 0 number_form r1 v r2 → after_end_array r2 ≡ Some rest
     → SpellsAsked (codes "route") ts (Route u v) rest
@@ -96,42 +96,19 @@ word_asked {word} (Some request) {ts} {rest} e read =
 
 -- ---- Objects
 
-open_keys : (path : JsonPath) (d : Data) → has_keys path (Open ∷ []) [] (object (members_of (Open ∷ []) (Some d ∷ []))) ≡ Ok tt
-unfolding has_keys and_then
-open_keys path d = refl
+pub open_asked : {x : Opening} {ts rest : List Token} → SpellsOnly 5 opening_form Open ts x rest → Spells 7 keyed_form ts (OpenRequest x) rest
+unfolding keyed_form open_form only_form has_keys member_form and_then
+open_asked s = value_tokens (object (member (key_name Open) s.0 no_members)) s.1 (omega arith) (λ path. rw (s.2 (member_of path Open)) refl)
 
-reopen_keys : (path : JsonPath) (d : Data) → has_keys path (Reopen ∷ []) [] (object (members_of (Reopen ∷ []) (Some d ∷ []))) ≡ Ok tt
-unfolding has_keys and_then
-reopen_keys path d = refl
+pub reopen_asked : {x : Report} {ts rest : List Token} → SpellsOnly 6 report_form Reopen ts x rest → Spells 7 keyed_form ts (ReopenRequest x) rest
+unfolding keyed_form reopen_form only_form has_keys member_form and_then
+reopen_asked s = value_tokens (object (member (key_name Reopen) s.0 no_members)) s.1 (omega arith) (λ path. rw (s.2 (member_of path Reopen)) refl)
 
-pub open_asked : {x : Opening} {n : ℕ} {ts rest : List Token} {os : List (Option Data)} → SpellsValue n ts (object (members_of (Open ∷ []) os)) rest
-    → n ≤ 7 → IsDue opening_form x os [] → Spells 7 keyed_form ts (OpenRequest x) rest
-unfolding keyed_form open_form
-open_asked {x} v within opening =
-    let d = object (members_of (Open ∷ []) (Some opening.spelled ∷ [])) in
-    object_tokens (Open ∷ []) (Some opening.spelled ∷ []) v within opening.is
-    (λ path. went _ _ tt (open_keys path opening.spelled) ∙ went _ _ x (member_read opening_form path Open d refl opening.reads))
-
-pub reopen_asked : {x : Report} {n : ℕ} {ts rest : List Token} {os : List (Option Data)} → SpellsValue n ts (object (members_of (Reopen ∷ []) os)) rest
-    → n ≤ 7 → IsDue report_form x os [] → Spells 7 keyed_form ts (ReopenRequest x) rest
-unfolding keyed_form reopen_form
-reopen_asked {x} v within report =
-    let d = object (members_of (Reopen ∷ []) (Some report.spelled ∷ [])) in
-    object_tokens (Reopen ∷ []) (Some report.spelled ∷ []) v within report.is
-    (λ path. went _ _ tt (reopen_keys path report.spelled) ∙ went _ _ x (member_read report_form path Reopen d refl report.reads))
-
-planarize_keys : (path : JsonPath) (d : Data) → has_keys path (Planarize ∷ []) [] (object (members_of (Planarize ∷ []) (Some d ∷ []))) ≡ Ok tt
-unfolding has_keys and_then
-planarize_keys path d = refl
-
-pub planarize_asked : {x : GraphAsked} {n : ℕ} {ts rest : List Token} {os : List (Option Data)} → SpellsValue n ts (object (members_of (Planarize ∷ []) os)) rest
-    → n ≤ 7 → IsDue (λ _. graph_form) x os [] → is_none x.seconds ≡ true → Spells 7 keyed_form ts (PlanarizeRequest x) rest
-unfolding keyed_form planarize_form
-planarize_asked {x} v within graph none =
-    let d = object (members_of (Planarize ∷ []) (Some graph.spelled ∷ [])) in
-    let passed : passes (BadShape (member_of whole Seconds)) (is_none x.seconds) ≡ Ok tt = rw none refl in
-    object_tokens (Planarize ∷ []) (Some graph.spelled ∷ []) v within graph.is
-    (λ path. went _ _ tt (planarize_keys path graph.spelled) ∙ went _ _ x (member_read (λ _. graph_form) path Planarize d refl graph.reads) ∙ went _ _ tt passed)
+pub planarize_asked : {x : GraphAsked} {ts rest : List Token} → SpellsOnly 3 (λ _. graph_form) Planarize ts x rest → is_none x.seconds ≡ true
+    → Spells 7 keyed_form ts (PlanarizeRequest x) rest
+unfolding keyed_form planarize_form only_form has_keys member_form and_then
+planarize_asked s none =
+    value_tokens (object (member (key_name Planarize) s.0 no_members)) s.1 (omega arith) (λ path. rw (s.2 (member_of path Planarize), none) refl)
 
 pub keyed_asked : {request : Request} {ts rest : List Token} → Spells 7 keyed_form ts request rest → Spells 7 request_form ts request rest
 keyed_asked {request} s = read_so s (omega arith) (λ path. keyed_read path s.spelled request (s.reads path))

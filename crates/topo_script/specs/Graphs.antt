@@ -1,5 +1,5 @@
 -- The form of a graph of which pictures with few crossings are wanted.
-use Rattle.std.specs.Prelude.{ℕ, ◌==◌, ◌&&◌, nat_lt, nat_le, Bool, false, List, [], ◌∷◌, codes, Option, Some, None, if◌then◌else◌, Ok, Err}
+use Rattle.std.specs.Prelude.{ℕ, ◌==◌, ◌&&◌, nat_lt, nat_le, Bool, false, List, [], codes, Option, Some, None, if◌then◌else◌, Ok, Err}
 use Rattle.serde_json.specs.Data.{Data}
 use Rattle.serde_json.specs.Find.{as_bool}
 use Rattle.topo_core.specs.declared.rows.TheConstants.{KINDS}
@@ -11,8 +11,9 @@ use Rattle.topo_graph.specs.declared.Effort.TheVariants.{Quick, Default, Thoroug
 use Rattle.topo_script.specs.declared.graphs.GraphAsked.{GraphAsked}
 use Rattle.topo_script.specs.declared.graphs.GraphStart.{GraphStart}
 use Rattle.topo_script.specs.declared.graph_forms.TheConstants.{MAX_THREADS}
-use Rattle.topo_script.specs.declared.path.Key.TheVariants.{Cost, Crossings, Edges, Effort as EffortKey, Lonely, Parts, Picture}
-use Rattle.topo_script.specs.declared.path.Key.TheVariants.{Prices, Progress, Seconds, Seed, Start, Threads, Tries, Version, Vertices}
+use Rattle.topo_script.specs.declared.keys.TheConstants.{ANSWER_KEYS, GRAPH_KEYS, PART_KEYS}
+use Rattle.topo_script.specs.declared.path.Key.TheVariants.{Edges, Effort as EffortKey, Lonely, Parts, Picture}
+use Rattle.topo_script.specs.declared.path.Key.TheVariants.{Prices, Progress, Seconds, Seed, Start, Threads, Vertices}
 use Rattle.topo_script.specs.declared.path.JsonPath.{JsonPath}
 use Rattle.topo_script.specs.Paths.{element_of, whole}
 use Rattle.topo_script.specs.Reads.{Read, ◌>>=◌, due, passes, number_form, is_text, element, element_count, list_form, has_keys, member_form, member_or, value_of}
@@ -49,7 +50,7 @@ threads_form path d = do
 -- a picture of a component, with the graph's edges and vertices
 unfoldable pub part_form : JsonPath → Data → Read Part
 part_form path d = do
-  _ ← has_keys path (Edges ∷ Picture ∷ Vertices ∷ []) [] d
+  _ ← has_keys path PART_KEYS d
   edges ← member_form (list_form number_form) path Edges d
   rows ← member_form rows_form path Picture d
   vertices ← member_form (list_form number_form) path Vertices d
@@ -58,7 +59,7 @@ part_form path d = do
 -- an answer of before: what it says of its pictures, beside these, is not looked at
 unfoldable pub answer_form : JsonPath → Data → Read GraphStart
 answer_form path d = do
-  _ ← has_keys path (Lonely ∷ Parts ∷ []) (Cost ∷ Crossings ∷ Tries ∷ []) d
+  _ ← has_keys path ANSWER_KEYS d
   lonely ← member_form (list_form number_form) path Lonely d
   parts ← member_form (list_form part_form) path Parts d
   Ok (record { parts = parts; lonely = lonely })
@@ -71,7 +72,7 @@ some_answer path d = do
 unfoldable pub graph_form : Data → Read GraphAsked
 graph_form d = do
   nulls ← nulls_in whole d
-  _ ← has_keys whole (Edges ∷ Version ∷ Vertices ∷ []) (EffortKey ∷ Prices ∷ Progress ∷ Seconds ∷ Seed ∷ Start ∷ Threads ∷ []) d
+  _ ← has_keys whole GRAPH_KEYS d
   edges ← member_form (list_form edge_form) whole Edges d
   effort ← member_or Default effort_form whole EffortKey d
   prices ← member_or [] (prices_form nulls) whole Prices d

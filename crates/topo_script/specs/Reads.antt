@@ -1,5 +1,5 @@
 -- What a value is read as, or its first fault. The tests stand in the order in which faults are told.
-use Rattle.std.specs.Prelude.{◌≡◌, ℕ, ◌+◌, ◌^◌, nat_lt, Bool, true, false, not, ◌&&◌, ◌||◌, if◌then◌else◌, List, [], ◌∷◌}
+use Rattle.std.specs.Prelude.{◌≡◌, ℕ, ◌+◌, ◌^◌, nat_lt, Bool, true, false, not, ◌&&◌, if◌then◌else◌, List, [], ◌∷◌}
 use Rattle.std.specs.Prelude.{length, bytes_eq, Option, Some, None, is_some, option_map, unwrap_or, Result, Ok, Err, ⊤}
 use Rattle.std.specs.Str.{is_utf8}
 use Rattle.std.specs.List.{list_any}
@@ -7,6 +7,8 @@ use Rattle.serde_json.specs.Data.{Data, Items, no_items, item, Members, no_membe
 use Rattle.serde_json.specs.Find.{get, at, as_number, as_u64, as_str, as_array, as_object}
 use Rattle.serde_json.specs.Events.{items_len}
 use Rattle.serde_json.specs.Read.{read}
+use Rattle.topo_script.specs.declared.keys.FormKey.{FormKey}
+use Rattle.topo_script.specs.declared.keys.FormKey.TheVariants.{Due, Optional}
 use Rattle.topo_script.specs.declared.path.Key.{Key}
 use Rattle.topo_script.specs.declared.path.JsonPath.{JsonPath}
 use Rattle.topo_script.specs.declared.fault.ScriptFault.{ScriptFault}
@@ -109,32 +111,52 @@ three_elements a b c path i d = all_three (element a path i d) (element b path (
 abbrev pub has_key : Key → Data → Bool
 has_key key d = is_some (get (key_name key) d)
 
--- a key is one of these
-abbrev pub is_known : List Key → List ℕ → Bool
-is_known keys name = list_any (λ key. bytes_eq name (key_name key)) keys
+-- the key itself
+abbrev pub key_of : FormKey → Key
+key_of (Due key) = key
+key_of (Optional key) = key
+
+-- a key of a form as it stands in a text
+abbrev pub name_of : FormKey → List ℕ
+name_of known = key_name (key_of known)
+
+-- a name is that of one of these keys
+abbrev pub is_known : List FormKey → List ℕ → Bool
+is_known keys name = list_any (λ known. bytes_eq name (name_of known)) keys
 
 -- every member's key is one of these
-abbrev pub all_known : List Key → List Key → Members → Bool
-all_known required optional no_members = true
-all_known required optional (member name d ms) = (is_known required name || is_known optional name) && all_known required optional ms
+abbrev pub all_known : List FormKey → Members → Bool
+all_known keys no_members = true
+all_known keys (member name d ms) = is_known keys name && all_known keys ms
 
--- the first of these keys that is not there is a fault
-abbrev pub all_there : JsonPath → List Key → Data → Read ⊤
+-- a key is due and not there
+abbrev pub is_missing : FormKey → Data → Bool
+is_missing (Due key) d = not (has_key key d)
+is_missing (Optional key) d = false
+
+-- the first of these keys that is missing is a fault
+abbrev pub all_there : JsonPath → List FormKey → Data → Read ⊤
 all_there path [] d = Ok tt
-all_there path (key ∷ keys) d = if has_key key d then all_there path keys d else Err (BadShape (member_of path key))
+all_there path (known ∷ keys) d = if is_missing known d then Err (BadShape (member_of path (key_of known))) else all_there path keys d
 
--- an object with all of the first keys, some of the others, and no more
-unfoldable pub has_keys : JsonPath → List Key → List Key → Data → Read ⊤
-has_keys path required optional d = do
+-- an object with all of these keys that are due, some of the others, and no more
+unfoldable pub has_keys : JsonPath → List FormKey → Data → Read ⊤
+has_keys path keys d = do
   members ← due (BadShape path) (as_object d)
-  _ ← passes (BadShape path) (all_known required optional members)
-  all_there path required d
+  _ ← passes (BadShape path) (all_known keys members)
+  all_there path keys d
 
 -- a member, in a form
 unfoldable pub member_form : {A : Type 0} → (JsonPath → Data → Read A) → JsonPath → Key → Data → Read A
 member_form form path key d = do
   found ← due (BadShape (member_of path key)) (get (key_name key) d)
   form (member_of path key) found
+
+-- the one member of an object, in a form
+unfoldable pub only_form : {A : Type 0} → (JsonPath → Data → Read A) → JsonPath → Key → Data → Read A
+only_form form path key d = do
+  _ ← has_keys path (Due key ∷ []) d
+  member_form form path key d
 
 -- two members, and three
 abbrev pub two_members : {A B : Type 0} → (JsonPath → Data → Read A) → (JsonPath → Data → Read B) → JsonPath → Key → Key → Data → Read (A × B)

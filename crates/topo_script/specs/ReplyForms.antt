@@ -1,5 +1,5 @@
 -- The forms of replies and of the entries of a history.
-use Rattle.std.specs.Prelude.{ℕ, ◌==◌, ◌&&◌, Bool, false, List, [], ◌∷◌, codes, Option, option_map, option_and_then, unwrap_or, if◌then◌else◌, Ok, Err}
+use Rattle.std.specs.Prelude.{ℕ, ◌==◌, ◌&&◌, Bool, false, List, codes, Option, option_map, option_and_then, unwrap_or, if◌then◌else◌, Ok, Err}
 use Rattle.serde_json.specs.Data.{Data}
 use Rattle.serde_json.specs.Find.{at, as_number, as_u64}
 use Rattle.topo_core.specs.declared.darts.Dart.{Dart}
@@ -10,11 +10,12 @@ use Rattle.topo_core.specs.declared.calls.Reply.{Reply}
 use Rattle.topo_core.specs.declared.calls.Reply.TheVariants.{Grown, Inserted, Deleted, Refused}
 use Rattle.topo_core.specs.declared.calls.Refusal.{Refusal}
 use Rattle.topo_core.specs.declared.calls.Refusal.TheVariants.{NoVertex, SameEnds, NoPosition, NoEdge, BadKind, Cut, Full, NoRoute}
+use Rattle.topo_script.specs.declared.keys.TheConstants.{ENTRY_KEYS, GROWN_KEYS, INSERTED_KEYS}
 use Rattle.topo_script.specs.declared.path.Key.TheVariants.{Call, Caller, Crossed, Deleted as DeletedKey, Edge, End, Price}
 use Rattle.topo_script.specs.declared.path.Key.TheVariants.{Refused as RefusedKey, Reply as ReplyKey, Start, Vertex}
 use Rattle.topo_script.specs.declared.path.JsonPath.{JsonPath}
 use Rattle.topo_script.specs.declared.fault.ScriptFault.TheVariants.{BadShape}
-use Rattle.topo_script.specs.Reads.{Read, ◌>>=◌, passes, number_form, long_form, is_text, element_count, list_form, element, has_key, has_keys, member_form}
+use Rattle.topo_script.specs.Reads.{Read, ◌>>=◌, passes, number_form, long_form, is_text, element_count, list_form, element, has_key, has_keys, member_form, only_form}
 use Rattle.topo_script.specs.CallForms.{call_form}
 
 unfoldable pub way_form : JsonPath → Data → Read Way
@@ -61,26 +62,24 @@ refusal_form path d = if is_pair 3 6 (codes "Cut") d then cut_form path d else p
 
 unfoldable pub deleted_form : JsonPath → Data → Read Reply
 deleted_form path d = do
-  _ ← has_keys path (DeletedKey ∷ []) [] d
-  edge ← member_form number_form path DeletedKey d
+  edge ← only_form number_form path DeletedKey d
   Ok (Deleted edge)
 
 unfoldable pub refused_form : JsonPath → Data → Read Reply
 refused_form path d = do
-  _ ← has_keys path (RefusedKey ∷ []) [] d
-  why ← member_form refusal_form path RefusedKey d
+  why ← only_form refusal_form path RefusedKey d
   Ok (Refused why)
 
 unfoldable pub grown_form : JsonPath → Data → Read Reply
 grown_form path d = do
-  _ ← has_keys path (Edge ∷ Vertex ∷ []) [] d
+  _ ← has_keys path GROWN_KEYS d
   edge ← member_form number_form path Edge d
   vertex ← member_form number_form path Vertex d
   Ok (Grown vertex edge)
 
 unfoldable pub inserted_form : JsonPath → Data → Read Reply
 inserted_form path d = do
-  _ ← has_keys path (Crossed ∷ Edge ∷ End ∷ Price ∷ Start ∷ []) [] d
+  _ ← has_keys path INSERTED_KEYS d
   crossed ← member_form (list_form dart_form) path Crossed d
   edge ← member_form number_form path Edge d
   end ← member_form number_form path End d
@@ -98,7 +97,7 @@ reply_form path d =
 
 unfoldable pub entry_form : JsonPath → Data → Read Entry
 entry_form path d = do
-  _ ← has_keys path (Call ∷ Caller ∷ ReplyKey ∷ []) [] d
+  _ ← has_keys path ENTRY_KEYS d
   call ← member_form call_form path Call d
   caller ← member_form number_form path Caller d
   reply ← member_form reply_form path ReplyKey d

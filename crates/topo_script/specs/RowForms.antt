@@ -1,11 +1,12 @@
 -- The form of a picture's rows.
-use Rattle.std.specs.Prelude.{ℕ, List, [], ◌∷◌, codes, if◌then◌else◌, Ok, Err}
+use Rattle.std.specs.Prelude.{ℕ, List, codes, if◌then◌else◌, Ok, Err}
 use Rattle.serde_json.specs.Data.{Data}
 use Rattle.topo_core.specs.declared.darts.Sign.{Sign}
 use Rattle.topo_core.specs.declared.darts.Sign.TheVariants.{LeftToRight, RightToLeft}
 use Rattle.topo_core.specs.declared.rows.Rows.{Rows}
 use Rattle.topo_core.specs.declared.rows.EdgeRow.{EdgeRow}
 use Rattle.topo_core.specs.declared.rows.CrossRow.{CrossRow}
+use Rattle.topo_script.specs.declared.keys.TheConstants.{CROSSING_KEYS, EDGE_KEYS, ROWS_KEYS}
 use Rattle.topo_script.specs.declared.path.Key.TheVariants.{A, B, Crossed, Crossings, Edges, Id, Kind, Newcomer}
 use Rattle.topo_script.specs.declared.path.Key.TheVariants.{NextCrossing, NextEdge, Rotations, Sign as SignKey}
 use Rattle.topo_script.specs.declared.path.JsonPath.{JsonPath}
@@ -18,7 +19,7 @@ sign_form path d = if is_text (codes "ltr") d then Ok LeftToRight else (if is_te
 
 unfoldable pub edge_form : JsonPath → Data → Read EdgeRow
 edge_form path d = do
-  _ ← has_keys path (A ∷ B ∷ Crossings ∷ Id ∷ Kind ∷ []) [] d
+  _ ← has_keys path EDGE_KEYS d
   a ← member_form number_form path A d
   b ← member_form number_form path B d
   crossings ← member_form (list_form number_form) path Crossings d
@@ -28,7 +29,7 @@ edge_form path d = do
 
 unfoldable pub crossing_form : JsonPath → Data → Read CrossRow
 crossing_form path d = do
-  _ ← has_keys path (Crossed ∷ Id ∷ Newcomer ∷ SignKey ∷ []) [] d
+  _ ← has_keys path CROSSING_KEYS d
   crossed ← member_form number_form path Crossed d
   id ← member_form number_form path Id d
   newcomer ← member_form number_form path Newcomer d
@@ -37,7 +38,7 @@ crossing_form path d = do
 
 unfoldable pub rows_form : JsonPath → Data → Read Rows
 rows_form path d = do
-  _ ← has_keys path (Crossings ∷ Edges ∷ NextCrossing ∷ NextEdge ∷ Rotations ∷ []) [] d
+  _ ← has_keys path ROWS_KEYS d
   crossings ← member_form (list_form crossing_form) path Crossings d
   edges ← member_form (list_form edge_form) path Edges d
   next_crossing ← member_form number_form path NextCrossing d

@@ -1,5 +1,5 @@
 -- The forms of scripts and reports.
-use Rattle.std.specs.Prelude.{ℕ, ◌==◌, ◌&&◌, nat_lt, nat_le, Bool, true, false, List, [], ◌∷◌, codes, Option, Some, None, is_some, if◌then◌else◌, Ok, Err}
+use Rattle.std.specs.Prelude.{ℕ, ◌==◌, ◌&&◌, nat_lt, nat_le, Bool, true, false, List, [], codes, Option, Some, None, is_some, if◌then◌else◌, Ok, Err}
 use Rattle.serde_json.specs.Data.{Data}
 use Rattle.serde_json.specs.Find.{as_object, as_null}
 use Rattle.topo_core.specs.declared.calls.Command.{Command}
@@ -7,6 +7,7 @@ use Rattle.topo_core.specs.declared.rows.Rows.{Rows}
 use Rattle.topo_script.specs.declared.scripts.LimitRows.{LimitRows}
 use Rattle.topo_script.specs.declared.scripts.Script.{Script}
 use Rattle.topo_script.specs.declared.reports.Report.{Report}
+use Rattle.topo_script.specs.declared.keys.TheConstants.{LIMITS_KEYS, REPORT_KEYS, SCRIPT_KEYS}
 use Rattle.topo_script.specs.declared.path.Key.TheVariants.{Crossings, Edges, History, Limits, Picture, Prices, Start, Version, Vertices, Workers}
 use Rattle.topo_script.specs.declared.path.JsonPath.{JsonPath}
 use Rattle.topo_script.specs.declared.fault.ScriptFault.TheVariants.{BadShape, BadVersion}
@@ -26,7 +27,7 @@ greatest_limits = record { vertices = 65536; edges = 65536; crossings = 1048576 
 
 unfoldable pub limits_form : JsonPath → Data → Read LimitRows
 limits_form path d = do
-  _ ← has_keys path (Crossings ∷ Edges ∷ Vertices ∷ []) [] d
+  _ ← has_keys path LIMITS_KEYS d
   crossings ← member_form number_form path Crossings d
   edges ← member_form number_form path Edges d
   vertices ← member_form number_form path Vertices d
@@ -81,7 +82,7 @@ workers_form path d = do
 unfoldable pub script_form : Data → Read Script
 script_form d = do
   nulls ← nulls_in whole d
-  _ ← has_keys whole (Version ∷ Workers ∷ []) (Limits ∷ Prices ∷ Start ∷ []) d
+  _ ← has_keys whole SCRIPT_KEYS d
   limits ← member_or greatest_limits limits_form whole Limits d
   prices ← member_or [] (prices_form nulls) whole Prices d
   start ← member_or None start_form whole Start d
@@ -97,7 +98,7 @@ script_of bytes = value_of 1048576 bytes >>= λ d. script_form d
 unfoldable pub report_form : JsonPath → Data → Read Report
 report_form path d = do
   nulls ← nulls_in path d
-  _ ← has_keys path (History ∷ Limits ∷ Picture ∷ Prices ∷ Start ∷ Version ∷ []) [] d
+  _ ← has_keys path REPORT_KEYS d
   history ← member_form (list_form entry_form) path History d
   limits ← member_form limits_form path Limits d
   picture ← member_form rows_form path Picture d

@@ -1,5 +1,5 @@
 -- The forms of what a session reads: its opening, what it can be asked for, and its lines.
-use Rattle.std.specs.Prelude.{◌≡◌, ◌⊎◌, ℕ, ◌==◌, nat_le, Bool, not, ◌&&◌, ◌||◌, List, [], ◌∷◌, length, codes, Option, Some, None, is_none, option_map, unwrap_or}
+use Rattle.std.specs.Prelude.{◌≡◌, ◌⊎◌, ℕ, ◌==◌, nat_le, Bool, not, ◌&&◌, ◌||◌, List, [], length, codes, Option, Some, None, is_none, option_map, unwrap_or}
 use Rattle.std.specs.Prelude.{if◌then◌else◌, Ok, Err}
 use Rattle.json.specs.Ascii as ascii
 use Rattle.json.specs.Word.{head}
@@ -7,7 +7,8 @@ use Rattle.serde_json.specs.Data.{Data}
 use Rattle.serde_json.specs.Find.{as_str}
 use Rattle.topo_core.specs.declared.calls.Command.{Command}
 use Rattle.topo_script.specs.declared.fault.ScriptFault.TheVariants.{Memory, BadShape}
-use Rattle.topo_script.specs.declared.path.Key.TheVariants.{Call, Caller, Id, Limits, Open, Planarize, Prices, Reopen, Seconds, Start, Version}
+use Rattle.topo_script.specs.declared.keys.TheConstants.{ENVELOPE_KEYS, OPENING_KEYS}
+use Rattle.topo_script.specs.declared.path.Key.TheVariants.{Call, Caller, Id, Limits, Open, Planarize, Prices, Reopen, Seconds, Start}
 use Rattle.topo_script.specs.declared.path.JsonPath.{JsonPath}
 use Rattle.topo_script.specs.declared.lines.Asked.{Asked}
 use Rattle.topo_script.specs.declared.lines.Frame.{Frame}
@@ -21,7 +22,7 @@ use Rattle.topo_script.specs.declared.sessions.Request.TheVariants.{Carry, Count
 use Rattle.topo_script.specs.declared.sessions.Request.TheVariants.{Undo, Forget, Renumber, Open as OpenRequest, Planarize as PlanarizeRequest, Reopen as ReopenRequest}
 use Rattle.topo_script.specs.Paths.{member_of, whole}
 use Rattle.topo_script.specs.Graphs.{graph_form}
-use Rattle.topo_script.specs.Reads.{Read, ◌>>=◌, number_below, number_form, is_text, element, has_key, has_keys, member_form, member_or, passes, value_of}
+use Rattle.topo_script.specs.Reads.{Read, ◌>>=◌, number_below, number_form, is_text, element, has_key, has_keys, member_form, member_or, only_form, passes, value_of}
 use Rattle.topo_script.specs.CallForms.{begins, command_form}
 use Rattle.topo_script.specs.ReplyForms.{way_form}
 use Rattle.topo_script.specs.Scripts.{greatest_limits, limits_form, nulls_in, prices_form, start_form, report_form}
@@ -32,7 +33,7 @@ use Rattle.topo_script.specs.Scripts.{greatest_limits, limits_form, nulls_in, pr
 unfoldable pub opening_form : JsonPath → Data → Read Opening
 opening_form path d = do
   nulls ← nulls_in path d
-  _ ← has_keys path (Version ∷ []) (Limits ∷ Prices ∷ Start ∷ []) d
+  _ ← has_keys path OPENING_KEYS d
   limits ← member_or greatest_limits limits_form path Limits d
   prices ← member_or [] (prices_form nulls) path Prices d
   start ← member_or None start_form path Start d
@@ -86,23 +87,20 @@ opened_form path d = do
 -- the same as the one member of an object
 unfoldable pub open_form : JsonPath → Data → Read Request
 open_form path d = do
-  _ ← has_keys path (Open ∷ []) [] d
-  opening ← member_form opening_form path Open d
+  opening ← only_form opening_form path Open d
   Ok (OpenRequest opening)
 
 -- a report, as the one member of an object, with which the session goes on
 unfoldable pub reopen_form : JsonPath → Data → Read Request
 reopen_form path d = do
-  _ ← has_keys path (Reopen ∷ []) [] d
-  report ← member_form report_form path Reopen d
+  report ← only_form report_form path Reopen d
   Ok (ReopenRequest report)
 
 -- A graph, as the one member of an object, of which pictures with few crossings are wanted. Paths in its faults begin at the
 -- graph, as those of the command do. A session has no clock: the seconds are the command's alone.
 unfoldable pub planarize_form : JsonPath → Data → Read Request
 planarize_form path d = do
-  _ ← has_keys path (Planarize ∷ []) [] d
-  asked ← member_form (λ _. graph_form) path Planarize d
+  asked ← only_form (λ _. graph_form) path Planarize d
   _ ← passes (BadShape (member_of whole Seconds)) (is_none asked.seconds)
   Ok (PlanarizeRequest asked)
 
@@ -172,7 +170,7 @@ caller_form path d = number_below 16 path d
 -- what an envelope says of itself: its keys, and its id, if it has one
 unfoldable pub envelope_head : Data → Read (Option LineId)
 envelope_head d = do
-  _ ← has_keys whole (Call ∷ []) (Caller ∷ Id ∷ []) d
+  _ ← has_keys whole ENVELOPE_KEYS d
   member_or None some_id whole Id d
 
 -- who asks by an envelope, and for what; the caller is 0 where none is named

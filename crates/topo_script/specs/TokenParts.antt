@@ -1,22 +1,29 @@
 -- What the tokens of a call, of a refusal and of a list of prices spell.
-use Rattle.std.specs.Prelude.{◌≡◌, ℕ, ◌≤◌, Bool, false, List, [], ◌∷◌, length, codes, Option, None, Ok, unwrap_or}
+use Rattle.std.specs.Prelude.{◌≡◌, ℕ, ◌≤◌, Bool, false, List, [], ◌∷◌, length, codes, Option, None, Ok, Err, unwrap_or}
 use Rattle.std.specs.Option.{is_none}
 use Rattle.std.specs.List.{list_any}
 use Rattle.json.specs.Token.{Token, begin_array, string as text_token}
-use Rattle.serde_json.specs.Data.{Items, array, item, number, string, unsigned}
+use Rattle.serde_json.specs.Data.{Data, Items, array, item, number, string, unsigned}
 use Rattle.topo_core.specs.declared.calls.Call.{Call}
 use Rattle.topo_core.specs.declared.calls.Refusal.{Refusal}
 use Rattle.topo_core.specs.declared.rows.Rows.{Rows}
+use Rattle.topo_script.specs.declared.fault.ScriptFault.TheVariants.{BadShape}
 use Rattle.topo_script.specs.declared.path.JsonPath.{JsonPath}
 use Rattle.topo_script.specs.declared.scripts.LimitRows.{LimitRows}
 use Rattle.topo_script.specs.declared.sessions.Request.{Request}
+use Rattle.topo_script.specs.declared.token_graphs.Unread.{Unread}
 use Rattle.topo_script.specs.CallForms.{begins, call_form}
 use Rattle.topo_script.specs.Prices.{without_ones}
+use Rattle.topo_script.specs.Reads.{Read}
 use Rattle.topo_script.specs.ReplyForms.{refusal_form}
 use Rattle.topo_script.specs.Scripts.{greatest_limits, nulls_of}
 use Rattle.topo_script.specs.Sessions.{request_form}
 use Rattle.topo_script.specs.Tokens.{Spells, GoesOn}
 use Rattle.topo_core.specs.declared.rows.TheConstants.{KINDS}
+
+-- no value is read as this
+abbrev pub unread_form : JsonPath → Data → Read Unread
+unread_form path d = Err (BadShape path)
 
 -- behind this word, the tokens go on to the end of a call, which is no planned insertion
 abbrev pub SpellsCall : List ℕ → List Token → Call → List Token → Type 0

@@ -41,6 +41,12 @@ SpellsText nesting form limit bytes a = nesting ≤ max_depth → (path : JsonPa
 abbrev pub SpellsNumber : List Token → ℕ → List Token → Type 0
 SpellsNumber ts n rest = (s : List ℕ) × (ts ≡ number s ∷ rest) × (number_of s ≡ Some (unsigned n))
 
+-- The tokens go on with one number to the end of an array.
+pub record SpellsLast (ts : List Token) (n : ℕ) (rest : List Token) : Type 0 where
+  pub behind : List Token
+  pub spelled : Spells 0 number_form ts n behind
+  pub closed : after_end_array behind ≡ Some rest
+
 -- The tokens go on with three numbers to the end of an array.
 pub record SpellsNumbers (ts : List Token) (a b c : ℕ) (rest : List Token) : Type 0 where
   pub one : List Token

@@ -5,12 +5,14 @@ ghost use Rattle.topo_script.specs.declared.fault.ScriptFault.TheVariants.{BadSh
 ghost use Rattle.serde_json.specs.View.{view, items_view, members_view};
 ghost use Rattle.topo_script.specs.Reads.{Gives, passes, read_map, number_below, number_form};
 ghost use Rattle.topo_script.specs.Reads.{is_text, element_count, items_from, list_form};
-ghost use Rattle.topo_script.specs.Reads.{element, has_key, is_known, all_known, all_there};
-ghost use Rattle.topo_script.specs.Reads.{has_keys, member_form, member_or, two_members};
+ghost use Rattle.topo_script.specs.Reads.{element, has_key, is_known, all_known, is_missing};
+ghost use Rattle.topo_script.specs.Reads.{all_there, has_keys, member_form, member_or, only_form};
+ghost use Rattle.topo_script.specs.Reads.{two_members};
 ghost use Rattle.topo_script.specs.Reads.{three_members, three_elements, value_of, and_then};
 ghost use Rattle.topo_script.specs.Paths.{whole};
 
 use crate::fault::ScriptFault;
+use crate::keys::FormKey;
 use crate::path::{JsonPath, Key};
 use serde_json::{Map, Value};
 use std::alloc::Global;
@@ -120,6 +122,19 @@ pub fn read_member<T: Form>(
         Some(found) => T::read(alloc, path.member(key), found),
         None => Err(ScriptFault::BadShape(path.member(key))),
     }
+}
+
+/// What the one member of an object is read as, which has this key.
+pub fn read_only_member<T: Form>(
+    alloc: Global,
+    path: JsonPath,
+    key: Key,
+    value: &Value,
+) -> Result<T, ScriptFault>
+    ensures { Gives result (only_form T.form path key (view value.now)) }
+{
+    check_keys(path, &[FormKey::Due(key)], value)?;
+    read_member(alloc, path, key, value)
 }
 
 /// What two members are read as, one after the other.
@@ -239,32 +254,27 @@ pub fn check_count(path: JsonPath, count: usize, value: &Value) -> Result<(), Sc
     }
 }
 
-/// Tests that a value is an object with all of the required keys, some of the optional ones, and no
+/// Tests that a value is an object with all of these keys that are due, some of the others, and no
 /// more.
 #[tactic(auto, unfolding(crate::specs::Reads::has_keys, crate::specs::Reads::and_then))]
-pub fn check_keys(
-    path: JsonPath,
-    required: &[Key],
-    optional: &[Key],
-    value: &Value,
-) -> Result<(), ScriptFault>
-    ensures { result ≡ has_keys path required.now optional.now (view value.now) }
+pub fn check_keys(path: JsonPath, keys: &[FormKey], value: &Value) -> Result<(), ScriptFault>
+    ensures { result ≡ has_keys path keys.now (view value.now) }
 {
     let Some(members) = value.as_object() else {
         return Err(ScriptFault::BadShape(path));
     };
-    if !are_known(required, optional, members) {
+    if !are_known(keys, members) {
         return Err(ScriptFault::BadShape(path));
     }
-    check_required(path, required, value)
+    check_due(path, keys, value)
 }
 
 /// Whether each member has one of the keys.
-fn are_known(required: &[Key], optional: &[Key], members: &Map<String, Value>) -> bool
-    ensures { result ≡ all_known required.now optional.now (members_view members.now.entries) }
+fn are_known(keys: &[FormKey], members: &Map<String, Value>) -> bool
+    ensures { result ≡ all_known keys.now (members_view members.now.entries) }
 {
     for (name, _member) in members.iter() {
-        if !is_known(required, name.as_str()) && !is_known(optional, name.as_str()) {
+        if !is_known(keys, name.as_str()) {
             return false;
         }
     }
@@ -272,19 +282,29 @@ fn are_known(required: &[Key], optional: &[Key], members: &Map<String, Value>) -
 }
 
 /// Whether one of the keys is written so.
-fn is_known(keys: &[Key], name: &str) -> bool
+fn is_known(keys: &[FormKey], name: &str) -> bool
     ensures { result ≡ is_known keys.now name.now }
 {
-    keys.iter().any(|key| name == key.name())
+    keys.iter().any(|known| name == known.key().name())
 }
 
-/// Tests that each of the keys is there.
-fn check_required(path: JsonPath, required: &[Key], value: &Value) -> Result<(), ScriptFault>
-    ensures { result ≡ all_there path required.now (view value.now) }
+/// Whether a key is due and a value does not have it.
+fn is_missing(known: FormKey, value: &Value) -> bool
+    ensures { result ≡ is_missing known (view value.now) }
 {
-    for key in required {
-        if !has_key(*key, value) {
-            return Err(ScriptFault::BadShape(path.member(*key)));
+    match known {
+        FormKey::Due(key) => !has_key(key, value),
+        FormKey::Optional(_) => false,
+    }
+}
+
+/// Tests that none of the keys is missing that are due.
+fn check_due(path: JsonPath, keys: &[FormKey], value: &Value) -> Result<(), ScriptFault>
+    ensures { result ≡ all_there path keys.now (view value.now) }
+{
+    for known in keys {
+        if is_missing(*known, value) {
+            return Err(ScriptFault::BadShape(path.member(known.key())));
         }
     }
     Ok(())

@@ -23,6 +23,7 @@ use crate::form::{
     read_three, read_two, read_value,
 };
 use crate::graphs::{GraphAsked, GraphStart};
+use crate::keys::{ANSWER_KEYS, GRAPH_KEYS, PART_KEYS};
 use crate::path::{JsonPath, Key};
 use crate::prices::read_some_price;
 use crate::row_forms::MAX_PICTURE_BYTES;
@@ -143,7 +144,7 @@ impl Form for Part {
     ghost form = { part_form };
 
     fn read(alloc: Global, path: JsonPath, value: &Value) -> Result<Self, ScriptFault> {
-        check_keys(path, &[Key::Edges, Key::Picture, Key::Vertices], &[], value)?;
+        check_keys(path, &PART_KEYS, value)?;
         let (edges, rows, vertices) = read_three(
             alloc,
             path,
@@ -175,8 +176,7 @@ impl Form for GraphStart {
     ghost form = { answer_form };
 
     fn read(alloc: Global, path: JsonPath, value: &Value) -> Result<Self, ScriptFault> {
-        let optional = [Key::Cost, Key::Crossings, Key::Tries];
-        check_keys(path, &[Key::Lonely, Key::Parts], &optional, value)?;
+        check_keys(path, &ANSWER_KEYS, value)?;
         let (lonely, parts) = read_two(alloc, path, Key::Lonely, Key::Parts, value)?;
         Ok(GraphStart { parts, lonely })
     }
@@ -240,17 +240,7 @@ impl Form for GraphAsked {
     // It stands nowhere but at the whole of a text.
     fn read(alloc: Global, _path: JsonPath, value: &Value) -> Result<Self, ScriptFault> {
         let nulls = read_nulls(alloc, JsonPath::WHOLE, value)?;
-        let required = [Key::Edges, Key::Version, Key::Vertices];
-        let optional = [
-            Key::Effort,
-            Key::Prices,
-            Key::Progress,
-            Key::Seconds,
-            Key::Seed,
-            Key::Start,
-            Key::Threads,
-        ];
-        check_keys(JsonPath::WHOLE, &required, &optional, value)?;
+        check_keys(JsonPath::WHOLE, &GRAPH_KEYS, value)?;
         let (edges, effort, prices) = read_head(alloc, nulls, value)?;
         let (progress, seconds, seed) = read_terms(alloc, value)?;
         let (start, threads, vertices) = read_tail(alloc, value)?;

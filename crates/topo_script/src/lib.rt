@@ -8,22 +8,23 @@
 #![tactic(auto)]
 
 mod calls;
-pub mod fault;
-pub mod form;
-pub mod graph_forms;
-pub mod graphs;
+mod fault;
+mod form;
+mod graph_forms;
+mod graphs;
+mod keys;
 mod lexing;
 pub mod lines;
 pub mod path;
-pub mod prices;
+mod prices;
 mod reader;
 mod replies;
-pub mod report_text;
-pub mod reports;
+mod report_text;
+mod reports;
 pub mod row_forms;
 pub mod script_forms;
-pub mod scripts;
-pub mod sessions;
+mod scripts;
+mod sessions;
 mod slots;
 mod token_calls;
 mod token_graphs;

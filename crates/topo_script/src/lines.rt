@@ -15,6 +15,7 @@ use crate::fault::ScriptFault;
 use crate::form::{
     Form, check_keys, has_key, is_text, parse, read_member, read_member_or, read_number,
 };
+use crate::keys::ENVELOPE_KEYS;
 use crate::path::{JsonPath, Key};
 use crate::row_forms::MAX_PICTURE_BYTES;
 use crate::sessions::{Opening, Request, is_keyed, read_opened};
@@ -141,12 +142,7 @@ impl Form for Option<LineId> {
 fn read_head(alloc: Global, value: &Value) -> Result<Option<LineId>, ScriptFault>
     ensures { Gives result (envelope_head (view value.now)) }
 {
-    check_keys(
-        JsonPath::WHOLE,
-        &[Key::Call],
-        &[Key::Caller, Key::Id],
-        value,
-    )?;
+    check_keys(JsonPath::WHOLE, &ENVELOPE_KEYS, value)?;
     read_member_or(alloc, JsonPath::WHOLE, Key::Id, value, None)
 }
 

@@ -142,7 +142,7 @@ impl JsonPath {
 
     /// The path of what one step leads to.
     #[tactic(auto, unfolding(crate::specs::Paths::under))]
-    pub fn then(self, step: Step) -> Self
+    fn then(self, step: Step) -> Self
         ensures { result ≡ under self step }
     {
         let step = Some(step);

@@ -11,8 +11,9 @@ ghost use Rattle.topo_script.specs.ReplyForms.{inserted_form, reply_form, entry_
 use crate::fault::ScriptFault;
 use crate::form::{
     Form, check_count, check_keys, element_count, has_key, is_text, read_element, read_elements,
-    read_member, read_number, read_three, read_two,
+    read_number, read_only_member, read_three, read_two,
 };
+use crate::keys::{ENTRY_KEYS, GROWN_KEYS, INSERTED_KEYS};
 use crate::path::{JsonPath, Key};
 use serde_json::Value;
 use std::alloc::Global;
@@ -120,23 +121,21 @@ impl Form for Refusal {
 fn read_deleted(alloc: Global, path: JsonPath, value: &Value) -> Result<Reply, ScriptFault>
     ensures { Gives result (deleted_form path (view value.now)) }
 {
-    check_keys(path, &[Key::Deleted], &[], value)?;
-    let edge = read_member(alloc, path, Key::Deleted, value)?;
+    let edge = read_only_member(alloc, path, Key::Deleted, value)?;
     Ok(Reply::Deleted(edge))
 }
 
 fn read_refused(alloc: Global, path: JsonPath, value: &Value) -> Result<Reply, ScriptFault>
     ensures { Gives result (refused_form path (view value.now)) }
 {
-    check_keys(path, &[Key::Refused], &[], value)?;
-    let why = read_member(alloc, path, Key::Refused, value)?;
+    let why = read_only_member(alloc, path, Key::Refused, value)?;
     Ok(Reply::Refused(why))
 }
 
 fn read_grown(alloc: Global, path: JsonPath, value: &Value) -> Result<Reply, ScriptFault>
     ensures { Gives result (grown_form path (view value.now)) }
 {
-    check_keys(path, &[Key::Edge, Key::Vertex], &[], value)?;
+    check_keys(path, &GROWN_KEYS, value)?;
     let (edge, vertex) = read_two(alloc, path, Key::Edge, Key::Vertex, value)?;
     Ok(Reply::Grown { vertex, edge })
 }
@@ -144,8 +143,7 @@ fn read_grown(alloc: Global, path: JsonPath, value: &Value) -> Result<Reply, Scr
 fn read_inserted(alloc: Global, path: JsonPath, value: &Value) -> Result<Reply, ScriptFault>
     ensures { Gives result (inserted_form path (view value.now)) }
 {
-    let keys = [Key::Crossed, Key::Edge, Key::End, Key::Price, Key::Start];
-    check_keys(path, &keys, &[], value)?;
+    check_keys(path, &INSERTED_KEYS, value)?;
     let (crossed, id, end) = read_three(alloc, path, Key::Crossed, Key::Edge, Key::End, value)?;
     let (price, start) = read_two(alloc, path, Key::Price, Key::Start, value)?;
     let route = Route {
@@ -177,7 +175,7 @@ impl Form for Entry {
     ghost form = { entry_form };
 
     fn read(alloc: Global, path: JsonPath, value: &Value) -> Result<Self, ScriptFault> {
-        check_keys(path, &[Key::Call, Key::Caller, Key::Reply], &[], value)?;
+        check_keys(path, &ENTRY_KEYS, value)?;
         let (call, caller, reply) = read_three(
             alloc,
             path,

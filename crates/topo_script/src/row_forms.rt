@@ -9,6 +9,7 @@ ghost use Rattle.topo_script.specs.RowForms.{crossing_form, rows_form, rows_of};
 
 use crate::fault::ScriptFault;
 use crate::form::{Form, check_keys, is_text, read_three, read_two, read_value};
+use crate::keys::{CROSSING_KEYS, EDGE_KEYS, ROWS_KEYS};
 use crate::path::{JsonPath, Key};
 use crate::tokens::read_tokens;
 use crate::written::{Written, write_after};
@@ -50,8 +51,7 @@ impl Form for EdgeRow {
     ghost form = { edge_form };
 
     fn read(alloc: Global, path: JsonPath, value: &Value) -> Result<Self, ScriptFault> {
-        let keys = [Key::A, Key::B, Key::Crossings, Key::Id, Key::Kind];
-        check_keys(path, &keys, &[], value)?;
+        check_keys(path, &EDGE_KEYS, value)?;
         let (a, b) = read_two(alloc, path, Key::A, Key::B, value)?;
         let (crossings, id, kind) = read_three(
             alloc,
@@ -88,8 +88,7 @@ impl Form for CrossRow {
     ghost form = { crossing_form };
 
     fn read(alloc: Global, path: JsonPath, value: &Value) -> Result<Self, ScriptFault> {
-        let keys = [Key::Crossed, Key::Id, Key::Newcomer, Key::Sign];
-        check_keys(path, &keys, &[], value)?;
+        check_keys(path, &CROSSING_KEYS, value)?;
         let (crossed, id) = read_two(alloc, path, Key::Crossed, Key::Id, value)?;
         let (newcomer, sign) = read_two(alloc, path, Key::Newcomer, Key::Sign, value)?;
         Ok(CrossRow {
@@ -117,14 +116,7 @@ impl Form for Rows {
     ghost form = { rows_form };
 
     fn read(alloc: Global, path: JsonPath, value: &Value) -> Result<Self, ScriptFault> {
-        let keys = [
-            Key::Crossings,
-            Key::Edges,
-            Key::NextCrossing,
-            Key::NextEdge,
-            Key::Rotations,
-        ];
-        check_keys(path, &keys, &[], value)?;
+        check_keys(path, &ROWS_KEYS, value)?;
         let (crossings, edges) = read_two(alloc, path, Key::Crossings, Key::Edges, value)?;
         let (next_crossing, next_edge, rotations) = read_three(
             alloc,

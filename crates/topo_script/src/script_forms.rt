@@ -20,6 +20,7 @@ use crate::form::{
     Form, check_keys, element_count, has_key, is_text, read_member, read_member_or, read_three,
     read_value,
 };
+use crate::keys::{LIMITS_KEYS, REPORT_KEYS, SCRIPT_KEYS};
 use crate::path::{JsonPath, Key};
 use crate::prices::read_prices;
 use crate::reports::Report;
@@ -43,8 +44,7 @@ impl Form for LimitRows {
     ghost form = { limits_form };
 
     fn read(alloc: Global, path: JsonPath, value: &Value) -> Result<Self, ScriptFault> {
-        let keys = [Key::Crossings, Key::Edges, Key::Vertices];
-        check_keys(path, &keys, &[], value)?;
+        check_keys(path, &LIMITS_KEYS, value)?;
         let (crossings, edges, vertices) = read_three(
             alloc,
             path,
@@ -212,13 +212,7 @@ impl Form for Script {
     // It stands nowhere but at the whole of a text.
     fn read(alloc: Global, _path: JsonPath, value: &Value) -> Result<Self, ScriptFault> {
         let nulls = read_nulls(alloc, JsonPath::WHOLE, value)?;
-        let optional = [Key::Limits, Key::Prices, Key::Start];
-        check_keys(
-            JsonPath::WHOLE,
-            &[Key::Version, Key::Workers],
-            &optional,
-            value,
-        )?;
+        check_keys(JsonPath::WHOLE, &SCRIPT_KEYS, value)?;
         let (limits, prices, start) = read_settings(alloc, JsonPath::WHOLE, nulls, value)?;
         match read_workers_member(alloc, value) {
             Ok(workers) => Ok(Script {
@@ -265,15 +259,7 @@ impl Form for Report {
 
     fn read(alloc: Global, path: JsonPath, value: &Value) -> Result<Self, ScriptFault> {
         let nulls = read_nulls(alloc, path, value)?;
-        let keys = [
-            Key::History,
-            Key::Limits,
-            Key::Picture,
-            Key::Prices,
-            Key::Start,
-            Key::Version,
-        ];
-        check_keys(path, &keys, &[], value)?;
+        check_keys(path, &REPORT_KEYS, value)?;
         let head = read_three(alloc, path, Key::History, Key::Limits, Key::Picture, value)?;
         match prices_and_start(alloc, path, nulls, value) {
             Ok((prices, start)) => {

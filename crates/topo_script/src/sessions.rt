@@ -13,8 +13,11 @@ ghost use Rattle.topo_script.specs.Sessions.{is_keyed, look_form, request_form};
 
 use crate::calls::begins;
 use crate::fault::ScriptFault;
-use crate::form::{Form, check_keys, has_key, is_text, read_element, read_elements, read_member};
+use crate::form::{
+    Form, check_keys, has_key, is_text, read_element, read_elements, read_only_member,
+};
 use crate::graphs::GraphAsked;
+use crate::keys::OPENING_KEYS;
 use crate::path::{JsonPath, Key};
 use crate::reports;
 use crate::script_forms::{read_nulls, read_settings};
@@ -74,8 +77,7 @@ impl Form for Opening {
 
     fn read(alloc: Global, path: JsonPath, value: &Value) -> Result<Self, ScriptFault> {
         let nulls = read_nulls(alloc, path, value)?;
-        let optional = [Key::Limits, Key::Prices, Key::Start];
-        check_keys(path, &[Key::Version], &optional, value)?;
+        check_keys(path, &OPENING_KEYS, value)?;
         let (limits, prices, start) = read_settings(alloc, path, nulls, value)?;
         Ok(Opening {
             limits,
@@ -136,16 +138,14 @@ pub(crate) fn read_opened(
 fn read_open(alloc: Global, path: JsonPath, value: &Value) -> Result<Request, ScriptFault>
     ensures { Gives result (open_form path (view value.now)) }
 {
-    check_keys(path, &[Key::Open], &[], value)?;
-    let opening = read_member(alloc, path, Key::Open, value)?;
+    let opening = read_only_member(alloc, path, Key::Open, value)?;
     Ok(Request::Open(opening))
 }
 
 fn read_reopen(alloc: Global, path: JsonPath, value: &Value) -> Result<Request, ScriptFault>
     ensures { Gives result (reopen_form path (view value.now)) }
 {
-    check_keys(path, &[Key::Reopen], &[], value)?;
-    let report = read_member(alloc, path, Key::Reopen, value)?;
+    let report = read_only_member(alloc, path, Key::Reopen, value)?;
     Ok(Request::Reopen(report))
 }
 
@@ -164,8 +164,7 @@ fn check_seconds(asked: &GraphAsked) -> Result<(), ScriptFault>
 fn read_planarize(alloc: Global, path: JsonPath, value: &Value) -> Result<Request, ScriptFault>
     ensures { Gives result (planarize_form path (view value.now)) }
 {
-    check_keys(path, &[Key::Planarize], &[], value)?;
-    let asked: GraphAsked = read_member(alloc, path, Key::Planarize, value)?;
+    let asked: GraphAsked = read_only_member(alloc, path, Key::Planarize, value)?;
     check_seconds(&asked)?;
     Ok(Request::Planarize(asked))
 }

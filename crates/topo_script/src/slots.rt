@@ -1,8 +1,9 @@
 //! Objects, read from the tokens of a text with their members in any order.
 
 ghost use Rattle.std.specs.Prelude.{◌≡◌, IfSome, Some, true};
-ghost use Rattle.topo_script.specs.Slots.{SpellsMembers, SpellsObject, are_sorted};
+ghost use Rattle.topo_script.specs.Slots.{SpellsMembers, SpellsObject, SpellsOnly, are_sorted};
 
+use crate::keys::FormKey;
 use crate::path::Key;
 use crate::reader::TokenReader;
 use crate::tokens::FromTokens;
@@ -26,7 +27,7 @@ pub trait Slots {
 
     /// Reads a member into the slot of its key. None if it has another key, or its slot is not
     /// empty.
-    fn read(&mut self, alloc: Global, keys: &[Key], reader: &mut TokenReader<'_>) -> Option<()>
+    fn read(&mut self, alloc: Global, keys: &[FormKey], reader: &mut TokenReader<'_>) -> Option<()>
         ensures { IfSome result (λ _. (os : List (Option Data)) → holds self.old os
             → FillsOne nesting keys.now reader.old reader.new os (holds self.new)) };
 }
@@ -47,7 +48,12 @@ impl Slots for NoSlot {
     }
 
     #[inline(always)]
-    fn read(&mut self, _alloc: Global, _keys: &[Key], _reader: &mut TokenReader<'_>) -> Option<()> {
+    fn read(
+        &mut self,
+        _alloc: Global,
+        _keys: &[FormKey],
+        _reader: &mut TokenReader<'_>,
+    ) -> Option<()> {
         None
     }
 }
@@ -77,9 +83,14 @@ impl<A: FromTokens, R: Slots> Slots for Slot<A, R> {
     }
 
     #[inline(always)]
-    fn read(&mut self, alloc: Global, keys: &[Key], reader: &mut TokenReader<'_>) -> Option<()> {
-        let (key, more) = keys.split_first()?;
-        if !reader.take_key(*key) {
+    fn read(
+        &mut self,
+        alloc: Global,
+        keys: &[FormKey],
+        reader: &mut TokenReader<'_>,
+    ) -> Option<()> {
+        let (known, more) = keys.split_first()?;
+        if !reader.take_key(known.key()) {
             return self.rest.read(alloc, more, reader);
         }
         if self.found.is_some() {
@@ -100,6 +111,15 @@ impl<A: Drop, R: Drop> Slot<A, R> {
         let Slot { found, rest } = self;
         Some((found?, rest))
     }
+
+    /// What was read into it, if anything was, and the slots behind it.
+    #[inline(always)]
+    pub fn maybe(self) -> (Option<A>, R)
+        ensures { (self.found ≡ result.0) × (self.rest ≡ result.1) }
+    {
+        let Slot { found, rest } = self;
+        (found, rest)
+    }
 }
 
 impl<A: Drop, B: Drop, C: Drop, R: Drop> Slot<A, Slot<B, Slot<C, R>>> {
@@ -119,7 +139,7 @@ impl<A: Drop, B: Drop, C: Drop, R: Drop> Slot<A, Slot<B, Slot<C, R>>> {
 /// Reads the members up to the end of an object into slots.
 fn read_members<S: Slots + Drop>(
     alloc: Global,
-    keys: &[Key],
+    keys: &[FormKey],
     reader: &mut TokenReader<'_>,
 ) -> Option<S>
     requires { are_sorted keys.now ≡ true }
@@ -137,7 +157,7 @@ fn read_members<S: Slots + Drop>(
 /// their names. None for another key, or one that comes twice.
 pub fn read_object<S: Slots + Drop>(
     alloc: Global,
-    keys: &[Key],
+    keys: &[FormKey],
     reader: &mut TokenReader<'_>,
 ) -> Option<S>
     requires { are_sorted keys.now ≡ true }
@@ -146,4 +166,14 @@ pub fn read_object<S: Slots + Drop>(
 {
     reader.begin_object()?;
     read_members(alloc, keys, reader)
+}
+
+/// Reads an object that has one member, with this key.
+#[inline(always)]
+pub fn read_only<T: FromTokens>(alloc: Global, key: Key, reader: &mut TokenReader<'_>) -> Option<T>
+    ensures { IfSome result (λ a. SpellsOnly T.nesting T.form key reader.old a reader.new) }
+{
+    let slots: Slot<T, NoSlot> = read_object(alloc, &[FormKey::Due(key)], reader)?;
+    let (value, _slots) = slots.due()?;
+    Some(value)
 }

@@ -1,11 +1,12 @@
 //! Graphs, read from the tokens of a text.
 
 ghost use Rattle.topo_script.specs.Graphs.{edge_form, effort_form, graph_form};
+ghost use Rattle.topo_script.specs.TokenParts.{unread_form};
 
 use crate::graph_forms::MAX_THREADS;
 use crate::graphs::GraphAsked;
+use crate::keys::GRAPH_KEYS;
 use crate::lexing::bytes_are;
-use crate::path::Key;
 use crate::reader::TokenReader;
 use crate::slots::{NoSlot, Slot, read_object};
 use crate::token_reports::kept_prices;
@@ -50,15 +51,30 @@ impl FromTokens for Effort {
     }
 }
 
-/// The slots of a graph, in the order of its keys. One that tells how far it is, or that begins with
-/// pictures, is read by way of its value.
-type GraphSlots = Slot<
-    Listed<GraphEdge>,
-    Slot<
-        Effort,
-        Slot<Listed<Option<u32>>, Slot<u32, Slot<u32, Slot<u32, Slot<u32, Slot<u32, NoSlot>>>>>>,
-    >,
+/// What no member is read as: a text with a member for a slot of this type is read by way of its
+/// value.
+#[derive(Drop)]
+struct Unread {}
+
+impl FromTokens for Unread {
+    ghost form = { unread_form };
+
+    ghost nesting = { 0 };
+
+    fn from_tokens(_alloc: Global, _reader: &mut TokenReader<'_>) -> Option<Self> {
+        None
+    }
+}
+
+/// The slots of a graph behind its prices, in the order of its keys. One that tells how far it is, or
+/// that begins with pictures, is read by way of its value.
+type TermSlots = Slot<
+    Unread,
+    Slot<u32, Slot<u32, Slot<Unread, Slot<u32, Slot<u32, Slot<u32, NoSlot>>>>>>,
 >;
+
+/// The slots of a graph, in the order of its keys.
+type GraphSlots = Slot<Listed<GraphEdge>, Slot<Effort, Slot<Listed<Option<u32>>, TermSlots>>>;
 
 impl FromTokens for GraphAsked {
     ghost form = { λ path. graph_form };
@@ -66,37 +82,17 @@ impl FromTokens for GraphAsked {
     ghost nesting = { 3 };
 
     fn from_tokens(alloc: Global, reader: &mut TokenReader<'_>) -> Option<Self> {
-        let keys = [
-            Key::Edges,
-            Key::Effort,
-            Key::Prices,
-            Key::Seconds,
-            Key::Seed,
-            Key::Threads,
-            Key::Version,
-            Key::Vertices,
-        ];
-        let slots: GraphSlots = read_object(alloc, &keys, reader)?;
+        let slots: GraphSlots = read_object(alloc, &GRAPH_KEYS, reader)?;
         let (edges, slots) = slots.due()?;
-        let Slot {
-            found: effort,
-            rest,
-        } = slots;
-        let Slot {
-            found: prices,
-            rest,
-        } = rest;
-        let Slot {
-            found: seconds,
-            rest,
-        } = rest;
-        let Slot { found: seed, rest } = rest;
-        let Slot {
-            found: threads,
-            rest,
-        } = rest;
-        let (version, rest) = rest.due()?;
-        let (vertices, _rest) = rest.due()?;
+        let (effort, slots) = slots.maybe();
+        let (prices, slots) = slots.maybe();
+        let (_progress, slots) = slots.maybe();
+        let (seconds, slots) = slots.maybe();
+        let (seed, slots) = slots.maybe();
+        let (_start, slots) = slots.maybe();
+        let (threads, slots) = slots.maybe();
+        let (version, slots) = slots.due()?;
+        let (vertices, _slots) = slots.due()?;
         let prices = kept_prices(prices.unwrap_or(Listed::new(alloc)), version)?;
         let threads = threads.unwrap_or(1);
         if threads == 0 || threads > MAX_THREADS {

@@ -4,8 +4,9 @@ ghost use Rattle.std.specs.Prelude.{IfSome};
 ghost use Rattle.topo_script.specs.Sessions.{object_line, some_id};
 ghost use Rattle.topo_script.specs.Tokens.{Spells};
 
+use crate::keys::ENVELOPE_KEYS;
 use crate::lines::{Asked, Frame, GREATEST_CALLER, Line, LineId, bare_line, read_text_id};
-use crate::path::{JsonPath, Key};
+use crate::path::JsonPath;
 use crate::reader::TokenReader;
 use crate::sessions::Request;
 use crate::slots::{NoSlot, Slot, read_object};
@@ -54,14 +55,10 @@ type EnvelopeSlots = Slot<Request, Slot<u32, Slot<Option<LineId>, NoSlot>>>;
 fn token_envelope(alloc: Global, reader: &mut TokenReader<'_>) -> Option<Line>
     ensures { IfSome result (λ line. Spells 8 (λ path. object_line) reader.old line reader.new) }
 {
-    let keys = [Key::Call, Key::Caller, Key::Id];
-    let slots: EnvelopeSlots = read_object(alloc, &keys, reader)?;
+    let slots: EnvelopeSlots = read_object(alloc, &ENVELOPE_KEYS, reader)?;
     let (request, slots) = slots.due()?;
-    let Slot {
-        found: caller,
-        rest,
-    } = slots;
-    let Slot { found: id, rest: _ } = rest;
+    let (caller, slots) = slots.maybe();
+    let (id, _slots) = slots.maybe();
     let caller = caller.unwrap_or(0);
     if u64::from(caller) > GREATEST_CALLER {
         drop(request);

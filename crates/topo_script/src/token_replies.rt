@@ -9,11 +9,12 @@ ghost use Rattle.topo_script.specs.ReplyForms.{reply_form, entry_form};
 ghost use Rattle.topo_script.specs.Tokens.{Spells};
 ghost use Rattle.topo_script.specs.TokenParts.{SpellsRefusal};
 
+use crate::keys::{ENTRY_KEYS, GROWN_KEYS, INSERTED_KEYS};
 use crate::lexing::bytes_are;
 use crate::path::Key;
 use crate::reader::TokenReader;
-use crate::slots::{NoSlot, Slot, read_object};
-use crate::tokens::FromTokens;
+use crate::slots::{NoSlot, Slot, read_object, read_only};
+use crate::tokens::{FromTokens, last_number};
 use std::alloc::Global;
 use topo_core::calls::{Call, Entry, Refusal, Reply};
 use topo_core::darts::{Dart, Way};
@@ -89,8 +90,7 @@ fn token_plain(number: u64, name: &[u8], reader: &mut TokenReader<'_>) -> Option
 fn token_cut(alloc: Global, reader: &mut TokenReader<'_>) -> Option<Refusal>
     ensures { IfSome result (λ why. SpellsRefusal 6 (codes "Cut") reader.old why reader.new) }
 {
-    let segment = u32::from_tokens(alloc, reader)?;
-    reader.end_array()?;
+    let segment = last_number(alloc, reader)?;
     Some(Refusal::Cut(segment))
 }
 
@@ -123,30 +123,14 @@ impl FromTokens for Refusal {
     }
 }
 
-/// A deletion that is next.
-fn token_deleted(alloc: Global, reader: &mut TokenReader<'_>) -> Option<Reply>
-    ensures { IfSome result (λ reply. Spells 3 reply_form reader.old reply reader.new) }
-{
-    let slots: Slot<EdgeId, NoSlot> = read_object(alloc, &[Key::Deleted], reader)?;
-    let (edge, _slots) = slots.due()?;
-    Some(Reply::Deleted(edge))
-}
-
-/// A refusal that is next.
-fn token_refused(alloc: Global, reader: &mut TokenReader<'_>) -> Option<Reply>
-    ensures { IfSome result (λ reply. Spells 3 reply_form reader.old reply reader.new) }
-{
-    let slots: Slot<Refusal, NoSlot> = read_object(alloc, &[Key::Refused], reader)?;
-    let (why, _slots) = slots.due()?;
-    Some(Reply::Refused(why))
-}
+/// The slots of a growth, in the order of its keys.
+type GrownSlots = Slot<EdgeId, Slot<VertexId, NoSlot>>;
 
 /// A growth that is next.
 fn token_grown(alloc: Global, reader: &mut TokenReader<'_>) -> Option<Reply>
     ensures { IfSome result (λ reply. Spells 3 reply_form reader.old reply reader.new) }
 {
-    let keys = [Key::Edge, Key::Vertex];
-    let slots: Slot<EdgeId, Slot<VertexId, NoSlot>> = read_object(alloc, &keys, reader)?;
+    let slots: GrownSlots = read_object(alloc, &GROWN_KEYS, reader)?;
     let (edge, slots) = slots.due()?;
     let (vertex, _slots) = slots.due()?;
     Some(Reply::Grown { vertex, edge })
@@ -159,8 +143,7 @@ type InsertedSlots = Slot<Listed<Dart>, Slot<EdgeId, Slot<u32, Slot<u64, Slot<u3
 fn token_inserted(alloc: Global, reader: &mut TokenReader<'_>) -> Option<Reply>
     ensures { IfSome result (λ reply. Spells 3 reply_form reader.old reply reader.new) }
 {
-    let keys = [Key::Crossed, Key::Edge, Key::End, Key::Price, Key::Start];
-    let slots: InsertedSlots = read_object(alloc, &keys, reader)?;
+    let slots: InsertedSlots = read_object(alloc, &INSERTED_KEYS, reader)?;
     let (crossed, id, end, slots) = slots.three_due()?;
     let (price, slots) = slots.due()?;
     let (start, _slots) = slots.due()?;
@@ -178,6 +161,7 @@ impl FromTokens for Reply {
     ghost nesting = { 3 };
 
     // One of another kind is seen by its first key, or by its second.
+    #[tactic(auto, using(crate::proofs::TokenReplies::deleted_tokens, crate::proofs::TokenReplies::refused_tokens))]
     fn from_tokens(alloc: Global, reader: &mut TokenReader<'_>) -> Option<Self> {
         let begins = reader.copy();
         if let Some(grown) = token_grown(alloc, reader) {
@@ -188,11 +172,12 @@ impl FromTokens for Reply {
             return Some(inserted);
         }
         *reader = begins.copy();
-        if let Some(deleted) = token_deleted(alloc, reader) {
-            return Some(deleted);
+        if let Some(edge) = read_only(alloc, Key::Deleted, reader) {
+            return Some(Reply::Deleted(edge));
         }
         *reader = begins;
-        token_refused(alloc, reader)
+        let why = read_only(alloc, Key::Refused, reader)?;
+        Some(Reply::Refused(why))
     }
 }
 
@@ -205,8 +190,7 @@ impl FromTokens for Entry {
     ghost nesting = { 4 };
 
     fn from_tokens(alloc: Global, reader: &mut TokenReader<'_>) -> Option<Self> {
-        let keys = [Key::Call, Key::Caller, Key::Reply];
-        let slots: EntrySlots = read_object(alloc, &keys, reader)?;
+        let slots: EntrySlots = read_object(alloc, &ENTRY_KEYS, reader)?;
         let (call, caller, reply, _slots) = slots.three_due()?;
         Some(Entry {
             caller,

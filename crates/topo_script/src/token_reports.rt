@@ -6,7 +6,7 @@ ghost use Rattle.std.specs.List.{list_any};
 ghost use Rattle.topo_script.specs.TokenParts.{ArePricesOf};
 ghost use Rattle.topo_script.specs.Scripts.{limits_form, price_form, report_form};
 
-use crate::path::Key;
+use crate::keys::{LIMITS_KEYS, REPORT_KEYS};
 use crate::prices::{MAX_PRICES, without_ones};
 use crate::reader::TokenReader;
 use crate::reports::Report;
@@ -28,8 +28,7 @@ impl FromTokens for LimitRows {
     ghost nesting = { 1 };
 
     fn from_tokens(alloc: Global, reader: &mut TokenReader<'_>) -> Option<Self> {
-        let keys = [Key::Crossings, Key::Edges, Key::Vertices];
-        let slots: LimitsSlots = read_object(alloc, &keys, reader)?;
+        let slots: LimitsSlots = read_object(alloc, &LIMITS_KEYS, reader)?;
         let (crossings, edges, vertices, _slots) = slots.three_due()?;
         Some(LimitRows {
             vertices,
@@ -83,15 +82,7 @@ impl FromTokens for Report {
     ghost nesting = { 6 };
 
     fn from_tokens(alloc: Global, reader: &mut TokenReader<'_>) -> Option<Self> {
-        let keys = [
-            Key::History,
-            Key::Limits,
-            Key::Picture,
-            Key::Prices,
-            Key::Start,
-            Key::Version,
-        ];
-        let slots: ReportSlots = read_object(alloc, &keys, reader)?;
+        let slots: ReportSlots = read_object(alloc, &REPORT_KEYS, reader)?;
         let (history, limits, picture, slots) = slots.three_due()?;
         let (prices, start, version, _slots) = slots.three_due()?;
         let prices = kept_prices(prices, version)?;

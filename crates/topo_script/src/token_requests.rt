@@ -11,11 +11,10 @@ use crate::graphs::GraphAsked;
 use crate::lexing::bytes_are;
 use crate::path::Key;
 use crate::reader::TokenReader;
-use crate::reports::Report;
-use crate::sessions::{Opening, Request};
-use crate::slots::{NoSlot, Slot, read_object};
+use crate::sessions::Request;
+use crate::slots::read_only;
 use crate::token_scripts::command_after;
-use crate::tokens::FromTokens;
+use crate::tokens::{FromTokens, last_number};
 use std::alloc::Global;
 use topo_core::darts::Dart;
 
@@ -30,26 +29,6 @@ fn token_route(alloc: Global, reader: &mut TokenReader<'_>) -> Option<Request>
     Some(Request::Route { u, v })
 }
 
-/// What follows the word of a question for an edge.
-fn token_edge(alloc: Global, reader: &mut TokenReader<'_>) -> Option<Request>
-    ensures { IfSome result
-        (λ request. SpellsAsked (codes "edge") reader.old request reader.new) }
-{
-    let edge = u32::from_tokens(alloc, reader)?;
-    reader.end_array()?;
-    Some(Request::Edge(edge))
-}
-
-/// What follows the word of a question for a vertex.
-fn token_vertex(alloc: Global, reader: &mut TokenReader<'_>) -> Option<Request>
-    ensures { IfSome result
-        (λ request. SpellsAsked (codes "vertex") reader.old request reader.new) }
-{
-    let vertex = u32::from_tokens(alloc, reader)?;
-    reader.end_array()?;
-    Some(Request::Vertex(vertex))
-}
-
 /// What follows the word of a question for a face.
 fn token_face(alloc: Global, reader: &mut TokenReader<'_>) -> Option<Request>
     ensures { IfSome result
@@ -62,16 +41,6 @@ fn token_face(alloc: Global, reader: &mut TokenReader<'_>) -> Option<Request>
     Some(Request::Face(Dart { edge, seg, way }))
 }
 
-/// What follows the word for taking commands back.
-fn token_undo(alloc: Global, reader: &mut TokenReader<'_>) -> Option<Request>
-    ensures { IfSome result
-        (λ request. SpellsAsked (codes "undo") reader.old request reader.new) }
-{
-    let count = u32::from_tokens(alloc, reader)?;
-    reader.end_array()?;
-    Some(Request::Undo(count))
-}
-
 /// What follows the word of a request that is no command.
 fn asked_after(alloc: Global, word: &[u8], reader: &mut TokenReader<'_>) -> Option<Request>
     ensures { IfSome result (λ request. SpellsAsked word.now reader.old request reader.new) }
@@ -79,24 +48,19 @@ fn asked_after(alloc: Global, word: &[u8], reader: &mut TokenReader<'_>) -> Opti
     if bytes_are(word, "route") {
         token_route(alloc, reader)
     } else if bytes_are(word, "edge") {
-        token_edge(alloc, reader)
+        let edge = last_number(alloc, reader)?;
+        Some(Request::Edge(edge))
     } else if bytes_are(word, "vertex") {
-        token_vertex(alloc, reader)
+        let vertex = last_number(alloc, reader)?;
+        Some(Request::Vertex(vertex))
     } else if bytes_are(word, "face") {
         token_face(alloc, reader)
     } else if bytes_are(word, "undo") {
-        token_undo(alloc, reader)
+        let count = last_number(alloc, reader)?;
+        Some(Request::Undo(count))
     } else {
         None
     }
-}
-
-/// Whether a command begins with this word. No contract rests on it.
-fn is_command(word: &[u8]) -> bool {
-    bytes_are(word, "insert")
-        || bytes_are(word, "grow")
-        || bytes_are(word, "delete")
-        || bytes_are(word, "planned")
 }
 
 /// What a text asks for.
@@ -129,30 +93,11 @@ fn token_word(reader: &mut TokenReader<'_>) -> Option<Request>
     asked_by(word)
 }
 
-/// An opening that is next, behind its key.
-fn token_open(alloc: Global, reader: &mut TokenReader<'_>) -> Option<Request>
-    ensures { IfSome result (λ request. Spells 7 keyed_form reader.old request reader.new) }
-{
-    let slots: Slot<Opening, NoSlot> = read_object(alloc, &[Key::Open], reader)?;
-    let (opening, _slots) = slots.due()?;
-    Some(Request::Open(opening))
-}
-
-/// A report that is next, behind its key.
-fn token_reopen(alloc: Global, reader: &mut TokenReader<'_>) -> Option<Request>
-    ensures { IfSome result (λ request. Spells 7 keyed_form reader.old request reader.new) }
-{
-    let slots: Slot<Report, NoSlot> = read_object(alloc, &[Key::Reopen], reader)?;
-    let (report, _slots) = slots.due()?;
-    Some(Request::Reopen(report))
-}
-
 /// A graph that is next, behind its key. One that says how many seconds is read by way of its value.
 fn token_planarize(alloc: Global, reader: &mut TokenReader<'_>) -> Option<Request>
     ensures { IfSome result (λ request. Spells 7 keyed_form reader.old request reader.new) }
 {
-    let slots: Slot<GraphAsked, NoSlot> = read_object(alloc, &[Key::Planarize], reader)?;
-    let (asked, _slots) = slots.due()?;
+    let asked: GraphAsked = read_only(alloc, Key::Planarize, reader)?;
     if asked.seconds.is_some() {
         drop(asked);
         return None;
@@ -161,16 +106,17 @@ fn token_planarize(alloc: Global, reader: &mut TokenReader<'_>) -> Option<Reques
 }
 
 /// An object that is next, and asks by its one key.
+#[tactic(auto, using(crate::proofs::TokenRequests::open_asked, crate::proofs::TokenRequests::reopen_asked))]
 pub fn token_keyed(alloc: Global, reader: &mut TokenReader<'_>) -> Option<Request>
     ensures { IfSome result (λ request. Spells 7 keyed_form reader.old request reader.new) }
 {
     let begins = reader.copy();
-    if let Some(opened) = token_open(alloc, reader) {
-        return Some(opened);
+    if let Some(opening) = read_only(alloc, Key::Open, reader) {
+        return Some(Request::Open(opening));
     }
     *reader = begins.copy();
-    if let Some(reopened) = token_reopen(alloc, reader) {
-        return Some(reopened);
+    if let Some(report) = read_only(alloc, Key::Reopen, reader) {
+        return Some(Request::Reopen(report));
     }
     *reader = begins;
     token_planarize(alloc, reader)
@@ -190,11 +136,11 @@ impl FromTokens for Request {
         }
         reader.begin_array()?;
         let word = reader.next_text()?;
-        if is_command(word) {
-            let command = command_after(alloc, word, reader)?;
-            Some(Request::Carry(command))
-        } else {
-            asked_after(alloc, word, reader)
+        let begins = reader.copy();
+        if let Some(command) = command_after(alloc, word, reader) {
+            return Some(Request::Carry(command));
         }
+        *reader = begins;
+        asked_after(alloc, word, reader)
     }
 }

@@ -2,8 +2,8 @@
 
 ghost use Rattle.topo_script.specs.RowForms.{sign_form, edge_form, crossing_form, rows_form};
 
+use crate::keys::{CROSSING_KEYS, EDGE_KEYS, ROWS_KEYS};
 use crate::lexing::bytes_are;
-use crate::path::Key;
 use crate::reader::TokenReader;
 use crate::slots::{NoSlot, Slot, read_object};
 use crate::tokens::FromTokens;
@@ -38,8 +38,7 @@ impl FromTokens for EdgeRow {
     ghost nesting = { 2 };
 
     fn from_tokens(alloc: Global, reader: &mut TokenReader<'_>) -> Option<Self> {
-        let keys = [Key::A, Key::B, Key::Crossings, Key::Id, Key::Kind];
-        let slots: EdgeSlots = read_object(alloc, &keys, reader)?;
+        let slots: EdgeSlots = read_object(alloc, &EDGE_KEYS, reader)?;
         let (a, b, crossings, slots) = slots.three_due()?;
         let (id, slots) = slots.due()?;
         let (kind, _slots) = slots.due()?;
@@ -62,8 +61,7 @@ impl FromTokens for CrossRow {
     ghost nesting = { 1 };
 
     fn from_tokens(alloc: Global, reader: &mut TokenReader<'_>) -> Option<Self> {
-        let keys = [Key::Crossed, Key::Id, Key::Newcomer, Key::Sign];
-        let slots: CrossingSlots = read_object(alloc, &keys, reader)?;
+        let slots: CrossingSlots = read_object(alloc, &CROSSING_KEYS, reader)?;
         let (crossed, id, newcomer, slots) = slots.three_due()?;
         let (sign, _slots) = slots.due()?;
         Some(CrossRow {
@@ -87,14 +85,7 @@ impl FromTokens for Rows {
     ghost nesting = { 4 };
 
     fn from_tokens(alloc: Global, reader: &mut TokenReader<'_>) -> Option<Self> {
-        let keys = [
-            Key::Crossings,
-            Key::Edges,
-            Key::NextCrossing,
-            Key::NextEdge,
-            Key::Rotations,
-        ];
-        let slots: RowsSlots = read_object(alloc, &keys, reader)?;
+        let slots: RowsSlots = read_object(alloc, &ROWS_KEYS, reader)?;
         let (crossings, edges, next_crossing, slots) = slots.three_due()?;
         let (next_edge, slots) = slots.due()?;
         let (rotations, _slots) = slots.due()?;

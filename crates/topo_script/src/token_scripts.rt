@@ -6,8 +6,8 @@ ghost use Rattle.topo_script.specs.CallForms.{command_form};
 ghost use Rattle.topo_script.specs.Scripts.{script_form, start_form};
 ghost use Rattle.topo_script.specs.Tokens.{Spells};
 
+use crate::keys::SCRIPT_KEYS;
 use crate::lexing::bytes_are;
-use crate::path::Key;
 use crate::reader::TokenReader;
 use crate::script_forms::MAX_WORKERS;
 use crate::scripts::Script;
@@ -98,14 +98,7 @@ impl FromTokens for Script {
     ghost nesting = { 5 };
 
     fn from_tokens(alloc: Global, reader: &mut TokenReader<'_>) -> Option<Self> {
-        let keys = [
-            Key::Limits,
-            Key::Prices,
-            Key::Start,
-            Key::Version,
-            Key::Workers,
-        ];
-        let slots: ScriptSlots = read_object(alloc, &keys, reader)?;
+        let slots: ScriptSlots = read_object(alloc, &SCRIPT_KEYS, reader)?;
         let (opening, slots) = settings_due(alloc, slots)?;
         let (workers, _slots) = slots.due()?;
         if workers.len() == 0 || workers.len() > MAX_WORKERS {

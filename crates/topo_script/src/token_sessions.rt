@@ -2,7 +2,7 @@
 
 ghost use Rattle.topo_script.specs.Sessions.{opening_form};
 
-use crate::path::Key;
+use crate::keys::OPENING_KEYS;
 use crate::reader::TokenReader;
 use crate::sessions::Opening;
 use crate::slots::{NoSlot, read_object};
@@ -16,8 +16,7 @@ impl FromTokens for Opening {
     ghost nesting = { 5 };
 
     fn from_tokens(alloc: Global, reader: &mut TokenReader<'_>) -> Option<Self> {
-        let keys = [Key::Limits, Key::Prices, Key::Start, Key::Version];
-        let slots: SettingsSlots<NoSlot> = read_object(alloc, &keys, reader)?;
+        let slots: SettingsSlots<NoSlot> = read_object(alloc, &OPENING_KEYS, reader)?;
         let (opening, _slots) = settings_due(alloc, slots)?;
         Some(opening)
     }

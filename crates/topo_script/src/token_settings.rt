@@ -27,16 +27,10 @@ pub fn settings_due<R: Drop>(alloc: Global, slots: SettingsSlots<R>) -> Option<(
         r.0.limits r.0.prices r.0.start) }
     ensures rest { IfSome result (λ r. slots.rest.rest.rest.rest ≡ r.1) }
 {
-    let Slot {
-        found: limits,
-        rest,
-    } = slots;
-    let Slot {
-        found: prices,
-        rest,
-    } = rest;
-    let Slot { found: start, rest } = rest;
-    let (version, rest) = rest.due()?;
+    let (limits, slots) = slots.maybe();
+    let (prices, slots) = slots.maybe();
+    let (start, slots) = slots.maybe();
+    let (version, rest) = slots.due()?;
     let prices = kept_prices(prices.unwrap_or(Listed::new(alloc)), version)?;
     let opening = Opening {
         limits: limits.unwrap_or(GREATEST_LIMITS),

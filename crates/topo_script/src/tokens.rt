@@ -4,7 +4,7 @@ ghost use Rattle.std.specs.Prelude.{◌≡◌, ◌+◌, ◌<◌, ◌^◌, IfSome
 ghost use Rattle.std.specs.Str.{IsUtf8};
 ghost use Rattle.topo_script.specs.Reads.{number_form, long_form, list_form};
 ghost use Rattle.topo_script.specs.Tokens.{Spells, SpellsItems, SpellsNumber};
-ghost use Rattle.topo_script.specs.Tokens.{SpellsNumbers, SpellsText};
+ghost use Rattle.topo_script.specs.Tokens.{SpellsLast, SpellsNumbers, SpellsText};
 
 use crate::reader::TokenReader;
 use std::alloc::Global;
@@ -105,6 +105,15 @@ fn token_items<T: FromTokens>(alloc: Global, reader: &mut TokenReader<'_>) -> Op
         }
     }
     Some(Listed::from_vec(found))
+}
+
+/// The one number that the tokens up to the end of an array spell.
+pub fn last_number(alloc: Global, reader: &mut TokenReader<'_>) -> Option<u32>
+    ensures { IfSome result (λ n. SpellsLast reader.old n reader.new) }
+{
+    let number = u32::from_tokens(alloc, reader)?;
+    reader.end_array()?;
+    Some(number)
 }
 
 /// The three numbers that the tokens up to the end of an array spell.

@@ -52,7 +52,7 @@ impl<T: Written> Written for Listed<T> {
 }
 
 /// Writes an array of the items.
-pub fn write_list<T: Written>(out: &mut String, items: &[T]) -> Result<(), AllocError>
+pub(crate) fn write_list<T: Written>(out: &mut String, items: &[T]) -> Result<(), AllocError>
     ensures { OnOk result (string_bytes out.new ≡ string_bytes out.old
         ++ compact_text (array (items_of (map T.value items.now)))) }
 {

@@ -1,4 +1,4 @@
-use Rattle.std.proofs.Common.{arith, rules}
+use Rattle.std.proofs.Common.{rules}
 use Rattle.topo_script.proofs.Letters.{plain_at}
 use Rattle.topo_script.proofs.lexing.behind_letter.Goals as goal
 

@@ -1,4 +1,4 @@
-use Rattle.std.proofs.Common.{arith, rules}
+use Rattle.std.proofs.Common.{arith}
 use Rattle.std.proofs.lemmas.Option.{IfSome_then}
 use Rattle.topo_script.proofs.Letters.{closed, letter_more, none_spelled}
 use Rattle.topo_script.proofs.lexing.behind_spelled.Goals as goal

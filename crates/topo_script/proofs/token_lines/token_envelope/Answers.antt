@@ -9,7 +9,7 @@ pub returns : goal.returns
 returns c =
     let o = c.in_ok-slots.ensures in
     let call = due_held request_form _ c.in_ok-request.ensures o.held in
-    let caller = maybe_held number_form _ call.values call.held in
-    let id = maybe_held some_id _ caller.values caller.held in
+    let caller = maybe_held number_form _ c.maybe-caller.ensures call.held in
+    let id = maybe_held some_id _ c.maybe-id.ensures caller.held in
     let small : c.unwrap_or-caller.result < 16 = grind arith in
     envelope_tokens o.value (omega arith) call.first caller.first id.first id.held c.unwrap_or-caller.ensures c.unwrap_or.ensures small

@@ -2,4 +2,4 @@ use Rattle.topo_script.proofs.TokenReplies.{cut_tokens}
 use Rattle.topo_script.proofs.token_replies.token_cut.Goals as goal
 
 pub returns : goal.returns
-returns c = cut_tokens c.in_ok-segment.ensures c.in_ok-end_array.ensures
+returns c = cut_tokens c.in_ok-segment.ensures

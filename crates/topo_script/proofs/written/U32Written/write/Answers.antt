@@ -1,4 +1,4 @@
-use Rattle.std.proofs.Common.{rules, ◌<◌}
+use Rattle.std.proofs.Common.{rules}
 use Rattle.std.proofs.lemmas.Fmt.{decimal_digit}
 use Rattle.topo_script.proofs.written.U32Written.write.Goals as goal
 
