@@ -16,7 +16,7 @@ use std::alloc::{AllocError, Global};
 use std::io::{Read, Write};
 use topo_book::{ReplayFault, replay};
 use topo_io::reading::{CountedReader, read_bytes};
-use topo_io::settings::validate;
+use topo_io::settings::{Setting, validate};
 use topo_io::writing::write_text;
 use topo_io::{FromTable, RunFault};
 use topo_picture::Picture;
@@ -95,7 +95,7 @@ fn judge<F: FromTable>(alloc: Global, report: &Report) -> Result<(), RunFault>
     ensures fault { IfErr result (IsUntrue report.now) }
 {
     let prices = report.prices.as_slice();
-    let (table, start) = validate(alloc, report.limits, prices, Some(&report.start))?;
+    let Setting { table, start } = validate(alloc, report.limits, prices, Some(&report.start))?;
     let tariff = Tariff::new(F::from_table(table));
     let picture = replay_report(alloc, report, &start, &tariff)?;
     drop(start);

@@ -16,7 +16,7 @@ use topo_core::listed::Listed;
 use topo_core::rows::Facts;
 use topo_io::RunFault;
 use topo_io::reading::CountedReader;
-use topo_io::settings::validate;
+use topo_io::settings::judge;
 use topo_price::table::PriceTable;
 use topo_price::tariff::{PriceFn, Tariff};
 use topo_run::{OpenGate, run_io, run_script};
@@ -129,7 +129,7 @@ fn counted_text<R: Threads + Wait + Sync>(
     gate: &AskedGate,
 ) -> Result<String, RunFault> {
     let prices = script.prices.as_slice();
-    let (table, _start) = validate(alloc, script.limits, prices, script.start.as_ref())?;
+    let (_limits, table) = judge(script.limits, prices)?;
     let made = report_by_table(rt, alloc, script, table, gate)?;
     match report(alloc, &made) {
         Ok(text) => Ok(text),

@@ -1,7 +1,8 @@
 //! What a script or a report sets beside its calls: limits, prices, and the picture that it starts
 //! with.
 
-ghost use Rattle.std.specs.Prelude.{◌≡◌, IfOk, IfErr, None, option_copied};
+ghost use Rattle.std.specs.Prelude.{◌≡◌, IfOk, IfErr, None, Option, option_copied};
+ghost use Rattle.topo_core.specs.declared.rows.Rows.{Rows};
 ghost use Rattle.topo_script.specs.Scripts.{greatest_limits};
 ghost use Rattle.topo_io.specs.Limiting.{AreLimits};
 ghost use Rattle.topo_io.specs.Settings.{IsBadPrice, IsSound, IsUnsound};
@@ -17,38 +18,55 @@ use topo_price::table::{PriceFault, PriceTable};
 use topo_rows::LoadFault;
 use topo_script::LimitRows;
 
-/// The prices of all kinds and the picture that is started with, or the first fault of the limits,
-/// the prices and the start.
+/// What is set, once it is judged: the prices of all kinds, and the picture that is started with,
+/// under its limits.
+#[derive(Drop)]
+pub struct Setting {
+    pub table: PriceTable,
+    pub start: Picture,
+}
+
+/// What is set, or the first fault of the limits, the prices and the start.
 pub fn validate(
     alloc: Global,
     numbers: LimitRows,
     prices: &[Option<u32>],
     start: Option<&Rows>,
-) -> Result<(PriceTable, Picture), RunFault>
-    ensures prices { IfOk result (λ set. set.0 ≡ price_table prices.now) }
+) -> Result<Setting, RunFault>
+    ensures prices { IfOk result (λ set. set.table ≡ price_table prices.now) }
     ensures sound { IfOk result
-        (λ set. IsSound numbers prices.now (option_copied start.entry) set.1.limits) }
-    ensures rows { IfOk result (λ set. set.1.rows ≡ start_of (option_copied start.entry)) }
+        (λ set. IsSound numbers prices.now (option_copied start.entry) set.start.limits) }
+    ensures rows { IfOk result (λ set. set.start.rows ≡ start_of (option_copied start.entry)) }
     ensures fault { IfErr result (IsUnsound numbers prices.now (option_copied start.entry)) }
 {
-    let limits = match Limits::new(numbers.vertices, numbers.edges, numbers.crossings) {
-        Ok(limits) => limits,
-        Err(_) => return Err(RunFault::BadLimits),
-    };
-    let table = match table_of(prices) {
-        Ok(table) => table,
-        Err(fault) => return Err(RunFault::Price(fault)),
-    };
+    let (limits, table) = judge(numbers, prices)?;
     match start {
         Some(rows) => match Picture::load(alloc, limits, rows) {
-            Ok(picture) => Ok((table, picture)),
+            Ok(start) => Ok(Setting { table, start }),
             Err(LoadFault::Memory) => Err(RunFault::Memory),
             Err(fault) => Err(RunFault::Load(fault)),
         },
         None => match Picture::seed(alloc, limits) {
-            Ok(picture) => Ok((table, picture)),
+            Ok(start) => Ok(Setting { table, start }),
             Err(_) => Err(RunFault::Memory),
         },
+    }
+}
+
+/// The limits and the prices of all kinds, or the first fault of both, whatever the start.
+pub fn judge(numbers: LimitRows, prices: &[Option<u32>]) -> Result<(Limits, PriceTable), RunFault>
+    ensures limits { IfOk result (λ judged. AreLimits numbers judged.0) }
+    ensures prices { IfOk result (λ judged. judged.1 ≡ price_table prices.now) }
+    ensures good { IfOk result (λ judged. first_bad (price_table prices.now) ≡ None) }
+    ensures fault { IfErr result
+        (λ fault. (start : Option Rows) → IsUnsound numbers prices.now start fault) }
+{
+    match Limits::new(numbers.vertices, numbers.edges, numbers.crossings) {
+        Ok(limits) => match table_of(prices) {
+            Ok(table) => Ok((limits, table)),
+            Err(fault) => Err(RunFault::Price(fault)),
+        },
+        Err(_) => Err(RunFault::BadLimits),
     }
 }
 

@@ -14,7 +14,7 @@ use std::thread::Threads;
 use topo_core::calls::{Call, Command, Entry, Refusal, Reply};
 use topo_core::listed::Listed;
 use topo_io::RunFault;
-use topo_io::settings::validate;
+use topo_io::settings::judge;
 use topo_price::table::PriceTable;
 use topo_price::tariff::{PriceFn, Tariff};
 use topo_run::{OpenGate, run_script};
@@ -120,8 +120,7 @@ fn report_of<R: Threads + Wait + Sync>(
     script: &Script,
 ) -> Result<Report, RunFault> {
     let prices = script.prices.as_slice();
-    let (table, start) = validate(alloc, script.limits, prices, script.start.as_ref())?;
-    drop(start);
+    let (_limits, table) = judge(script.limits, prices)?;
     report_by_table(rt, alloc, script, table)
 }
 

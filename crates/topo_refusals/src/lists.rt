@@ -7,6 +7,7 @@ use anyhow::Result;
 use std::alloc::{AllocError, Global};
 use std::sync::atomic::{AtomicBool, AtomicU32, AtomicUsize, Ordering};
 use topo_core::calls::{Call, Command};
+use topo_core::listed::Listed;
 use topo_price::tariff::PriceFn;
 use topo_service::{Gate, Pass, Receipt, ServiceOver, WorkerEnd, run_workers};
 use topo_test_support::calls::{delete, insert, planned};
@@ -106,7 +107,7 @@ fn run_list<
     watch: &Watch,
 ) -> Result<WorkerEnd, AllocError> {
     watch.begin();
-    let lists = [list];
+    let lists = [Listed::from_vec(list)];
     if workers.len() != lists.len() {
         return Err(AllocError);
     }

@@ -1,3 +1,2 @@
-mod Below
 mod Passing
 mod Telling

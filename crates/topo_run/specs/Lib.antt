@@ -1,3 +1,2 @@
-pub mod Headings
 pub mod Runs
 pub mod Working

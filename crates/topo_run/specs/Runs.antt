@@ -1,7 +1,6 @@
 -- What a run writes.
 use Rattle.std.specs.Prelude.{◌≡◌, ℕ, List, [], ◌∷◌, ◌++◌, Option, Ok, ⊤}
 use Rattle.std.specs.Io.KnownBytes.{Appends, Keeps}
-use Rattle.topo_core.specs.declared.rows.Rows.{Rows}
 use Rattle.topo_core.specs.declared.limits.Limits.{Limits}
 use Rattle.topo_core.specs.History.{IsRun}
 use Rattle.topo_script.specs.declared.script_forms.TheConstants.{MAX_SCRIPT_BYTES}
@@ -14,36 +13,25 @@ use Rattle.topo_run.specs.Working.{IsOfRun}
 use Rattle.topo_io.specs.declared.fault.RunFault.{RunFault}
 use Rattle.topo_io.specs.declared.fault.RunFault.TheVariants.{Memory, Script as OfScript, BadLimits, Price, Load, Graph, NoSeat}
 use Rattle.topo_io.specs.declared.fault.RunFault.TheVariants.{Mismatch, WrongReply, WrongPicture, ReadFault, WriteFault}
-use Rattle.topo_io.specs.Limiting.{AreLimits}
 use Rattle.topo_io.specs.Reading.{HasFailed, ReaderState, Spells, SpellsNone}
 use Rattle.topo_io.specs.Settings.{IsSound, IsUnsound, priced, start_of}
 use Rattle.topo_io.specs.Writing.{AppendsPart}
 
 -- ---- What a run makes
 
--- the report is that of a run of the script's lists at its prices, from this start under these limits
-pub record IsReportFrom (script : Script) (limits : Limits) (start : Rows) (report : Report) : Type 0 where
-  pub same_limits : AreLimits report.limits limits
-  pub same_prices : report.prices ≡ script.prices
-  pub same_start : report.start ≡ start
-  pub run : IsRun (priced script.prices) limits start script.workers report.history report.picture
-
--- the report is that of a run of the script from its start, under its limits and at its prices
+-- the report is that of a run of the script's lists from its start, under its limits and at its prices
 pub record IsReportOf (script : Script) (report : Report) : Type 0 where
   pub limits : Limits
   pub sound : IsSound script.limits script.prices script.start limits
-  pub made : IsReportFrom script limits (start_of script.start) report
+  pub same_limits : report.limits ≡ script.limits
+  pub same_prices : report.prices ≡ script.prices
+  pub same_start : report.start ≡ start_of script.start
+  pub run : IsRun (priced script.prices) limits (start_of script.start) script.workers report.history report.picture
 
 -- the text is that of such a report, with a line feed
 pub record IsRunLine (script : Script) (text : List ℕ) : Type 0 where
   pub report : Report
   pub made : IsReportOf script report
-  pub line : text ≡ report_text report ++ 10 ∷ []
-
--- the text is that of the report of a run from this start under these limits, with a line feed
-pub record ShowsRun (script : Script) (limits : Limits) (start : Rows) (text : List ℕ) : Type 0 where
-  pub report : Report
-  pub made : IsReportFrom script limits start report
   pub line : text ≡ report_text report ++ 10 ∷ []
 
 -- the limits, the prices and the start of the script are without fault

@@ -1,18 +1,17 @@
 //! Lists of commands, carried out by the passes of one service.
 
 ghost use Rattle.std.specs.Prelude.{◌≡◌, ◌+◌, ◌<◌, ◌≤◌, ℕ, List, [], All};
-ghost use Rattle.std.specs.Prelude.{IfErr, IfOk, OnOk, Some, length, map, true};
+ghost use Rattle.std.specs.Prelude.{IfErr, IfOk, OnOk, Some, length, true};
 ghost use Rattle.std.specs.Arc.{arc_value};
 ghost use Rattle.topo_core.specs.History.{IsRun};
 ghost use Rattle.topo_price.specs.Prices.{prices_of};
 ghost use Rattle.topo_run.specs.Working.{AreOpened, HaveWorked, IsOfOpening, IsOfRun};
 ghost use Rattle.topo_run.specs.Working.{IsOfService};
-ghost use Rattle.topo_service.specs.Commands.{commands};
 ghost use Rattle.topo_core.specs.declared.limits.TheConstants.{MAX_PASSES};
 
 use crate::alone::outcome_alone;
 use crate::outcome::{RunOutcome, outcome_of};
-use std::alloc::{AllocError, Global};
+use std::alloc::Global;
 use std::marker::Brand;
 use std::sync::{Arc, Wait};
 use std::thread::Threads;
@@ -24,17 +23,6 @@ use topo_picture::Picture;
 use topo_price::tariff::{PriceFn, Tariff};
 use topo_service::{EndFault, FreshService, Gate, Pass, Service, WorkerEnd, run_workers};
 use topo_versions::ServiceBrand;
-
-/// Copies of lists of commands.
-fn lists_of(alloc: Global, lists: &[Listed<Command>]) -> Result<Vec<Vec<Command>>, AllocError>
-    ensures { IfOk result (λ copies. map commands copies.items ≡ lists.now) }
-{
-    let mut copies = Vec::new(alloc);
-    for list in lists {
-        copies.push(Vec::from_slice(alloc, list.as_slice())?)?;
-    }
-    Ok(copies)
-}
 
 /// The next pass of a service.
 fn open_pass<F: PriceFn + Drop, K: ServiceBrand<F>>(
@@ -100,11 +88,11 @@ fn run_all<
     rt: &R,
     alloc: Global,
     service: &mut Service<F, K>,
-    lists: &[Vec<Command>],
+    lists: &[Listed<Command>],
     gate: &T,
 ) -> Result<Vec<Pass<F, K>>, RunFault>
     requires { service.old.given ≡ 0 }
-    ensures worked { IfOk result (λ passes. HaveWorked (map commands lists.now) passes.items) }
+    ensures worked { IfOk result (λ passes. HaveWorked lists.now passes.items) }
     ensures given { IfOk result (λ passes. service.new.given ≡ length passes.items) }
     ensures seats { IfOk result (λ passes. length lists.now ≤ MAX_PASSES) }
     ensures same { service.new.tariff ≡ service.old.tariff }
@@ -134,7 +122,7 @@ fn serve<
     alloc: Global,
     fresh: FreshService,
     beginning: (Picture, Arc<Tariff<F>>),
-    lists: &[Vec<Command>],
+    lists: &[Listed<Command>],
     gate: &T,
 ) -> Result<RunOutcome, RunFault>
     requires ledger { (fresh.blank.name ≡ K.name) × (fresh.blank.parts ≡ K.parts) }
@@ -144,10 +132,10 @@ fn serve<
     requires prices { K.closure ≡ Some (arc_value beginning.1) }
     ensures run { IfOk result
         (λ outcome. IsRun (prices_of (F.may_return (arc_value beginning.1)))
-        beginning.0.limits beginning.0.rows (map commands lists.now) outcome.history
+        beginning.0.limits beginning.0.rows lists.now outcome.history
         outcome.picture) }
     ensures seats { OnOk result (length lists.now ≤ MAX_PASSES) }
-    ensures fault { IfErr result (IsOfService (map commands lists.now)) }
+    ensures fault { IfErr result (IsOfService lists.now) }
 {
     let (start, tariff) = beginning;
     let places = lists.len().max(1).min(MAX_PASSES as usize) as u32;
@@ -169,7 +157,7 @@ fn serve<
     }
 }
 
-/// Carries out copies of the lists on a new service, each in a thread of its own.
+/// Carries out the lists on a new service, each in a thread of its own.
 fn run_together<F: PriceFn + Drop + Send + Sync, R: Threads + Wait + Sync, T: Gate>(
     rt: &R,
     alloc: Global,
@@ -183,12 +171,8 @@ fn run_together<F: PriceFn + Drop + Send + Sync, R: Threads + Wait + Sync, T: Ga
     ensures seats { OnOk result (length lists.now ≤ MAX_PASSES) }
     ensures fault { IfErr result (IsOfService lists.now) }
 {
-    let Ok(copies) = lists_of(alloc, lists) else {
-        return Err(RunFault::Memory);
-    };
     let fresh = FreshService::new();
-    let beginning = (start, tariff);
-    serve::<F, Brand, R, T>(rt, alloc, fresh, beginning, copies.as_slice(), gate)
+    serve::<F, Brand, R, T>(rt, alloc, fresh, (start, tariff), lists, gate)
 }
 
 /// Carries out lists of commands from a start, each in a thread of its own, and says what they have

@@ -6,23 +6,21 @@ ghost use Rattle.topo_script.specs.declared.script_forms.TheConstants.{MAX_SCRIP
 ghost use Rattle.topo_script.specs.Reads.{Gives};
 ghost use Rattle.topo_script.specs.Scripts.{script_of};
 ghost use Rattle.topo_run.specs.Runs.{FailsBy, FailsRun, IsDone, IsFaultOfBytes};
-ghost use Rattle.topo_run.specs.Runs.{IsLineOfBytes, IsRunLine, ShowsRun};
-ghost use Rattle.topo_run.specs.Working.{IsOfRun};
+ghost use Rattle.topo_run.specs.Runs.{IsLineOfBytes, IsRunLine};
 ghost use Rattle.topo_script.specs.ReportTexts.{report_text};
 ghost use Rattle.topo_io.specs.Reading.{most_calls};
-ghost use Rattle.topo_io.specs.Settings.{price_table, start_of};
 
-use crate::scripts::priced_report;
+use crate::scripts::run_script;
 use std::alloc::{AllocError, Global};
 use std::io::{Read, Write};
-use std::sync::Wait;
+use std::sync::{Arc, Wait};
 use std::thread::Threads;
-use topo_io::RunFault;
 use topo_io::reading::{CountedReader, read_bytes};
-use topo_io::settings::validate;
+use topo_io::settings::judge;
 use topo_io::writing::write_text;
-use topo_picture::Picture;
+use topo_io::{FromTable, RunFault};
 use topo_price::table::PriceTable;
+use topo_price::tariff::Tariff;
 use topo_script::script_forms::MAX_SCRIPT_BYTES;
 use topo_script::{Report, Script, ScriptFault, read_script, report};
 use topo_service::Gate;
@@ -51,13 +49,13 @@ pub fn run_io<R: Threads + Wait + Sync, I: Read, O: Write, T: Gate>(
     let bytes = read_bytes(alloc, MAX_SCRIPT_BYTES as u32, reader)?;
     let read = read_script(alloc, bytes.as_slice());
     drop(bytes);
-    let line = line_of_read(rt, alloc, read, gate)?;
+    let line = line_of_read::<PriceTable, R, T>(rt, alloc, read, gate)?;
     write_text(writer, line.as_str())
 }
 
 /// The line that shows the run of a script, from what was read of the bytes that spell it, or the
 /// first fault.
-fn line_of_read<R: Threads + Wait + Sync, T: Gate>(
+fn line_of_read<F: FromTable + Send + Sync, R: Threads + Wait + Sync, T: Gate>(
     rt: &R,
     alloc: Global,
     read: Result<Script, ScriptFault>,
@@ -69,44 +67,28 @@ fn line_of_read<R: Threads + Wait + Sync, T: Gate>(
         → IfErr result (IsFaultOfBytes bytes) }
 {
     match read {
-        Ok(script) => run_line(rt, alloc, script, gate),
+        Ok(script) => run_line::<F, R, T>(rt, alloc, &script, gate),
         Err(fault) => Err(RunFault::Script(fault)),
     }
 }
 
-/// The line that shows the run of a script, or the first fault of its limits, its prices, its start
-/// and its service.
-fn run_line<R: Threads + Wait + Sync, T: Gate>(
+/// The line that shows the run of a script at its own prices, or the first fault of its limits, its
+/// prices, its start and its service.
+fn run_line<F: FromTable + Send + Sync, R: Threads + Wait + Sync, T: Gate>(
     rt: &R,
     alloc: Global,
-    script: Script,
+    script: &Script,
     gate: &T,
 ) -> Result<String, RunFault>
-    ensures line { IfOk result (λ line. IsRunLine script (string_bytes line)) }
-    ensures fault { IfErr result (FailsRun script) }
+    ensures line { IfOk result (λ line. IsRunLine script.now (string_bytes line)) }
+    ensures fault { IfErr result (FailsRun script.now) }
 {
-    let prices = script.prices.as_slice();
-    let (table, start) = validate(alloc, script.limits, prices, script.start.as_ref())?;
-    priced_line(rt, alloc, script, start, table, gate)
-}
-
-/// The line that shows the run of a script at its own prices.
-fn priced_line<R: Threads + Wait + Sync, T: Gate>(
-    rt: &R,
-    alloc: Global,
-    script: Script,
-    start: Picture,
-    table: PriceTable,
-    gate: &T,
-) -> Result<String, RunFault>
-    requires prices { table ≡ price_table script.prices }
-    requires start { start.rows ≡ start_of script.start }
-    ensures line { IfOk result
-        (λ line. ShowsRun script start.limits start.rows (string_bytes line)) }
-    ensures fault { IfErr result (IsOfRun script.workers) }
-{
-    let report = priced_report(rt, alloc, script, start, table, gate)?;
-    match report_line(alloc, &report) {
+    let (_limits, table) = judge(script.limits, script.prices.as_slice())?;
+    let Ok(tariff) = Arc::new(alloc, Tariff::new(F::from_table(table))) else {
+        return Err(RunFault::Memory);
+    };
+    let made = run_script(rt, alloc, script, tariff, gate)?;
+    match report_line(alloc, &made) {
         Ok(line) => Ok(line),
         Err(_) => Err(RunFault::Memory),
     }

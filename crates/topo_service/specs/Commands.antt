@@ -1,5 +1,4 @@
 -- What a worker has done of its list.
-use Rattle.std.specs.Global.{Vec}
 use Rattle.std.specs.Prelude.{◌≡◌, ◌<◌, ◌≤◌, ◌==◌, ℕ, List, ◌++◌, if◌then◌else◌, length, map, take}
 use Rattle.topo_core.specs.declared.calls.Command.{Command}
 use Rattle.topo_core.specs.History.{IsPrefix, call_of}
@@ -32,10 +31,6 @@ pub record HasMade (price : Pricing) (start : Shown) (old new : PassState) (list
 abbrev pub HasEnded : Pricing → Shown → PassState → PassState → List Command → WorkerEnd → Type 0
 HasEnded price start old new list Done = HasDone price start old new list (length list)
 HasEnded price start old new list (OutOfMemory index) = (index < length list) × HasDone price start old new list index
-
--- the commands of a list
-abbrev pub commands : Vec Command → List Command
-commands list = list.items
 
 -- how many receipts a pass has
 abbrev pub receipts_of : PassState → ℕ

@@ -6,7 +6,7 @@ ghost use Rattle.std.specs.Fn.{FnOnceReturnsAtMut};
 ghost use Rattle.topo_core.specs.History.{IsPrefix, call_of};
 ghost use Rattle.topo_core.specs.declared.calls.Call.TheVariants.{Insert};
 ghost use Rattle.topo_service.specs.Answers.{HasOnlySeen, HasReceiptOf};
-ghost use Rattle.topo_service.specs.Commands.{HasEnded, HasMade, commands, end_by, receipts_of};
+ghost use Rattle.topo_service.specs.Commands.{HasEnded, HasMade, end_by, receipts_of};
 ghost use Rattle.topo_service.specs.Passes.{PassState};
 ghost use Rattle.topo_versions.specs.Names.{prices_named};
 ghost use Rattle.topo_versions.specs.Versions.{AreLegal};
@@ -21,6 +21,7 @@ use std::thread;
 use std::thread::Threads;
 use topo_book::RouteSource;
 use topo_core::calls::{Call, Command, Refusal};
+use topo_core::listed::Listed;
 use topo_price::tariff::PriceFn;
 use topo_versions::{ServiceBrand, VersionWriter};
 
@@ -226,14 +227,14 @@ fn run_each<
     rt: &R,
     service: &ServiceOver<F, K, W>,
     passes: &mut [Pass<F, K>],
-    lists: &[Vec<Command>],
+    lists: &[Listed<Command>],
     gate: &T,
 )
     requires { length passes.old ≡ length lists.now }
     ensures made { (i : ℕ) (p : PassState) → i < length lists.now
         → HasMade (prices_named F.may_return K.closure) K.start
         (slice_index_or passes.old i p) (slice_index_or passes.new i p)
-        (slice_index_or (map commands lists.now) i []) }
+        (slice_index_or lists.now i []) }
     ensures legal { (i : ℕ) (p : PassState) → i < length lists.now
         → AreLegal (prices_named F.may_return K.closure) K.start
         (slice_index_or passes.new i p).seen }
@@ -250,7 +251,7 @@ fn run_each<
             requires { i < length lists.now }
             ensures made { HasMade (prices_named F.may_return K.closure) K.start
                 pass.entry.now pass.exit.now
-                (slice_index_or (map commands lists.entry.now) i []) }
+                (slice_index_or lists.entry.now i []) }
             ensures legal { AreLegal (prices_named F.may_return K.closure)
                 K.start pass.exit.now.seen }
         {
@@ -298,7 +299,7 @@ fn tell_ends<F: PriceFn, K: ServiceBrand<F>>(
     ends: &mut Vec<WorkerEnd>,
     before: &[usize],
     passes: &[Pass<F, K>],
-    lists: &[Vec<Command>],
+    lists: &[Listed<Command>],
 )
     requires empty { ends.old.items ≡ [] }
     requires room { length passes.now ≤ vec_capacity ends.old }
@@ -310,7 +311,7 @@ fn tell_ends<F: PriceFn, K: ServiceBrand<F>>(
     ensures told { (i : ℕ) (p : PassState) (e : WorkerEnd) → i < length passes.now
         → slice_index_or ends.new.items i e
         ≡ end_by (receipts_of (slice_index_or passes.now i p) - slice_index_or before.now i 0)
-        (length (slice_index_or (map commands lists.now) i [])) }
+        (length (slice_index_or lists.now i [])) }
 {
     for i in 0..passes.len() {
         ends.push_reserved(end_of(before[i], &passes[i], lists[i].as_slice()));
@@ -334,7 +335,7 @@ pub fn run_workers<
     alloc: Global,
     service: &ServiceOver<F, K, W>,
     passes: &mut [Pass<F, K>],
-    lists: &[Vec<Command>],
+    lists: &[Listed<Command>],
     gate: &T,
 ) -> Result<Vec<WorkerEnd>, AllocError>
     requires { length passes.old ≡ length lists.now }
@@ -343,7 +344,7 @@ pub fn run_workers<
         (λ ends. (i : ℕ) (p : PassState) (e : WorkerEnd) → i < length lists.now
         → HasEnded (prices_named F.may_return K.closure) K.start
         (slice_index_or passes.old i p) (slice_index_or passes.new i p)
-        (slice_index_or (map commands lists.now) i []) (slice_index_or ends.items i e)) }
+        (slice_index_or lists.now i []) (slice_index_or ends.items i e)) }
     ensures legal { IfOk result (λ ends. (i : ℕ) (p : PassState) → i < length lists.now
         → AreLegal (prices_named F.may_return K.closure) K.start
         (slice_index_or passes.new i p).seen) }

@@ -19,6 +19,7 @@ use std::thread::Threads;
 use topo_book::replay;
 use topo_core::calls::Command;
 use topo_core::limits::MAX_PASSES;
+use topo_core::listed::Listed;
 use topo_core::rows::Facts;
 use topo_picture::Picture;
 use topo_price::tariff::{PriceFn, Tariff};
@@ -299,10 +300,10 @@ fn carry_out<F: PriceFn + Drop + Send + Sync, K: ServiceBrand<F> + Send + Sync, 
 }
 
 /// The lists as workers take them.
-fn lists_of(alloc: Global, lists: &[&[Command]]) -> Result<Vec<Vec<Command>>, AllocError> {
+fn lists_of(alloc: Global, lists: &[&[Command]]) -> Result<Vec<Listed<Command>>, AllocError> {
     let mut made = Vec::new(alloc);
     for list in lists {
-        made.push(Vec::from_slice(alloc, *list)?)?;
+        made.push(Listed::from_vec(Vec::from_slice(alloc, *list)?))?;
     }
     Ok(made)
 }
@@ -312,7 +313,7 @@ fn run_made<F: PriceFn + Drop + Send + Sync, K: ServiceBrand<F> + Send + Sync, R
     rt: &R,
     service: &Service<F, K>,
     passes: &mut [Pass<F, K>],
-    lists: &[Vec<Command>],
+    lists: &[Listed<Command>],
     gate: &Round,
 ) -> Result<String, Fail> {
     if passes.len() != lists.len() {

@@ -30,10 +30,9 @@ use topo_check::replay_report;
 use topo_core::calls::{Call, Entry, Reply};
 use topo_core::darts::Dart;
 use topo_core::listed::Listed;
-use topo_io::settings::{price_of_kind, validate};
+use topo_io::settings::{Setting, price_of_kind, validate};
 use topo_io::{FromTable, RunFault};
 use topo_picture::{Counts, Picture};
-use topo_price::table::PriceTable;
 use topo_price::tariff::{PriceFn, Tariff};
 use topo_renumbering::{Renumbered, close_up};
 use topo_rows::LoadFault;
@@ -84,11 +83,12 @@ pub struct Undone {
 }
 
 /// The prices of all kinds and the picture that an opening sets.
-fn set(alloc: Global, opening: &Opening) -> Result<(PriceTable, Picture), RunFault>
-    ensures prices { IfOk result (λ made. made.0 ≡ price_table opening.now.prices) }
+fn set(alloc: Global, opening: &Opening) -> Result<Setting, RunFault>
+    ensures prices { IfOk result (λ made. made.table ≡ price_table opening.now.prices) }
     ensures sound { IfOk result
-        (λ made. IsSound opening.now.limits opening.now.prices opening.now.start made.1.limits) }
-    ensures rows { IfOk result (λ made. made.1.rows ≡ start_of opening.now.start) }
+        (λ made. IsSound opening.now.limits opening.now.prices opening.now.start
+        made.start.limits) }
+    ensures rows { IfOk result (λ made. made.start.rows ≡ start_of opening.now.start) }
     ensures fault { IfErr result
         (IsUnsound opening.now.limits opening.now.prices opening.now.start) }
 {
@@ -116,7 +116,10 @@ impl<F: FromTable> Session<F> {
         ensures opened { IfOk result (IsOpened opening) }
         ensures fault { IfErr result (IsUnsound opening.limits opening.prices opening.start) }
     {
-        let (table, picture) = set(alloc, &opening)?;
+        let Setting {
+            table,
+            start: picture,
+        } = set(alloc, &opening)?;
         let Opening {
             limits,
             prices,
@@ -139,7 +142,7 @@ impl<F: FromTable> Session<F> {
         ensures fault { IfErr result (IsUntrue report) }
     {
         let prices = report.prices.as_slice();
-        let (table, start) = validate(alloc, report.limits, prices, Some(&report.start))?;
+        let Setting { table, start } = validate(alloc, report.limits, prices, Some(&report.start))?;
         let tariff = Tariff::new(F::from_table(table));
         let picture = replay_report(alloc, &report, &start, &tariff)?;
         let Ok(rows) = picture.rows(alloc) else {

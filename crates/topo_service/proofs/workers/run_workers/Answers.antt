@@ -1,13 +1,13 @@
 use Rattle.std.proofs.Common.{◌≡◌, ◌<◌, ◌-◌, [], length, map, slice_index_or, ap, ◌∙◌, arith, rules}
 use Rattle.std.proofs.lemmas.List.{get_or-map}
 use Rattle.topo_versions.specs.Names.{prices_named}
-use Rattle.topo_service.specs.Commands.{commands, end_by, receipts_of}
+use Rattle.topo_service.specs.Commands.{end_by, receipts_of}
 use Rattle.topo_service.proofs.Working.{ended}
 use Rattle.topo_service.proofs.workers.run_workers.Goals as goal
 
 pub returns-clause-ended : goal.returns-clause-ended
 returns-clause-ended g c i p e lt =
-    let list = slice_index_or (map commands c.args.lists.now) i [] in
+    let list = slice_index_or c.args.lists.now i [] in
     let new = c.run_each.new.passes in
     let here : i < length c.args.passes.now = omega (arith, c.requires, lt) in
     let there : i < length new = search (rules, arith) in
