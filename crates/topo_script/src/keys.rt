@@ -17,7 +17,7 @@ pub(crate) enum FormKey {
 }
 
 impl FormKey {
-    /// The key itself.
+    /// Which key it is, due or not.
     #[inline(always)]
     pub(crate) fn key(self) -> Key
         ensures { result ≡ key_of self }
