@@ -35,6 +35,7 @@ mod ids;
 mod lists;
 mod moves;
 mod orders;
+mod pace;
 mod random;
 mod reduction;
 mod repair;

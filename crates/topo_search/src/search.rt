@@ -7,6 +7,7 @@ use crate::graph::{Graph, cost_of_rows};
 use crate::lists::{append, first_numbers, length_of};
 use crate::moves::{add_crossed, crossings_of, put_in};
 use crate::orders::{begin_order, first_forbidden};
+use crate::pace::Pace;
 use crate::reduction::{Reduction, reduced};
 use crate::repair::Repair;
 use crate::shakes::{Shaken, about_shaken, shake};
@@ -105,6 +106,14 @@ const IDLE: u64 = 100;
 /// And so many end a thorough one.
 const THOROUGH_IDLE: u64 = 400;
 
+/// Where the best picture has more crossings, a default search minds its work, too: it ends once
+/// shakes save little for it, and gives bad orders up.
+const MANY_CROSSINGS: u64 = 100;
+
+/// An order is given up where its picture, once all edges are in, costs more than so many
+/// hundredths of the best one.
+const BAD_ORDER: u64 = 110;
+
 /// A search for a picture of a graph with few crossings.
 pub struct Search<F: PriceFn> {
     board: Board<F>,
@@ -122,6 +131,7 @@ pub struct Search<F: PriceFn> {
     idle: u64,
     failed: u32,
     is_hurried: bool,
+    pace: Pace,
 }
 
 // Written out, so that it is proved once: a derived one is proved anew in each function that lets
@@ -141,6 +151,7 @@ impl<F: PriceFn + Drop> Drop for Search<F> {
             idle: _,
             failed: _,
             is_hurried: _,
+            pace: _,
         } = self;
         drop(board);
         drop(reduction);
@@ -184,6 +195,7 @@ impl<F: PriceFn> Search<F> {
             idle: 0,
             failed: 0,
             is_hurried: false,
+            pace: Pace::NONE,
         })
     }
 
@@ -194,6 +206,7 @@ impl<F: PriceFn> Search<F> {
         F: Drop,
     {
         self.take_whole_graph(alloc)?;
+        self.pace.first_order = u64::MAX;
         let edges = first_numbers(alloc, self.board.graph.edge_count())?;
         let cost = cost_of_rows(&self.board.graph, rows);
         self.board.load(alloc, rows, &edges, cost)?;
@@ -204,6 +217,7 @@ impl<F: PriceFn> Search<F> {
     /// Searches for a while, some 50 milliseconds, and says how far it has come. An order begins in
     /// one step. Once a fault was answered the search has ended, and the best picture is kept.
     pub fn step(&mut self, alloc: Global) -> Result<Progress, SearchFault> {
+        self.pace.steps = self.work();
         self.board.spent = 0;
         for _ in 0..STEP_MOVES {
             if self.is_done() || self.board.spent >= STEP_COST {
@@ -237,6 +251,7 @@ impl<F: PriceFn> Search<F> {
             idle: _,
             failed: _,
             is_hurried: _,
+            pace: _,
         } = self;
         drop(board);
         drop(repair);
@@ -291,6 +306,17 @@ impl<F: PriceFn> Search<F> {
             }
             _ => fault,
         }
+    }
+
+    /// What was done so far, in faces looked at.
+    fn work(&self) -> u64 {
+        self.pace.steps.saturating_add(self.board.spent)
+    }
+
+    /// Whether it minds its work.
+    fn is_frugal(&self) -> bool {
+        self.options.effort == Effort::Default
+            && self.best_crossings().unwrap_or(0) > MANY_CROSSINGS
     }
 
     /// Whether it has ended.
@@ -379,6 +405,9 @@ impl<F: PriceFn> Search<F> {
     /// Puts the next edge of an order in, or begins the first round.
     fn insert_next(&mut self, alloc: Global) -> Result<(), SearchFault> {
         let Some(edge) = self.waiting.pop() else {
+            if self.is_bad_order() {
+                return self.end_order(alloc);
+            }
             keep(alloc, &self.board, &mut self.best)?;
             return self.begin_round(alloc);
         };
@@ -416,12 +445,31 @@ impl<F: PriceFn> Search<F> {
         if self.board.score() < before {
             return self.begin_round(alloc);
         }
+        if self.pace.first_order == 0 {
+            self.pace.first_order = self.work();
+        }
+        self.end_order(alloc)
+    }
+
+    /// Ends an order, and begins what comes next.
+    fn end_order(&mut self, alloc: Global) -> Result<(), SearchFault> {
         self.note_try()?;
         if self.wants_order() {
             self.stage = Stage::Order;
             return Ok(());
         }
         self.end_orders(alloc)
+    }
+
+    /// Whether an order has come to a picture that is far from the best one.
+    fn is_bad_order(&self) -> bool {
+        match &self.best {
+            Some(best) => {
+                let most = best.score.cost.saturating_mul(BAD_ORDER);
+                self.is_frugal() && self.board.cost.saturating_mul(100) > most
+            }
+            None => false,
+        }
     }
 
     /// Notes the crossings at the end of an order.
@@ -453,17 +501,22 @@ impl<F: PriceFn> Search<F> {
             let cost = best.score.cost;
             self.board.load(alloc, &best.rows, &best.edges, cost)?;
         }
+        self.pace.orders = self.work();
+        self.pace.saved = self.pace.orders;
         self.stage = Stage::Shake;
         Ok(())
     }
 
-    /// Whether enough shakes in a row have saved nothing, or nothing can be saved.
+    /// Whether enough shakes in a row have saved nothing, or nothing can be saved, or it would take
+    /// too much work.
     fn has_shaken_enough(&self) -> bool {
         let limit = match self.options.effort {
             Effort::Thorough => THOROUGH_IDLE,
             _ => IDLE,
         };
-        self.best_crossings().unwrap_or(0) == 0 || self.idle >= limit
+        self.best_crossings().unwrap_or(0) == 0
+            || self.idle >= limit
+            || self.is_frugal() && self.pace.is_enough(self.idle, self.work())
     }
 
     /// Begins a shake: takes some edges out. Or ends the search.
@@ -493,11 +546,12 @@ impl<F: PriceFn> Search<F> {
     /// Ends the last shake.
     fn end_shake(&mut self, alloc: Global) -> Result<(), SearchFault> {
         let has_saved = keep(alloc, &self.board, &mut self.best)?;
-        self.idle = if has_saved {
-            0
+        if has_saved {
+            self.idle = 0;
+            self.pace.saved = self.work();
         } else {
-            self.idle.saturating_add(1)
-        };
+            self.idle = self.idle.saturating_add(1);
+        }
         self.stage = Stage::Shake;
         Ok(())
     }

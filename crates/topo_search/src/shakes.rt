@@ -10,12 +10,12 @@ use topo_price::tariff::PriceFn;
 const LEAST: usize = 2;
 
 /// The greatest number of edges taken out lies between these.
-const FEW: u64 = 64;
+const FEW: u64 = 20;
 
 const MANY: u64 = 128;
 
-/// For so many crossings one more edge may be taken out.
-const CROSSINGS_FOR_EACH: u64 = 32;
+/// Between them it is one for so many crossings.
+const CROSSINGS_FOR_EACH: u64 = 16;
 
 /// So many edges about one that was chosen are looked at.
 const ABOUT_EACH: usize = 3;
