@@ -10,7 +10,7 @@ use topo_price::tariff::PriceFn;
 const LEAST: usize = 2;
 
 /// The greatest number of edges taken out lies between these.
-const FEW: u64 = 20;
+const FEW: u64 = 25;
 
 const MANY: u64 = 128;
 
