@@ -11,17 +11,17 @@ returns-then-equals-clause-good g c =
     let report = c.args.report.now in
     let same = sym c.in-Ok.ensures ∙ c.equals.ensures.0 c.if-equals.true in
     record {
-      limits = c.in_ok-table.start.limits;
-      sound = sound_so report.limits _ report.prices _ _ c.in_ok-table.start.limits c.as_slice-prices.ensures refl c.in_ok-table.ensures.sound;
-      replayed = subst (λ (q : Rows). LeadsTo report c.in_ok-table.start.limits q) same c.in_ok-picture.ensures.replayed;
+      limits = c.in_ok-table.field-0.start.limits;
+      sound = sound_so report.limits _ report.prices _ _ c.in_ok-table.field-0.start.limits c.as_slice-prices.ensures refl c.in_ok-table.ensures.sound;
+      replayed = subst (λ (q : Rows). LeadsTo report c.in_ok-table.field-0.start.limits q) same c.in_ok-picture.ensures.replayed;
     }
 
 pub returns-clause-fault : goal.returns-clause-fault
 returns-clause-fault g c =
     let report = c.args.report.now in
     record {
-      limits = c.in_ok-table.start.limits;
-      sound = sound_so report.limits _ report.prices _ _ c.in_ok-table.start.limits c.as_slice-prices.ensures refl c.in_ok-table.ensures.sound;
+      limits = c.in_ok-table.field-0.start.limits;
+      sound = sound_so report.limits _ report.prices _ _ c.in_ok-table.field-0.start.limits c.as_slice-prices.ensures refl c.in_ok-table.ensures.sound;
       rows = c.in_ok-picture.picture.rows;
       replayed = c.in_ok-picture.ensures.replayed;
       other = λ same. false≢true (sym c.if-equals.false ∙ c.equals.ensures.1 (c.in-Ok.ensures ∙ same));
@@ -36,4 +36,4 @@ replay_report-requires-clause-prices g c =
 pub replay_report-requires-clause-sound : goal.replay_report-requires-clause-sound
 replay_report-requires-clause-sound g c =
     let report = c.args.report.now in
-    sound_so report.limits _ report.prices _ _ c.in_ok-table.start.limits c.as_slice-prices.ensures refl c.in_ok-table.ensures.sound
+    sound_so report.limits _ report.prices _ _ c.in_ok-table.field-0.start.limits c.as_slice-prices.ensures refl c.in_ok-table.ensures.sound

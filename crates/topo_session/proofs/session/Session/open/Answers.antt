@@ -10,5 +10,5 @@ invariant_of-result g c =
 
 pub returns-in-Ok-clause-opened : goal.returns-in-Ok-clause-opened
 returns-in-Ok-clause-opened g c =
-    opened_so c.args.opening c.in-Ok.book c.in_ok-table.picture c.in_ok-table.ensures.sound c.in_ok-table.ensures.rows
+    opened_so c.args.opening c.in-Ok.book c.in_ok-table.field-0.start c.in_ok-table.ensures.sound c.in_ok-table.ensures.rows
     c.in-Ok.ensures.start c.in-Ok.ensures.history c.in-Ok.ensures.picture

@@ -15,7 +15,7 @@ replay_report-requires-clause-prices g c =
 pub replay_report-requires-clause-sound : goal.replay_report-requires-clause-sound
 replay_report-requires-clause-sound g c =
     let report = c.args.report in
-    sound_so report.limits _ report.prices _ _ c.in_ok-table.start.limits c.as_slice-prices.ensures refl c.in_ok-table.ensures.sound
+    sound_so report.limits _ report.prices _ _ c.in_ok-table.field-0.start.limits c.as_slice-prices.ensures refl c.in_ok-table.ensures.sound
 
 pub go_on-requires-clause-prices : goal.go_on-requires-clause-prices
 go_on-requires-clause-prices g c =
@@ -27,8 +27,8 @@ pub returns-then-not-equals-clause-fault : goal.returns-then-not-equals-clause-f
 returns-then-not-equals-clause-fault g c =
     let report = c.args.report in
     record {
-      limits = c.in_ok-table.start.limits;
-      sound = sound_so report.limits _ report.prices _ _ c.in_ok-table.start.limits c.as_slice-prices.ensures refl c.in_ok-table.ensures.sound;
+      limits = c.in_ok-table.field-0.start.limits;
+      sound = sound_so report.limits _ report.prices _ _ c.in_ok-table.field-0.start.limits c.as_slice-prices.ensures refl c.in_ok-table.ensures.sound;
       rows = c.in_ok-picture.picture.rows;
       replayed = c.in_ok-picture.ensures.replayed;
       other = λ same. false≢true (sym c.if-not-equals.true ∙ c.equals.ensures.1 (c.in-Ok.ensures.rows ∙ same));
@@ -39,8 +39,8 @@ returns-in-Ok-go_on-clause-reopened g c =
     let report = c.args.report in
     let same = sym c.in-Ok.ensures.rows ∙ c.equals.ensures.0 c.if-not-equals.false in
     record {
-      limits = c.in_ok-table.start.limits;
-      sound = sound_so report.limits _ report.prices _ _ c.in_ok-table.start.limits c.as_slice-prices.ensures refl c.in_ok-table.ensures.sound;
-      replayed = subst (λ (q : Rows). LeadsTo report c.in_ok-table.start.limits q) same c.in_ok-picture.ensures.replayed;
+      limits = c.in_ok-table.field-0.start.limits;
+      sound = sound_so report.limits _ report.prices _ _ c.in_ok-table.field-0.start.limits c.as_slice-prices.ensures refl c.in_ok-table.ensures.sound;
+      replayed = subst (λ (q : Rows). LeadsTo report c.in_ok-table.field-0.start.limits q) same c.in_ok-picture.ensures.replayed;
       stands = c.in-Ok-go_on.ensures ∙ rw (c.in_ok-picture.ensures.book.same_limits, c.in_ok-table.ensures.rows, same) refl;
     }
