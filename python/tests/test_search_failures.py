@@ -153,7 +153,7 @@ class Interrupted(Exception):
 class ProgressCalls(unittest.TestCase):
     def test_progress(self):
         told = []
-        result = planarize(nx.complete_graph(16), tries=2, progress=told.append)
+        result = planarize(nx.complete_graph(18), tries=2, progress=told.append)
         self.assertEqual((told[0].step, told[0].order, told[0].best), ("begins", 1, None))
         self.assertEqual((told[-1].step, told[-1].best, told[-1].tries), ("done", result.crossings, 2))
         self.assertEqual({one.step for one in told}, {"begins", "searches", "done"})
