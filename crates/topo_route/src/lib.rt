@@ -11,7 +11,7 @@
 //! `first_route_seen` hands out besides the region that its search has seen: a later picture that
 //! has kept it has the same first route. `check` says of any plan whether it is that, and which
 //! test it fails first: its Ok means that the route is the first of the least, whoever made the
-//! plan.
+//! plan. `steps` goes from dart to dart, for a search of one's own.
 //!
 //! Two folders can be passed by. `guided` has what guides a search. `planned` has the region, and
 //! its `laws` say when a route survives a change of the picture: where each face that its search
@@ -57,6 +57,6 @@ mod priced_graph;
 pub mod search;
 mod spread;
 mod stamped_array;
-mod steps;
+pub mod steps;
 mod walks;
 pub mod workspace;

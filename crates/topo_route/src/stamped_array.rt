@@ -1,4 +1,7 @@
 //! A list of numbers that is blank again in one step.
+//!
+//! What writes on several of its fields is a function over these fields (`widen`, `move_words`,
+//! `grow_beside`): while it runs they do not say together what the type promises.
 
 ghost use Rattle.std.specs.Prelude.{◌≡◌, ◌<◌, ◌≤◌, ◌↔◌, [], ℕ, IsOk, IsTrue, OnErr, OnOk};
 ghost use Rattle.std.specs.Prelude.{length, map, replicate, slice_index, slice_set};

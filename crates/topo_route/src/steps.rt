@@ -1,4 +1,5 @@
-//! Steps from dart to dart by their names.
+//! Steps from dart to dart by their names: what a `FaceGraph` answers, and that each dart that it
+//! hands out has the name of one.
 
 ghost use Rattle.std.specs.Prelude.{◌≡◌, ◌<◌, ◌≤◌, ◌↔◌, IsTrue, Some, None};
 ghost use Rattle.std.specs.Prelude.{MatchOption, IfSome, length, slice_index};
@@ -25,7 +26,7 @@ pub(crate) fn next_along<W: FaceGraph>(graph: &W, dart: u32) -> u32
 }
 
 /// The dart on the same segment that leads the other way.
-pub(crate) fn across<W: FaceGraph>(graph: &W, dart: u32) -> u32
+pub fn across<W: FaceGraph>(graph: &W, dart: u32) -> u32
     requires { IsName (W.named graph.now) dart }
     ensures twin { result ≡ twin_name (W.named graph.now) dart }
     ensures name { IsName (W.named graph.now) result }
@@ -34,7 +35,7 @@ pub(crate) fn across<W: FaceGraph>(graph: &W, dart: u32) -> u32
 }
 
 /// The label of the face on the left of a dart.
-pub(crate) fn face_at<W: FaceGraph>(graph: &W, dart: u32) -> u32
+pub fn face_at<W: FaceGraph>(graph: &W, dart: u32) -> u32
     requires { IsName (W.named graph.now) dart }
     ensures face { result ≡ W.face_of graph.now dart }
     ensures within { result < W.face_bound graph.now }
@@ -43,7 +44,7 @@ pub(crate) fn face_at<W: FaceGraph>(graph: &W, dart: u32) -> u32
 }
 
 /// The next dart along the face on the left, and the label of the face on the other side.
-pub(crate) fn step<W: FaceGraph>(graph: &W, dart: u32) -> (u32, u32)
+pub fn step<W: FaceGraph>(graph: &W, dart: u32) -> (u32, u32)
     requires { IsName (W.named graph.now) dart }
     ensures next { result.0 ≡ next_name (W.named graph.now) dart }
     ensures name { IsName (W.named graph.now) result.0 }
@@ -63,7 +64,7 @@ pub(crate) fn height_at<W: FaceGraph>(graph: &W, heights: &StampedArray, dart: u
 }
 
 /// Whether two darts have one face on their left. It takes no longer where the face is large.
-pub(crate) fn same_face<W: FaceGraph>(graph: &W, dart: u32, other: u32) -> bool
+pub fn same_face<W: FaceGraph>(graph: &W, dart: u32, other: u32) -> bool
     requires dart_there { IsName (W.named graph.now) dart }
     requires other_there { IsName (W.named graph.now) other }
     ensures { IsTrue result ↔ SameFace (system (W.named graph.now).rows)
@@ -73,7 +74,7 @@ pub(crate) fn same_face<W: FaceGraph>(graph: &W, dart: u32, other: u32) -> bool
 }
 
 /// The dart that names a corner.
-pub(crate) fn corner_at<W: FaceGraph>(graph: &W, v: u32, position: u32) -> Option<u32>
+pub fn corner_at<W: FaceGraph>(graph: &W, v: u32, position: u32) -> Option<u32>
     ensures { MatchOption result (corner (W.named graph.now).rows v position ≡ None)
         (λ c. IsName (W.named graph.now) c
         × (corner (W.named graph.now).rows v position ≡ Some (dart_named (W.named graph.now) c))) }
