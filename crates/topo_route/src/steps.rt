@@ -3,6 +3,7 @@
 
 ghost use Rattle.std.specs.Prelude.{◌≡◌, ◌<◌, ◌≤◌, ◌↔◌, IsTrue, Some, None};
 ghost use Rattle.std.specs.Prelude.{MatchOption, IfSome, length, slice_index};
+ghost use Rattle.topo_core.specs.Darts.{dart_twin};
 ghost use Rattle.topo_core.specs.Picture.{corner, system};
 ghost use Rattle.topo_core.specs.Routes.{KeepsPromise};
 ghost use Rattle.topo_core.specs.Systems.{SameFace};
@@ -30,6 +31,8 @@ pub fn across<W: FaceGraph>(graph: &W, dart: u32) -> u32
     requires { IsName (W.named graph.now) dart }
     ensures twin { result ≡ twin_name (W.named graph.now) dart }
     ensures name { IsName (W.named graph.now) result }
+    ensures other { dart_named (W.named graph.now) result
+        ≡ dart_twin (dart_named (W.named graph.now) dart) }
 {
     graph.twin(dart)
 }
