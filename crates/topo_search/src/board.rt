@@ -1,5 +1,6 @@
 //! What the search works on: the picture, and what it knows of it.
 
+use crate::finder::Finder;
 use crate::graph::Graph;
 use crate::ids::{Ids, MAX_EDGE_IDS};
 use crate::lists::Marks;
@@ -12,7 +13,6 @@ use topo_core::rows::Rows;
 use topo_picture::{LoadFault, Picture};
 use topo_price::tariff::{PriceFn, Tariff};
 use topo_renumbering::close_up;
-use topo_route::workspace::Workspace;
 
 /// Crossing ids of pictures are below this number.
 const MAX_CROSSING_IDS: u32 = 1_048_576;
@@ -46,7 +46,7 @@ pub(crate) struct Board<F: PriceFn> {
     pub ids: Ids,
     /// What the crossings of the picture cost.
     pub cost: u64,
-    pub work: Workspace,
+    pub finder: Finder,
     pub random: Random,
     pub marks: Marks,
     /// What was done in this step, in faces looked at.
@@ -63,7 +63,7 @@ impl<F: PriceFn + Drop> Drop for Board<F> {
             picture,
             ids,
             cost: _,
-            work,
+            finder,
             random,
             marks,
             spent: _,
@@ -72,7 +72,7 @@ impl<F: PriceFn + Drop> Drop for Board<F> {
         drop(tariff);
         drop(picture);
         drop(ids);
-        drop(work);
+        drop(finder);
         drop(random);
         drop(marks);
     }
@@ -109,13 +109,14 @@ impl<F: PriceFn> Board<F> {
         F: Drop,
     {
         let edges = graph.edges.len();
+        let finder = Finder::new(alloc, graph.is_plain, seed)?;
         Ok(Board {
             graph,
             tariff,
             picture: Picture::seed(alloc, LIMITS)?,
             ids: Ids::new(alloc, edges)?,
             cost: 0,
-            work: Workspace::new(alloc)?,
+            finder,
             random: Random::new(seed),
             marks: Marks::new(alloc, edges)?,
             spent: 0,

@@ -29,9 +29,11 @@
 mod best;
 mod board;
 mod expansion;
+mod finder;
 mod graph;
 mod groups;
 mod ids;
+mod levels;
 mod lists;
 mod moves;
 mod orders;
@@ -41,6 +43,7 @@ mod reduction;
 mod repair;
 pub mod search;
 mod shakes;
+mod simple;
 #[cfg(test)]
 mod tests;
 mod turning;

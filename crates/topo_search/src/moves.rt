@@ -1,14 +1,13 @@
 //! Edges put in and taken out.
 
 use crate::board::Board;
+use crate::finder::{Finder, Found};
 use crate::lists::length_of;
 use crate::search::SearchFault;
 use std::alloc::{AllocError, Global};
 use topo_core::calls::Refusal;
 use topo_picture::Picture;
 use topo_price::tariff::{PriceFn, Tariff};
-use topo_route::search::first_route;
-use topo_route::workspace::Workspace;
 
 /// What it costs to put an edge in, beside the faces looked at, in such faces.
 const MOVE_COST: u64 = 30;
@@ -30,35 +29,37 @@ struct Made {
     faces: usize,
 }
 
-/// Puts an edge in along the first route. It is refused as NoRoute where it has none, too, and
-/// where it has to cross others and may not.
+/// Puts an edge in along a least route. It is refused as NoRoute where it has none, too, and where
+/// it has to cross others and may not.
 fn insert<F: PriceFn>(
     alloc: Global,
     picture: &mut Picture,
     tariff: &Tariff<F>,
     edge: NewEdge,
-    work: &mut Workspace,
+    finder: &mut Finder,
 ) -> Result<Made, Refusal> {
-    // For the proof: what the types keep.
-    tariff.keeps_promise();
-    picture.kept_rows();
     let NewEdge { u, v, kind, .. } = edge;
     picture.admit(u, v, kind)?;
-    let Ok(found) = first_route(alloc, &picture.embedded(), tariff, u, v, work) else {
+    let Ok(found) = finder.route(alloc, picture, tariff, u, v) else {
         return Err(Refusal::Memory);
     };
-    let Some(first) = found else {
+    let Some(
+        Found {
+            route,
+            price,
+            faces,
+        },
+    ) = found
+    else {
         return Err(Refusal::NoRoute);
     };
-    let crossed = first.route.crossed.len();
-    if crossed > 0 && !edge.may_cross {
+    if route.crossed.len() > 0 && !edge.may_cross {
         return Err(Refusal::NoRoute);
     }
-    let id = picture.apply_route(alloc, u, v, kind, &first.route)?;
-    let faces = if crossed > 0 { work.reached() } else { 0 };
+    let id = picture.apply_route(alloc, u, v, kind, &route)?;
     Ok(Made {
         id: id.number(),
-        price: first.price,
+        price,
         faces,
     })
 }
@@ -80,7 +81,7 @@ fn new_edge<F: PriceFn>(board: &mut Board<F>, edge: u32) -> Option<NewEdge> {
     })
 }
 
-/// Puts an edge of the graph in, along the first route. Where ids run out they are given anew.
+/// Puts an edge of the graph in, along a least route. Where ids run out they are given anew.
 pub(crate) fn put_in<F: PriceFn>(
     alloc: Global,
     board: &mut Board<F>,
@@ -97,7 +98,7 @@ pub(crate) fn put_in<F: PriceFn>(
         &mut board.picture,
         &board.tariff,
         new,
-        &mut board.work,
+        &mut board.finder,
     );
     if matches!(made, Err(Refusal::Full)) {
         board.renumber(alloc)?;
@@ -106,7 +107,7 @@ pub(crate) fn put_in<F: PriceFn>(
             &mut board.picture,
             &board.tariff,
             new,
-            &mut board.work,
+            &mut board.finder,
         );
     }
     match made {

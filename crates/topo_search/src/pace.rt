@@ -1,13 +1,13 @@
 //! How much a search has done, by which it knows when shakes are worth no more.
 
 /// The shakes of a search take at most so many times the work of its first order.
-const SHAKES: u64 = 10;
+const SHAKES: u64 = 20;
 
 /// Shakes that save nothing go on for so many at least,
 const IDLE_SHAKES: u64 = 25;
 
 /// for so many times the work of the first order,
-const IDLE_ORDERS: u64 = 2;
+const IDLE_ORDERS: u64 = 4;
 
 /// and besides for such a part of the work of the shakes before them.
 const IDLE_PART: u64 = 2;

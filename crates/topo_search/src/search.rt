@@ -90,6 +90,9 @@ const SOME_CROSSINGS: u64 = 700;
 /// So many orders are tried at most.
 const ORDERS: u32 = 3;
 
+/// And so many by a longer search where the best picture has at most `MANY_CROSSINGS`.
+const MORE_ORDERS: u32 = 6;
+
 /// An edge that was put in is put in again, with those that it crosses, where it has at least so
 /// many crossings.
 const REPAIRED_FROM: u32 = 4;
@@ -101,7 +104,7 @@ const FAILED_ORDERS: u32 = 8;
 const PASSES: u32 = 20;
 
 /// So many shakes in a row that save nothing end the search.
-const IDLE: u64 = 100;
+const IDLE: u64 = 200;
 
 /// And so many end a thorough one.
 const THOROUGH_IDLE: u64 = 400;
@@ -110,9 +113,9 @@ const THOROUGH_IDLE: u64 = 400;
 /// shakes save little for it, and gives bad orders up.
 const MANY_CROSSINGS: u64 = 100;
 
-/// An order is given up where its picture, once all edges are in, costs more than so many
-/// hundredths of the best one.
-const BAD_ORDER: u64 = 110;
+/// A picture that costs more than so many hundredths of the best one is far from it: shakes go on
+/// from the best one, and a bad order is given up once all edges are in.
+const FAR: u64 = 110;
 
 /// A search for a picture of a graph with few crossings.
 pub struct Search<F: PriceFn> {
@@ -405,7 +408,7 @@ impl<F: PriceFn> Search<F> {
     /// Puts the next edge of an order in, or begins the first round.
     fn insert_next(&mut self, alloc: Global) -> Result<(), SearchFault> {
         let Some(edge) = self.waiting.pop() else {
-            if self.is_bad_order() {
+            if self.is_frugal() && self.is_far() {
                 return self.end_order(alloc);
             }
             keep(alloc, &self.board, &mut self.best)?;
@@ -461,14 +464,25 @@ impl<F: PriceFn> Search<F> {
         self.end_orders(alloc)
     }
 
-    /// Whether an order has come to a picture that is far from the best one.
-    fn is_bad_order(&self) -> bool {
+    /// Whether the picture is far from the best one.
+    fn is_far(&self) -> bool {
         match &self.best {
             Some(best) => {
-                let most = best.score.cost.saturating_mul(BAD_ORDER);
-                self.is_frugal() && self.board.cost.saturating_mul(100) > most
+                let most = best.score.cost.saturating_mul(FAR);
+                self.board.cost.saturating_mul(100) > most
             }
             None => false,
+        }
+    }
+
+    /// Makes the best picture the one to go on from.
+    fn take_best(&mut self, alloc: Global) -> Result<(), SearchFault> {
+        match &self.best {
+            Some(best) => {
+                let cost = best.score.cost;
+                self.board.load(alloc, &best.rows, &best.edges, cost)
+            }
+            None => Ok(()),
         }
     }
 
@@ -479,15 +493,28 @@ impl<F: PriceFn> Search<F> {
         Ok(())
     }
 
+    /// How many orders are to be tried where the best picture has so many crossings.
+    fn most_orders(&self, crossings: u64) -> u32 {
+        let is_quick = self.options.effort == Effort::Quick;
+        let some = if is_quick {
+            FEW_CROSSINGS
+        } else {
+            SOME_CROSSINGS
+        };
+        if crossings > some {
+            1
+        } else if is_quick || crossings > MANY_CROSSINGS {
+            ORDERS
+        } else {
+            MORE_ORDERS
+        }
+    }
+
     /// Whether to try another order.
     fn wants_order(&self) -> bool {
-        let crossings = match self.options.effort {
-            Effort::Quick => FEW_CROSSINGS,
-            _ => SOME_CROSSINGS,
-        };
         match self.best_crossings() {
             Some(0) | None => false,
-            Some(best) => best <= crossings && self.orders() < ORDERS,
+            Some(crossings) => self.orders() < self.most_orders(crossings),
         }
     }
 
@@ -497,10 +524,7 @@ impl<F: PriceFn> Search<F> {
             self.stage = Stage::Done;
             return Ok(());
         }
-        if let Some(best) = &self.best {
-            let cost = best.score.cost;
-            self.board.load(alloc, &best.rows, &best.edges, cost)?;
-        }
+        self.take_best(alloc)?;
         self.pace.orders = self.work();
         self.pace.saved = self.pace.orders;
         self.stage = Stage::Shake;
@@ -543,7 +567,7 @@ impl<F: PriceFn> Search<F> {
         Ok(())
     }
 
-    /// Ends the last shake.
+    /// Ends the last shake, and goes back to the best picture where it has led far from it.
     fn end_shake(&mut self, alloc: Global) -> Result<(), SearchFault> {
         let has_saved = keep(alloc, &self.board, &mut self.best)?;
         if has_saved {
@@ -551,6 +575,9 @@ impl<F: PriceFn> Search<F> {
             self.pace.saved = self.work();
         } else {
             self.idle = self.idle.saturating_add(1);
+        }
+        if self.is_far() {
+            self.take_best(alloc)?;
         }
         self.stage = Stage::Shake;
         Ok(())

@@ -2,6 +2,7 @@
 
 ghost use Rattle.topo_price.specs.Prices.{IsPromise};
 
+use crate::finder::Finder;
 use crate::search::{Options, Progress, Search, SearchFault};
 use std::alloc::Global;
 use std::process::Abort;
@@ -336,4 +337,64 @@ fn begun_from_a_picture(rt: HostRuntime) -> Result<(), Fail> {
     let crossings = crossings_again(&rt, alloc, vertices, &edges, table)?;
     assert_eq!(rt; crossings, 3);
     Ok(())
+}
+
+/// A search by levels finds a route from this vertex to each other one, and it crosses as few edges
+/// as the first of the least routes.
+fn cross_as_few<F: PriceFn + Drop>(
+    rt: &impl Abort,
+    alloc: Global,
+    picture: &Picture,
+    tariff: &Tariff<F>,
+    u: u32,
+) -> Result<(), Fail> {
+    let mut plain = Finder::new(alloc, true, 1)?;
+    let mut priced = Finder::new(alloc, false, 1)?;
+    for v in 0..16 {
+        if u != v && picture.admit(u, v, 0).is_ok() {
+            let found = plain.by_levels(alloc, picture, u, v)?.expect(rt, "a route");
+            let first = priced
+                .route(alloc, picture, tariff, u, v)?
+                .expect(rt, "a route");
+            assert_eq!(rt; found.price, first.price);
+            assert_eq!(rt; found.route.crossed.len(), first.route.crossed.len());
+        }
+    }
+    Ok(())
+}
+
+/// The same from all vertices of a torus.
+fn cross_as_few_on_a_torus<F: PriceFn + Drop>(
+    rt: &impl Abort,
+    alloc: Global,
+    ask: F,
+) -> Result<(), Fail>
+    requires callable { F.is_callable ask }
+    requires promise { IsPromise (F.may_return ask) }
+{
+    let tariff = Arc::new(alloc, Tariff::new(ask))?;
+    let options = Options {
+        seed: 1,
+        effort: Effort::Quick,
+    };
+    let search = Search::new(alloc, 16, torus(alloc, 4)?, Arc::clone(&tariff)?, options)?;
+    let (rows, _places) = found_by(rt, alloc, search)?;
+    let limits = Limits {
+        vertices: 16,
+        edges: 32,
+        crossings: 256,
+    };
+    let picture = Picture::load(alloc, limits, &rows)?;
+    for u in 0..16 {
+        cross_as_few(rt, alloc, &picture, &tariff, u)?;
+    }
+    Ok(())
+}
+
+#[test]
+fn routes_by_levels(rt: HostRuntime) -> Result<(), Fail> {
+    let alloc = rt.alloc();
+    let table = PriceTable::new([Some(1); KINDS])?;
+    table.laws();
+    cross_as_few_on_a_torus(&rt, alloc, table)
 }
