@@ -27,7 +27,7 @@ def pictured() -> Dict[str, Any]:
         "grid": grid_with_chords(),
         "scale_free": nx.barabasi_albert_graph(60, 2, seed=1),
     }
-    return {name: planarize(graph) for name, graph in graphs.items()}
+    return {name: planarize(graph, seed=2) for name, graph in graphs.items()}
 
 
 def planar_result(graph: Any) -> Planarization:

@@ -62,7 +62,7 @@ class Bounds(unittest.TestCase):
         found = {
             (name, seed, style): quality(drawing_of(result, style=style))
             for name, graph in ten_graphs().items()
-            for seed in ((SEED,) if name.startswith("scale-free") else (SEED, 2, 3))
+            for seed in ((SEED,) if name.startswith("scale-free") else (1, SEED, 3))
             for result in (planarize(graph, seed=seed),)
             for style in STYLES
         }

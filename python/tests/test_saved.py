@@ -86,7 +86,8 @@ class Saved(unittest.TestCase):
                 load(self.folder / "file")
 
     def test_changed_files_do_not_pass(self):
-        """Any number of the file is changed: it is not loaded, it is not verified, or it says the same in the end."""
+        """Any number of the file is changed: it is not loaded, it is not verified, or it says the same in the end. The
+        crossings of each try are not verified."""
         graph = nx.relabel_nodes(nx.disjoint_union(nx.complete_graph(5), nx.path_graph(2)), "abcdefg".__getitem__)
         result = planarize(graph, {("a", "b"): 5}, forbidden=["cd"])
         value = json.loads(result.saved_text())
@@ -101,7 +102,7 @@ class Saved(unittest.TestCase):
             passed += 1
             self.assertTrue(again.picture == result.picture or again.crossings == result.crossings)
             self.assertEqual(again.segments("c", "d")[0].end, "d")
-        self.assertLess(passed, 30)
+        self.assertLess(passed - len(result.tries), 27)
 
     def test_what_is_not_true(self):
         graph = nx.complete_graph(5)
