@@ -102,7 +102,7 @@ class Saved(unittest.TestCase):
             passed += 1
             self.assertTrue(again.picture == result.picture or again.crossings == result.crossings)
             self.assertEqual(again.segments("c", "d")[0].end, "d")
-        self.assertLess(passed - len(result.tries), 27)
+        self.assertLess(passed - len(result.tries), 26)
 
     def test_what_is_not_true(self):
         graph = nx.complete_graph(5)
